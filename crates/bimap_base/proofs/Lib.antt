@@ -1,0 +1,3 @@
+pub mod Digits
+pub mod FreeList
+pub mod Packs

@@ -1,0 +1,23 @@
+-- How `Pairs` lays out its slots. No public clause cites this module.
+use Rattle.std.specs.Prelude.{◌≡◌, ℕ, zero, suc, ◌+◌, List, map, length, Option, Some, None, is_some, count_by, slice_get}
+use Rattle.bimap_base.specs.declared.pairs.Slot.{Slot}
+use Rattle.bimap_base.specs.declared.pairs.Slot.TheVariants.{Free, Held}
+
+module _ {L R : Type 0} where
+  -- the pair of a slot, if it has one
+  abbrev pub pair_of : Slot L R → Option (L × R)
+  pair_of (Free _) = None
+  pair_of (Held l r) = Some (l, r)
+
+  -- from this place on, so many free slots each name the next, and the last names none
+  abbrev pub IsFreeList : List (Slot L R) → ℕ → Option ℕ → Type 0
+  IsFreeList slots zero first = first ≡ None
+  IsFreeList slots (suc count) first =
+      (place : ℕ) × (next : Option ℕ) × (first ≡ Some place) × (slice_get slots place ≡ Some (Free next)) × IsFreeList slots count next
+
+  -- `len` counts the pairs, and the list from `next` holds every free slot
+  pub record IsSound (slots : List (Slot L R)) (len : ℕ) (next : Option ℕ) : Type 0 where
+    pub counted : len ≡ count_by is_some (map pair_of slots)
+    pub free : ℕ
+    pub total : len + free ≡ length slots
+    pub linked : IsFreeList slots free next

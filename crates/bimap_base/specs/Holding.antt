@@ -1,0 +1,99 @@
+-- What a contract sees of a bimap, and what each call answers and leaves: one record a call, one fact a field.
+use Rattle.std.specs.Prelude.{◌≡◌, ◌⊎◌, ℕ, ◌<◌, ◌≤◌, Bool, true, Option, Result, List, length, Contains, IfSome, IfNone, IfOk, IfErr, OnOk, OnErr}
+use Rattle.std.specs.Borrow.{Bor}
+use denote.Param.Members.{Mut}
+use Rattle.bimap_base.specs.Sets.{NoneShares, SomeShares, IsWithPut, HasLeft, LacksLeft, IsWithoutLeft, HasRight, LacksRight, IsWithoutRight}
+use Rattle.bimap_base.specs.Answer.{IsAnswer, IsRefusal, IsAllowed, IsRefusalUnder, IsBoth}
+use Rattle.bimap_base.specs.Kept.{IsKept, IsKeptInTurn}
+use Rattle.bimap_base.specs.Undoing.{IsUndone}
+use Rattle.bimap_base.specs.declared.overwritten.Overwritten.{Overwritten}
+use Rattle.bimap_base.specs.declared.policy.Policy.{Policy}
+use Rattle.bimap_base.specs.declared.refusal.NoRoom.{NoRoom}
+use Rattle.bimap_base.specs.declared.refusal.NotInserted.{NotInserted}
+use Rattle.bimap_base.specs.declared.refusal.NotInsertedWith.{NotInsertedWith}
+use Rattle.bimap_base.specs.declared.refusal.UndoStopped.{UndoStopped}
+
+-- the pairs of a bimap, each once, and the number of its places
+pub record Holding (L R : Type 0) : Type 0 where
+  pub pairs : List (L × R)
+  pub room : ℕ
+
+-- no place is free
+abbrev pub IsFull : {L R : Type 0} → Holding L R → Type 0
+IsFull held = length held.pairs ≡ held.room
+
+module _ {L R : Type 0} (same_left : L → L → Bool) where
+  -- the answer of a look-up by left
+  pub record IsFoundByLeft (held : Holding L R) (left : L) (result : Option (Bor R)) : Type 0 where
+    pub found : IfSome result (λ right. (l : L) × Contains held.pairs (l, right.now) × (same_left l left ≡ true))
+    pub none : IfNone result (LacksLeft same_left (Contains held.pairs) left)
+
+  pub record IsRemovalByLeft (old : Holding L R) (left : L) (result : Option (L × R)) (new : Holding L R) : Type 0 where
+    pub removed : IfSome result (λ p. Contains old.pairs p × (same_left p.0 left ≡ true))
+    pub none : IfNone result (LacksLeft same_left (Contains old.pairs) left)
+    pub without : IsWithoutLeft same_left (Contains old.pairs) left (Contains new.pairs)
+    pub room : new.room ≡ old.room
+
+module _ {L R : Type 0} (same_right : R → R → Bool) where
+  -- the answer of a look-up by right
+  pub record IsFoundByRight (held : Holding L R) (right : R) (result : Option (Bor L)) : Type 0 where
+    pub found : IfSome result (λ left. (r : R) × Contains held.pairs (left.now, r) × (same_right r right ≡ true))
+    pub none : IfNone result (LacksRight same_right (Contains held.pairs) right)
+
+  pub record IsRemovalByRight (old : Holding L R) (right : R) (result : Option (L × R)) (new : Holding L R) : Type 0 where
+    pub removed : IfSome result (λ p. Contains old.pairs p × (same_right p.1 right ≡ true))
+    pub none : IfNone result (LacksRight same_right (Contains old.pairs) right)
+    pub without : IsWithoutRight same_right (Contains old.pairs) right (Contains new.pairs)
+    pub room : new.room ≡ old.room
+
+module _ {L R : Type 0} (same_left : L → L → Bool) (same_right : R → R → Bool) where
+  -- the room never falls, and stays where a place was free, or where the new pair takes that of a struck one
+  pub record IsRoomAfter (old : Holding L R) (pair : L × R) (new : Holding L R) : Type 0 where
+    pub not_lower : old.room ≤ new.room
+    pub had_place : length old.pairs < old.room → new.room ≡ old.room
+    pub strikes : SomeShares same_left same_right (Contains old.pairs) pair → new.room ≡ old.room
+
+  pub record IsInsertion (old : Holding L R) (pair : L × R) (result : Result (Overwritten L R) (NoRoom L R)) (new : Holding L R) : Type 0 where
+    pub answer : IfOk result (IsAnswer same_left same_right (Contains old.pairs) pair)
+    pub put : OnOk result (IsWithPut same_left same_right (Contains old.pairs) pair (Contains new.pairs))
+    pub handed_back : IfErr result (λ e. (e.left, e.right) ≡ pair)
+    pub none_struck : OnErr result (NoneShares same_left same_right (Contains old.pairs) pair)
+    pub full : OnErr result (IsFull old)
+    pub unchanged : OnErr result (new ≡ old)
+    pub room : IsRoomAfter old pair new
+
+  pub record IsInsertionWithoutOverwriting (old : Holding L R) (pair : L × R) (result : Result (Unit {0}) (NotInserted L R)) (new : Holding L R) : Type 0 where
+    pub none_held : OnOk result (NoneShares same_left same_right (Contains old.pairs) pair)
+    pub put : OnOk result (IsWithPut same_left same_right (Contains old.pairs) pair (Contains new.pairs))
+    pub refused : IfErr result (IsRefusal same_left same_right (Contains old.pairs) (IsFull old) pair)
+    pub unchanged : OnErr result (new ≡ old)
+    pub room : IsRoomAfter old pair new
+
+  pub record IsInsertionUnder (old : Holding L R) (pair : L × R) (policy : Policy) (result : Result (Overwritten L R) (NotInsertedWith L R)) (new : Holding L R) : Type 0 where
+    pub allowed : OnOk result (IsAllowed same_left same_right (Contains old.pairs) pair policy)
+    pub answer : IfOk result (IsAnswer same_left same_right (Contains old.pairs) pair)
+    pub put : OnOk result (IsWithPut same_left same_right (Contains old.pairs) pair (Contains new.pairs))
+    pub refused : IfErr result (IsRefusalUnder same_left same_right (Contains old.pairs) (IsFull old) pair policy)
+    pub unchanged : OnErr result (new ≡ old)
+    pub room : IsRoomAfter old pair new
+
+  pub record IsUndoing (old : Holding L R) (left : L) (answer : Overwritten L R) (result : Result (L × R) (UndoStopped L R)) (new : Holding L R) : Type 0 where
+    pub taken : IfOk result (λ p. Contains old.pairs p × (same_left p.0 left ≡ true))
+    pub undone : OnOk result (IsUndone same_left same_right (Contains old.pairs) left answer (Contains new.pairs))
+    pub handed_back : IfErr result (λ e. e.answer ≡ answer)
+    pub both : OnErr result (IsBoth answer)
+    pub full : OnErr result (IsFull old)
+    pub unchanged : OnErr result (new ≡ old)
+    pub not_lower : old.room ≤ new.room
+    pub had_place : length old.pairs < old.room → new.room ≡ old.room
+    pub not_both : (IsBoth answer → ⊥) → new.room ≡ old.room
+
+-- what `retain` leaves, the closure being called in some order
+pub record IsRetention {F L R : Type 0} (g : Mut F (Bor L × (Bor R × Unit {0})) Bool) (old : Holding L R) (f : F) (new : Holding L R) : Type 0 where
+  pub kept : IsKept g f old.pairs new.pairs
+  pub room : new.room ≡ old.room
+
+-- what `retain` leaves, the closure being called in the order of the pairs
+pub record IsRetentionInTurn {F L R : Type 0} (g : Mut F (Bor L × (Bor R × Unit {0})) Bool) (old : Holding L R) (f : F) (new : Holding L R) : Type 0 where
+  pub kept : IsKeptInTurn g f old.pairs new.pairs
+  pub room : new.room ≡ old.room

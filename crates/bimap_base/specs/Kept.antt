@@ -1,0 +1,55 @@
+-- What `retain` keeps, by a closure that may have a state.
+use Rattle.std.specs.Prelude.{◌≡◌, ◌↔◌, Bool, true, false, List, [], ◌∷◌, ◌++◌, Contains, IsPermutation}
+use denote.Param.Members.{Mut, Called}
+use denote.Ref.{Bor}
+
+-- a call of f at the two values of p may answer b, and leave f'
+pub record TestedAt {F L R : Type 0} (g : Mut F (Bor L × (Bor R × Unit {0})) Bool) (f : F) (p : L × R) (b : Bool) (f' : F) : Type 0 where
+  pub left : Bor L
+  pub right : Bor R
+  pub shows_left : left.now ≡ p.0
+  pub shows_right : right.now ≡ p.1
+  pub called : Called g f (left, (right, tt)) b f'
+
+-- f may be called at the two values of p
+abbrev pub MayTestPair : {F L R : Type 0} → Mut F (Bor L × (Bor R × Unit {0})) Bool → F → L × R → Type 0
+MayTestPair {F} {L} {R} g f p = (left : Bor L) (right : Bor R) → left.now ≡ p.0 → right.now ≡ p.1 → g.pre f (left, (right, tt))
+
+module _ {F L R : Type 0} (g : Mut F (Bor L × (Bor R × Unit {0})) Bool) where
+  -- f was called at each pair of the list in turn, each call in the state that the one before left
+  abbrev pub TestsInTurn : F → List (L × R) → List Bool → F → Type 0
+  TestsInTurn f [] [] last = f ≡ last
+  TestsInTurn f [] (b ∷ bs) last = ⊥
+  TestsInTurn f (p ∷ ps) [] last = ⊥
+  TestsInTurn f (p ∷ ps) (b ∷ bs) last = (next : F) × TestedAt g f p b next × TestsInTurn next ps bs last
+
+  -- f may be called once at each of the pairs held, in any order
+  pub record MayTest (f : F) (held : List (L × R)) : Type 0 where
+    pub at : (ps : List (L × R)) (bs : List Bool) (later : F) (left : Bor L) (right : Bor R) (rest : List (L × R)) → IsPermutation held (ps ++ (left.now, right.now) ∷ rest) → TestsInTurn f ps bs later → g.pre later (left, (right, tt))
+
+  -- f may be called once at each of the pairs of the list, in its order
+  pub record MayTestInTurn (f : F) (pairs : List (L × R)) : Type 0 where
+    pub at : (ps : List (L × R)) (bs : List Bool) (later : F) (left : Bor L) (right : Bor R) (rest : List (L × R)) → pairs ≡ ps ++ (left.now, right.now) ∷ rest → TestsInTurn f ps bs later → g.pre later (left, (right, tt))
+
+  -- the pairs of the list that were answered true
+  abbrev pub answered_true : List (L × R) → List Bool → List (L × R)
+  answered_true [] bs = []
+  answered_true (p ∷ ps) [] = []
+  answered_true (p ∷ ps) (true ∷ bs) = p ∷ answered_true ps bs
+  answered_true (p ∷ ps) (false ∷ bs) = answered_true ps bs
+
+  -- f was called once at each of the pairs held, in some order, and those answered true are left
+  pub record IsKept (f : F) (held left : List (L × R)) : Type 0 where
+    pub order : List (L × R)
+    pub answers : List Bool
+    pub last : F
+    pub each_once : IsPermutation held order
+    pub calls : TestsInTurn f order answers last
+    pub kept : (q : L × R) → Contains left q ↔ Contains (answered_true order answers) q
+
+  -- f was called once at each of the pairs held, in their order, and those answered true are left
+  pub record IsKeptInTurn (f : F) (held left : List (L × R)) : Type 0 where
+    pub answers : List Bool
+    pub last : F
+    pub calls : TestsInTurn f held answers last
+    pub kept : left ≡ answered_true held answers

@@ -1,0 +1,11 @@
+pub mod Sets
+pub mod Answer
+pub mod Survivors
+pub mod Kept
+pub mod Undoing
+pub mod Holding
+pub mod Digits
+pub mod Slots
+pub mod FreeSlots
+pub mod Keyed
+pub mod Packed

@@ -1,0 +1,20 @@
+//! What both bimaps stand on: the plain types, the store of pairs, and the interfaces between store, index and bimap.
+#![tactic(auto)]
+
+mod bijection;
+mod cells;
+mod keys;
+mod meter;
+mod overwritten;
+mod pairs;
+mod policy;
+mod refusal;
+
+pub use bijection::Bijection;
+pub use cells::{Cells, Node};
+pub use keys::{Keys, LeftOf, RightOf};
+pub use meter::Meter;
+pub use overwritten::Overwritten;
+pub use pairs::Pairs;
+pub use policy::{OnHeld, Policy};
+pub use refusal::{ExtendStopped, NoMemory, NoRoom, NotInserted, NotInsertedWith, UndoStopped};

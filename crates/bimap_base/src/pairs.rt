@@ -1,0 +1,151 @@
+//! The store: pairs in numbered places. It knows nothing of their values, nor of how places are found.
+ghost use Rattle.std.specs.Prelude.{◌≡◌, ◌+◌, ◌<◌, ◌≤◌, [], max, map, length, option_map, Some, None, IsOk, IsSome, OnOk, OnErr, slice_set, slice_index_or, replicate};
+ghost use Rattle.bimap_base.specs.Slots.{pair_at, IsLive, pair_count};
+ghost use Rattle.bimap_base.specs.FreeSlots.{pair_of, IsFreeList};
+
+use crate::refusal::NoMemory;
+use std::alloc::Global;
+use std::marker::Model;
+use std::mem;
+
+/// Pairs in numbered places. A place without a pair is free.
+#[derive(Drop)]
+pub struct Pairs<L, R> {
+    slots: Vec<Slot<L, R>>,
+    // How many places have a pair.
+    len: usize,
+    // The first free place.
+    next: Option<usize>,
+}
+
+#[derive(Drop)]
+enum Slot<L, R> {
+    Free(Option<usize>),
+    Held(L, R),
+}
+
+impl<L, R> Model for Pairs<L, R> {
+    ghost use Rattle.std.specs.Prelude.{List, Option, map};
+
+    ghost Value = { List (Option (L × R)) };
+
+    ghost use Rattle.bimap_base.specs.FreeSlots.{pair_of, IsSound};
+
+    ghost view = { λ s. map pair_of s.slots.items };
+
+    ghost invariant = { λ s. IsSound s.slots.items s.len s.next };
+}
+
+impl<L, R> Pairs<L, R> {
+    /// No places.
+    pub fn new(alloc: Global) -> Self
+        ensures { result ≡ [] }
+    {
+        Pairs {
+            slots: Vec::new(alloc),
+            len: 0,
+            next: None,
+        }
+    }
+
+    /// The number of places.
+    pub fn places(&self) -> usize
+        ensures { result ≡ length self.now }
+    {
+        self.slots.len()
+    }
+
+    /// The number of pairs.
+    pub fn len(&self) -> usize
+        ensures value { result ≡ pair_count self.now }
+        ensures bound { result ≤ length self.now }
+    {
+        self.len
+    }
+
+    /// The pair at a place.
+    pub fn at(&self, place: usize) -> Option<(&L, &R)>
+        ensures { option_map (λ p. (p.0.now, p.1.now)) result ≡ pair_at self.now place }
+    {
+        match self.slots.get(place) {
+            Some(Slot::Held(left, right)) => Some((left, right)),
+            _ => None,
+        }
+    }
+
+    /// Puts a pair into a free place, and answers which. It takes no memory.
+    pub fn put(&mut self, left: L, right: R) -> usize
+        requires { pair_count self.old < length self.old }
+        ensures there { result < length self.old }
+        ensures was_free { pair_at self.old result ≡ None }
+        ensures now { self.new ≡ slice_set self.old result (Some (left, right)) }
+        ensures count { pair_count self.new ≡ pair_count self.old + 1 }
+    {
+        match self.next {
+            Some(place) => {
+                match mem::replace(&mut self.slots[place], Slot::Held(left, right)) {
+                    Slot::Free(next) => self.next = next,
+                    Slot::Held(_, _) => unreachable!(),
+                }
+                self.len += 1;
+                place
+            }
+            None => unreachable!(),
+        }
+    }
+
+    /// Puts a pair in the place of another, which it answers. It takes no memory.
+    pub fn swap_in(&mut self, place: usize, left: L, right: R) -> (L, R)
+        requires { IsLive self.old place }
+        ensures was { pair_at self.old place ≡ Some result }
+        ensures now { self.new ≡ slice_set self.old place (Some (left, right)) }
+        ensures count { pair_count self.new ≡ pair_count self.old }
+    {
+        match mem::replace(&mut self.slots[place], Slot::Held(left, right)) {
+            Slot::Held(old_left, old_right) => (old_left, old_right),
+            Slot::Free(_) => unreachable!(),
+        }
+    }
+
+    /// Takes out the pair at a place, which is free then.
+    pub fn take(&mut self, place: usize) -> (L, R)
+        requires { IsLive self.old place }
+        ensures was { pair_at self.old place ≡ Some result }
+        ensures now { self.new ≡ slice_set self.old place None }
+        ensures count { pair_count self.new + 1 ≡ pair_count self.old }
+    {
+        let free = Slot::Free(self.next);
+        match mem::replace(&mut self.slots[place], free) {
+            Slot::Held(left, right) => {
+                self.len -= 1;
+                self.next = Some(place);
+                (left, right)
+            }
+            Slot::Free(_) => unreachable!(),
+        }
+    }
+
+    /// Makes places up to a number. Where they are there, it takes no memory.
+    pub fn grow(&mut self, to: usize) -> Result<(), NoMemory>
+        ensures ok { OnOk result (length self.new ≡ max to (length self.old)) }
+        ensures kept { (place : _) → pair_at self.new place ≡ pair_at self.old place }
+        ensures count { pair_count self.new ≡ pair_count self.old }
+        ensures succeeds { to ≤ length self.old → IsOk result }
+        ensures unchanged { to ≤ length self.old → self.new ≡ self.old }
+        ensures err { OnErr result (self.new ≡ self.old) }
+    {
+        let places = self.slots.len();
+        if to <= places {
+            return Ok(());
+        }
+        if self.slots.try_reserve_exact(to - places).is_err() {
+            return Err(NoMemory);
+        }
+        while self.slots.len() < to {
+            let place = self.slots.len();
+            self.slots.push_reserved(Slot::Free(self.next));
+            self.next = Some(place);
+        }
+        Ok(())
+    }
+}
