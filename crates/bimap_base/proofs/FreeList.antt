@@ -6,7 +6,7 @@ use Rattle.std.proofs.lemmas.Option.{slice_get_within, slice_get-get_or, get_or_
 use Rattle.std.proofs.Math.Seq.{get_or-append_seam}
 use Rattle.bimap_base.specs.declared.pairs.Slot.{Slot}
 use Rattle.bimap_base.specs.declared.pairs.Slot.TheVariants.{Free, Held}
-use Rattle.bimap_base.specs.FreeSlots.{pair_of, IsFreeList, IsSound}
+use Rattle.bimap_base.specs.FreeSlots.{pair_of, IsFreeList, IsSound, IsGrown}
 
 -- the default at the end of a list changes no read
 get_or-push_default : {X : Type 0} (xs : List X) (d : X) (i : ℕ) → get_or (xs ++ d ∷ []) i d ≡ get_or xs i d
@@ -141,11 +141,8 @@ module _ {L R : Type 0} where
       ∙ ap Some (get_or_append_left slots (slot ∷ []) slot p.0 within ∙ get_or_from_slice_get slots p.0 _ slot p.3) in
       (p.0, p.1, p.2, kept, IsFreeList-push slots slot n p.1 p.4)
 
-  -- what `grow` keeps: more slots at the end are free
-  pub record IsGrown (first : List (Slot L R)) (slots : List (Slot L R)) (len : ℕ) (next : Option ℕ) : Type 0 where
-    pub sound : IsSound slots len next
-    pub kept : (place : ℕ) → get_or (map pair_of slots) place None ≡ get_or (map pair_of first) place None
-    pub count : count_by is_some (map pair_of slots) ≡ count_by is_some (map pair_of first)
+  pub IsSound-empty : IsSound {L = L} {R = R} [] 0 None
+  IsSound-empty = record { counted = refl; free = 0; total = refl; linked = refl }
 
   pub IsGrown-start : (slots : List (Slot L R)) (len : ℕ) (next : Option ℕ) → IsSound slots len next → IsGrown slots slots len next
   IsGrown-start slots len next sound = record { sound = sound; kept = λ _. refl; count = refl }

@@ -1,5 +1,5 @@
 -- How `Pairs` lays out its slots. No public clause cites this module.
-use Rattle.std.specs.Prelude.{◌≡◌, ℕ, zero, suc, ◌+◌, List, map, length, Option, Some, None, is_some, count_by, slice_get}
+use Rattle.std.specs.Prelude.{◌≡◌, ℕ, zero, suc, ◌+◌, List, map, length, Option, Some, None, is_some, count_by, slice_get, get_or}
 use Rattle.bimap_base.specs.declared.pairs.Slot.{Slot}
 use Rattle.bimap_base.specs.declared.pairs.Slot.TheVariants.{Free, Held}
 
@@ -21,3 +21,9 @@ module _ {L R : Type 0} where
     pub free : ℕ
     pub total : len + free ≡ length slots
     pub linked : IsFreeList slots free next
+
+  -- more slots at the end are free, and no pair has moved
+  pub record IsGrown (first : List (Slot L R)) (slots : List (Slot L R)) (len : ℕ) (next : Option ℕ) : Type 0 where
+    pub sound : IsSound slots len next
+    pub kept : (place : ℕ) → get_or (map pair_of slots) place None ≡ get_or (map pair_of first) place None
+    pub count : count_by is_some (map pair_of slots) ≡ count_by is_some (map pair_of first)

@@ -95,10 +95,10 @@ impl Cells {
             height: 0,
             size: 0,
         };
-        match self.nodes.resize(to, empty) {
-            Ok(()) => Ok(()),
-            Err(_) => Err(NoMemory),
-        }
+        let Ok(()) = self.nodes.resize(to, empty) else {
+            unreachable!();
+        };
+        Ok(())
     }
 
     /// The node of a place.

@@ -1,7 +1,7 @@
 //! The store: pairs in numbered places. It knows nothing of their values, nor of how places are found.
-ghost use Rattle.std.specs.Prelude.{◌≡◌, ◌+◌, ◌<◌, ◌≤◌, [], max, map, length, option_map, Some, None, IsOk, IsSome, OnOk, OnErr, slice_set, slice_index_or, replicate};
+ghost use Rattle.std.specs.Prelude.{◌≡◌, ◌+◌, ◌<◌, ◌≤◌, [], max, map, length, option_map, Some, None, IsOk, IsSome, OnOk, OnErr, slice_set, slice_index_or, replicate, ℕ, vec_len, vec_capacity};
 ghost use Rattle.bimap_base.specs.Slots.{pair_at, IsLive, pair_count};
-ghost use Rattle.bimap_base.specs.FreeSlots.{pair_of, IsFreeList};
+ghost use Rattle.bimap_base.specs.FreeSlots.{pair_of, IsFreeList, IsSound, IsGrown};
 
 use crate::refusal::NoMemory;
 use std::alloc::Global;
@@ -36,8 +36,28 @@ impl<L, R> Model for Pairs<L, R> {
     ghost invariant = { λ s. IsSound s.slots.items s.len s.next };
 }
 
+// Pushes free slots up to a number, which the vector has room for, and answers the first free place.
+fn push_free<L, R>(
+    slots: &mut Vec<Slot<L, R>>,
+    first: Option<usize>,
+    to: usize,
+) -> Option<usize>
+    requires room { to ≤ vec_capacity slots.old }
+    requires fits { vec_len slots.old ≤ to }
+    ensures grown { (len : ℕ) → IsSound slots.old.items len first → IsGrown slots.old.items slots.new.items len result }
+    ensures long { vec_len slots.new ≡ to }
+{
+    let mut next = first;
+    while slots.len() < to {
+        let place = slots.len();
+        slots.push_reserved(Slot::Free(next));
+        next = Some(place);
+    }
+    next
+}
+
 impl<L, R> Pairs<L, R> {
-    /// No places.
+    /// No places. It takes no memory.
     pub fn new(alloc: Global) -> Self
         ensures { result ≡ [] }
     {
@@ -125,7 +145,7 @@ impl<L, R> Pairs<L, R> {
         }
     }
 
-    /// Makes places up to a number. Where they are there, it takes no memory.
+    /// Makes places up to a number, exactly. It takes memory only where some are missing, and a refusal changes nothing.
     pub fn grow(&mut self, to: usize) -> Result<(), NoMemory>
         ensures ok { OnOk result (length self.new ≡ max to (length self.old)) }
         ensures kept { (place : _) → pair_at self.new place ≡ pair_at self.old place }
@@ -141,11 +161,22 @@ impl<L, R> Pairs<L, R> {
         if self.slots.try_reserve_exact(to - places).is_err() {
             return Err(NoMemory);
         }
-        while self.slots.len() < to {
-            let place = self.slots.len();
-            self.slots.push_reserved(Slot::Free(self.next));
-            self.next = Some(place);
-        }
+        self.next = push_free(&mut self.slots, self.next, to);
         Ok(())
+    }
+
+    /// Drops all pairs. The places stay.
+    pub fn clear(&mut self)
+    where
+        L: Drop,
+        R: Drop,
+        ensures places { length self.new ≡ length self.old }
+        ensures free { (place : _) → pair_at self.new place ≡ None }
+        ensures count { pair_count self.new ≡ 0 }
+    {
+        let places = self.slots.len();
+        self.slots.clear();
+        self.len = 0;
+        self.next = push_free(&mut self.slots, None, places);
     }
 }
