@@ -18,3 +18,6 @@ pub use overwritten::Overwritten;
 pub use pairs::Pairs;
 pub use policy::{OnHeld, Policy};
 pub use refusal::{ExtendStopped, NoMemory, NoRoom, NotInserted, NotInsertedWith, UndoStopped};
+
+#[cfg(test)]
+mod tests;
