@@ -1,8 +1,8 @@
 -- What a contract sees of a bimap, and what each call answers and leaves: one record a call, one fact a field.
-use Rattle.std.specs.Prelude.{◌≡◌, ◌⊎◌, ℕ, ◌<◌, ◌≤◌, Bool, true, Option, Result, List, length, Contains, IfSome, IfNone, IfOk, IfErr, OnOk, OnErr}
+use Rattle.std.specs.Prelude.{◌≡◌, ℕ, ◌<◌, ◌≤◌, Bool, true, Option, Result, List, length, Contains, IfSome, IfNone, IfOk, IfErr, OnOk, OnErr}
 use Rattle.std.specs.Borrow.{Bor}
 use denote.Param.Members.{Mut}
-use Rattle.bimap_base.specs.Sets.{NoneShares, SomeShares, IsWithPut, HasLeft, LacksLeft, IsWithoutLeft, HasRight, LacksRight, IsWithoutRight}
+use Rattle.bimap_base.specs.Sets.{NoneShares, SomeShares, IsWithPut, LacksLeft, IsWithoutLeft, LacksRight, IsWithoutRight}
 use Rattle.bimap_base.specs.Answer.{IsAnswer, IsRefusal, IsAllowed, IsRefusalUnder, IsBoth}
 use Rattle.bimap_base.specs.Kept.{IsKept, IsKeptInTurn}
 use Rattle.bimap_base.specs.Undoing.{IsUndone}

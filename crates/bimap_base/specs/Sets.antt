@@ -1,5 +1,5 @@
 -- Sets of pairs. A set is a predicate on pairs, and a list of pairs is the set of its members (`Contains`).
-use Rattle.std.specs.Prelude.{◌≡◌, ◌↔◌, ◌⊎◌, ◌||◌, Bool, true, false, List, Contains}
+use Rattle.std.specs.Prelude.{◌≡◌, ◌↔◌, ◌⊎◌, ◌||◌, Bool, true, false, List}
 use Rattle.std.specs.List.{AllPairs}
 
 -- the two sets have the same members

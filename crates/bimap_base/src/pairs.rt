@@ -37,11 +37,7 @@ impl<L, R> Model for Pairs<L, R> {
 }
 
 // Pushes free slots up to a number, which the vector has room for, and answers the first free place.
-fn push_free<L, R>(
-    slots: &mut Vec<Slot<L, R>>,
-    first: Option<usize>,
-    to: usize,
-) -> Option<usize>
+fn push_free<L, R>(slots: &mut Vec<Slot<L, R>>, first: Option<usize>, to: usize) -> Option<usize>
     requires room { to ≤ vec_capacity slots.old }
     requires fits { vec_len slots.old ≤ to }
     ensures grown { (len : ℕ) → IsSound slots.old.items len first → IsGrown slots.old.items slots.new.items len result }

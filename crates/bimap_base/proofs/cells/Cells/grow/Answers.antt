@@ -1,4 +1,4 @@
-use Rattle.std.proofs.Common.{◌≡◌, arith}
+use Rattle.std.proofs.Common.{arith}
 use Rattle.bimap_base.proofs.Packs.{get-extended}
 use Rattle.bimap_base.proofs.cells.Cells.grow.Goals as goal
 

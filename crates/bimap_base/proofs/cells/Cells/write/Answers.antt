@@ -1,4 +1,4 @@
-use Rattle.std.proofs.Common.{rules, ◌≡◌, ℕ, ◌∙◌, ap, sym, slice_set, map, Option}
+use Rattle.std.proofs.Common.{◌≡◌, ℕ, ◌∙◌, ap, slice_set, map, Option}
 use Rattle.bimap_base.specs.Packed.{node_in}
 use Rattle.bimap_base.specs.declared.cells.Node.{Node}
 use Rattle.bimap_base.proofs.Packs.{map-written}
@@ -9,4 +9,4 @@ node_is n l r e f = ap (λ x. record { left = x; right = r; height = n.height; s
 
 pub returns-clause-written : goal.returns-clause-written
 returns-clause-written g c =
-    map-written _ _ _ ∙ ap (λ n. slice_set (map node_in c.self.inside.nodes.items) c.args.place n) (node_is c.args.node _ _ c.closed.ensures c.closed-2.ensures) ∙ ap (λ z. slice_set z c.args.place c.args.node) c.self.view_is
+    map-written _ _ _ ∙ ap (λ n. slice_set (map node_in c.self.inside.nodes.items) c.args.place n) (node_is c.args.node _ _ c.packed_link.ensures c.packed_link-2.ensures) ∙ ap (λ z. slice_set z c.args.place c.args.node) c.self.view_is

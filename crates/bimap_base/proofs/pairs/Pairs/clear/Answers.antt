@@ -1,5 +1,3 @@
-use Rattle.std.proofs.Common.{◌≡◌, [], None, refl}
-
 use Rattle.bimap_base.proofs.FreeList.{IsSound-empty}
 use Rattle.bimap_base.proofs.pairs.Pairs.clear.Goals as goal
 

@@ -1,4 +1,4 @@
-use Rattle.std.proofs.Common.{◌≡◌, refl, Some, ap, ◌∙◌, sym, arith}
+use Rattle.std.proofs.Common.{refl, Some, ap, ◌∙◌, sym, arith}
 use Rattle.std.proofs.lemmas.List.{map-set, length-map}
 use Rattle.std.proofs.lemmas.Option.{slice_get_within, slice_get_read}
 use Rattle.bimap_base.proofs.FreeList.{first_is_free, IsSound-fill}
