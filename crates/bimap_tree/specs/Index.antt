@@ -1,0 +1,48 @@
+-- What an ordered index shows.
+use Rattle.std.specs.Prelude.{◌≡◌, ℕ, zero, suc, ◌+◌, ◌≤◌, ◌<◌, List, Option, Some, None, slice_get, length, ◌^◌}
+use Rattle.bimap_base.specs.declared.cells.Node.{Node}
+use Rattle.bimap_tree.specs.Tree.{Tree, leaf, fork, Stands, IsBalanced, IsDistinctTree, size, reading}
+use Rattle.bimap_tree.specs.Insert.{height_at}
+
+abbrev pub told_left : Option Node → Option ℕ
+told_left None = None
+told_left (Some node) = node.left
+
+abbrev pub told_right : Option Node → Option ℕ
+told_right None = None
+told_right (Some node) = node.right
+
+-- the tree that the nodes tell at this root, down to this many levels
+abbrev pub tree_at : List Node → ℕ → Option ℕ → Tree
+tree_at nodes zero root = leaf
+tree_at nodes (suc levels) None = leaf
+tree_at nodes (suc levels) (Some place) = fork (tree_at nodes levels (told_left (slice_get nodes place))) place (tree_at nodes levels (told_right (slice_get nodes place)))
+
+unfoldable pub tree_in : List Node → Option ℕ → Tree
+tree_in nodes root = tree_at nodes (height_at nodes root) root
+
+-- the places in order, the nodes and the root
+pub record Index : Type 0 where
+  pub places : List ℕ
+  pub nodes : List Node
+  pub root : Option ℕ
+
+-- the nodes show a balanced tree of distinct places at the root, of this many places
+pub record IsIndex (nodes : List Node) (root : Option ℕ) (t : Tree) : Type 0 where
+  pub tree : Stands nodes root t
+  pub balanced : IsBalanced t
+  pub distinct : IsDistinctTree t
+
+-- there is a balanced tree whose reading is the list, and which the nodes show at the root
+pub record IsBalancedIndex (index : Index) (t : Tree) : Type 0 where
+  pub tree : IsIndex index.nodes index.root t
+  pub in_order : reading t ≡ index.places
+
+-- what is true of the fields of an index: the nodes tell a balanced tree at the root, of so many places
+pub record IsWhole (nodes : List Node) (root : Option ℕ) (len : ℕ) : Type 0 where
+  pub index : IsIndex nodes root (tree_in nodes root)
+  pub counted : len ≡ size (tree_in nodes root)
+  pub few : len < 2 ^ 64
+
+abbrev pub index_of : List Node → Option ℕ → Index
+index_of nodes root = record { places = reading (tree_in nodes root); nodes = nodes; root = root }
