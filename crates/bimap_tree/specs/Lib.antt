@@ -1,8 +1,9 @@
 pub mod Tree
-pub mod Order
-pub mod Insert
 pub mod Index
-pub mod Remove
-pub mod Keyed
+pub mod Order
 pub mod Start
+pub mod Search
+pub mod Link
+pub mod Path
 pub mod Route
+pub mod Remove

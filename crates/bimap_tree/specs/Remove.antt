@@ -1,65 +1,52 @@
--- Taking a place out of a tree.
-use Rattle.std.specs.Prelude.{◌≡◌, ℕ, ◌+◌, ◌*◌, ◌≤◌, ◌<◌, ◌^◌, List, ◌∷◌, ◌++◌, Option, Some, None, slice_get, length}
-use Rattle.std.specs.declared.cmp.Ordering.{Ordering}
+-- Taking out the place at a path's end.
+use Rattle.std.specs.Prelude.{◌≡◌, ℕ, suc, ◌+◌, ◌≤◌, ◌<◌, ◌^◌, Bool, false, List, [], ◌∷◌, ◌++◌, Option, Some, slice_get, length}
 use Rattle.bimap_base.specs.declared.cells.Node.{Node}
-use Rattle.bimap_tree.specs.Tree.{Tree, fork, Stands, IsBalanced, IsDistinctTree, occurs, is_at, size, height, reading}
-use Rattle.bimap_tree.specs.Order.{IsSplit, first_equal, without_equal}
+use Rattle.bimap_tree.specs.Tree.{Tree, leaf, fork, reading, height, size, occurs, IsBalanced, IsDistinctTree, Shows, Stands}
+use Rattle.bimap_tree.specs.Path.{Path, below, plug, steps, front, back, occurs_on, Follows}
+use Rattle.bimap_tree.specs.declared.route.Route.{Route}
 
--- a balanced tree of distinct places, whose number fits
-pub record IsSound (nodes : List Node) (root : Option ℕ) (t : Tree) : Type 0 where
-  pub tree : Stands nodes root t
-  pub balanced : IsBalanced t
-  pub distinct : IsDistinctTree t
-  pub fits : size t < 2 ^ 64
+-- the way to a tree's first place: a tree at the end of turns to the left, each away from a place and its right tree
+abbrev pub hang : List (ℕ × Tree) → Tree → Tree
+hang [] t = t
+hang (x ∷ xs) t = fork (hang xs t) x.0 x.1
 
--- the tree u that stands after the first place of the tree t was taken out
-pub record IsPopped (old new : List Node) (t : Tree) (least : ℕ) (root : Option ℕ) (u : Tree) : Type 0 where
-  pub tree : Stands new root u
-  pub in_order : reading t ≡ least ∷ reading u
-  pub same_places : (q : ℕ) → occurs q t ≡ is_at q least + occurs q u
-  pub balanced : IsBalanced u
-  pub not_higher : height u ≤ height t
-  pub at_most_one_lower : height t ≤ height u + 1
-  pub same_elsewhere : (q : ℕ) → occurs q t ≡ 0 → slice_get new q ≡ slice_get old q
-  pub same_length : length new ≡ length old
+-- a path that goes on by these turns to the left
+abbrev pub onward : Path → List (ℕ × Tree) → Path
+onward path [] = path
+onward path (x ∷ xs) = onward (below path false x.0 x.1) xs
 
--- two trees that stood below one place may be joined
-pub record CanJoin (nodes : List Node) (left right : Option ℕ) (at : ℕ) (l r : Tree) : Type 0 where
-  pub left_tree : Stands nodes left l
-  pub right_tree : Stands nodes right r
-  pub balanced : IsBalanced (fork l at r)
-  pub distinct : IsDistinctTree (fork l at r)
-  pub fits : size (fork l at r) < 2 ^ 64
+-- the places and turns from a depth on are those of the turns to the left
+abbrev pub FollowsOn : List ℕ → List Bool → ℕ → List (ℕ × Tree) → Type 0
+FollowsOn places turns depth [] = Unit {0}
+FollowsOn places turns depth (x ∷ xs) = (slice_get places depth ≡ Some x.0) × (slice_get turns depth ≡ Some false) × FollowsOn places turns (suc depth) xs
 
--- the tree u that stands after two trees were joined
-pub record IsJoined (old new : List Node) (at : ℕ) (l r : Tree) (root : Option ℕ) (u : Tree) : Type 0 where
-  pub tree : Stands new root u
-  pub in_order : reading u ≡ reading l ++ reading r
-  pub same_places : (q : ℕ) → occurs q u ≡ occurs q l + occurs q r
-  pub balanced : IsBalanced u
-  pub not_higher : height u ≤ height (fork l at r)
-  pub at_most_one_lower : height (fork l at r) ≤ height u + 1
-  pub same_elsewhere : (q : ℕ) → occurs q l ≡ 0 → occurs q r ≡ 0 → slice_get new q ≡ slice_get old q
-  pub same_length : length new ≡ length old
+-- the way to the first place of this tree fits a route
+pub record CanDescend (nodes : List Node) (at depth : ℕ) (s : Tree) : Type 0 where
+  pub tree : Stands nodes (Some at) s
+  pub deep : depth + height s ≤ 128
 
--- a place may be taken out of this tree: `live` says which places have a key, and `go` how each stands to the key sought
-pub record CanRemove (nodes : List Node) (root : Option ℕ) (live : ℕ → Type 0) (go : ℕ → Ordering) (t : Tree) : Type 0 where
-  pub sound : IsSound nodes root t
-  pub all_live : (q : ℕ) → 0 < occurs q t → live q
-  pub in_order : IsSplit go (reading t)
+-- the way from this depth on to the tree's first place, which has a tree at its right alone, was noted
+pub record IsFirst (old new : Route) (depth : ℕ) (s : Tree) (first low : ℕ) (lefts : List (ℕ × Tree)) (rest : Tree) : Type 0 where
+  pub whole : s ≡ hang lefts (fork leaf first rest)
+  pub low_is : low ≡ depth + length lefts
+  pub follows : FollowsOn new.places new.turns depth lefts
+  pub same_places : (i : ℕ) → i < depth → slice_get new.places i ≡ slice_get old.places i
+  pub same_turns : (i : ℕ) → i < depth → slice_get new.turns i ≡ slice_get old.turns i
 
-abbrev pub is_found : ℕ → Option ℕ → ℕ
-is_found q None = 0
-is_found q (Some p) = is_at q p
+-- the place at the route's end may be taken out
+pub record CanTake (nodes : List Node) (route : Route) (path : Path) (l : Tree) (at : ℕ) (r : Tree) : Type 0 where
+  pub follows : Follows route.places route.turns path
+  pub depth_is : route.depth ≡ steps path
+  pub shown : Shows nodes (plug path (fork l at r))
+  pub distinct : IsDistinctTree (plug path (fork l at r))
+  pub balanced : IsBalanced (plug path (fork l at r))
+  pub deep : height (plug path (fork l at r)) ≤ 128
+  pub fits : size (plug path (fork l at r)) < 2 ^ 64
 
--- the tree u that stands after the place with an equal key, if there is one, was taken out of the tree t
-pub record IsRemoved (old new : List Node) (go : ℕ → Ordering) (t : Tree) (root found : Option ℕ) (u : Tree) : Type 0 where
-  pub tree : Stands new root u
-  pub in_order : reading u ≡ without_equal go (reading t)
-  pub found_is : found ≡ first_equal go (reading t)
-  pub same_places : (q : ℕ) → occurs q t ≡ is_found q found + occurs q u
-  pub balanced : IsBalanced u
-  pub not_higher : height u ≤ height t
-  pub at_most_one_lower : height t ≤ height u + 1
-  pub same_elsewhere : (q : ℕ) → occurs q t ≡ 0 → slice_get new q ≡ slice_get old q
+-- the tree v that stands after it was taken out
+pub record IsTaken (old new : List Node) (path : Path) (l r : Tree) (root : Option ℕ) (v : Tree) : Type 0 where
+  pub tree : Stands new root v
+  pub in_order : reading v ≡ (front path ++ reading l) ++ reading r ++ back path
+  pub same_places : (q : ℕ) → occurs q v ≡ occurs_on q path + occurs q l + occurs q r
+  pub balanced : IsBalanced v
   pub same_length : length new ≡ length old

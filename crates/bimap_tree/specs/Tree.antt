@@ -1,5 +1,5 @@
 -- A finite tree of places, and what it is for the nodes of an index to show it.
-use Rattle.std.specs.Prelude.{◌≡◌, ℕ, ◌+◌, ◌*◌, ◌≤◌, ◌<◌, max, Bool, cond, eqb, List, [], ◌∷◌, ◌++◌, Option, Some, None, slice_get, ◌⊎◌, ◌^◌, length}
+use Rattle.std.specs.Prelude.{◌≡◌, ℕ, ◌+◌, ◌≤◌, max, Bool, true, false, cond, eqb, List, [], ◌∷◌, ◌++◌, Option, Some, None, slice_get}
 use Rattle.bimap_base.specs.declared.cells.Node.{Node}
 
 pub data Tree : Type 0 where
@@ -58,30 +58,22 @@ pub record Stands (nodes : List Node) (root : Option ℕ) (t : Tree) : Type 0 wh
   pub root_is : root_of t ≡ root
   pub shown : Shows nodes t
 
--- a place may be linked above two trees
-pub record CanLink (nodes : List Node) (place : ℕ) (left right : Option ℕ) (l r : Tree) : Type 0 where
-  pub has_cell : place < length nodes
-  pub left_tree : Stands nodes left l
-  pub right_tree : Stands nodes right r
-  pub fits : size l + size r + 1 < 2 ^ 64
+-- a place with a near tree on the side of the turn, right if it is true, and a far tree on the other
+abbrev pub branch : Bool → Tree → ℕ → Tree → Tree
+branch true near p far = fork far p near
+branch false near p far = fork near p far
 
--- a place may be linked above two balanced trees whose heights differ by at most two
-pub record CanRebalance (nodes : List Node) (place : ℕ) (left right : Option ℕ) (l r : Tree) : Type 0 where
-  pub link : CanLink nodes place left right l r
-  pub distinct : IsDistinctTree (fork l place r)
-  pub left_balanced : IsBalanced l
-  pub right_balanced : IsBalanced r
-  pub left_level : height l ≤ height r + 2
-  pub right_level : height r ≤ height l + 2
+-- its node
+abbrev pub node_on : Bool → Tree → Tree → Node
+node_on true near far = node_of far near
+node_on false near far = node_of near far
 
--- the tree that stands after a place was linked above two trees, with rotations where they are needed
-pub record IsRebalanced (old new : List Node) (place : ℕ) (l r : Tree) (root : ℕ) (t : Tree) : Type 0 where
-  pub tree : Stands new (Some root) t
-  pub in_order : reading t ≡ reading l ++ place ∷ reading r
-  pub same_places : (q : ℕ) → occurs q t ≡ occurs q (fork l place r)
-  pub balanced : IsBalanced t
-  pub not_lower : max (height l) (height r) ≤ height t
-  pub at_most_one_higher : height t ≤ max (height l) (height r) + 1
-  pub level : height l ≤ height r + 1 → height r ≤ height l + 1 → height t ≡ max (height l) (height r) + 1
-  pub same_elsewhere : (q : ℕ) → occurs q (fork l place r) ≡ 0 → slice_get new q ≡ slice_get old q
-  pub same_length : length new ≡ length old
+-- the child of a node on the side of the turn
+abbrev pub near_of : Bool → Node → Option ℕ
+near_of true node = node.right
+near_of false node = node.left
+
+-- the other child
+abbrev pub far_of : Bool → Node → Option ℕ
+far_of true node = node.left
+far_of false node = node.right

@@ -4,6 +4,7 @@
 mod link;
 mod ordered;
 mod remove;
+mod rise;
 mod route;
 mod search;
 mod steer;

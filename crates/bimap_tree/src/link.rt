@@ -1,49 +1,73 @@
 //! Linking a place above two trees, with rotations. It knows no key and no order.
 ghost use Rattle.std.specs.Prelude.{◌≡◌, ℕ, ◌+◌, ◌<◌, ◌≤◌, slice_set, Some};
-ghost use Rattle.bimap_tree.specs.Insert.{height_at};
-ghost use Rattle.bimap_tree.specs.Tree.{Tree, Stands, height, size, node_of, CanLink, CanRebalance, IsRebalanced};
+ghost use Rattle.bimap_tree.specs.Tree.{Tree, Stands, height, root_of, branch, node_on, near_of, far_of};
+ghost use Rattle.bimap_tree.specs.Link.{Measures, CanLink, CanRebalance, IsRebalanced};
 
 use bimap_base::{Cells, Meter, Node};
 
-// The height of the tree at this root, and the number of its places.
-pub fn measures<M: Meter>(cells: &Cells, root: Option<usize>, meter: &mut M) -> (usize, usize)
+/// A tree as its root's node tells it.
+#[derive(Clone, Copy)]
+pub struct Subtree {
+    pub root: Option<usize>,
+    pub height: usize,
+    pub size: usize,
+}
+
+// The child on the side of the turn, right if it is true, and the other one.
+pub fn children(node: Node, turn: bool) -> (Option<usize>, Option<usize>)
+    ensures near { result.0 ≡ near_of turn node }
+    ensures far { result.1 ≡ far_of turn node }
+{
+    if turn {
+        (node.right, node.left)
+    } else {
+        (node.left, node.right)
+    }
+}
+
+// The tree at this root.
+pub fn measure<M: Meter>(cells: &Cells, root: Option<usize>, meter: &mut M) -> Subtree
     requires { (t : Tree) × Stands cells.now root t }
-    ensures height { (t : Tree) → Stands cells.now root t → result.0 ≡ height t }
-    ensures size { (t : Tree) → Stands cells.now root t → result.1 ≡ size t }
+    ensures measured { (t : Tree) → Stands cells.now root t → Measures result t }
     ensures comparisons { M.comparisons meter.new ≡ M.comparisons meter.old }
     ensures touches { M.touches meter.new ≤ M.touches meter.old + 1 }
 {
     match root {
-        None => (0, 0),
+        None => Subtree {
+            root,
+            height: 0,
+            size: 0,
+        },
         Some(place) => {
             let node = cells.read(place, meter);
-            (node.height, node.size)
+            Subtree {
+                root,
+                height: node.height,
+                size: node.size,
+            }
         }
     }
 }
 
-// Writes the node of a place with these two trees below it.
+// Writes the node of a place, with the near tree on the side of the turn.
 pub fn link<M: Meter>(
     cells: &mut Cells,
     place: usize,
-    left: Option<usize>,
-    right: Option<usize>,
+    turn: bool,
+    near: Subtree,
+    far: Subtree,
     meter: &mut M,
-) -> usize
-    requires { (l : Tree) × (r : Tree) × CanLink cells.old place left right l r }
-    ensures linked { (l r : Tree) → Stands cells.old left l → Stands cells.old right r → cells.new ≡ slice_set cells.old place (node_of l r) }
-    ensures height { result ≡ height_at cells.new (Some place) }
+) -> Subtree
+    requires { (n : Tree) × (f : Tree) × CanLink cells.old place n f × Measures near n × Measures far f }
+    ensures linked { (n f : Tree) → Measures near n → Measures far f → cells.new ≡ slice_set cells.old place (node_on turn n f) }
+    ensures measured { (n f : Tree) → Measures near n → Measures far f → Measures result (branch turn n place f) }
     ensures comparisons { M.comparisons meter.new ≡ M.comparisons meter.old }
-    ensures touches { M.touches meter.new ≤ M.touches meter.old + 3 }
+    ensures touches { M.touches meter.new ≡ M.touches meter.old + 1 }
 {
-    let (left_height, left_size) = measures(cells, left, meter);
-    let (right_height, right_size) = measures(cells, right, meter);
-    let height = if left_height < right_height {
-        right_height
-    } else {
-        left_height
-    } + 1;
-    let size = left_size + right_size + 1;
+    let taller = if near.height < far.height { far.height } else { near.height };
+    let height = taller + 1;
+    let size = near.size + far.size + 1;
+    let (left, right) = if turn { (far.root, near.root) } else { (near.root, far.root) };
     cells.write(
         place,
         Node {
@@ -54,105 +78,72 @@ pub fn link<M: Meter>(
         },
         meter,
     );
-    height
-}
-
-// Links a place above two trees, the left one of which is two levels higher.
-pub fn lean_left<M: Meter>(
-    cells: &mut Cells,
-    place: usize,
-    left: usize,
-    right: Option<usize>,
-    meter: &mut M,
-) -> (usize, usize)
-    requires { (l : Tree) × (r : Tree) × CanRebalance cells.old place (Some left) right l r × (height l ≡ height r + 2) }
-    ensures tree { (l r : Tree) → CanRebalance cells.old place (Some left) right l r → height l ≡ height r + 2 → (t : Tree) × IsRebalanced cells.old cells.new place l r result.0 t }
-    ensures height { result.1 ≡ height_at cells.new (Some result.0) }
-    ensures comparisons { M.comparisons meter.new ≡ M.comparisons meter.old }
-    ensures touches { M.touches meter.new ≤ M.touches meter.old + 13 }
-{
-    let upper = cells.read(left, meter);
-    let (outer_height, _) = measures(cells, upper.left, meter);
-    let (inner_height, _) = measures(cells, upper.right, meter);
-    if inner_height <= outer_height {
-        let _ = link(cells, place, upper.right, right, meter);
-        let height = link(cells, left, upper.left, Some(place), meter);
-        return (left, height);
-    }
-    match upper.right {
-        None => (left, 0),
-        Some(inner) => {
-            let lower = cells.read(inner, meter);
-            let _ = link(cells, left, upper.left, lower.left, meter);
-            let _ = link(cells, place, lower.right, right, meter);
-            let height = link(cells, inner, Some(left), Some(place), meter);
-            (inner, height)
-        }
+    Subtree {
+        root: Some(place),
+        height,
+        size,
     }
 }
 
-// Links a place above two trees, the right one of which is two levels higher.
-pub fn lean_right<M: Meter>(
+// Links a place above two trees, the heavy one of which, on the side of the turn, is two levels higher: by one rotation or two.
+pub fn rotate<M: Meter>(
     cells: &mut Cells,
     place: usize,
-    left: Option<usize>,
-    right: usize,
+    turn: bool,
+    heavy: usize,
+    light: Subtree,
     meter: &mut M,
-) -> (usize, usize)
-    requires { (l : Tree) × (r : Tree) × CanRebalance cells.old place left (Some right) l r × (height r ≡ height l + 2) }
-    ensures tree { (l r : Tree) → CanRebalance cells.old place left (Some right) l r → height r ≡ height l + 2 → (t : Tree) × IsRebalanced cells.old cells.new place l r result.0 t }
-    ensures height { result.1 ≡ height_at cells.new (Some result.0) }
+) -> Subtree
+    requires { (n : Tree) × (f : Tree) × CanRebalance cells.old place n f × (root_of n ≡ Some heavy) × Measures light f × (height n ≡ height f + 2) }
+    ensures tree { (n f : Tree) → CanRebalance cells.old place n f → root_of n ≡ Some heavy → Measures light f → height n ≡ height f + 2 → (t : Tree) × Measures result t × IsRebalanced cells.old cells.new turn place n f t }
     ensures comparisons { M.comparisons meter.new ≡ M.comparisons meter.old }
-    ensures touches { M.touches meter.new ≤ M.touches meter.old + 13 }
+    ensures touches { M.touches meter.new ≤ M.touches meter.old + 9 }
 {
-    let upper = cells.read(right, meter);
-    let (outer_height, _) = measures(cells, upper.right, meter);
-    let (inner_height, _) = measures(cells, upper.left, meter);
-    if inner_height <= outer_height {
-        let _ = link(cells, place, left, upper.left, meter);
-        let height = link(cells, right, Some(place), upper.right, meter);
-        return (right, height);
+    let upper = cells.read(heavy, meter);
+    let (outer_root, inner_root) = children(upper, turn);
+    let outer = measure(cells, outer_root, meter);
+    let inner = measure(cells, inner_root, meter);
+    if inner.height <= outer.height {
+        let lower = link(cells, place, turn, inner, light, meter);
+        return link(cells, heavy, turn, outer, lower, meter);
     }
-    match upper.left {
-        None => (right, 0),
-        Some(inner) => {
-            let lower = cells.read(inner, meter);
-            let _ = link(cells, right, lower.right, upper.right, meter);
-            let _ = link(cells, place, left, lower.left, meter);
-            let height = link(cells, inner, Some(place), Some(right), meter);
-            (inner, height)
-        }
-    }
+    let Some(middle) = inner_root else {
+        unreachable!();
+    };
+    let parts = cells.read(middle, meter);
+    let (near_root, far_root) = children(parts, turn);
+    let near = measure(cells, near_root, meter);
+    let far = measure(cells, far_root, meter);
+    let upper_side = link(cells, heavy, turn, outer, near, meter);
+    let lower_side = link(cells, place, turn, far, light, meter);
+    link(cells, middle, turn, upper_side, lower_side, meter)
 }
 
 // Links a place above two trees whose heights differ by at most two, and rotates where it must.
 pub fn rebalance<M: Meter>(
     cells: &mut Cells,
     place: usize,
-    left: Option<usize>,
-    right: Option<usize>,
+    turn: bool,
+    near: Subtree,
+    far: Subtree,
     meter: &mut M,
-) -> (usize, usize)
-    requires { (l : Tree) × (r : Tree) × CanRebalance cells.old place left right l r }
-    ensures tree { (l r : Tree) → CanRebalance cells.old place left right l r → (t : Tree) × IsRebalanced cells.old cells.new place l r result.0 t }
-    ensures height { result.1 ≡ height_at cells.new (Some result.0) }
+) -> Subtree
+    requires { (n : Tree) × (f : Tree) × CanRebalance cells.old place n f × Measures near n × Measures far f }
+    ensures tree { (n f : Tree) → CanRebalance cells.old place n f → Measures near n → Measures far f → (t : Tree) × Measures result t × IsRebalanced cells.old cells.new turn place n f t }
     ensures comparisons { M.comparisons meter.new ≡ M.comparisons meter.old }
-    ensures touches { M.touches meter.new ≤ M.touches meter.old + 15 }
+    ensures touches { M.touches meter.new ≤ M.touches meter.old + 9 }
 {
-    let (left_height, _) = measures(cells, left, meter);
-    let (right_height, _) = measures(cells, right, meter);
-    if left_height > right_height + 1 {
-        match left {
-            None => (place, 0),
-            Some(left) => lean_left(cells, place, left, right, meter),
-        }
-    } else if right_height > left_height + 1 {
-        match right {
-            None => (place, 0),
-            Some(right) => lean_right(cells, place, left, right, meter),
-        }
-    } else {
-        let height = link(cells, place, left, right, meter);
-        (place, height)
+    if near.height > far.height + 1 {
+        let Some(heavy) = near.root else {
+            unreachable!();
+        };
+        return rotate(cells, place, turn, heavy, far, meter);
     }
+    if far.height > near.height + 1 {
+        let Some(heavy) = far.root else {
+            unreachable!();
+        };
+        return rotate(cells, place, !turn, heavy, near, meter);
+    }
+    link(cells, place, turn, near, far, meter)
 }

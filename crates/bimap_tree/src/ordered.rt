@@ -9,8 +9,9 @@ ghost use Rattle.bimap_tree.specs.Index.{IsBalancedIndex};
 ghost use Rattle.bimap_tree.specs.Route.{IsRoute};
 ghost use Rattle.bimap_tree.specs.Start.{IsStart};
 
-use crate::remove::remove_under;
-use crate::route::{Route, put_at, route_under};
+use crate::remove::take_at;
+use crate::rise::put_at;
+use crate::route::{Route, route_under};
 use crate::search::{find_under, place_under, rank_under};
 use crate::steer::{AfterKey, ToKey, ToPlace};
 use crate::walk::fill_from;
@@ -137,8 +138,7 @@ impl Ordered {
         ensures touches { M.touches meter.new ≤ M.touches meter.old + 64 * (most_height (length self.old.places) + 1) }
     {
         let _ = self.cells.places();
-        let root = put_at(&mut self.cells, route, place, meter);
-        self.root = Some(root);
+        self.root = put_at(&mut self.cells, route, place, meter);
         self.len += 1;
     }
 
@@ -166,8 +166,7 @@ impl Ordered {
             &mut route,
             meter,
         );
-        let root = put_at(&mut self.cells, &route, place, meter);
-        self.root = Some(root);
+        self.root = put_at(&mut self.cells, &route, place, meter);
         self.len += 1;
     }
 
@@ -182,13 +181,16 @@ impl Ordered {
         ensures comparisons { M.comparisons meter.new ≤ M.comparisons meter.old + most_height (length self.old.places) }
         ensures touches { M.touches meter.new ≤ M.touches meter.old + 64 * (most_height (length self.old.places) + 1) }
     {
-        let (root, _) = remove_under(
-            &mut self.cells,
+        let mut route = Route::new();
+        let _ = route_under(
+            &self.cells,
             self.root,
+            0,
             &ToPlace { keys, place },
+            &mut route,
             meter,
         );
-        self.root = root;
+        self.root = take_at(&mut self.cells, &mut route, place, meter);
         self.len -= 1;
     }
 
@@ -210,14 +212,18 @@ impl Ordered {
         ensures comparisons { M.comparisons meter.new ≤ M.comparisons meter.old + most_height (length self.old.places) }
         ensures touches { M.touches meter.new ≤ M.touches meter.old + 64 * (most_height (length self.old.places) + 1) }
     {
-        let (root, found) = remove_under(&mut self.cells, self.root, &ToKey { keys, key }, meter);
-        let len = match found {
-            Some(_) => self.len - 1,
-            None => self.len,
-        };
-        self.root = root;
-        self.len = len;
-        found
+        let mut route = Route::new();
+        let found = route_under(
+            &self.cells,
+            self.root,
+            0,
+            &ToKey { keys, key },
+            &mut route,
+            meter,
+        )?;
+        self.root = take_at(&mut self.cells, &mut route, found, meter);
+        self.len -= 1;
+        Some(found)
     }
 
     /// How many listed places stand before the first one that the bound, taken as a start, lets in: in time logarithmic in the length.

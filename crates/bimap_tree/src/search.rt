@@ -1,10 +1,10 @@
 //! Searches down the tree. They know trees and how a place stands to what is sought, and no key.
 ghost use Rattle.std.specs.Prelude.{◌≡◌, ℕ, ◌+◌, ◌*◌, ◌<◌, ◌≤◌, Some, slice_get};
 ghost use Rattle.bimap_tree.specs.Tree.{Tree, Stands, height, size, reading};
-ghost use Rattle.bimap_tree.specs.Remove.{CanRemove};
+ghost use Rattle.bimap_tree.specs.Search.{CanSeek};
 ghost use Rattle.bimap_tree.specs.Order.{first_equal, count_below};
 
-use crate::link::measures;
+use crate::link::measure;
 use crate::steer::Steer;
 use bimap_base::{Cells, Meter};
 use std::cmp::Ordering;
@@ -16,8 +16,8 @@ pub fn find_under<S: Steer, M: Meter>(
     steer: &S,
     meter: &mut M,
 ) -> Option<usize>
-    requires { (t : Tree) × CanRemove cells.now root (S.live steer.now) (S.go steer.now) t }
-    ensures found { (t : Tree) → CanRemove cells.now root (S.live steer.now) (S.go steer.now) t → result ≡ first_equal (S.go steer.now) (reading t) }
+    requires { (t : Tree) × CanSeek cells.now root (S.live steer.now) (S.go steer.now) t }
+    ensures found { (t : Tree) → CanSeek cells.now root (S.live steer.now) (S.go steer.now) t → result ≡ first_equal (S.go steer.now) (reading t) }
     ensures comparisons { (t : Tree) → Stands cells.now root t → M.comparisons meter.new ≤ M.comparisons meter.old + height t }
     ensures touches { (t : Tree) → Stands cells.now root t → M.touches meter.new ≤ M.touches meter.old + height t }
 {
@@ -50,7 +50,7 @@ pub fn place_under<M: Meter>(
         None => 0,
         Some(at) => {
             let node = cells.read(at, meter);
-            let (_, before) = measures(cells, node.left, meter);
+            let before = measure(cells, node.left, meter).size;
             if rank < before {
                 place_under(cells, node.left, rank, meter)
             } else if rank == before {
@@ -69,8 +69,8 @@ pub fn rank_under<S: Steer, M: Meter>(
     steer: &S,
     meter: &mut M,
 ) -> usize
-    requires { (t : Tree) × CanRemove cells.now root (S.live steer.now) (S.go steer.now) t }
-    ensures rank { (t : Tree) → CanRemove cells.now root (S.live steer.now) (S.go steer.now) t → result ≡ count_below (S.go steer.now) (reading t) }
+    requires { (t : Tree) × CanSeek cells.now root (S.live steer.now) (S.go steer.now) t }
+    ensures rank { (t : Tree) → CanSeek cells.now root (S.live steer.now) (S.go steer.now) t → result ≡ count_below (S.go steer.now) (reading t) }
     ensures comparisons { (t : Tree) → Stands cells.now root t → M.comparisons meter.new ≤ M.comparisons meter.old + height t }
     ensures touches { (t : Tree) → Stands cells.now root t → M.touches meter.new ≤ M.touches meter.old + 2 * height t }
 {
@@ -80,7 +80,7 @@ pub fn rank_under<S: Steer, M: Meter>(
             let node = cells.read(at, meter);
             match steer.side(at, meter) {
                 Ordering::Less => {
-                    let (_, before) = measures(cells, node.left, meter);
+                    let before = measure(cells, node.left, meter).size;
                     before + 1 + rank_under(cells, node.right, steer, meter)
                 }
                 _ => rank_under(cells, node.left, steer, meter),

@@ -12,7 +12,7 @@ pub trait Steer {
 
     ghost go: { Self → ℕ → Ordering };
 
-    // How the key of a place stands to the one sought.
+    // How a place stands to what is sought.
     fn side<M: Meter>(&self, place: usize, meter: &mut M) -> Ordering
         requires { live self.now place }
         ensures side { result ≡ go self.now place }

@@ -2,7 +2,7 @@
 ghost use Rattle.std.specs.Prelude.{◌≡◌, ℕ, ◌+◌, ◌*◌, ◌-◌, ◌<◌, ◌≤◌, ◌++◌, List, length, min, take, drop};
 ghost use Rattle.bimap_tree.specs.Tree.{Tree, Stands, height, size, reading};
 
-use crate::link::measures;
+use crate::link::measure;
 use bimap_base::{Cells, Meter};
 
 // Puts the places of a tree into a buffer behind those that stand there, until it is full, and answers how many stand there.
@@ -58,7 +58,7 @@ pub fn fill_from<M: Meter>(
         None => 0,
         Some(at) => {
             let node = cells.read(at, meter);
-            let (_, before) = measures(cells, node.left, meter);
+            let before = measure(cells, node.left, meter).size;
             if before < rank {
                 return fill_from(cells, node.right, rank - before - 1, buffer, meter);
             }
