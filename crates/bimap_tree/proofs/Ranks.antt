@@ -4,8 +4,8 @@ use Rattle.std.specs.Prelude.{slice_get}
 use Rattle.bimap_base.specs.declared.cells.Node.{Node}
 use Rattle.bimap_tree.specs.Tree.{Tree, leaf, fork, reading, height, size, node_of, Stands}
 use Rattle.bimap_tree.proofs.Shown.{opened, Opened, left_stands, right_stands, Stands-at}
-use Rattle.bimap_tree.proofs.Inserts.{size-reading, height_told}
-use Rattle.bimap_tree.specs.Insert.{height_at}
+use Rattle.bimap_tree.proofs.Shown.{size-reading, height_told}
+use Rattle.bimap_tree.specs.Index.{height_at}
 
 pub get_front : (xs ys : List ℕ) (i : ℕ) → i < length xs → slice_get (xs ++ ys) i ≡ slice_get xs i
 get_front [] ys i h = absurd (omega arith)

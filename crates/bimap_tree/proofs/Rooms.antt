@@ -4,7 +4,7 @@ use Rattle.std.proofs.lemmas.Bool.Decides.{eqb_tells, leb_tells}
 use Rattle.bimap_base.specs.declared.cells.Node.{Node}
 use Rattle.bimap_tree.specs.Tree.{Tree, leaf, fork, size, occurs, is_at, Shows, IsDistinctTree}
 use Rattle.bimap_tree.proofs.Shown.{is_at-same, is_at-other}
-use Rattle.bimap_tree.proofs.Removes.{in_tree}
+use Rattle.bimap_tree.proofs.Shown.{in_tree}
 
 -- how often the numbers below n stand in the tree, together
 abbrev slots : ℕ → Tree → ℕ

@@ -4,7 +4,7 @@ use Rattle.std.specs.Prelude.{slice_set}
 use Rattle.std.proofs.lemmas.List.{take_all, take-append-le, take_more_set, drop-append-le}
 use Rattle.bimap_base.specs.declared.cells.Node.{Node}
 use Rattle.bimap_tree.specs.Tree.{Tree, leaf, fork, reading, size, Stands}
-use Rattle.bimap_tree.proofs.Inserts.{size-reading}
+use Rattle.bimap_tree.proofs.Shown.{size-reading}
 
 -- the buffer is full with what stands in front and on the left
 pub full : (b : List ℕ) (front : List ℕ) (t l r : Tree) (at n : ℕ) → t ≡ fork l at r → n ≡ 16 → 16 ≤ length front + size l → take n b ≡ take 16 (front ++ reading l) → take n b ≡ take 16 (front ++ reading t)

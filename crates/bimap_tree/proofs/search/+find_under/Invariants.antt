@@ -1,4 +1,4 @@
-use Rattle.bimap_tree.specs.Insert.{height_at}
+use Rattle.bimap_tree.specs.Index.{height_at}
 use Rattle.bimap_tree.proofs.search.+find_under.Given as goal
 
 abbrev pub decreases-find_under : goal.decreases-find_under

@@ -1,4 +1,4 @@
-use Rattle.bimap_tree.specs.Insert.{height_at}
+use Rattle.bimap_tree.specs.Index.{height_at}
 use Rattle.bimap_tree.proofs.search.+rank_under.Given as goal
 
 abbrev pub decreases-rank_under : goal.decreases-rank_under

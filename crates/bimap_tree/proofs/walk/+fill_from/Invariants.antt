@@ -1,4 +1,4 @@
-use Rattle.bimap_tree.specs.Insert.{height_at}
+use Rattle.bimap_tree.specs.Index.{height_at}
 use Rattle.bimap_tree.proofs.walk.+fill_from.Given as goal
 
 abbrev pub decreases-fill_from : goal.decreases-fill_from
