@@ -12,3 +12,4 @@ pub mod Rotate
 pub mod Ascending
 pub mod Paths
 pub mod Rises
+pub mod Follow
