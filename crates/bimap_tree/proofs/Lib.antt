@@ -13,3 +13,4 @@ pub mod Ascending
 pub mod Paths
 pub mod Rises
 pub mod Follow
+pub mod Removes

@@ -6,8 +6,8 @@ use Rattle.std.specs.declared.cmp.Ordering.TheVariants.{Less, Equal, Greater}
 use Rattle.bimap_base.specs.declared.cells.Node.{Node}
 use Rattle.bimap_tree.specs.Tree.{Tree, leaf, fork, reading, height, size, occurs, is_at, root_of, IsBalanced, Shows, branch, node_on}
 use Rattle.bimap_tree.specs.Order.{AllStand, IsSplit}
-use Rattle.bimap_tree.specs.Path.{Path, top, below, plug, steps, front, back, occurs_on, size_on, Follows, wanted, Wants, Holds}
-use Rattle.bimap_tree.proofs.Branch.{height-branch, size-branch, occurs-branch, parts, Shows-branch, level}
+use Rattle.bimap_tree.specs.Path.{Path, top, below, plug, steps, front, back, occurs_on, size_on, Follows, wanted, Wants, Tells, Holds}
+use Rattle.bimap_tree.proofs.Branch.{height-branch, size-branch, occurs-branch, far-node_on, height-node_on, size-node_on, parts, Level, level, IsBalanced-branch}
 use Rattle.bimap_tree.proofs.Shown.{is_at-same, Shows-frame, get-written, get-elsewhere}
 use Rattle.bimap_tree.proofs.Split.{split_below, split_above}
 
@@ -33,19 +33,22 @@ pub balanced_inside : (path : Path) (t : Tree) → IsBalanced (plug path t) → 
 balanced_inside top t h = h
 balanced_inside (below up turn p sister) t h = (level turn t p sister (balanced_inside up (branch turn t p sister) h)).near_balanced
 
+pub tells : (turn : Bool) (s sister : Tree) → Tells turn (node_on turn s sister) s sister
+tells turn s sister = record { far_is = far-node_on turn s sister; height_is = height-node_on turn s sister; size_is = size-node_on turn s sister }
+
 -- nodes that show a whole tree hold the path, and show the subtree
 pub holds_of : (ns : List Node) (path : Path) (t : Tree) → Shows ns (plug path t) → Holds ns path t × Shows ns t
 holds_of ns top t h = (tt, h)
 holds_of ns (below up turn p sister) t h =
     let (holds, shown) = holds_of ns up (branch turn t p sister) h in
     let o = parts ns turn t p sister shown in
-    ((o.node, o.far_shown, holds), o.near_shown)
+    (((node_on turn t sister, o.node, tells turn t sister), o.far_shown, holds), o.near_shown)
 
 -- nodes that agree on the places of the path hold it too
 pub Holds-frame : (ns ms : List Node) (path : Path) (s : Tree) → ((q : ℕ) → 0 < occurs_on q path → slice_get ms q ≡ slice_get ns q) → Holds ns path s → Holds ms path s
 Holds-frame ns ms top s same h = tt
 Holds-frame ns ms (below up turn p sister) s same h = (
-  same p (omega (arith, is_at-same p)) ∙ h.0,
+  (h.0.0, same p (omega (arith, is_at-same p)) ∙ h.0.1, h.0.2),
   Shows-frame ns ms sister (λ q o. same q (omega arith)) h.1,
   Holds-frame ns ms up (branch turn s p sister) (λ q o. same q (omega arith)) h.2,
 )
@@ -100,3 +103,27 @@ back_above go (below up turn p sister) t split w = back_step go up turn p sister
 pub Wants-alike : (go other : ℕ → Ordering) (path : Path) → ((q : ℕ) → 0 < occurs_on q path → other q ≡ go q) → Wants go path → Wants other path
 Wants-alike go other top same w = tt
 Wants-alike go other (below up turn p sister) same w = (same p (omega (arith, is_at-same p)) ∙ w.0, Wants-alike go other up (λ q o. same q (omega arith)) w.1)
+
+-- only the height and the size of a subtree matter to the places above
+pub Holds-alike : (ns : List Node) (path : Path) (s t : Tree) → height t ≡ height s → size t ≡ size s → Holds ns path s → Holds ns path t
+Holds-alike ns top s t a b h = tt
+Holds-alike ns (below up turn p sister) s t a b h =
+    let told = h.0.2 in
+    let e1 = told.height_is in
+    let e2 = told.size_is in (
+      (h.0.0, h.0.1, record { far_is = told.far_is; height_is = omega arith; size_is = omega arith }),
+      h.1,
+      Holds-alike ns up (branch turn s p sister) (branch turn t p sister)
+        (omega (arith, height-branch turn s p sister, height-branch turn t p sister, a))
+        (omega (arith, size-branch turn s p sister, size-branch turn t p sister, b)) h.2,
+    )
+
+-- a subtree of the same height keeps the whole in balance
+pub IsBalanced-alike : (path : Path) (s t : Tree) → height t ≡ height s → IsBalanced t → IsBalanced (plug path s) → IsBalanced (plug path t)
+IsBalanced-alike top s t same b h = b
+IsBalanced-alike (below up turn p sister) s t same b h =
+    let lv = level turn s p sister (balanced_inside up (branch turn s p sister) h) in
+    let l1 = lv.near_level in
+    let l2 = lv.far_level in
+    IsBalanced-alike up (branch turn s p sister) (branch turn t p sister) (omega (arith, height-branch turn s p sister, height-branch turn t p sister, same))
+      (IsBalanced-branch turn t p sister record { near_level = omega arith; far_level = omega arith; near_balanced = b; far_balanced = lv.far_balanced }) h

@@ -7,7 +7,7 @@ use Rattle.bimap_base.specs.declared.cells.Node.{Node}
 use Rattle.bimap_base.specs.Packed.{IsThere}
 use Rattle.bimap_tree.specs.Tree.{Tree, leaf, fork, reading, height, size, occurs, is_at, root_of, IsBalanced, Shows, Stands, branch, node_on, near_of, far_of}
 use Rattle.bimap_tree.specs.Link.{CanRebalance, IsRebalanced}
-use Rattle.bimap_tree.specs.Path.{Path, top, below, plug, steps, front, back, occurs_on, size_on, Follows, Holds, one_if, Moves, CanRise, CanRelink, CanPut, IsRisen}
+use Rattle.bimap_tree.specs.Path.{Path, top, below, plug, steps, front, back, occurs_on, size_on, Follows, Tells, Holds, one_if, Moves, CanRise, CanRelink, CanPut, IsRisen}
 use Rattle.bimap_tree.proofs.Branch.{height-branch, size-branch, occurs-branch, root-branch, height-node_on, size-node_on, near-node_on, far-node_on, node_is, level, Level, IsBalanced-branch, Shows-branch, Shows-linked}
 use Rattle.bimap_tree.proofs.Paths.{balanced_inside, Holds-frame, holds_of, occurs-plug, size-plug}
 use Rattle.bimap_tree.proofs.Rotate.{no_rotation}
@@ -24,14 +24,8 @@ both_there n false node near far = (near, far)
 
 -- ---- a place above a tree that has moved
 module _ (nodes : List Node) (at : ℕ) (turn grew : Bool) (node : Node) (sister s u : Tree) (h : CanRelink nodes at turn grew node sister s u) where
-  told_height : node.height ≡ max (height s) (height sister) + 1
-  told_height = ap (λ n. n.height) h.told ∙ height-node_on turn s sister
-
-  told_size : node.size ≡ size s + size sister + 1
-  told_size = ap (λ n. n.size) h.told ∙ size-node_on turn s sister
-
   pub sister_stands : Stands nodes (far_of turn node) sister
-  sister_stands = record { root_is = sym (ap (λ n. far_of turn n) h.told ∙ far-node_on turn s sister); shown = h.sister_shown }
+  sister_stands = record { root_is = sym h.told.far_is; shown = h.sister_shown }
 
   pub can_rebalance : CanRebalance nodes at u sister
   can_rebalance =
@@ -86,11 +80,11 @@ module _ (nodes : List Node) (at : ℕ) (turn grew : Bool) (node : Node) (sister
   pub retold : (new : List Node) (more : Node) → max (height u) (height sister) ≡ max (height s) (height sister) → height u ≤ height sister + 1 → height sister ≤ height u + 1 → near_of turn more ≡ root_of u → far_of turn more ≡ far_of turn node → more.height ≡ node.height → more.size + one_if (not grew) ≡ node.size + one_if grew → new ≡ slice_set nodes at more → Retold new more
   retold new more even l1 l2 near far tall counted e =
       let m1 = h.moves.sizes in
-      let same_height : more.height ≡ max (height u) (height sister) + 1 = omega (arith, tall, told_height, even) in
-      let same_size : more.size ≡ size u + size sister + 1 = omega (arith, counted, told_size, m1) in
+      let same_height : more.height ≡ max (height u) (height sister) + 1 = omega (arith, tall, h.told.height_is, even) in
+      let same_size : more.size ≡ size u + size sister + 1 = omega (arith, counted, h.told.size_is, m1) in
       let is : more ≡ node_on turn u sister = node_is turn more (node_on turn u sister)
         (near ∙ sym (near-node_on turn u sister))
-        (far ∙ ap (λ n. far_of turn n) h.told ∙ far-node_on turn s sister ∙ sym (far-node_on turn u sister))
+        (far ∙ h.told.far_is ∙ sym (far-node_on turn u sister))
         (same_height ∙ sym (height-node_on turn u sister))
         (same_size ∙ sym (size-node_on turn u sister)) in
       record {
@@ -108,7 +102,7 @@ module _ (nodes : List Node) (at : ℕ) (turn grew : Bool) (node : Node) (sister
       let l2 = lv.far_level in
       let m2 = h.moves.not_lower in
       let m3 = h.moves.not_higher in
-      let t = told_height in
+      let t = h.told.height_is in
       let a : one_if grew ≡ 1 = ap one_if up in
       let b : one_if (not grew) ≡ 0 = ap (λ x. one_if (not x)) up in
       retold new more (omega arith) (omega arith) (omega arith) near far tall (omega (arith, counted, a, b)) w
@@ -122,7 +116,7 @@ module _ (nodes : List Node) (at : ℕ) (turn grew : Bool) (node : Node) (sister
       retold new more (omega arith) (omega arith) (omega arith) near far tall counted w
 
   pub as_told : node.height ≡ height (branch turn s at sister)
-  as_told = told_height ∙ sym (height-branch turn s at sister)
+  as_told = h.told.height_is ∙ sym (height-branch turn s at sister)
 
   -- the children that its node is told of are there
   pub children_there : (more : Node) (child : Option ℕ) → root_of u ≡ child → near_of turn more ≡ child → far_of turn more ≡ far_of turn node → IsThere (length nodes) more.left × IsThere (length nodes) more.right
@@ -135,7 +129,7 @@ module _ (nodes : List Node) (at : ℕ) (turn grew : Bool) (node : Node) (sister
   pub counts : (node.size + one_if grew < 2 ^ 64) × (one_if (not grew) ≤ node.size)
   counts =
       let f = h.fits in
-      let t = told_size in
+      let t = h.told.size_is in
       let one = one_way grew in
       (omega arith, omega arith)
 
@@ -160,15 +154,16 @@ module _ (nodes : List Node) (places : List ℕ) (turns : List Bool) (grew : Boo
 
   module _ (up : Path) (turn : Bool) (at : ℕ) (sister : Tree) (c : CanRise nodes places turns (below up turn at sister) grew s u) where
     pub within : at < length nodes
-    within = slice_get_within nodes at (node_on turn s sister) c.holds.0
+    within = slice_get_within nodes at c.holds.0.0 c.holds.0.1
 
     pub can_relink : (node : Node) → slice_get nodes at ≡ Some node → CanRelink nodes at turn grew node sister s u
     can_relink node e =
         let f = c.fits in
-        let same : Some node ≡ Some (node_on turn s sister) = sym e ∙ c.holds.0 in
+        let both : Some c.holds.0.0 ≡ Some node = sym c.holds.0.1 ∙ e in
+        let same : c.holds.0.0 ≡ node = cc in
         record {
           has_cell = within;
-          told = cc;
+          told = subst (λ n. Tells turn n s sister) same c.holds.0.2;
           shown = c.shown;
           sister_shown = c.holds.1;
           distinct = λ q. let d = c.distinct q in omega arith;

@@ -1,9 +1,9 @@
 -- A way down a tree, from its top to one of its subtrees, and what goes on along it.
-use Rattle.std.specs.Prelude.{◌≡◌, ℕ, suc, ◌+◌, ◌≤◌, ◌<◌, ◌^◌, Bool, true, false, not, List, [], ◌∷◌, ◌++◌, Option, Some, slice_get, length}
+use Rattle.std.specs.Prelude.{◌≡◌, ℕ, suc, ◌+◌, ◌≤◌, ◌<◌, ◌^◌, max, Bool, true, false, not, List, [], ◌∷◌, ◌++◌, Option, Some, slice_get, length}
 use Rattle.std.specs.declared.cmp.Ordering.{Ordering}
 use Rattle.std.specs.declared.cmp.Ordering.TheVariants.{Less, Greater}
 use Rattle.bimap_base.specs.declared.cells.Node.{Node}
-use Rattle.bimap_tree.specs.Tree.{Tree, leaf, fork, reading, height, size, occurs, is_at, root_of, IsBalanced, Shows, Stands, branch, node_on}
+use Rattle.bimap_tree.specs.Tree.{Tree, leaf, fork, reading, height, size, occurs, is_at, root_of, IsBalanced, Shows, Stands, branch, far_of}
 
 -- no step, or a path, and below it a turn at a place, to its right if the turn is true, away from the sister tree
 pub data Path : Type 0 where
@@ -56,10 +56,16 @@ abbrev pub Wants : (ℕ → Ordering) → Path → Type 0
 Wants go top = Unit {0}
 Wants go (below up turn p sister) = (go p ≡ wanted turn) × Wants go up
 
--- the nodes show the sisters, and those of the path's places are as they were with the subtree s
+-- what the node of a place tells of the sister, and of the height and the size that it has with the subtree s
+pub record Tells (turn : Bool) (node : Node) (s sister : Tree) : Type 0 where
+  pub far_is : far_of turn node ≡ root_of sister
+  pub height_is : node.height ≡ max (height s) (height sister) + 1
+  pub size_is : node.size ≡ size s + size sister + 1
+
+-- the nodes show the sisters, and those of the path's places tell what they did with the subtree s
 abbrev pub Holds : List Node → Path → Tree → Type 0
 Holds nodes top s = Unit {0}
-Holds nodes (below up turn p sister) s = (slice_get nodes p ≡ Some (node_on turn s sister)) × Shows nodes sister × Holds nodes up (branch turn s p sister)
+Holds nodes (below up turn p sister) s = ((node : Node) × (slice_get nodes p ≡ Some node) × Tells turn node s sister) × Shows nodes sister × Holds nodes up (branch turn s p sister)
 
 -- 1 if it is so, else 0
 abbrev pub one_if : Bool → ℕ
@@ -86,7 +92,7 @@ pub record CanRise (nodes : List Node) (places : List ℕ) (turns : List Bool) (
 -- at a step of the path
 pub record CanRelink (nodes : List Node) (at : ℕ) (turn grew : Bool) (node : Node) (sister s u : Tree) : Type 0 where
   pub has_cell : at < length nodes
-  pub told : node ≡ node_on turn s sister
+  pub told : Tells turn node s sister
   pub shown : Shows nodes u
   pub sister_shown : Shows nodes sister
   pub distinct : (q : ℕ) → occurs q u + is_at q at + occurs q sister ≤ 1

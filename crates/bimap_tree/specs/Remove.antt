@@ -32,6 +32,7 @@ pub record IsFirst (old new : Route) (depth : ℕ) (s : Tree) (first low : ℕ) 
   pub follows : FollowsOn new.places new.turns depth lefts
   pub same_places : (i : ℕ) → i < depth → slice_get new.places i ≡ slice_get old.places i
   pub same_turns : (i : ℕ) → i < depth → slice_get new.turns i ≡ slice_get old.turns i
+  pub as_long : (length new.places ≡ length old.places) × (length new.turns ≡ length old.turns)
 
 -- the place at the route's end may be taken out
 pub record CanTake (nodes : List Node) (route : Route) (path : Path) (l : Tree) (at : ℕ) (r : Tree) : Type 0 where
