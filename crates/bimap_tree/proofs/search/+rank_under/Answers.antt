@@ -18,12 +18,12 @@ rank_under-requires-in_default g t c κs within =
 pub overflow_add-result-in-Less : goal.overflow_add-result-in-Less
 overflow_add-result-in-Less g t c =
     let (l, r, i) = seek_into _ _ _ _ _ _ _ c.requires.1 c.in-Some.is c.read-node.ensures.node in
-    omega (arith, c.requires.1.fits, counted_fits _ _ _ _ _ _ _ l r i, c.rank_under.ensures.rank r i.can_right, (c.measure.ensures.measured l i.can_left.tree).size_is)
+    omega (arith, c.requires.1.fits, counted_fits _ _ _ _ _ _ _ l r i, c.rank_under.ensures.rank r i.can_right, (c.measure-before.ensures.measured l i.can_left.tree).size_is)
 
 pub returns-in-Less-clause-rank : goal.returns-in-Less-clause-rank
 returns-in-Less-clause-rank g t c x h =
     let (l, r, i) = seek_into _ _ _ _ _ _ x h c.in-Some.is c.read-node.ensures.node in
-    omega (arith, counted_right _ _ _ _ _ _ x l r i (sym c.side.ensures.side ∙ c.in-Less.is), c.rank_under.ensures.rank r i.can_right, (c.measure.ensures.measured l i.can_left.tree).size_is)
+    omega (arith, counted_right _ _ _ _ _ _ x l r i (sym c.side.ensures.side ∙ c.in-Less.is), c.rank_under.ensures.rank r i.can_right, (c.measure-before.ensures.measured l i.can_left.tree).size_is)
 
 pub returns-in_default-clause-rank : goal.returns-in_default-clause-rank
 returns-in_default-clause-rank g t c x h =
