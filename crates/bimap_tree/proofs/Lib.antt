@@ -14,3 +14,6 @@ pub mod Paths
 pub mod Rises
 pub mod Follow
 pub mod Removes
+pub mod Found
+pub mod Starts
+pub mod Whole
