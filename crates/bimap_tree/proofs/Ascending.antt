@@ -59,6 +59,12 @@ module _ {K : Type 0} (key : ℕ → Option K) (order : K → K → Ordering) wh
   key_is (Some k) some = (k, refl)
   key_is None some = absurd (let x : false ≡ true = some in cc)
 
+  -- the key of a listed place
+  pub key_listed : (xs : List ℕ) → Ascends key order xs → (p : ℕ) → Contains xs p → (k : K) × (key p ≡ Some k)
+  key_listed xs up p (i, few, e) =
+      let here : slice_index xs i ≡ p = get_or_default xs i 0 p few ∙ e in
+      key_is (key p) (subst (λ q. IsSome (key q)) here (up.live i few))
+
   order_is : (a b : ℕ) (k l : K) → key a ≡ Some k → key b ≡ Some l → order_of order (key a) (key b) ≡ order k l
   order_is a b k l e f = ap (λ o. order_of order o (key b)) e ∙ ap (λ o. order_of order (Some k) o) f
 

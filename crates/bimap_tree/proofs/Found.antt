@@ -55,6 +55,16 @@ pub none_in : (standing : ℕ → Option Ordering) (xs : List ℕ) (found : Opti
 none_in standing xs (Some p) e = tt
 none_in standing xs None e = λ p c s. first_none (λ q. told (standing q)) xs (sym e) p c (ap told s)
 
+-- where no listed key is equal, none is found
+pub none_of : (standing : ℕ → Option Ordering) (xs : List ℕ) (found : Option ℕ) → found ≡ first_equal (λ q. told (standing q)) xs → ((p : ℕ) → Contains xs p → standing p ≡ Some Equal → ⊥) → found ≡ None
+none_of standing xs None e n = refl
+none_of standing xs (Some p) e n = let (c, s) = first_is (λ q. told (standing q)) xs p (sym e) in absurd (n p c (told_equal (standing p) s))
+
+-- where one alone is equal, it is found
+pub one_of : (go : ℕ → Ordering) (xs : List ℕ) (found : Option ℕ) (place : ℕ) → found ≡ first_equal go xs → Contains xs place → go place ≡ Equal → ((p : ℕ) → Contains xs p → go p ≡ Equal → p ≡ place) → found ≡ Some place
+one_of go xs None place e listed same only = absurd (first_none go xs (sym e) place listed same)
+one_of go xs (Some p) place e listed same only = let (c, s) = first_is go xs p (sym e) in ap Some (only p c s)
+
 -- ---- the places below a key come first
 module _ (go : ℕ → Ordering) where
   above_at : (xs : List ℕ) → AllStand go Greater xs → (i p : ℕ) → slice_get xs i ≡ Some p → go p ≡ Greater

@@ -1,6 +1,6 @@
 -- The fields of an index, and what it shows.
 use Rattle.std.proofs.Common.{◌≡◌, ◌≢◌, ℕ, suc, ◌+◌, ◌-◌, ◌*◌, ◌^◌, ◌≤◌, ◌<◌, Bool, true, false, List, [], ◌∷◌, ◌++◌, Option, Some, None, length, refl, sym, subst, ◌∙◌, ap, arith, append_assoc, append-nil}
-use Rattle.std.specs.Prelude.{IsSome, slice_get}
+use Rattle.std.specs.Prelude.{IsSome, IfNone, slice_get}
 use Rattle.std.specs.Cmp.{IsTotalOrder}
 use Rattle.std.specs.List.{AllByRecursion, Contains}
 use Rattle.std.specs.declared.cmp.Ordering.{Ordering}
@@ -18,8 +18,9 @@ use Rattle.bimap_tree.specs.Remove.{CanTake, IsTaken}
 use Rattle.bimap_tree.specs.Route.{IsRoute, CanFollow, IsFollowed}
 use Rattle.bimap_tree.specs.Search.{CanSeek}
 use Rattle.bimap_tree.specs.declared.route.Route.{Route}
-use Rattle.bimap_tree.proofs.Ascending.{key_is, live_all, at_all, split, split_after, ascends_with, ascends_without}
+use Rattle.bimap_tree.proofs.Ascending.{live_all, split, split_after, only_one, own_key, ascends_with, ascends_without}
 use Rattle.bimap_tree.proofs.Distinct.{absent_reading, adds, drops, contains_occurs, occurs_all}
+use Rattle.bimap_tree.proofs.Found.{none_of, one_of}
 use Rattle.bimap_tree.proofs.Heights.{height-bound}
 use Rattle.bimap_tree.proofs.Index.{tree_in-shown, whole_of}
 use Rattle.bimap_tree.proofs.Paths.{occurs-plug, size-plug, reading-plug, steps_within, front_below, back_above, Wants-alike}
@@ -116,6 +117,29 @@ module _ (ns : List Node) (root : Option ℕ) (len : ℕ) (v : Index) (w : IsWho
         depth_is = f.depth_is;
         wants = f.wants;
       }
+
+  pub route_if_none : (standing : ℕ → Option Ordering) (route : Route) (found : Option ℕ) → (low : Path) × (s : Tree) × IsFollowed (λ q. told (standing q)) route.places route.turns route.depth found (tree_in ns root) low s → IfNone found (IsRoute v standing route)
+  route_if_none standing route None f = route_left standing route None refl f
+  route_if_none standing route (Some p) f = tt
+
+  -- ---- a search for a place's own key
+  module _ {K : Type 0} (key : ℕ → Option K) (order : K → K → Ordering) (place : ℕ) (k : K) (is : key place ≡ Some k) (found : Option ℕ) (first : found ≡ first_equal (λ q. order_of order (key q) (key place)) (reading (tree_in ns root))) where
+    first_listed : found ≡ first_equal (λ q. order_of order (key q) (Some k)) v.places
+    first_listed =
+        subst (λ o. found ≡ first_equal (λ q. order_of order (key q) o) (reading (tree_in ns root))) is first
+        ∙ ap (λ x. first_equal (λ q. order_of order (key q) (Some k)) x) places_are
+
+    -- leads to no place, where no listed key is equal
+    pub place_route : ((p : ℕ) → Contains v.places p → standing key order k p ≡ Some Equal → ⊥) → (route : Route) → (low : Path) × (s : Tree) × IsFollowed (λ q. order_of order (key q) (key place)) route.places route.turns route.depth found (tree_in ns root) low s → IsRoute v (λ q. standing key order k q) route
+    place_route unequal route f =
+        route_left (λ q. standing key order k q) route found (none_of (λ q. standing key order k q) v.places found first_listed unequal)
+        (subst (λ o. (low : Path) × (s : Tree) × IsFollowed (λ q. order_of order (key q) o) route.places route.turns route.depth found (tree_in ns root) low s) is f)
+
+    -- leads to the place, where it is listed
+    pub place_found : IsTotalOrder order → Ascends key order v.places → Contains v.places place → found ≡ Some place
+    place_found total up listed =
+        one_of (λ q. order_of order (key q) (Some k)) v.places found place first_listed listed (own_key key order total place k is)
+        (λ p c s. only_one key order total v.places up k p place c listed s (own_key key order total place k is))
 
   -- ---- a place put in at a route's end
   module _ (standing : ℕ → Option Ordering) (route : Route) (r : IsRoute v standing route) where
