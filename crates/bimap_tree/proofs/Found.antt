@@ -55,6 +55,10 @@ pub none_in : (standing : ℕ → Option Ordering) (xs : List ℕ) (found : Opti
 none_in standing xs (Some p) e = tt
 none_in standing xs None e = λ p c s. first_none (λ q. told (standing q)) xs (sym e) p c (ap told s)
 
+pub none_told : (standing : ℕ → Option Ordering) (xs : List ℕ) (found told_on : Option ℕ) → found ≡ None → found ≡ first_equal (λ q. told (standing q)) xs → IfNone told_on ((p : ℕ) → Contains xs p → standing p ≡ Some Equal → ⊥)
+none_told standing xs found (Some p) none e = tt
+none_told standing xs found None none e = none_in standing xs None (sym none ∙ e)
+
 -- where no listed key is equal, none is found
 pub none_of : (standing : ℕ → Option Ordering) (xs : List ℕ) (found : Option ℕ) → found ≡ first_equal (λ q. told (standing q)) xs → ((p : ℕ) → Contains xs p → standing p ≡ Some Equal → ⊥) → found ≡ None
 none_of standing xs None e n = refl

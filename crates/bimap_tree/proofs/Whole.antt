@@ -75,6 +75,17 @@ module _ (ns : List Node) (root : Option ℕ) (len : ℕ) (v : Index) (w : IsWho
       let here : Contains (reading (tree_in ns root)) p = subst (λ x. Contains x p) (sym places_are) c in
       omega (arith, nodes_are, in_tree ns (tree_in ns root) p w.index.tree.shown (contains_occurs (tree_in ns root) p here))
 
+  -- ---- more cells
+  module _ (ms : List Node) (same : (k : ℕ) → k < length ns → slice_get ms k ≡ slice_get ns k) where
+    still_stands : Stands ms root (tree_in ns root)
+    still_stands = record { root_is = w.index.tree.root_is; shown = Shows-frame ns ms (tree_in ns root) (λ q n. same q (in_tree ns (tree_in ns root) q w.index.tree.shown n)) w.index.tree.shown }
+
+    pub whole_grown : IsWhole ms root len
+    whole_grown = whole_of ms root len (tree_in ns root) (record { tree = still_stands; balanced = w.index.balanced; distinct = w.index.distinct }) w.counted w.few
+
+    pub places_grown : reading (tree_in ms root) ≡ v.places
+    places_grown = ap reading (tree_in-shown ms root (tree_in ns root) still_stands) ∙ places_are
+
   -- ---- searches
   module _ {K : Type 0} (key : ℕ → Option K) (order : K → K → Ordering) (total : IsTotalOrder order) (up : Ascends key order v.places) where
     ascends_here : Ascends key order (reading (tree_in ns root))
