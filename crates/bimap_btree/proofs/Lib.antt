@@ -1,0 +1,5 @@
+pub mod Bounds
+pub mod Listings
+pub mod Parted
+pub mod Results
+pub mod Slots
