@@ -61,7 +61,7 @@ module _ {K : Type 0} where
     equal_from : (x y : K) → order x y ≡ Equal → same x y ≡ true
     equal_from x y e = side.agrees x y ∙ (Equal-is (order x y)).1 e
 
-    equal_to : (x y : K) → same x y ≡ true → order x y ≡ Equal
+    pub equal_to : (x y : K) → same x y ≡ true → order x y ≡ Equal
     equal_to x y e = (Equal-is (order x y)).0 (sym (side.agrees x y) ∙ e)
 
     unequal_from : (x y : K) → (order x y ≡ Equal → ⊥) → same x y ≡ false

@@ -10,6 +10,7 @@ use bimap_tree::{Ordered, Route};
 use std::alloc::Global;
 use std::cmp::Ordering;
 
+mod insert;
 mod links;
 mod room;
 

@@ -1,6 +1,7 @@
 //! Making room: cells for both indexes, and then places in the store. It knows no pair.
 ghost use Rattle.std.specs.Prelude.{◌≡◌, ◌<◌, ◌≤◌, length, OnOk, OnErr};
 ghost use Rattle.bimap_base.specs.Slots.{pair_at, pair_count};
+ghost use Rattle.bimap_tree.specs.Route.{IsRoute};
 
 use crate::parts::Parts;
 use bimap_base::NoMemory;
@@ -17,6 +18,8 @@ impl<L: Ord, R: Ord> Parts<L, R> {
         ensures kept { (place : _) → pair_at self.new.pairs place ≡ pair_at self.old.pairs place }
         ensures count { pair_count self.new.pairs ≡ pair_count self.old.pairs }
         ensures left { self.new.left.places ≡ self.old.left.places }
+        ensures left_routes { (standing : _) (route : _) → IsRoute self.old.left standing route → IsRoute self.new.left standing route }
+        ensures right_routes { (standing : _) (route : _) → IsRoute self.old.right standing route → IsRoute self.new.right standing route }
         ensures err { OnErr result (self.new.pairs ≡ self.old.pairs) }
     {
         self.left.grow(to)?;
@@ -34,6 +37,8 @@ impl<L: Ord, R: Ord> Parts<L, R> {
         ensures kept { (place : _) → pair_at self.new.pairs place ≡ pair_at self.old.pairs place }
         ensures count { pair_count self.new.pairs ≡ pair_count self.old.pairs }
         ensures left { self.new.left.places ≡ self.old.left.places }
+        ensures left_routes { (standing : _) (route : _) → IsRoute self.old.left standing route → IsRoute self.new.left standing route }
+        ensures right_routes { (standing : _) (route : _) → IsRoute self.old.right standing route → IsRoute self.new.right standing route }
         ensures full { OnErr result (pair_count self.old.pairs ≡ length self.old.pairs) }
         ensures err { OnErr result (self.new.pairs ≡ self.old.pairs) }
     {
