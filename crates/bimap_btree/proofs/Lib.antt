@@ -5,7 +5,10 @@ pub mod Listings
 pub mod Parted
 pub mod Policies
 pub mod Results
+pub mod SameSets
 pub mod Sets
 pub mod Shown
 pub mod Slots
+pub mod Undoings
+pub mod Undos
 mod Walks

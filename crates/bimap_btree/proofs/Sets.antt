@@ -4,7 +4,7 @@ use Rattle.std.specs.Option.{option_map}
 use Rattle.std.proofs.lemmas.Bool.{cases_eq}
 use Rattle.std.proofs.lemmas.List.{length-set}
 use Rattle.bimap_base.specs.Slots.{pair_at, left_at, right_at}
-use Rattle.bimap_base.specs.Sets.{shares, IsWithPut, HasLeft, LacksLeft, HasRight, LacksRight, NoneShares}
+use Rattle.bimap_base.specs.Sets.{shares, IsWithPut, HasLeft, LacksLeft, HasRight, LacksRight, NoneShares, SomeShares, IsWithoutLeft, IsWithoutRight}
 use Rattle.bimap_base.specs.Answer.{IsAnswer, IsOnlyStruck}
 use Rattle.bimap_base.specs.declared.overwritten.Overwritten.TheVariants.{Neither, Left, Right, Pair, Both}
 use Rattle.bimap_btree.specs.Indexed.{Has, IsAlone, IsOnlyAt, IsAbsent, IsAbsentElsewhere}
@@ -209,3 +209,40 @@ module _ {L R : Type 0} (eql : L → L → Bool) (eqr : R → R → Bool) where
       | inr w ↦ (put p).1 (inr ((w.0.0, kept w.0.0 ∙ w.0.1), w.1))
     ],
   )
+
+  -- where a value is held, the pair shares it with a member
+  pub some_share_left : (S : L × R → Type 0) (l : L) (r : R) → HasLeft eql S l → SomeShares eql eqr S (l, r)
+  some_share_left S l r h = (h.0, h.1, or_first (eql h.0.0 l) (eqr h.0.1 r) h.2)
+
+  pub some_share_right : (S : L × R → Type 0) (l : L) (r : R) → HasRight eqr S r → SomeShares eql eqr S (l, r)
+  some_share_right S l r h = (h.0, h.1, or_second (eql h.0.0 l) (eqr h.0.1 r) h.2)
+
+  -- a pair is taken out of the place of its left, or of its right
+  pub without_left : (slots : List (Option (L × R))) (place : ℕ) (l : L) → place < length slots → IsOnlyAt (left_at slots) eql l place → IsWithoutLeft eql (Has slots) l (Has (set slots place None))
+  without_left slots place l inside only q = (
+    λ has. elim (cases_eq has.0 place) [
+      | inl at ↦ let none : pair_at (set slots place None) has.0 ≡ None = ap (pair_at (set slots place None)) at ∙ same_pair slots place None inside in let there = has.1 in absurd (cc)
+      | inr away ↦
+          let there : pair_at slots has.0 ≡ Some q = sym (other_pair slots place None has.0 away) ∙ has.1 in
+          ((has.0, there), elsewhere_from_only (left_at slots) eql l place only has.0 q.0 away (left_of slots has.0 q there))
+    ],
+    λ w. (w.0.0, other_pair slots place None w.0.0 (λ at. true≢false (sym (left_equal slots place l q only (ap (pair_at slots) (sym at) ∙ w.0.1)) ∙ w.1)) ∙ w.0.1),
+  )
+
+  pub without_right : (slots : List (Option (L × R))) (place : ℕ) (r : R) → place < length slots → IsOnlyAt (right_at slots) eqr r place → IsWithoutRight eqr (Has slots) r (Has (set slots place None))
+  without_right slots place r inside only q = (
+    λ has. elim (cases_eq has.0 place) [
+      | inl at ↦ let none : pair_at (set slots place None) has.0 ≡ None = ap (pair_at (set slots place None)) at ∙ same_pair slots place None inside in let there = has.1 in absurd (cc)
+      | inr away ↦
+          let there : pair_at slots has.0 ≡ Some q = sym (other_pair slots place None has.0 away) ∙ has.1 in
+          ((has.0, there), elsewhere_from_only (right_at slots) eqr r place only has.0 q.1 away (right_of slots has.0 q there))
+    ],
+    λ w. (w.0.0, other_pair slots place None w.0.0 (λ at. true≢false (sym (right_equal slots place r q only (ap (pair_at slots) (sym at) ∙ w.0.1)) ∙ w.1)) ∙ w.0.1),
+  )
+
+-- where the value isn't held, nothing goes
+pub without_left_none : {L R : Type 0} (eql : L → L → Bool) (S : L × R → Type 0) (l : L) → LacksLeft eql S l → IsWithoutLeft eql S l S
+without_left_none eql S l lacks q = (λ there. (there, lacks q there), λ w. w.0)
+
+pub without_right_none : {L R : Type 0} (eqr : R → R → Bool) (S : L × R → Type 0) (r : R) → LacksRight eqr S r → IsWithoutRight eqr S r S
+without_right_none eqr S r lacks q = (λ there. (there, lacks q there), λ w. w.0)

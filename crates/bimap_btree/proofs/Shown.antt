@@ -5,6 +5,7 @@ use Rattle.std.specs.Option.{option_map}
 use Rattle.std.specs.declared.cmp.Ordering.{Ordering}
 use Rattle.std.specs.declared.cmp.Ordering.TheVariants.{Less}
 use Rattle.bimap_base.specs.Slots.{pair_at, left_at, IsLive, pair_count}
+use Rattle.bimap_base.specs.Holding.{Holding}
 use Rattle.bimap_base.specs.Sets.{IsSameSet}
 use Rattle.bimap_btree.specs.PairsAt.{pairs_at}
 use Rattle.bimap_btree.specs.declared.parts.Parts.{Parts}
@@ -99,3 +100,11 @@ module _ {L R : Type 0} (order_left : L → L → Ordering) (order_right : R →
       let first = read-pairs_at parts.pairs parts.left.places live_listed i d (omega arith) in
       let second = read-pairs_at parts.pairs parts.left.places live_listed j d (omega arith) in
       kept.left.up.rises i j _ _ before (omega arith) (ap (option_map (λ x. x.0)) first) (ap (option_map (λ x. x.0)) second)
+
+-- the holding of a store and its indexes
+abbrev pub the_holding : {L R : Type 0} → Parts L R → Holding L R
+the_holding parts = record { pairs = pairs_at parts.pairs parts.left.places; room = length parts.pairs }
+
+-- the same places with the same pairs are the same holding
+pub same_holding : {L R : Type 0} (old new : Parts L R) → new.pairs ≡ old.pairs → new.left.places ≡ old.left.places → the_holding new ≡ the_holding old
+same_holding old new pairs places i = record { pairs = pairs_at (pairs i) (places i); room = length (pairs i) }

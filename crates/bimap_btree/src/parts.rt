@@ -12,7 +12,10 @@ use std::cmp::Ordering;
 
 mod insert;
 mod links;
+mod remove;
+mod retain;
 mod room;
+mod undo;
 
 #[derive(Drop)]
 pub(crate) struct Parts<L, R> {
