@@ -4,6 +4,7 @@ pub mod Laws
 pub mod Listings
 pub mod Parted
 pub mod Policies
+pub mod Ranks
 pub mod Results
 pub mod SameSets
 pub mod Sets

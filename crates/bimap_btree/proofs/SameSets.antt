@@ -2,6 +2,7 @@
 use Rattle.std.proofs.Common.{◌≡◌, ◌⊎◌, ◌↔◌, Bool, true, false, inl, inr}
 use Rattle.bimap_base.specs.Sets.{IsSameSet, shares, NoneShares, SomeShares, IsWithPut, HasLeft, LacksLeft, HasRight, LacksRight, IsWithoutLeft, IsWithoutRight}
 use Rattle.bimap_base.specs.Answer.{IsAnswer, IsOnlyStruck, IsAllowed, IsRefusalUnder}
+use Rattle.bimap_base.specs.Undoing.{IsUndoable, IsUndone}
 use Rattle.bimap_base.specs.declared.overwritten.Overwritten.{Overwritten}
 use Rattle.bimap_base.specs.declared.overwritten.Overwritten.TheVariants.{Neither, Left, Right, Pair, Both}
 use Rattle.bimap_base.specs.declared.policy.OnHeld.TheVariants.{Refuse}
@@ -82,3 +83,25 @@ module _ {L R : Type 0} (S T : L × R → Type 0) (same : IsSameSet S T) where
         | inr old ↦ (after q).0 ((put q).1 (inr ((same q).1 old.0, old.1)))
       ],
     )
+
+    pub IsUndoable-same : (left : L) (a : Overwritten L R) → IsUndoable eql eqr S left a → IsUndoable eql eqr T left a
+    IsUndoable-same left a h =
+        record {
+          pair = h.pair;
+          member = (same h.pair).0 h.member;
+          by_left = h.by_left;
+          alone = λ q s o there. h.alone q s o ((same s).1 there);
+          two = h.two;
+        }
+
+    pub IsUndone-same : (U V : L × R → Type 0) (left : L) (a : Overwritten L R) → IsSameSet U V → IsUndone eql eqr S left a U → IsUndone eql eqr T left a V
+    IsUndone-same U V left a after undone q = (
+      λ there. elim ((undone q).0 ((after q).1 there)) [
+        | inl o ↦ inl o
+        | inr old ↦ inr ((same q).0 old.0, old.1)
+      ],
+      λ either. (after q).0 ((undone q).1 (elim either [ inl o ↦ inl o | inr old ↦ inr ((same q).1 old.0, old.1) ])),
+    )
+
+pub turned : {X : Type 0} (S T : X → Type 0) → IsSameSet S T → IsSameSet T S
+turned S T same x = ((same x).1, (same x).0)

@@ -1,4 +1,7 @@
 //! The ordered bimap as a bijection, by calls of its own.
+ghost use Rattle.std.specs.Prelude.{Contains};
+ghost use Rattle.bimap_base.specs.Holding.{IsUndoing};
+ghost use Rattle.bimap_base.specs.Undoing.{IsUndoable};
 ghost use Rattle.bimap_btree.specs.Held.{holding};
 
 use crate::map::BiBTreeMap;
@@ -74,7 +77,10 @@ impl<L: Ord + Drop, R: Ord + Drop> Bijection<L, R> for BiBTreeMap<L, R> {
         &mut self,
         left: &L,
         answer: Overwritten<L, R>,
-    ) -> Result<(L, R), UndoStopped<L, R>> {
+    ) -> Result<(L, R), UndoStopped<L, R>>
+        requires { IsUndoable L.eq R.eq (Contains (holding self.old).pairs) left.now answer }
+        ensures { IsUndoing L.eq R.eq (holding self.old) left.now answer result (holding self.new) }
+    {
         BiBTreeMap::undo_insert(self, left, answer)
     }
 }
