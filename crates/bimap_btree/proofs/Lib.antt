@@ -1,7 +1,9 @@
 pub mod Bounds
+pub mod Keeping
 pub mod Kept
 pub mod Laws
 pub mod Listings
+pub mod OneOut
 pub mod Parted
 pub mod Policies
 pub mod Ranks

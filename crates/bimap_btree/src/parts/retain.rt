@@ -1,6 +1,6 @@
 //! Keeping what a closure wants, place by place in the order of the lefts. It collects nothing.
 ghost use Rattle.std.specs.Prelude.{◌≡◌, length};
-ghost use Rattle.bimap_base.specs.Kept.{MayTestInTurn, IsKeptInTurn};
+ghost use Rattle.bimap_base.specs.Kept.{TestedAt, MayTestPair, MayTestInTurn, IsKeptInTurn};
 ghost use Rattle.bimap_btree.specs.PairsAt.{pairs_at};
 
 use crate::count::Count;
@@ -18,18 +18,25 @@ impl<L: Ord + Drop, R: Ord + Drop> Parts<L, R> {
         ensures room { length self.new.pairs ≡ length self.old.pairs }
     {
         let mut meter = Count::new();
-        let len = self.pairs.len();
         let mut rank = 0;
-        for _asked in 0..len {
+        while rank < self.pairs.len() {
             let place = self.left.place_at(rank, &mut meter);
             let Some((left, right)) = self.pairs.at(place) else {
                 unreachable!();
             };
-            if f(left, right) {
+            if ask(&mut f, left, right) {
                 rank += 1;
             } else {
                 let _ = self.take(place, &mut meter);
             }
         }
     }
+}
+
+// Calls a closure at the two values of a pair.
+fn ask<L, R, F: FnMut(&L, &R) -> bool>(f: &mut F, left: &L, right: &R) -> bool
+    requires { MayTestPair F.FnMut f.old (left.now, right.now) }
+    ensures { TestedAt F.FnMut f.old (left.now, right.now) result f.new }
+{
+    f(left, right)
 }
