@@ -1,0 +1,125 @@
+-- A place with a tree on the side of a turn, and one on the other.
+use Rattle.std.proofs.Common.{◌≡◌, ℕ, ◌+◌, ◌≤◌, ◌<◌, max, Bool, true, false, not, List, Option, Some, length, refl, sym, ap, ◌∙◌, arith}
+use Rattle.std.specs.Prelude.{slice_get, slice_set}
+use Rattle.bimap_base.specs.declared.cells.Node.{Node}
+use Rattle.bimap_tree.specs.Tree.{Tree, leaf, fork, height, size, root_of, IsBalanced, node_of, Shows, is_at, occurs, Stands, branch, node_on, near_of, far_of}
+use Rattle.bimap_base.specs.Packed.{IsThere}
+use Rattle.bimap_tree.specs.Link.{Measures}
+use Rattle.bimap_tree.specs.declared.link.Subtree.{Subtree}
+use Rattle.bimap_tree.proofs.Shown.{get-written, Shows-keeps, opened, there}
+
+pub height-branch : (turn : Bool) (near : Tree) (p : ℕ) (far : Tree) → height (branch turn near p far) ≡ max (height near) (height far) + 1
+height-branch true near p far = omega arith
+height-branch false near p far = refl
+
+pub size-branch : (turn : Bool) (near : Tree) (p : ℕ) (far : Tree) → size (branch turn near p far) ≡ size near + size far + 1
+size-branch true near p far = omega arith
+size-branch false near p far = refl
+
+pub occurs-branch : (q : ℕ) (turn : Bool) (near : Tree) (p : ℕ) (far : Tree) → occurs q (branch turn near p far) ≡ occurs q near + is_at q p + occurs q far
+occurs-branch q true near p far = omega arith
+occurs-branch q false near p far = refl
+
+pub root-branch : (turn : Bool) (near : Tree) (p : ℕ) (far : Tree) → root_of (branch turn near p far) ≡ Some p
+root-branch true near p far = refl
+root-branch false near p far = refl
+
+pub branch-not : (turn : Bool) (near : Tree) (p : ℕ) (far : Tree) → branch (not turn) far p near ≡ branch turn near p far
+branch-not true near p far = refl
+branch-not false near p far = refl
+
+pub height-node_on : (turn : Bool) (near far : Tree) → (node_on turn near far).height ≡ max (height near) (height far) + 1
+height-node_on true near far = omega arith
+height-node_on false near far = refl
+
+pub size-node_on : (turn : Bool) (near far : Tree) → (node_on turn near far).size ≡ size near + size far + 1
+size-node_on true near far = omega arith
+size-node_on false near far = refl
+
+pub near-node_on : (turn : Bool) (near far : Tree) → near_of turn (node_on turn near far) ≡ root_of near
+near-node_on true near far = refl
+near-node_on false near far = refl
+
+pub far-node_on : (turn : Bool) (near far : Tree) → far_of turn (node_on turn near far) ≡ root_of far
+far-node_on true near far = refl
+far-node_on false near far = refl
+
+-- a node is told by its children on both sides, its height and its size
+pub node_is : (turn : Bool) (n m : Node) → near_of turn n ≡ near_of turn m → far_of turn n ≡ far_of turn m → n.height ≡ m.height → n.size ≡ m.size → n ≡ m
+node_is true n m a b c d =
+    ap (λ x. record { left = x; right = n.right; height = n.height; size = n.size }) b
+    ∙ ap (λ x. record { left = m.left; right = x; height = n.height; size = n.size }) a
+    ∙ ap (λ x. record { left = m.left; right = m.right; height = x; size = n.size }) c
+    ∙ ap (λ x. record { left = m.left; right = m.right; height = m.height; size = x }) d
+node_is false n m a b c d =
+    ap (λ x. record { left = x; right = n.right; height = n.height; size = n.size }) a
+    ∙ ap (λ x. record { left = m.left; right = x; height = n.height; size = n.size }) b
+    ∙ ap (λ x. record { left = m.left; right = m.right; height = x; size = n.size }) c
+    ∙ ap (λ x. record { left = m.left; right = m.right; height = m.height; size = x }) d
+
+-- what the nodes show of it
+pub record Parts (ns : List Node) (turn : Bool) (near : Tree) (p : ℕ) (far : Tree) : Type 0 where
+  pub node : slice_get ns p ≡ Some (node_on turn near far)
+  pub near_shown : Shows ns near
+  pub far_shown : Shows ns far
+
+pub parts : (ns : List Node) (turn : Bool) (near : Tree) (p : ℕ) (far : Tree) → Shows ns (branch turn near p far) → Parts ns turn near p far
+parts ns true near p far h = record { node = h.0; near_shown = h.2; far_shown = h.1 }
+parts ns false near p far h = record { node = h.0; near_shown = h.1; far_shown = h.2 }
+
+pub Shows-branch : (ns : List Node) (turn : Bool) (near : Tree) (p : ℕ) (far : Tree) → Parts ns turn near p far → Shows ns (branch turn near p far)
+Shows-branch ns true near p far h = (h.node, h.far_shown, h.near_shown)
+Shows-branch ns false near p far h = (h.node, h.near_shown, h.far_shown)
+
+-- what its balance is
+pub record Level (near far : Tree) : Type 0 where
+  pub near_level : height near ≤ height far + 1
+  pub far_level : height far ≤ height near + 1
+  pub near_balanced : IsBalanced near
+  pub far_balanced : IsBalanced far
+
+pub level : (turn : Bool) (near : Tree) (p : ℕ) (far : Tree) → IsBalanced (branch turn near p far) → Level near far
+level true near p far h = record { near_level = h.1; far_level = h.0; near_balanced = h.3; far_balanced = h.2 }
+level false near p far h = record { near_level = h.0; far_level = h.1; near_balanced = h.2; far_balanced = h.3 }
+
+pub IsBalanced-branch : (turn : Bool) (near : Tree) (p : ℕ) (far : Tree) → Level near far → IsBalanced (branch turn near p far)
+IsBalanced-branch true near p far h = (h.far_level, h.near_level, h.far_balanced, h.near_balanced)
+IsBalanced-branch false near p far h = (h.near_level, h.far_level, h.near_balanced, h.far_balanced)
+
+-- a place linked above two trees
+pub Shows-linked : (ns ms : List Node) (turn : Bool) (near : Tree) (p : ℕ) (far : Tree) → ms ≡ slice_set ns p (node_on turn near far) → p < length ns → occurs p near ≡ 0 → occurs p far ≡ 0 → Shows ns near → Shows ns far → Shows ms (branch turn near p far)
+Shows-linked ns ms turn near p far e within nn nf hn hf =
+    Shows-branch ms turn near p far record {
+      node = rw e (get-written ns p (node_on turn near far) within);
+      near_shown = Shows-keeps ns ms near p (node_on turn near far) e nn hn;
+      far_shown = Shows-keeps ns ms far p (node_on turn near far) e nf hf;
+    }
+
+-- a tree whose root is a place, with the node of that place
+pub record Opened (ns : List Node) (p : ℕ) (turn : Bool) (node : Node) (t near far : Tree) : Type 0 where
+  pub is : t ≡ branch turn near p far
+  pub node_is : node ≡ node_on turn near far
+  pub near_stands : Stands ns (near_of turn node) near
+  pub far_stands : Stands ns (far_of turn node) far
+
+pub opened_on : (ns : List Node) (p : ℕ) (turn : Bool) (node : Node) (t : Tree) → Stands ns (Some p) t → slice_get ns p ≡ Some node → (near : Tree) × (far : Tree) × Opened ns p turn node t near far
+opened_on ns p true node t h e =
+    let (l, r, o) = opened ns p node t h e in
+    (r, l, record {
+      is = o.is;
+      node_is = o.node_is;
+      near_stands = record { root_is = sym (ap (λ n. n.right) o.node_is); shown = o.right_shown };
+      far_stands = record { root_is = sym (ap (λ n. n.left) o.node_is); shown = o.left_shown };
+    })
+opened_on ns p false node t h e =
+    let (l, r, o) = opened ns p node t h e in
+    (l, r, record {
+      is = o.is;
+      node_is = o.node_is;
+      near_stands = record { root_is = sym (ap (λ n. n.left) o.node_is); shown = o.left_shown };
+      far_stands = record { root_is = sym (ap (λ n. n.right) o.node_is); shown = o.right_shown };
+    })
+
+-- the root that is told of a tree that the nodes show is there
+pub told_there : (ns : List Node) (told : Subtree) (t : Tree) → Measures told t → Shows ns t → IsThere (length ns) told.root
+told_there ns told t m h = there ns told.root t record { root_is = m.root_is; shown = h }

@@ -1,0 +1,114 @@
+-- How often a place stands in a tree, and in its reading.
+use Rattle.std.proofs.Common.{◌≡◌, ◌≢◌, ℕ, zero, suc, ◌+◌, ◌≤◌, ◌<◌, List, [], ◌∷◌, ◌++◌, length, refl, sym, subst, ◌∙◌, ap, arith, inl, inr, get_or}
+use Rattle.std.specs.List.{All, AllByRecursion, AllPairs, Contains}
+use Rattle.std.proofs.lemmas.List.Kept.{AllPairs-cons}
+use Rattle.std.proofs.lemmas.Bool.Decides.{eqb_tells, leb_tells}
+use Rattle.bimap_base.specs.Keyed.{Adds, Drops}
+use Rattle.bimap_tree.specs.Tree.{Tree, leaf, fork, reading, occurs, is_at, IsDistinctTree}
+use Rattle.bimap_tree.proofs.Shown.{is_at-same, is_at-other}
+
+-- how often a place stands in the list
+abbrev pub tally : ℕ → List ℕ → ℕ
+tally q [] = 0
+tally q (x ∷ xs) = is_at q x + tally q xs
+
+pub tally-append : (q : ℕ) (xs ys : List ℕ) → tally q (xs ++ ys) ≡ tally q xs + tally q ys
+tally-append q [] ys = omega arith
+tally-append q (x ∷ xs) ys = omega (arith, tally-append q xs ys)
+
+pub tally-reading : (q : ℕ) (t : Tree) → tally q (reading t) ≡ occurs q t
+tally-reading q leaf = refl
+tally-reading q (fork l p r) = omega (arith, tally-append q (reading l) (p ∷ reading r), tally-reading q l, tally-reading q r)
+
+tally_at : (xs : List ℕ) (k d : ℕ) → k < length xs → 1 ≤ tally (get_or xs k d) xs
+tally_at [] k d h = absurd (omega arith)
+tally_at (x ∷ xs) zero d h = omega (arith, is_at-same x)
+tally_at (x ∷ xs) (suc k) d h = omega (arith, tally_at xs k d (omega arith))
+
+tally_out : (x : ℕ) (xs : List ℕ) → tally x xs ≡ 0 → All (λ y. x ≢ y) xs
+tally_out x xs none k d h e = absurd (let t : 1 ≤ tally x xs = rw (← e) at (tally_at xs k d h) in omega arith)
+
+pub tally_pairs : (xs : List ℕ) → ((q : ℕ) → tally q xs ≤ 1) → AllPairs (λ x y. x ≢ y) xs
+tally_pairs [] h = λ i j d a b. absurd (omega arith)
+tally_pairs (x ∷ xs) h =
+    AllPairs-cons (λ x y. x ≢ y) x xs
+    (tally_out x xs (omega (arith, h x, is_at-same x)))
+    (tally_pairs xs (λ q. omega (arith, h q)))
+
+pub distinct_reading : (t : Tree) → IsDistinctTree t → AllPairs (λ x y. x ≢ y) (reading t)
+distinct_reading t d = tally_pairs (reading t) (λ q. omega (arith, tally-reading q t, d q))
+
+tally_contains : (xs : List ℕ) (q : ℕ) → 1 ≤ tally q xs → Contains xs q
+tally_contains [] q h = absurd (omega arith)
+tally_contains (x ∷ xs) q h =
+    elim (eqb_tells q x) [
+      | inl w ↦ (0, omega arith, sym w.1)
+      | inr w ↦
+          let c = tally_contains xs q (omega (arith, is_at-other q x w.1)) in
+          let b = c.1 in
+          (suc c.0, omega arith, c.2)
+    ]
+
+-- a place that the list does not contain is nowhere in the tree
+pub absent_reading : (t : Tree) (place : ℕ) → (Contains (reading t) place → ⊥) → occurs place t ≡ 0
+absent_reading t place n =
+    elim (leb_tells 1 (occurs place t)) [
+      | inl w ↦ absurd (n (tally_contains (reading t) place (omega (arith, tally-reading place t, w.1))))
+      | inr w ↦ omega arith
+    ]
+
+-- a place is listed exactly if it is in the tree
+pub contains_occurs : (t : Tree) (q : ℕ) → Contains (reading t) q → 0 < occurs q t
+contains_occurs t q (k, few, e) =
+    let here : 1 ≤ tally (get_or (reading t) k q) (reading t) = tally_at (reading t) k q few in
+    let there : 1 ≤ tally q (reading t) = subst (λ x. 1 ≤ tally x (reading t)) e here in
+    omega (arith, tally-reading q t)
+
+pub occurs_contains : (t : Tree) (q : ℕ) → 0 < occurs q t → Contains (reading t) q
+occurs_contains t q h = tally_contains (reading t) q (omega (arith, tally-reading q t))
+
+-- a tree with one place more lists it and the old ones
+pub adds : (t u : Tree) (place : ℕ) → ((q : ℕ) → occurs q u ≡ occurs q t + is_at q place) → Adds (reading t) place (reading u)
+adds t u place more p = (
+  (λ c. elim (eqb_tells p place) [
+    | inl w ↦ inl w.1
+    | inr w ↦ inr (occurs_contains t p (omega (arith, contains_occurs u p c, more p, is_at-other p place w.1)))
+  ]),
+  (λ either. elim either [
+    | inl w ↦ occurs_contains u p (omega (arith, more p, ap (λ x. is_at x place) w, is_at-same place))
+    | inr w ↦ occurs_contains u p (omega (arith, more p, contains_occurs t p w))
+  ]),
+)
+
+-- a tree with one place less lists the others
+pub drops : (t u : Tree) (place : ℕ) → IsDistinctTree t → ((q : ℕ) → occurs q t ≡ occurs q u + is_at q place) → Drops (reading t) place (reading u)
+drops t u place once less p = (
+  (λ c. (
+    occurs_contains t p (omega (arith, less p, contains_occurs u p c)),
+    (λ e. absurd (omega (arith, contains_occurs u p c, less p, once p, ap (λ x. is_at x place) e, is_at-same place))),
+  )),
+  (λ both. occurs_contains u p (omega (arith, less p, contains_occurs t p both.0, is_at-other p place both.1))),
+)
+
+-- what holds of the list holds of each place of the tree
+all_front : (P : ℕ → Type 0) (xs ys : List ℕ) → AllByRecursion P (xs ++ ys) → AllByRecursion P xs
+all_front P [] ys h = tt
+all_front P (x ∷ xs) ys h = (h.0, all_front P xs ys h.1)
+
+all_back : (P : ℕ → Type 0) (xs ys : List ℕ) → AllByRecursion P (xs ++ ys) → AllByRecursion P ys
+all_back P [] ys h = h
+all_back P (x ∷ xs) ys h = all_back P xs ys h.1
+
+pub occurs_all : (P : ℕ → Type 0) (t : Tree) → AllByRecursion P (reading t) → (q : ℕ) → 0 < occurs q t → P q
+occurs_all P leaf h q n = absurd (omega arith)
+occurs_all P (fork l p r) h q n =
+    elim (leb_tells 1 (occurs q l)) [
+      | inl w ↦ occurs_all P l (all_front P (reading l) (p ∷ reading r) h) q w.1
+      | inr w ↦ elim (leb_tells 1 (occurs q r)) [
+        | inl v ↦ occurs_all P r (all_back P (reading l) (p ∷ reading r) h).1 q v.1
+        | inr v ↦ elim (eqb_tells q p) [
+          | inl y ↦ rw y.1 (all_back P (reading l) (p ∷ reading r) h).0
+          | inr y ↦ absurd (omega (arith, is_at-other q p y.1))
+        ]
+      ]
+    ]

@@ -1,0 +1,37 @@
+-- The tree that nodes tell is the one that they show.
+use Rattle.std.proofs.Common.{◌≡◌, ℕ, zero, suc, ◌+◌, ◌^◌, ◌≤◌, ◌<◌, List, Option, Some, None, refl, sym, subst, ap, arith, ◌∙◌}
+use Rattle.std.specs.Prelude.{slice_get}
+use Rattle.bimap_base.specs.declared.cells.Node.{Node}
+use Rattle.bimap_tree.specs.Tree.{Tree, leaf, fork, height, size, Shows, Stands, root_of, node_of}
+use Rattle.bimap_tree.specs.Index.{height_at}
+use Rattle.bimap_tree.specs.Index.{tree_at, tree_in, told_left, told_right, IsIndex, IsWhole}
+use Rattle.bimap_tree.proofs.Shown.{height_told}
+
+pub tree_at-shown : (ns : List Node) (t : Tree) (levels : ℕ) → Shows ns t → height t ≤ levels → tree_at ns levels (root_of t) ≡ t
+tree_at-shown ns leaf zero h le = refl
+tree_at-shown ns leaf (suc levels) h le = refl
+tree_at-shown ns (fork l p r) zero h le = absurd (omega arith)
+tree_at-shown ns (fork l p r) (suc levels) h le =
+    let a : told_left (slice_get ns p) ≡ root_of l = ap told_left h.0 in
+    let b : told_right (slice_get ns p) ≡ root_of r = ap told_right h.0 in
+    ap (λ x. fork (tree_at ns levels x) p (tree_at ns levels (told_right (slice_get ns p)))) a
+    ∙ ap (λ x. fork (tree_at ns levels (root_of l)) p (tree_at ns levels x)) b
+    ∙ ap (λ x. fork x p (tree_at ns levels (root_of r))) (tree_at-shown ns l levels h.1 (omega arith))
+    ∙ ap (λ x. fork l p x) (tree_at-shown ns r levels h.2 (omega arith))
+
+pub tree_in-shown : (ns : List Node) (root : Option ℕ) (t : Tree) → Stands ns root t → tree_in ns root ≡ t
+unfolding tree_in
+tree_in-shown ns root t h =
+    rw (sym h.root_is) (tree_at-shown ns t (height_at ns (root_of t)) h.shown (omega (arith, height_told ns (root_of t) t (record { root_is = refl; shown = h.shown }))))
+
+pub whole_of : (ns : List Node) (root : Option ℕ) (len : ℕ) (t : Tree) → IsIndex ns root t → len ≡ size t → len < 2 ^ 64 → IsWhole ns root len
+whole_of ns root len t h e few =
+    let same = tree_in-shown ns root t h.tree in
+    record { index = subst (λ x. IsIndex ns root x) (sym same) h; counted = e ∙ ap size (sym same); few = few }
+
+pub no_index : (ns : List Node) → IsIndex ns None leaf
+no_index ns = record { tree = record { root_is = refl; shown = tt }; balanced = tt; distinct = λ q. omega arith }
+
+-- nodes show one tree at a root
+pub one_tree : (ns : List Node) (root : Option ℕ) (t u : Tree) → Stands ns root t → Stands ns root u → t ≡ u
+one_tree ns root t u h k = sym (tree_in-shown ns root t h) ∙ tree_in-shown ns root u k

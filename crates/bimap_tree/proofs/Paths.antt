@@ -1,0 +1,129 @@
+-- Ways down a tree.
+use Rattle.std.proofs.Common.{◌≡◌, ◌≢◌, ℕ, zero, suc, ◌+◌, ◌≤◌, ◌<◌, max, Bool, true, false, List, [], ◌∷◌, ◌++◌, Option, Some, None, length, refl, sym, subst, ◌∙◌, ap, arith, append_assoc, append-nil, inl, inr, length-set}
+use Rattle.std.specs.Prelude.{slice_get, slice_set}
+use Rattle.std.specs.declared.cmp.Ordering.{Ordering}
+use Rattle.std.specs.declared.cmp.Ordering.TheVariants.{Less, Equal, Greater}
+use Rattle.bimap_base.specs.declared.cells.Node.{Node}
+use Rattle.bimap_tree.specs.Tree.{Tree, leaf, fork, reading, height, size, occurs, is_at, root_of, IsBalanced, Shows, branch, node_on}
+use Rattle.bimap_tree.specs.Order.{AllStand, IsSplit}
+use Rattle.bimap_tree.specs.Path.{Path, top, below, plug, steps, front, back, occurs_on, size_on, Follows, wanted, Wants, Tells, Holds}
+use Rattle.bimap_tree.proofs.Branch.{height-branch, size-branch, occurs-branch, far-node_on, height-node_on, size-node_on, parts, Level, level, IsBalanced-branch}
+use Rattle.bimap_tree.proofs.Shown.{is_at-same, Shows-frame, get-written, get-elsewhere}
+use Rattle.bimap_tree.proofs.Split.{split_below, split_above}
+
+-- what a whole tree has, it has beside the subtree or in it
+pub occurs-plug : (q : ℕ) (path : Path) (t : Tree) → occurs q (plug path t) ≡ occurs_on q path + occurs q t
+occurs-plug q top t = omega arith
+occurs-plug q (below up turn p sister) t = omega (arith, occurs-plug q up (branch turn t p sister), occurs-branch q turn t p sister)
+
+pub size-plug : (path : Path) (t : Tree) → size (plug path t) ≡ size_on path + size t
+size-plug top t = omega arith
+size-plug (below up turn p sister) t = omega (arith, size-plug up (branch turn t p sister), size-branch turn t p sister)
+
+pub steps_within : (path : Path) (t : Tree) → steps path + height t ≤ height (plug path t)
+steps_within top t = omega arith
+steps_within (below up turn p sister) t = omega (arith, steps_within up (branch turn t p sister), height-branch turn t p sister)
+
+pub reading-plug : (path : Path) (t : Tree) → reading (plug path t) ≡ front path ++ reading t ++ back path
+reading-plug top t = sym (append-nil (reading t))
+reading-plug (below up true p sister) t = reading-plug up (fork sister p t) ∙ simp append_assoc
+reading-plug (below up false p sister) t = reading-plug up (fork t p sister) ∙ simp append_assoc
+
+pub balanced_inside : (path : Path) (t : Tree) → IsBalanced (plug path t) → IsBalanced t
+balanced_inside top t h = h
+balanced_inside (below up turn p sister) t h = (level turn t p sister (balanced_inside up (branch turn t p sister) h)).near_balanced
+
+pub tells : (turn : Bool) (s sister : Tree) → Tells turn (node_on turn s sister) s sister
+tells turn s sister = record { far_is = far-node_on turn s sister; height_is = height-node_on turn s sister; size_is = size-node_on turn s sister }
+
+-- nodes that show a whole tree hold the path, and show the subtree
+pub holds_of : (ns : List Node) (path : Path) (t : Tree) → Shows ns (plug path t) → Holds ns path t × Shows ns t
+holds_of ns top t h = (tt, h)
+holds_of ns (below up turn p sister) t h =
+    let (holds, shown) = holds_of ns up (branch turn t p sister) h in
+    let o = parts ns turn t p sister shown in
+    (((node_on turn t sister, o.node, tells turn t sister), o.far_shown, holds), o.near_shown)
+
+-- nodes that agree on the places of the path hold it too
+pub Holds-frame : (ns ms : List Node) (path : Path) (s : Tree) → ((q : ℕ) → 0 < occurs_on q path → slice_get ms q ≡ slice_get ns q) → Holds ns path s → Holds ms path s
+Holds-frame ns ms top s same h = tt
+Holds-frame ns ms (below up turn p sister) s same h = (
+  (h.0.0, same p (omega (arith, is_at-same p)) ∙ h.0.1, h.0.2),
+  Shows-frame ns ms sister (λ q o. same q (omega arith)) h.1,
+  Holds-frame ns ms up (branch turn s p sister) (λ q o. same q (omega arith)) h.2,
+)
+
+-- lists that agree as far as the path goes follow it too
+pub Follows-frame : (places other : List ℕ) (turns others : List Bool) (path : Path) → ((i : ℕ) → i < steps path → slice_get other i ≡ slice_get places i) → ((i : ℕ) → i < steps path → slice_get others i ≡ slice_get turns i) → Follows places turns path → Follows other others path
+Follows-frame places other turns others top a b h = tt
+Follows-frame places other turns others (below up turn p sister) a b h = (
+  a (steps up) (omega arith) ∙ h.0,
+  b (steps up) (omega arith) ∙ h.1,
+  Follows-frame places other turns others up (λ i l. a i (omega arith)) (λ i l. b i (omega arith)) h.2,
+)
+
+-- a step noted at the path's end
+pub Follows-noted : (places : List ℕ) (turns : List Bool) (path : Path) (turn : Bool) (p : ℕ) (sister : Tree) → steps path < length places → steps path < length turns → Follows places turns path → Follows (slice_set places (steps path) p) (slice_set turns (steps path) turn) (below path turn p sister)
+Follows-noted places turns path turn p sister a b h = (
+  get-written places (steps path) p a,
+  get-written turns (steps path) turn b,
+  Follows-frame places (slice_set places (steps path) p) turns (slice_set turns (steps path) turn) path
+    (λ i l. get-elsewhere places (steps path) i p (λ e. absurd (omega arith)))
+    (λ i l. get-elsewhere turns (steps path) i turn (λ e. absurd (omega arith))) h,
+)
+
+-- ---- what stands before the path's end is below the key, and what stands behind it is above
+AllStand-append : (go : ℕ → Ordering) (how : Ordering) (xs ys : List ℕ) → AllStand go how xs → AllStand go how ys → AllStand go how (xs ++ ys)
+AllStand-append go how [] ys a b = b
+AllStand-append go how (x ∷ xs) ys a b = (a.0, AllStand-append go how xs ys a.1 b)
+
+front_step : (go : ℕ → Ordering) (up : Path) (turn : Bool) (p : ℕ) (sister t : Tree) → IsSplit go (reading (plug up (branch turn t p sister))) → go p ≡ wanted turn → AllStand go Less (front up) → AllStand go Less (front (below up turn p sister))
+front_step go up true p sister t split less h =
+    let e : reading (plug up (fork sister p t)) ≡ (front up ++ reading sister) ++ p ∷ (reading t ++ back up) = reading-plug up (fork sister p t) ∙ simp append_assoc in
+    let s : IsSplit go ((front up ++ reading sister) ++ p ∷ (reading t ++ back up)) = subst (λ x. IsSplit go x) e split in
+    AllStand-append go Less (front up ++ reading sister) (p ∷ []) (split_below go (front up ++ reading sister) (reading t ++ back up) p s (λ f. let x : Less ≡ Greater = sym less ∙ f in cc)) (less, tt)
+front_step go up false p sister t split more h = h
+
+pub front_below : (go : ℕ → Ordering) (path : Path) (t : Tree) → IsSplit go (reading (plug path t)) → Wants go path → AllStand go Less (front path)
+front_below go top t split w = tt
+front_below go (below up turn p sister) t split w = front_step go up turn p sister t split w.0 (front_below go up (branch turn t p sister) split w.1)
+
+back_step : (go : ℕ → Ordering) (up : Path) (turn : Bool) (p : ℕ) (sister t : Tree) → IsSplit go (reading (plug up (branch turn t p sister))) → go p ≡ wanted turn → AllStand go Greater (back up) → AllStand go Greater (back (below up turn p sister))
+back_step go up true p sister t split less h = h
+back_step go up false p sister t split more h =
+    let e : reading (plug up (fork t p sister)) ≡ (front up ++ reading t) ++ p ∷ (reading sister ++ back up) = reading-plug up (fork t p sister) ∙ simp append_assoc in
+    let s : IsSplit go ((front up ++ reading t) ++ p ∷ (reading sister ++ back up)) = subst (λ x. IsSplit go x) e split in
+    (more, split_above go (front up ++ reading t) (reading sister ++ back up) p s (λ f. let x : Greater ≡ Less = sym more ∙ f in cc))
+
+pub back_above : (go : ℕ → Ordering) (path : Path) (t : Tree) → IsSplit go (reading (plug path t)) → Wants go path → AllStand go Greater (back path)
+back_above go top t split w = tt
+back_above go (below up turn p sister) t split w = back_step go up turn p sister t split w.0 (back_above go up (branch turn t p sister) split w.1)
+
+-- keys that stand alike to each place of the path want one way
+pub Wants-alike : (go other : ℕ → Ordering) (path : Path) → ((q : ℕ) → 0 < occurs_on q path → other q ≡ go q) → Wants go path → Wants other path
+Wants-alike go other top same w = tt
+Wants-alike go other (below up turn p sister) same w = (same p (omega (arith, is_at-same p)) ∙ w.0, Wants-alike go other up (λ q o. same q (omega arith)) w.1)
+
+-- only the height and the size of a subtree matter to the places above
+pub Holds-alike : (ns : List Node) (path : Path) (s t : Tree) → height t ≡ height s → size t ≡ size s → Holds ns path s → Holds ns path t
+Holds-alike ns top s t a b h = tt
+Holds-alike ns (below up turn p sister) s t a b h =
+    let told = h.0.2 in
+    let e1 = told.height_is in
+    let e2 = told.size_is in (
+      (h.0.0, h.0.1, record { far_is = told.far_is; height_is = omega arith; size_is = omega arith }),
+      h.1,
+      Holds-alike ns up (branch turn s p sister) (branch turn t p sister)
+        (omega (arith, height-branch turn s p sister, height-branch turn t p sister, a))
+        (omega (arith, size-branch turn s p sister, size-branch turn t p sister, b)) h.2,
+    )
+
+-- a subtree of the same height keeps the whole in balance
+pub IsBalanced-alike : (path : Path) (s t : Tree) → height t ≡ height s → IsBalanced t → IsBalanced (plug path s) → IsBalanced (plug path t)
+IsBalanced-alike top s t same b h = b
+IsBalanced-alike (below up turn p sister) s t same b h =
+    let lv = level turn s p sister (balanced_inside up (branch turn s p sister) h) in
+    let l1 = lv.near_level in
+    let l2 = lv.far_level in
+    IsBalanced-alike up (branch turn s p sister) (branch turn t p sister) (omega (arith, height-branch turn s p sister, height-branch turn t p sister, same))
+      (IsBalanced-branch turn t p sister record { near_level = omega arith; far_level = omega arith; near_balanced = b; far_balanced = lv.far_balanced }) h

@@ -1,0 +1,235 @@
+-- Going up a path.
+use Rattle.std.proofs.Common.{◌≡◌, ◌≢◌, ℕ, zero, suc, ◌+◌, ◌-◌, ◌^◌, ◌≤◌, ◌<◌, max, Bool, true, false, not, List, [], ◌∷◌, ◌++◌, Option, Some, None, length, refl, sym, subst, ◌∙◌, ap, arith, append_assoc, append-nil, inl, inr, length-set}
+use Rattle.std.specs.Prelude.{slice_get, slice_set}
+use Rattle.std.proofs.lemmas.Option.{slice_get_within}
+use Rattle.std.proofs.lemmas.Bool.Decides.{leb_tells}
+use Rattle.bimap_base.specs.declared.cells.Node.{Node}
+use Rattle.bimap_base.specs.Packed.{IsThere}
+use Rattle.bimap_tree.specs.Tree.{Tree, leaf, fork, reading, height, size, occurs, is_at, root_of, IsBalanced, Shows, Stands, branch, node_on, near_of, far_of}
+use Rattle.bimap_tree.specs.Link.{CanRebalance, IsRebalanced}
+use Rattle.bimap_tree.specs.Path.{Path, top, below, plug, steps, front, back, occurs_on, size_on, Follows, Tells, Holds, one_if, Moves, CanRise, CanRelink, CanPut, IsRisen}
+use Rattle.bimap_tree.proofs.Branch.{height-branch, size-branch, occurs-branch, root-branch, height-node_on, size-node_on, near-node_on, far-node_on, node_is, level, Level, IsBalanced-branch, Shows-branch, Shows-linked}
+use Rattle.bimap_tree.proofs.Paths.{balanced_inside, Holds-frame, holds_of, occurs-plug, size-plug}
+use Rattle.bimap_tree.proofs.Rotate.{no_rotation}
+use Rattle.bimap_tree.proofs.Shown.{is_at-same, is_at-apart, get-elsewhere, size-reading, there, Stands-at}
+
+pub one_way : (grew : Bool) → one_if grew + one_if (not grew) ≡ 1
+one_way true = refl
+one_way false = refl
+
+-- both children of a node are there if that on each side is
+both_there : (n : ℕ) (turn : Bool) (node : Node) → IsThere n (near_of turn node) → IsThere n (far_of turn node) → IsThere n node.left × IsThere n node.right
+both_there n true node near far = (far, near)
+both_there n false node near far = (near, far)
+
+-- ---- a place above a tree that has moved
+module _ (nodes : List Node) (at : ℕ) (turn grew : Bool) (node : Node) (sister s u : Tree) (h : CanRelink nodes at turn grew node sister s u) where
+  pub sister_stands : Stands nodes (far_of turn node) sister
+  sister_stands = record { root_is = sym h.told.far_is; shown = h.sister_shown }
+
+  pub can_rebalance : CanRebalance nodes at u sister
+  can_rebalance =
+      let lv = level turn s at sister h.steady in
+      let l1 = lv.near_level in
+      let l2 = lv.far_level in
+      let m1 = h.moves.sizes in
+      let m2 = h.moves.not_lower in
+      let m3 = h.moves.not_higher in
+      let f = h.fits in
+      let one = one_way grew in
+      record {
+        link = record { has_cell = h.has_cell; near_shown = h.shown; far_shown = h.sister_shown; fits = omega arith };
+        distinct = h.distinct;
+        near_balanced = h.balanced;
+        far_balanced = lv.far_balanced;
+        near_level = omega arith;
+        far_level = omega arith;
+      }
+
+  -- the whole has moved as the child has, if at all
+  pub moved : (new : List Node) (t : Tree) → IsRebalanced nodes new turn at u sister t → Moves grew (branch turn s at sister) t
+  moved new t b =
+      let lv = level turn s at sister h.steady in
+      let l1 = lv.near_level in
+      let l2 = lv.far_level in
+      let m1 = h.moves.sizes in
+      let m2 = h.moves.not_lower in
+      let m3 = h.moves.not_higher in
+      let b1 = b.not_lower in
+      let b2 = b.at_most_one_higher in
+      let one = one_way grew in
+      let hs = height-branch turn s at sister in
+      let zs = size-branch turn s at sister in
+      let zu = size-branch turn u at sister in
+      let sized : size t ≡ size u + size sister + 1 = omega (arith, size-reading t, ap length b.in_order, size-reading (branch turn u at sister), zu) in
+      elim (leb_tells (height u) (height sister + 1)) [
+        | inl v ↦ elim (leb_tells (height sister) (height u + 1)) [
+          | inl w ↦ let lv2 = b.level v.1 w.1 in record { sizes = omega arith; not_lower = omega arith; not_higher = omega arith }
+          | inr w ↦ record { sizes = omega arith; not_lower = omega arith; not_higher = omega arith }
+        ]
+        | inr v ↦ record { sizes = omega arith; not_lower = omega arith; not_higher = omega arith }
+      ]
+
+  -- the node that was told of the child alone, where its height is as it was
+  pub record Retold (new : List Node) (more : Node) : Type 0 where
+    pub linked : IsRebalanced nodes new turn at u sister (branch turn u at sister)
+    pub height_is : more.height ≡ height (branch turn u at sister)
+    pub size_is : more.size ≡ size (branch turn u at sister)
+    pub as_high : height (branch turn u at sister) ≡ height (branch turn s at sister)
+
+  pub retold : (new : List Node) (more : Node) → max (height u) (height sister) ≡ max (height s) (height sister) → height u ≤ height sister + 1 → height sister ≤ height u + 1 → near_of turn more ≡ root_of u → far_of turn more ≡ far_of turn node → more.height ≡ node.height → more.size + one_if (not grew) ≡ node.size + one_if grew → new ≡ slice_set nodes at more → Retold new more
+  retold new more even l1 l2 near far tall counted e =
+      let m1 = h.moves.sizes in
+      let same_height : more.height ≡ max (height u) (height sister) + 1 = omega (arith, tall, h.told.height_is, even) in
+      let same_size : more.size ≡ size u + size sister + 1 = omega (arith, counted, h.told.size_is, m1) in
+      let is : more ≡ node_on turn u sister = node_is turn more (node_on turn u sister)
+        (near ∙ sym (near-node_on turn u sister))
+        (far ∙ h.told.far_is ∙ sym (far-node_on turn u sister))
+        (same_height ∙ sym (height-node_on turn u sister))
+        (same_size ∙ sym (size-node_on turn u sister)) in
+      record {
+        linked = no_rotation nodes new turn at u sister can_rebalance l1 l2 (e ∙ ap (λ x. slice_set nodes at x) is);
+        height_is = same_height ∙ sym (height-branch turn u at sister);
+        size_is = same_size ∙ sym (size-branch turn u at sister);
+        as_high = height-branch turn u at sister ∙ ap (λ x. x + 1) even ∙ sym (height-branch turn s at sister);
+      }
+
+  -- a child that grew, but no higher than the place was above its sister
+  pub low : grew ≡ true → (level : ℕ) → level ≡ height u → level < node.height → (new : List Node) (more : Node) → near_of turn more ≡ root_of u → far_of turn more ≡ far_of turn node → more.height ≡ node.height → more.size ≡ node.size + 1 → new ≡ slice_set nodes at more → Retold new more
+  low up lvl e few new more near far tall counted w =
+      let lv = level turn s at sister h.steady in
+      let l1 = lv.near_level in
+      let l2 = lv.far_level in
+      let m2 = h.moves.not_lower in
+      let m3 = h.moves.not_higher in
+      let t = h.told.height_is in
+      let a : one_if grew ≡ 1 = ap one_if up in
+      let b : one_if (not grew) ≡ 0 = ap (λ x. one_if (not x)) up in
+      retold new more (omega arith) (omega arith) (omega arith) near far tall (omega (arith, counted, a, b)) w
+
+  -- a child that is as high as it was
+  pub steady : height u ≡ height s → (new : List Node) (more : Node) → near_of turn more ≡ root_of u → far_of turn more ≡ far_of turn node → more.height ≡ node.height → more.size + one_if (not grew) ≡ node.size + one_if grew → new ≡ slice_set nodes at more → Retold new more
+  steady same new more near far tall counted w =
+      let lv = level turn s at sister h.steady in
+      let l1 = lv.near_level in
+      let l2 = lv.far_level in
+      retold new more (omega arith) (omega arith) (omega arith) near far tall counted w
+
+  pub as_told : node.height ≡ height (branch turn s at sister)
+  as_told = h.told.height_is ∙ sym (height-branch turn s at sister)
+
+  -- the children that its node is told of are there
+  pub children_there : (more : Node) (child : Option ℕ) → root_of u ≡ child → near_of turn more ≡ child → far_of turn more ≡ far_of turn node → IsThere (length nodes) more.left × IsThere (length nodes) more.right
+  children_there more child root near far =
+      both_there (length nodes) turn more
+        (there nodes (near_of turn more) u record { root_is = root ∙ sym near; shown = h.shown })
+        (there nodes (far_of turn more) sister (Stands-at nodes (far_of turn node) (far_of turn more) sister (sym far) sister_stands))
+
+  -- the node's count can be told
+  pub counts : (node.size + one_if grew < 2 ^ 64) × (one_if (not grew) ≤ node.size)
+  counts =
+      let f = h.fits in
+      let t = h.told.size_is in
+      let one = one_way grew in
+      (omega arith, omega arith)
+
+-- ---- a step of the path
+module _ (nodes : List Node) (places : List ℕ) (turns : List Bool) (grew : Bool) (s u : Tree) where
+  -- the path's last step
+  pub record LastStep (depth at : ℕ) (turn : Bool) (path up : Path) (sister : Tree) : Type 0 where
+    pub is : path ≡ below up turn at sister
+    pub above : depth - 1 ≡ steps up
+    pub here : CanRise nodes places turns (below up turn at sister) grew s u
+
+  pub last_step : (depth : ℕ) (path : Path) → CanRise nodes places turns path grew s u → depth ≡ steps path → depth ≢ 0 → (at : ℕ) (turn : Bool) → slice_get places (depth - 1) ≡ Some at → slice_get turns (depth - 1) ≡ Some turn → (up : Path) × (sister : Tree) × LastStep depth at turn path up sister
+  last_step depth top c e n at turn p t = absurd (n e)
+  last_step depth (below up way place sister) c e n at turn p t =
+      let above : depth - 1 ≡ steps up = omega (arith, e) in
+      let p2 : Some place ≡ Some at = sym c.follows.0 ∙ ap (λ i. slice_get places i) (sym above) ∙ p in
+      let t2 : Some way ≡ Some turn = sym c.follows.1 ∙ ap (λ i. slice_get turns i) (sym above) ∙ t in
+      let place_is : place ≡ at = cc in
+      let way_is : way ≡ turn = cc in
+      let is : below up way place sister ≡ below up turn at sister = ap (λ x. below up x place sister) way_is ∙ ap (λ x. below up turn x sister) place_is in
+      (up, sister, record { is = is; above = above; here = subst (λ x. CanRise nodes places turns x grew s u) is c })
+
+  module _ (up : Path) (turn : Bool) (at : ℕ) (sister : Tree) (c : CanRise nodes places turns (below up turn at sister) grew s u) where
+    pub within : at < length nodes
+    within = slice_get_within nodes at c.holds.0.0 c.holds.0.1
+
+    pub can_relink : (node : Node) → slice_get nodes at ≡ Some node → CanRelink nodes at turn grew node sister s u
+    can_relink node e =
+        let f = c.fits in
+        let both : Some c.holds.0.0 ≡ Some node = sym c.holds.0.1 ∙ e in
+        let same : c.holds.0.0 ≡ node = cc in
+        record {
+          has_cell = within;
+          told = subst (λ n. Tells turn n s sister) same c.holds.0.2;
+          shown = c.shown;
+          sister_shown = c.holds.1;
+          distinct = λ q. let d = c.distinct q in omega arith;
+          steady = balanced_inside up (branch turn s at sister) c.steady;
+          balanced = c.balanced;
+          fits = omega arith;
+          moves = c.moves;
+        }
+
+    pub can_rise : (new : List Node) (t : Tree) → IsRebalanced nodes new turn at u sister t → Moves grew (branch turn s at sister) t → CanRise new places turns up grew (branch turn s at sister) t
+    can_rise new t b m = record {
+      follows = c.follows.2;
+      holds = Holds-frame nodes new up (branch turn s at sister) (λ q o. b.same_elsewhere q (let d = c.distinct q in omega arith)) c.holds.2;
+      shown = b.shown;
+      distinct = λ q. let d = c.distinct q in omega (arith, b.same_places q);
+      steady = c.steady;
+      balanced = b.balanced;
+      fits = let f = c.fits in omega (arith, size-branch turn s at sister);
+      moves = m;
+    }
+
+-- what is read along the path, with its last step told apart
+reading_step : (up : Path) (turn : Bool) (u : Tree) (at : ℕ) (sister : Tree) → front up ++ reading (branch turn u at sister) ++ back up ≡ front (below up turn at sister) ++ reading u ++ back (below up turn at sister)
+reading_step up true u at sister = simp append_assoc
+reading_step up false u at sister = simp append_assoc
+
+pub risen_on : (nodes new last : List Node) (path up : Path) (turn : Bool) (at : ℕ) (sister u t : Tree) (root : Option ℕ) (v : Tree) → path ≡ below up turn at sister → IsRebalanced nodes new turn at u sister t → IsRisen new last up t root v → IsRisen nodes last path u root v
+risen_on nodes new last path up turn at sister u t root v is b r =
+    let done : IsRisen nodes last (below up turn at sister) u root v = record {
+      tree = r.tree;
+      in_order = r.in_order ∙ ap (λ x. front up ++ x ++ back up) b.in_order ∙ reading_step up turn u at sister;
+      same_places = λ q. omega (arith, r.same_places q, b.same_places q);
+      balanced = r.balanced;
+      same_length = r.same_length ∙ b.same_length;
+    } in
+    subst (λ x. IsRisen nodes last x u root v) (sym is) done
+
+-- the way up is at its end
+pub at_top : (nodes : List Node) (places : List ℕ) (turns : List Bool) (path : Path) (grew : Bool) (s u : Tree) (depth : ℕ) (root : Option ℕ) → CanRise nodes places turns path grew s u → depth ≡ steps path → depth ≡ 0 → root_of u ≡ root → (v : Tree) × IsRisen nodes nodes path u root v
+at_top nodes places turns top grew s u depth root c e n r = (u, record {
+  tree = record { root_is = r; shown = c.shown };
+  in_order = sym (append-nil (reading u));
+  same_places = λ q. omega arith;
+  balanced = c.balanced;
+  same_length = refl;
+})
+at_top nodes places turns (below up turn p sister) grew s u depth root c e n r = absurd (omega (arith, e, n))
+
+-- ---- a place alone at a path's end
+module _ (nodes : List Node) (places : List ℕ) (turns : List Bool) (depth : ℕ) (path : Path) (place : ℕ) (h : CanPut nodes places turns depth path place) (new : List Node) (e : new ≡ slice_set nodes place (node_on false leaf leaf)) where
+  pub can_put : CanRise new places turns path true leaf (fork leaf place leaf)
+  can_put =
+      let (holds, none) = holds_of nodes path leaf h.shown in
+      let z = is_at-same place in
+      record {
+        follows = h.follows;
+        holds = Holds-frame nodes new path leaf (λ q o. rw e (get-elsewhere nodes place q (node_on false leaf leaf) (is_at-apart q place (let d = h.distinct q in omega arith)))) holds;
+        shown = Shows-linked nodes new false leaf place leaf e h.has_cell refl refl tt tt;
+        distinct = λ q. let d = h.distinct q in omega arith;
+        steady = h.balanced;
+        balanced = (omega arith, omega arith, tt, tt);
+        fits = let f = h.fits in omega arith;
+        moves = record { sizes = refl; not_lower = omega arith; not_higher = omega arith };
+      }
+
+  pub put_risen : (last : List Node) (root : Option ℕ) → (v : Tree) × IsRisen new last path (fork leaf place leaf) root v → (v : Tree) × IsRisen nodes last path (fork leaf place leaf) root v
+  put_risen last root done =
+      let (v, r) = done in
+      (v, record { tree = r.tree; in_order = r.in_order; same_places = r.same_places; balanced = r.balanced; same_length = r.same_length ∙ ap length e ∙ length-set nodes place (node_on false leaf leaf) })

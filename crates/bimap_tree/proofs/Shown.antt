@@ -1,0 +1,118 @@
+-- Trees that nodes show.
+use Rattle.std.proofs.Common.{◌≡◌, ◌≢◌, ℕ, zero, suc, ◌+◌, ◌≤◌, ◌<◌, max, Bool, true, false, cond, eqb, List, [], ◌∷◌, ◌++◌, Option, Some, None, refl, sym, subst, ◌∙◌, ap, arith, rules, length, length-append, length-set, inl, inr}
+use Rattle.std.specs.Prelude.{slice_get, slice_set}
+use Rattle.std.proofs.lemmas.Grind.{common_steps}
+use Rattle.std.proofs.lemmas.Bool.{eq-eqb}
+use Rattle.std.proofs.lemmas.Option.{slice_get_within}
+use Rattle.std.proofs.lemmas.Bool.Decides.{eqb_tells, leb_tells}
+use Rattle.bimap_base.specs.declared.cells.Node.{Node}
+use Rattle.bimap_base.specs.Packed.{IsThere}
+use Rattle.bimap_tree.specs.Tree.{Tree, leaf, fork, reading, height, size, root_of, node_of, Shows, is_at, occurs, IsDistinctTree, Stands}
+use Rattle.bimap_tree.specs.Index.{height_at}
+
+pub is_at-same : (p : ℕ) → is_at p p ≡ 1
+is_at-same p = rw (eq-eqb p p refl)
+
+pub is_at-other : (q p : ℕ) → q ≢ p → is_at q p ≡ 0
+is_at-other q p n = elim (eqb_tells q p) [ inl w ↦ absurd (n w.1) | inr w ↦ rw w.0 ]
+
+-- nodes that agree on a tree's places show it too
+pub Shows-frame : (ns ms : List Node) (t : Tree) → ((q : ℕ) → 0 < occurs q t → slice_get ms q ≡ slice_get ns q) → Shows ns t → Shows ms t
+Shows-frame ns ms leaf same h = tt
+Shows-frame ns ms (fork l p r) same h =
+    (same p (omega (arith, is_at-same p)) ∙ h.0, Shows-frame ns ms l (λ q o. same q (omega arith)) h.1, Shows-frame ns ms r (λ q o. same q (omega arith)) h.2)
+
+-- a write at a place, and elsewhere
+pub get-written : {X : Type 0} (xs : List X) (i : ℕ) (v : X) → i < length xs → slice_get (slice_set xs i v) i ≡ Some v
+get-written [] i v h = absurd (omega arith)
+get-written (x ∷ xs) zero v h = refl
+get-written (x ∷ xs) (suc i) v h = get-written xs i v (omega arith)
+
+pub get-elsewhere : {X : Type 0} (xs : List X) (i j : ℕ) (v : X) → j ≢ i → slice_get (slice_set xs i v) j ≡ slice_get xs j
+get-elsewhere [] i j v n = refl
+get-elsewhere (x ∷ xs) zero zero v n = absurd (n refl)
+get-elsewhere (x ∷ xs) zero (suc j) v n = refl
+get-elsewhere (x ∷ xs) (suc i) zero v n = refl
+get-elsewhere (x ∷ xs) (suc i) (suc j) v n = get-elsewhere xs i j v (λ e. n (ap suc e))
+
+-- a tree without the place is still shown after a write there
+pub Shows-keeps : (ns ms : List Node) (t : Tree) (p : ℕ) (v : Node) → ms ≡ slice_set ns p v → occurs p t ≡ 0 → Shows ns t → Shows ms t
+Shows-keeps ns ms t p v e none h =
+    Shows-frame ns ms t (λ q o. rw e (get-elsewhere ns p q v (λ d. absurd (let z : occurs q t ≡ 0 = rw d none in omega arith)))) h
+
+pub is_at-apart : (q p : ℕ) → is_at q p ≡ 0 → q ≢ p
+is_at-apart q p z e = let h : is_at p p ≡ 0 = rw e at z in absurd (omega (arith, is_at-same p))
+
+-- a tree whose root is a place, with the node of that place
+pub record Opened (ns : List Node) (p : ℕ) (node : Node) (t l r : Tree) : Type 0 where
+  pub is : t ≡ fork l p r
+  pub node_is : node ≡ node_of l r
+  pub left_shown : Shows ns l
+  pub right_shown : Shows ns r
+
+pub opened : (ns : List Node) (p : ℕ) (node : Node) (t : Tree) → Stands ns (Some p) t → slice_get ns p ≡ Some node → (l : Tree) × (r : Tree) × Opened ns p node t l r
+opened ns p node leaf h e = absurd (let x = h.root_is in cc)
+opened ns p node (fork l q r) h e =
+    let x : Some q ≡ Some p = h.root_is in
+    let same : q ≡ p = cc in
+    let at : slice_get ns p ≡ Some (node_of l r) = rw same at h.shown.0 in
+    let n : Some node ≡ Some (node_of l r) = sym e ∙ at in
+    (l, r, record { is = ap (λ y. fork l y r) same; node_is = cc; left_shown = h.shown.1; right_shown = h.shown.2 })
+
+pub root_within : (ns : List Node) (p : ℕ) (t : Tree) → Stands ns (Some p) t → p < length ns
+root_within ns p leaf h = absurd (let x = h.root_is in cc)
+root_within ns p (fork l q r) h =
+    let x : Some q ≡ Some p = h.root_is in
+    let same : q ≡ p = cc in
+    slice_get_within ns p (node_of l r) (rw same at h.shown.0)
+
+pub left_stands : (ns : List Node) (p : ℕ) (node : Node) (t l r : Tree) → Opened ns p node t l r → Stands ns node.left l
+left_stands ns p node t l r o = record { root_is = sym (ap (λ n. n.left) o.node_is); shown = o.left_shown }
+
+pub right_stands : (ns : List Node) (p : ℕ) (node : Node) (t l r : Tree) → Opened ns p node t l r → Stands ns node.right r
+right_stands ns p node t l r o = record { root_is = sym (ap (λ n. n.right) o.node_is); shown = o.right_shown }
+
+pub Stands-at : (ns : List Node) (a b : Option ℕ) (t : Tree) → a ≡ b → Stands ns a t → Stands ns b t
+Stands-at ns a b t e h = record { root_is = h.root_is ∙ e; shown = h.shown }
+
+-- the root of a tree that the nodes show is there
+pub there : (ns : List Node) (root : Option ℕ) (t : Tree) → Stands ns root t → IsThere (length ns) root
+there ns root leaf h = rw (sym h.root_is) tt
+there ns root (fork l p r) h = rw (sym h.root_is) (slice_get_within ns p (node_of l r) h.shown.0)
+
+pub no_tree : (ns : List Node) (root : Option ℕ) (t : Tree) → Stands ns root t → root ≡ None → height t ≡ 0
+no_tree ns root leaf h e = refl
+no_tree ns root (fork l p r) h e = absurd (let x = h.root_is ∙ e in cc)
+
+-- the node at the root tells the tree's height
+pub height_told : (ns : List Node) (root : Option ℕ) (t : Tree) → Stands ns root t → height_at ns root ≡ height t
+height_told ns root leaf h = rw (sym h.root_is)
+height_told ns root (fork l p r) h = rw (sym h.root_is, h.shown.0)
+
+-- a tree has as many places as its reading
+pub size-reading : (t : Tree) → length (reading t) ≡ size t
+size-reading leaf = refl
+size-reading (fork l p r) = rw length-append (omega (arith, size-reading l, size-reading r))
+
+-- a place of a tree that the nodes show has a node
+pub in_tree : (ns : List Node) (t : Tree) (q : ℕ) → Shows ns t → 0 < occurs q t → q < length ns
+in_tree ns leaf q h n = absurd (omega arith)
+in_tree ns (fork l p r) q h n =
+    elim (leb_tells 1 (occurs q l)) [
+      | inl w ↦ in_tree ns l q h.1 w.1
+      | inr w ↦ elim (leb_tells 1 (occurs q r)) [
+        | inl v ↦ in_tree ns r q h.2 v.1
+        | inr v ↦ elim (eqb_tells q p) [
+          | inl y ↦ root_within ns q (fork l p r) (record { root_is = ap Some (sym y.1); shown = h })
+          | inr y ↦ absurd (omega (arith, is_at-other q p y.1))
+        ]
+      ]
+    ]
+
+-- a place that the tree does not hold can be put beside it
+pub with_absent : (t : Tree) (place q : ℕ) → IsDistinctTree t → occurs place t ≡ 0 → occurs q t + is_at q place ≤ 1
+with_absent t place q d a =
+    elim (eqb_tells q place) [
+      | inl w ↦ rw w.1 (omega (arith, a, is_at-same place))
+      | inr w ↦ omega (arith, d q, is_at-other q place w.1)
+    ]

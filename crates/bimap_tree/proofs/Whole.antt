@@ -1,0 +1,298 @@
+-- The fields of an index, and what it shows.
+use Rattle.std.proofs.Common.{◌≡◌, ◌≢◌, ℕ, suc, ◌+◌, ◌-◌, ◌*◌, ◌^◌, ◌≤◌, ◌<◌, Bool, true, false, List, [], ◌∷◌, ◌++◌, Option, Some, None, length, refl, sym, subst, ◌∙◌, ap, arith, append_assoc, append-nil}
+use Rattle.std.specs.Prelude.{IsSome, IfNone, slice_get}
+use Rattle.std.specs.Cmp.{IsTotalOrder}
+use Rattle.std.specs.List.{AllByRecursion, Contains}
+use Rattle.std.specs.declared.cmp.Ordering.{Ordering}
+use Rattle.std.specs.declared.cmp.Ordering.TheVariants.{Less, Equal, Greater}
+use Rattle.std.proofs.lemmas.Bool.Decides.{eqb_tells, leb_tells}
+use Rattle.bimap_base.specs.declared.cells.Node.{Node}
+use Rattle.bimap_base.specs.Digits.{bits, most_height}
+use Rattle.bimap_base.specs.Keyed.{standing, Ascends, Adds, Drops}
+use Rattle.bimap_base.proofs.Digits.{bits-least}
+use Rattle.bimap_tree.specs.Tree.{Tree, leaf, fork, reading, height, size, root_of, occurs, is_at, IsBalanced, IsDistinctTree, Stands, Shows}
+use Rattle.bimap_tree.specs.Index.{Index, IsIndex, IsBalancedIndex, IsWhole, index_of, tree_in}
+use Rattle.bimap_tree.specs.Order.{told, order_of, after_key, first_equal, IsSplit, AllStand}
+use Rattle.bimap_tree.specs.Path.{Path, top, plug, steps, front, back, occurs_on, size_on, Follows, Wants, CanPut, IsRisen}
+use Rattle.bimap_tree.specs.Remove.{CanTake, IsTaken}
+use Rattle.bimap_tree.specs.Route.{IsRoute, CanFollow, IsFollowed}
+use Rattle.bimap_tree.specs.Search.{CanSeek}
+use Rattle.bimap_tree.specs.declared.route.Route.{Route}
+use Rattle.bimap_tree.proofs.Ascending.{live_all, split, split_after, only_one, own_key, ascends_with, ascends_without}
+use Rattle.bimap_tree.proofs.Distinct.{absent_reading, adds, drops, contains_occurs, occurs_all}
+use Rattle.bimap_tree.proofs.Found.{none_of, one_of}
+use Rattle.bimap_tree.proofs.Heights.{height-bound}
+use Rattle.bimap_tree.proofs.Index.{tree_in-shown, whole_of}
+use Rattle.bimap_tree.proofs.Paths.{occurs-plug, size-plug, reading-plug, steps_within, front_below, back_above, Wants-alike}
+use Rattle.bimap_tree.proofs.Rooms.{size_room}
+use Rattle.bimap_tree.proofs.Shown.{Shows-frame, size-reading, with_absent, in_tree}
+
+-- a tree whose number of places is that of a word has at most so many levels
+pub few_levels : (t : Tree) → IsBalanced t → size t < 2 ^ 64 → height t ≤ 128
+few_levels t balanced few = omega (arith, height-bound t balanced, bits-least (size t) 64 few)
+
+no_root : (t : Tree) → root_of t ≡ None → t ≡ leaf
+no_root leaf e = refl
+no_root (fork l p r) e = absurd (cc)
+
+a_fork : (t : Tree) (at : ℕ) → root_of t ≡ Some at → (l : Tree) × (r : Tree) × (t ≡ fork l at r)
+a_fork leaf at e = absurd (cc)
+a_fork (fork l p r) at e = let same : p ≡ at = cc in (l, r, ap (λ x. fork l x r) same)
+
+length-middle : (xs ys : List ℕ) (p : ℕ) → length (xs ++ p ∷ ys) ≡ length (xs ++ ys) + 1
+length-middle [] ys p = omega arith
+length-middle (x ∷ xs) ys p = omega (arith, length-middle xs ys p)
+
+module _ (ns : List Node) (root : Option ℕ) (len : ℕ) (v : Index) (w : IsWhole ns root len) (e : index_of ns root ≡ v) where
+  pub places_are : reading (tree_in ns root) ≡ v.places
+  places_are = ap (λ x. x.places) e
+
+  pub nodes_are : length ns ≡ length v.nodes
+  nodes_are = ap (λ x. length x.nodes) e
+
+  pub length_is : len ≡ length v.places
+  length_is = w.counted ∙ sym (size-reading (tree_in ns root)) ∙ ap length places_are
+
+  size_is : size (tree_in ns root) ≡ length v.places
+  size_is = sym w.counted ∙ length_is
+
+  few : size (tree_in ns root) < 2 ^ 64
+  few = omega (arith, w.counted, w.few)
+
+  -- the height is at most twice the number of the length's digits
+  pub height_within : height (tree_in ns root) ≤ most_height (length v.places)
+  height_within = subst (λ x. height (tree_in ns root) ≤ 2 * bits x) size_is (height-bound (tree_in ns root) w.index.balanced)
+
+  pub rank_within : (rank : ℕ) → rank < length v.places → rank < size (tree_in ns root)
+  rank_within rank h = omega (arith, h, size_is)
+
+  -- what callers see of it
+  pub shown_index : IsBalancedIndex v (tree_in ns root)
+  shown_index = subst (λ x. IsBalancedIndex x (tree_in ns root)) e (record { tree = w.index; in_order = refl })
+
+  pub listed_within : (p : ℕ) → Contains v.places p → p < length v.nodes
+  listed_within p c =
+      let here : Contains (reading (tree_in ns root)) p = subst (λ x. Contains x p) (sym places_are) c in
+      omega (arith, nodes_are, in_tree ns (tree_in ns root) p w.index.tree.shown (contains_occurs (tree_in ns root) p here))
+
+  -- ---- more cells
+  module _ (ms : List Node) (same : (k : ℕ) → k < length ns → slice_get ms k ≡ slice_get ns k) where
+    still_stands : Stands ms root (tree_in ns root)
+    still_stands = record { root_is = w.index.tree.root_is; shown = Shows-frame ns ms (tree_in ns root) (λ q n. same q (in_tree ns (tree_in ns root) q w.index.tree.shown n)) w.index.tree.shown }
+
+    pub whole_grown : IsWhole ms root len
+    whole_grown = whole_of ms root len (tree_in ns root) (record { tree = still_stands; balanced = w.index.balanced; distinct = w.index.distinct }) w.counted w.few
+
+    pub places_grown : reading (tree_in ms root) ≡ v.places
+    places_grown = ap reading (tree_in-shown ms root (tree_in ns root) still_stands) ∙ places_are
+
+  -- ---- searches
+  module _ {K : Type 0} (key : ℕ → Option K) (order : K → K → Ordering) (total : IsTotalOrder order) (up : Ascends key order v.places) where
+    ascends_here : Ascends key order (reading (tree_in ns root))
+    ascends_here = subst (λ x. Ascends key order x) (sym places_are) up
+
+    all_live : (q : ℕ) → 0 < occurs q (tree_in ns root) → IsSome (key q)
+    all_live = occurs_all (λ q. IsSome (key q)) (tree_in ns root) (live_all key order (reading (tree_in ns root)) ascends_here)
+
+    pub can_seek : (k : K) → CanSeek ns root (λ q. IsSome (key q)) (λ q. order_of order (key q) (Some k)) (tree_in ns root)
+    can_seek k = record { tree = w.index.tree; all_live = all_live; in_order = split key order total k (reading (tree_in ns root)) ascends_here; fits = few }
+
+    pub can_seek_after : (k : K) → CanSeek ns root (λ q. IsSome (key q)) (λ q. after_key (order_of order (key q) (Some k))) (tree_in ns root)
+    can_seek_after k = record { tree = w.index.tree; all_live = all_live; in_order = split_after (λ q. order_of order (key q) (Some k)) (reading (tree_in ns root)) (can_seek k).in_order; fits = few }
+
+    pub can_seek_place : (place : ℕ) (k : K) → key place ≡ Some k → CanSeek ns root (λ q. IsSome (key q) × IsSome (key place)) (λ q. order_of order (key q) (key place)) (tree_in ns root)
+    can_seek_place place k is =
+        subst (λ o. CanSeek ns root (λ q. IsSome (key q) × IsSome o) (λ q. order_of order (key q) o) (tree_in ns root)) (sym is)
+        (record { tree = w.index.tree; all_live = λ q n. (all_live q n, refl); in_order = (can_seek k).in_order; fits = few })
+
+  pub can_follow : (live : ℕ → Type 0) (go : ℕ → Ordering) (places : List ℕ) (turns : List Bool) → length places ≡ 128 → length turns ≡ 128 → CanSeek ns root live go (tree_in ns root) → CanFollow ns root live go places turns 0 top (tree_in ns root)
+  can_follow live go places turns a b h = record {
+    seek = h;
+    follows = tt;
+    depth_is = refl;
+    wants = tt;
+    deep = omega (arith, few_levels (tree_in ns root) w.index.balanced few);
+    rooms = a;
+    more = b;
+  }
+
+  -- the route that a search without success leaves
+  pub route_left : (standing : ℕ → Option Ordering) (route : Route) (found : Option ℕ) → found ≡ None → (low : Path) × (s : Tree) × IsFollowed (λ q. told (standing q)) route.places route.turns route.depth found (tree_in ns root) low s → IsRoute v standing route
+  route_left standing route found none (low, s, f) =
+      let no : s ≡ leaf = no_root s (f.root_is ∙ none) in
+      let is : tree_in ns root ≡ plug low leaf = sym f.whole ∙ ap (λ x. plug low x) no in
+      record {
+        path = low;
+        of_index = subst (λ x. IsBalancedIndex v x) is shown_index;
+        follows = f.follows;
+        depth_is = f.depth_is;
+        wants = f.wants;
+      }
+
+  pub route_if_none : (standing : ℕ → Option Ordering) (route : Route) (found : Option ℕ) → (low : Path) × (s : Tree) × IsFollowed (λ q. told (standing q)) route.places route.turns route.depth found (tree_in ns root) low s → IfNone found (IsRoute v standing route)
+  route_if_none standing route None f = route_left standing route None refl f
+  route_if_none standing route (Some p) f = tt
+
+  -- ---- a search for a place's own key
+  module _ {K : Type 0} (key : ℕ → Option K) (order : K → K → Ordering) (place : ℕ) (k : K) (is : key place ≡ Some k) (found : Option ℕ) (first : found ≡ first_equal (λ q. order_of order (key q) (key place)) (reading (tree_in ns root))) where
+    first_listed : found ≡ first_equal (λ q. order_of order (key q) (Some k)) v.places
+    first_listed =
+        subst (λ o. found ≡ first_equal (λ q. order_of order (key q) o) (reading (tree_in ns root))) is first
+        ∙ ap (λ x. first_equal (λ q. order_of order (key q) (Some k)) x) places_are
+
+    -- leads to no place, where no listed key is equal
+    pub place_route : ((p : ℕ) → Contains v.places p → standing key order k p ≡ Some Equal → ⊥) → (route : Route) → (low : Path) × (s : Tree) × IsFollowed (λ q. order_of order (key q) (key place)) route.places route.turns route.depth found (tree_in ns root) low s → IsRoute v (λ q. standing key order k q) route
+    place_route unequal route f =
+        route_left (λ q. standing key order k q) route found (none_of (λ q. standing key order k q) v.places found first_listed unequal)
+        (subst (λ o. (low : Path) × (s : Tree) × IsFollowed (λ q. order_of order (key q) o) route.places route.turns route.depth found (tree_in ns root) low s) is f)
+
+    -- leads to the place, where it is listed
+    pub place_found : IsTotalOrder order → Ascends key order v.places → Contains v.places place → found ≡ Some place
+    place_found total up listed =
+        one_of (λ q. order_of order (key q) (Some k)) v.places found place first_listed listed (own_key key order total place k is)
+        (λ p c s. only_one key order total v.places up k p place c listed s (own_key key order total place k is))
+
+  -- ---- a place put in at a route's end
+  module _ (standing : ℕ → Option Ordering) (route : Route) (r : IsRoute v standing route) where
+    at_fields : IsIndex ns root (plug r.path leaf)
+    at_fields = subst (λ x. IsIndex x.nodes x.root (plug r.path leaf)) (sym e) r.of_index.tree
+
+    pub route_depth : route.depth ≤ most_height (length v.places)
+    route_depth =
+        let n : size (plug r.path leaf) ≡ length v.places = sym (size-reading (plug r.path leaf)) ∙ ap length r.of_index.in_order in
+        let h : height (plug r.path leaf) ≤ 2 * bits (length v.places) = subst (λ x. height (plug r.path leaf) ≤ 2 * bits x) n (height-bound (plug r.path leaf) at_fields.balanced) in
+        omega (arith, r.depth_is, steps_within r.path leaf)
+
+    module _ (place rooms : ℕ) (cell : place < length v.nodes) (unlisted : Contains v.places place → ⊥) (counted : rooms ≡ length ns) (fits : rooms < 2 ^ 64) where
+      none : occurs place (plug r.path leaf) ≡ 0
+      none = absent_reading (plug r.path leaf) place (λ c. unlisted (subst (λ x. Contains x place) r.of_index.in_order c))
+
+      within : place < length ns
+      within = omega (arith, cell, nodes_are)
+
+      room : size (plug r.path leaf) + 1 ≤ length ns
+      room = size_room ns (plug r.path leaf) place at_fields.tree.shown within (λ q. with_absent (plug r.path leaf) place q at_fields.distinct none)
+
+      pub can_put : CanPut ns route.places route.turns route.depth r.path place
+      can_put = record {
+        follows = r.follows;
+        depth_is = r.depth_is;
+        deep = omega (arith, r.depth_is, steps_within r.path leaf, few_levels (plug r.path leaf) at_fields.balanced (omega (arith, room, counted, fits)));
+        shown = at_fields.tree.shown;
+        distinct = λ q. omega (arith, with_absent (plug r.path leaf) place q at_fields.distinct none, occurs-plug q r.path leaf);
+        balanced = at_fields.balanced;
+        has_cell = within;
+        fits = omega (arith, room, counted, fits, size-plug r.path leaf);
+      }
+
+      size_before : size (plug r.path leaf) ≡ len
+      size_before = sym (size-reading (plug r.path leaf)) ∙ ap length r.of_index.in_order ∙ sym length_is
+
+      pub len_fits : len + 1 < 2 ^ 64
+      len_fits = omega (arith, room, counted, fits, size_before)
+
+      module _ (ms : List Node) (last : Option ℕ) (done : (u : Tree) × IsRisen ns ms r.path (fork leaf place leaf) last u) where
+        one_more : (q : ℕ) → occurs q done.0 ≡ occurs q (plug r.path leaf) + is_at q place
+        one_more q = omega (arith, done.1.same_places q, occurs-plug q r.path leaf)
+
+        read_now : reading done.0 ≡ front r.path ++ place ∷ back r.path
+        read_now = done.1.in_order ∙ append_assoc (front r.path) (place ∷ []) (back r.path)
+
+        read_before : v.places ≡ front r.path ++ back r.path
+        read_before = sym r.of_index.in_order ∙ reading-plug r.path leaf ∙ ap (λ x. x ++ back r.path) (append-nil (front r.path))
+
+        sized : size done.0 ≡ len + 1
+        sized = omega (arith, size_before, size-reading done.0, ap length read_now, size-reading (plug r.path leaf), ap length r.of_index.in_order, ap length read_before, length-middle (front r.path) (back r.path) place)
+
+        pub put_whole : IsWhole ms last (len + 1)
+        put_whole =
+            whole_of ms last (len + 1) done.0
+              (record { tree = done.1.tree; balanced = done.1.balanced; distinct = λ q. omega (arith, one_more q, with_absent (plug r.path leaf) place q at_fields.distinct none) })
+              (sym sized) len_fits
+
+        reads : reading (tree_in ms last) ≡ reading done.0
+        reads = ap reading (tree_in-shown ms last done.0 done.1.tree)
+
+        pub put_length : length (reading (tree_in ms last)) ≡ length v.places + 1
+        put_length = ap length reads ∙ size-reading done.0 ∙ sized ∙ ap (λ x. x + 1) length_is
+
+        pub put_adds : Adds v.places place (reading (tree_in ms last))
+        put_adds =
+            subst (λ x. Adds v.places place x) (sym reads)
+            (subst (λ x. Adds x place (reading done.0)) r.of_index.in_order (adds (plug r.path leaf) done.0 place one_more))
+
+        pub put_cells : length ms ≡ length v.nodes
+        put_cells = done.1.same_length ∙ nodes_are
+
+        pub put_ascends : {K : Type 0} (key : ℕ → Option K) (order : K → K → Ordering) → IsTotalOrder order → Ascends key order v.places → (k : K) → key place ≡ Some k → ((q : ℕ) → told (standing q) ≡ order_of order (key q) (Some k)) → Ascends key order (reading (tree_in ms last))
+        put_ascends key order total up k is same =
+            let parts : Ascends key order (front r.path ++ back r.path) = subst (λ x. Ascends key order x) read_before up in
+            let divided : IsSplit (λ q. order_of order (key q) (Some k)) (reading (plug r.path leaf)) = split key order total k (reading (plug r.path leaf)) (subst (λ x. Ascends key order x) (sym r.of_index.in_order) up) in
+            let wants : Wants (λ q. order_of order (key q) (Some k)) r.path = Wants-alike (λ q. told (standing q)) (λ q. order_of order (key q) (Some k)) r.path (λ q n. sym (same q)) r.wants in
+            subst (λ x. Ascends key order x) (sym (reads ∙ read_now))
+            (ascends_with key order total (front r.path) (back r.path) place k is
+              (front_below (λ q. order_of order (key q) (Some k)) r.path leaf divided wants)
+              (back_above (λ q. order_of order (key q) (Some k)) r.path leaf divided wants) parts)
+
+  -- ---- the place at a route's end taken out
+  module _ (go : ℕ → Ordering) (route : Route) (found : ℕ) (low : Path) (s : Tree) (f : IsFollowed go route.places route.turns route.depth (Some found) (tree_in ns root) low s) where
+    pub end : (l : Tree) × (r : Tree) × (s ≡ fork l found r)
+    end = a_fork s found f.root_is
+
+    is_whole : plug low (fork end.0 found end.1) ≡ tree_in ns root
+    is_whole = ap (λ x. plug low x) (sym end.2) ∙ f.whole
+
+    pub can_take : CanTake ns route low end.0 found end.1
+    can_take = record {
+      follows = f.follows;
+      depth_is = f.depth_is;
+      shown = subst (λ x. Shows ns x) (sym is_whole) w.index.tree.shown;
+      distinct = subst (λ x. IsDistinctTree x) (sym is_whole) w.index.distinct;
+      balanced = subst (λ x. IsBalanced x) (sym is_whole) w.index.balanced;
+      deep = subst (λ x. height x ≤ 128) (sym is_whole) (few_levels (tree_in ns root) w.index.balanced few);
+      fits = subst (λ x. size x < 2 ^ 64) (sym is_whole) few;
+    }
+
+    pub take_height : height (plug low (fork end.0 found end.1)) ≤ most_height (length v.places)
+    take_height = subst (λ x. height x ≤ most_height (length v.places)) (sym is_whole) height_within
+
+    module _ (ms : List Node) (last : Option ℕ) (done : (u : Tree) × IsTaken ns ms low end.0 end.1 last u) where
+      one_less : (q : ℕ) → occurs q (tree_in ns root) ≡ occurs q done.0 + is_at q found
+      one_less q = omega (arith, done.1.same_places q, occurs-plug q low (fork end.0 found end.1), ap (λ x. occurs q x) is_whole)
+
+      was_read : v.places ≡ (front low ++ reading end.0) ++ found ∷ (reading end.1 ++ back low)
+      was_read = sym places_are ∙ ap reading (sym is_whole) ∙ reading-plug low (fork end.0 found end.1) ∙ simp append_assoc
+
+      now_read : reading done.0 ≡ (front low ++ reading end.0) ++ (reading end.1 ++ back low)
+      now_read = done.1.in_order ∙ append_assoc (front low ++ reading end.0) (reading end.1) (back low)
+
+      left_size : size done.0 + 1 ≡ len
+      left_size = omega (arith, length_is, size-reading done.0, ap length now_read, ap length was_read, length-middle (front low ++ reading end.0) (reading end.1 ++ back low) found)
+
+      left_reads : reading (tree_in ms last) ≡ reading done.0
+      left_reads = ap reading (tree_in-shown ms last done.0 done.1.tree)
+
+      pub some_place : 0 < len
+      some_place = omega (arith, left_size)
+
+      pub take_whole : IsWhole ms last (len - 1)
+      take_whole =
+          whole_of ms last (len - 1) done.0
+            (record { tree = done.1.tree; balanced = done.1.balanced; distinct = λ q. omega (arith, one_less q, w.index.distinct q) })
+            (omega (arith, left_size)) (omega (arith, w.few))
+
+      pub take_length : length (reading (tree_in ms last)) + 1 ≡ length v.places
+      take_length = omega (arith, ap length left_reads, size-reading done.0, left_size, length_is)
+
+      pub take_drops : Drops v.places found (reading (tree_in ms last))
+      take_drops =
+          subst (λ x. Drops v.places found x) (sym left_reads)
+          (subst (λ x. Drops x found (reading done.0)) places_are (drops (tree_in ns root) done.0 found w.index.distinct one_less))
+
+      pub take_cells : length ms ≡ length v.nodes
+      take_cells = done.1.same_length ∙ nodes_are
+
+      pub take_ascends : {K : Type 0} (key : ℕ → Option K) (order : K → K → Ordering) → Ascends key order v.places → Ascends key order (reading (tree_in ms last))
+      take_ascends key order up =
+          subst (λ x. Ascends key order x) (sym (left_reads ∙ now_read))
+          (ascends_without key order (front low ++ reading end.0) (reading end.1 ++ back low) found (subst (λ x. Ascends key order x) was_read up))

@@ -1,0 +1,10 @@
+use Rattle.std.proofs.Common.{ap, refl, None, lit<}
+use Rattle.bimap_tree.specs.Tree.{Tree, leaf, reading}
+use Rattle.bimap_tree.proofs.Index.{whole_of, no_index, tree_in-shown}
+use Rattle.bimap_tree.proofs.ordered.Ordered.clear.Goals as goal
+
+pub invariant_of-self : goal.invariant_of-self
+invariant_of-self c = whole_of _ None 0 leaf (no_index _) refl (lit< tt)
+
+pub returns-clause-places : goal.returns-clause-places
+returns-clause-places c = ap reading (tree_in-shown c.self.inside.cells None leaf (no_index c.self.inside.cells).tree)

@@ -1,0 +1,54 @@
+use Rattle.std.proofs.Common.{◌≡◌, ℕ, ◌+◌, ◌*◌, ◌≤◌, ◌<◌, arith, refl}
+use Rattle.bimap_tree.proofs.Ascending.{key_is}
+use Rattle.bimap_tree.proofs.Whole.{can_put, len_fits, put_whole, put_length, put_adds, put_cells, put_ascends, route_depth}
+use Rattle.bimap_tree.proofs.ordered.Ordered.insert_at.Goals as goal
+
+pub put_at-self-inside-requires : goal.put_at-self-inside-requires
+put_at-self-inside-requires g c =
+    let (k, is) = key_is (g.K.Keys.key_at c.args.keys.now) g.K.Keys.order _ c.requires.live in
+    (_, can_put _ _ _ _ c.self.invariant c.self.view_is _ _ (c.requires.route k is) _ _ c.requires.cell c.requires.unlisted c.places.ensures (omega arith))
+
+pub overflow_add-self : goal.overflow_add-self
+overflow_add-self g c =
+    let (k, is) = key_is (g.K.Keys.key_at c.args.keys.now) g.K.Keys.order _ c.requires.live in
+    omega (arith, len_fits _ _ _ _ c.self.invariant c.self.view_is _ _ (c.requires.route k is) _ _ c.requires.cell c.requires.unlisted c.places.ensures (omega arith))
+
+pub invariant_of-self : goal.invariant_of-self
+invariant_of-self g c =
+    let (k, is) = key_is (g.K.Keys.key_at c.args.keys.now) g.K.Keys.order _ c.requires.live in
+    let r = c.requires.route k is in
+    let h = can_put _ _ _ _ c.self.invariant c.self.view_is _ _ r _ _ c.requires.cell c.requires.unlisted c.places.ensures (omega arith) in
+    put_whole _ _ _ _ c.self.invariant c.self.view_is _ _ r _ _ c.requires.cell c.requires.unlisted c.places.ensures (omega arith) _ _ (c.put_at-self-inside.ensures.tree _ h)
+
+pub returns-clause-len : goal.returns-clause-len
+returns-clause-len g c =
+    let (k, is) = key_is (g.K.Keys.key_at c.args.keys.now) g.K.Keys.order _ c.requires.live in
+    let r = c.requires.route k is in
+    let h = can_put _ _ _ _ c.self.invariant c.self.view_is _ _ r _ _ c.requires.cell c.requires.unlisted c.places.ensures (omega arith) in
+    put_length _ _ _ _ c.self.invariant c.self.view_is _ _ r _ _ c.requires.cell c.requires.unlisted c.places.ensures (omega arith) _ _ (c.put_at-self-inside.ensures.tree _ h)
+
+pub returns-clause-adds : goal.returns-clause-adds
+returns-clause-adds g c =
+    let (k, is) = key_is (g.K.Keys.key_at c.args.keys.now) g.K.Keys.order _ c.requires.live in
+    let r = c.requires.route k is in
+    let h = can_put _ _ _ _ c.self.invariant c.self.view_is _ _ r _ _ c.requires.cell c.requires.unlisted c.places.ensures (omega arith) in
+    put_adds _ _ _ _ c.self.invariant c.self.view_is _ _ r _ _ c.requires.cell c.requires.unlisted c.places.ensures (omega arith) _ _ (c.put_at-self-inside.ensures.tree _ h)
+
+pub returns-clause-ascends : goal.returns-clause-ascends
+returns-clause-ascends g c =
+    let (k, is) = key_is (g.K.Keys.key_at c.args.keys.now) g.K.Keys.order _ c.requires.live in
+    let r = c.requires.route k is in
+    let h = can_put _ _ _ _ c.self.invariant c.self.view_is _ _ r _ _ c.requires.cell c.requires.unlisted c.places.ensures (omega arith) in
+    put_ascends _ _ _ _ c.self.invariant c.self.view_is _ _ r _ _ c.requires.cell c.requires.unlisted c.places.ensures (omega arith) _ _ (c.put_at-self-inside.ensures.tree _ h) _ _ g.met.K.Keys.total c.requires.ascends k is (λ q. refl)
+
+pub returns-clause-cells : goal.returns-clause-cells
+returns-clause-cells g c =
+    let (k, is) = key_is (g.K.Keys.key_at c.args.keys.now) g.K.Keys.order _ c.requires.live in
+    let r = c.requires.route k is in
+    let h = can_put _ _ _ _ c.self.invariant c.self.view_is _ _ r _ _ c.requires.cell c.requires.unlisted c.places.ensures (omega arith) in
+    put_cells _ _ _ _ c.self.invariant c.self.view_is _ _ r _ _ c.requires.cell c.requires.unlisted c.places.ensures (omega arith) _ _ (c.put_at-self-inside.ensures.tree _ h)
+
+pub returns-clause-touches : goal.returns-clause-touches
+returns-clause-touches g c =
+    let (k, is) = key_is (g.K.Keys.key_at c.args.keys.now) g.K.Keys.order _ c.requires.live in
+    omega (arith, c.put_at-self-inside.ensures.touches, route_depth _ _ _ _ c.self.invariant c.self.view_is _ _ (c.requires.route k is))

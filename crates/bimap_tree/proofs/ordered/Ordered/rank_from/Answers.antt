@@ -1,0 +1,44 @@
+use Rattle.std.proofs.Common.{◌≡◌, ℕ, ◌+◌, ◌*◌, ◌≤◌, arith, ap, sym, subst, ◌∙◌, Some}
+use Rattle.bimap_tree.specs.Index.{tree_in}
+use Rattle.bimap_tree.specs.Order.{count_below, after_key, order_of}
+use Rattle.bimap_tree.specs.Start.{IsStart}
+use Rattle.bimap_tree.proofs.Starts.{start_included, start_excluded, start_unbounded}
+use Rattle.bimap_tree.proofs.Whole.{can_seek, can_seek_after, places_are, height_within}
+use Rattle.bimap_tree.proofs.ordered.Ordered.rank_from.Goals as goal
+
+pub returns-in-Unbounded-clause-start : goal.returns-in-Unbounded-clause-start
+returns-in-Unbounded-clause-start g c =
+    subst (λ b. IsStart (g.K.Keys.key_at c.args.keys.now) g.K.Keys.order b c.args.self.now.places 0) (sym c.in-Unbounded.is)
+    (start_unbounded _ _ g.met.K.Keys.total _ c.requires)
+
+pub rank_under-requires : goal.rank_under-requires
+rank_under-requires g c = (tree_in c.self.inside.cells c.self.inside.root, can_seek _ _ _ _ c.self.invariant c.self.view_is _ _ g.met.K.Keys.total c.requires _)
+
+pub rank_under-requires-in-Excluded : goal.rank_under-requires-in-Excluded
+rank_under-requires-in-Excluded g c = (tree_in c.self.inside.cells c.self.inside.root, can_seek_after _ _ _ _ c.self.invariant c.self.view_is _ _ g.met.K.Keys.total c.requires _)
+
+pub returns-in-Included-clause-start : goal.returns-in-Included-clause-start
+returns-in-Included-clause-start g c =
+    let s = can_seek _ _ _ _ c.self.invariant c.self.view_is _ _ g.met.K.Keys.total c.requires c.in-Included.key.now in
+    subst (λ b. IsStart (g.K.Keys.key_at c.args.keys.now) g.K.Keys.order b c.args.self.now.places c.rank_under.result) (sym c.in-Included.is)
+    (start_included _ _ g.met.K.Keys.total _ c.requires _ _
+      (c.rank_under.ensures.rank _ s ∙ ap (λ x. count_below (λ q. order_of g.K.Keys.order (g.K.Keys.key_at c.args.keys.now q) (Some c.in-Included.key.now)) x) (places_are _ _ _ _ c.self.invariant c.self.view_is)))
+
+pub returns-in-Included-clause-comparisons : goal.returns-in-Included-clause-comparisons
+returns-in-Included-clause-comparisons g c = omega (arith, c.rank_under.ensures.comparisons _ c.self.invariant.index.tree, height_within _ _ _ _ c.self.invariant c.self.view_is)
+
+pub returns-in-Included-clause-touches : goal.returns-in-Included-clause-touches
+returns-in-Included-clause-touches g c = omega (arith, c.rank_under.ensures.touches _ c.self.invariant.index.tree, height_within _ _ _ _ c.self.invariant c.self.view_is)
+
+pub returns-in-Excluded-clause-start : goal.returns-in-Excluded-clause-start
+returns-in-Excluded-clause-start g c =
+    let s = can_seek_after _ _ _ _ c.self.invariant c.self.view_is _ _ g.met.K.Keys.total c.requires c.in-Excluded.key.now in
+    subst (λ b. IsStart (g.K.Keys.key_at c.args.keys.now) g.K.Keys.order b c.args.self.now.places c.rank_under-in-Excluded.result) (sym c.in-Excluded.is)
+    (start_excluded _ _ g.met.K.Keys.total _ c.requires _ _
+      (c.rank_under-in-Excluded.ensures.rank _ s ∙ ap (λ x. count_below (λ q. after_key (order_of g.K.Keys.order (g.K.Keys.key_at c.args.keys.now q) (Some c.in-Excluded.key.now))) x) (places_are _ _ _ _ c.self.invariant c.self.view_is)))
+
+pub returns-in-Excluded-clause-comparisons : goal.returns-in-Excluded-clause-comparisons
+returns-in-Excluded-clause-comparisons g c = omega (arith, c.rank_under-in-Excluded.ensures.comparisons _ c.self.invariant.index.tree, height_within _ _ _ _ c.self.invariant c.self.view_is)
+
+pub returns-in-Excluded-clause-touches : goal.returns-in-Excluded-clause-touches
+returns-in-Excluded-clause-touches g c = omega (arith, c.rank_under-in-Excluded.ensures.touches _ c.self.invariant.index.tree, height_within _ _ _ _ c.self.invariant c.self.view_is)

@@ -1,0 +1,62 @@
+use Rattle.std.proofs.Common.{◌≡◌, ℕ, ◌+◌, ◌-◌, ◌*◌, ◌≤◌, ◌<◌, Some, arith, subst}
+use Rattle.bimap_tree.specs.Index.{tree_in}
+use Rattle.bimap_tree.specs.Order.{order_of}
+use Rattle.bimap_tree.specs.Path.{Path, plug, top}
+use Rattle.bimap_tree.specs.Route.{IsFollowed}
+use Rattle.bimap_tree.specs.Tree.{Tree}
+use Rattle.bimap_tree.proofs.Ascending.{key_listed}
+use Rattle.bimap_tree.proofs.Whole.{can_seek_place, can_follow, place_found, height_within, end, can_take, take_height, take_whole, take_length, take_drops, take_cells, take_ascends}
+use Rattle.bimap_tree.proofs.ordered.Ordered.remove.Given.{Over}
+use Rattle.bimap_tree.proofs.ordered.Ordered.remove.Goals as goal
+use Rattle.bimap_tree.proofs.ordered.Ordered.remove.Goals.{After-route_under-self-inside}
+
+pub route_under-self-inside-requires : goal.route_under-self-inside-requires
+route_under-self-inside-requires g c =
+    let (k, is) = key_listed (g.K.Keys.key_at c.args.keys.now) g.K.Keys.order _ c.requires.ascends _ c.requires.listed in
+    (top, tree_in c.self.inside.cells c.self.inside.root, can_follow _ _ _ _ c.self.invariant c.self.view_is _ _ _ _ (omega arith) (omega arith) (can_seek_place _ _ _ _ c.self.invariant c.self.view_is _ _ g.met.K.Keys.total c.requires.ascends _ k is))
+
+-- the way that the search went, to the place
+the_way : (g : Over) (c : After-route_under-self-inside g) → (low : Path) × (s : Tree) × IsFollowed (λ q. order_of g.K.Keys.order (g.K.Keys.key_at c.args.keys.now q) (g.K.Keys.key_at c.args.keys.now c.args.place)) c.route_under-self-inside.new.route.places c.route_under-self-inside.new.route.turns c.route_under-self-inside.new.route.depth (Some c.args.place) (tree_in c.self.inside.cells c.self.inside.root) low s
+the_way g c =
+    let (k, is) = key_listed (g.K.Keys.key_at c.args.keys.now) g.K.Keys.order _ c.requires.ascends _ c.requires.listed in
+    let f = can_follow _ _ _ _ c.self.invariant c.self.view_is _ _ c.new-route.result.places c.new-route.result.turns (omega arith) (omega arith) (can_seek_place _ _ _ _ c.self.invariant c.self.view_is _ _ g.met.K.Keys.total c.requires.ascends c.args.place k is) in
+    let found = place_found _ _ _ _ c.self.invariant c.self.view_is _ _ _ k is _ (c.route_under-self-inside.ensures.found _ _ f) g.met.K.Keys.total c.requires.ascends c.requires.listed in
+    subst (λ o. (low : Path) × (s : Tree) × IsFollowed (λ q. order_of g.K.Keys.order (g.K.Keys.key_at c.args.keys.now q) (g.K.Keys.key_at c.args.keys.now c.args.place)) c.route_under-self-inside.new.route.places c.route_under-self-inside.new.route.turns c.route_under-self-inside.new.route.depth o (tree_in c.self.inside.cells c.self.inside.root) low s) found (c.route_under-self-inside.ensures.follows _ _ f)
+
+pub take_at-self-inside-requires : goal.take_at-self-inside-requires
+take_at-self-inside-requires g c =
+    let (low, s, f) = the_way g (goal.at.take_at-self-inside-requires g c).After-route_under-self-inside in
+    (low, _, _, can_take _ _ _ _ c.self.invariant c.self.view_is _ _ _ low s f)
+
+pub invariant_of-self : goal.invariant_of-self
+invariant_of-self g c =
+    let (low, s, f) = the_way g (goal.at.invariant_of-self g c).After-route_under-self-inside in
+    take_whole _ _ _ _ c.self.invariant c.self.view_is _ _ _ low s f _ _ (c.take_at-self-inside.ensures.tree low _ _ (can_take _ _ _ _ c.self.invariant c.self.view_is _ _ _ low s f))
+
+pub returns-clause-len : goal.returns-clause-len
+returns-clause-len g c =
+    let (low, s, f) = the_way g (goal.at.returns-clause-len g c).After-route_under-self-inside in
+    take_length _ _ _ _ c.self.invariant c.self.view_is _ _ _ low s f _ _ (c.take_at-self-inside.ensures.tree low _ _ (can_take _ _ _ _ c.self.invariant c.self.view_is _ _ _ low s f))
+
+pub returns-clause-drops : goal.returns-clause-drops
+returns-clause-drops g c =
+    let (low, s, f) = the_way g (goal.at.returns-clause-drops g c).After-route_under-self-inside in
+    take_drops _ _ _ _ c.self.invariant c.self.view_is _ _ _ low s f _ _ (c.take_at-self-inside.ensures.tree low _ _ (can_take _ _ _ _ c.self.invariant c.self.view_is _ _ _ low s f))
+
+pub returns-clause-ascends : goal.returns-clause-ascends
+returns-clause-ascends g c =
+    let (low, s, f) = the_way g (goal.at.returns-clause-ascends g c).After-route_under-self-inside in
+    take_ascends _ _ _ _ c.self.invariant c.self.view_is _ _ _ low s f _ _ (c.take_at-self-inside.ensures.tree low _ _ (can_take _ _ _ _ c.self.invariant c.self.view_is _ _ _ low s f)) _ _ c.requires.ascends
+
+pub returns-clause-cells : goal.returns-clause-cells
+returns-clause-cells g c =
+    let (low, s, f) = the_way g (goal.at.returns-clause-cells g c).After-route_under-self-inside in
+    take_cells _ _ _ _ c.self.invariant c.self.view_is _ _ _ low s f _ _ (c.take_at-self-inside.ensures.tree low _ _ (can_take _ _ _ _ c.self.invariant c.self.view_is _ _ _ low s f))
+
+pub returns-clause-comparisons : goal.returns-clause-comparisons
+returns-clause-comparisons g c = omega (arith, c.route_under-self-inside.ensures.comparisons _ c.self.invariant.index.tree, height_within _ _ _ _ c.self.invariant c.self.view_is)
+
+pub returns-clause-touches : goal.returns-clause-touches
+returns-clause-touches g c =
+    let (low, s, f) = the_way g (goal.at.returns-clause-touches g c).After-route_under-self-inside in
+    omega (arith, c.route_under-self-inside.ensures.touches _ c.self.invariant.index.tree, height_within _ _ _ _ c.self.invariant c.self.view_is, c.take_at-self-inside.ensures.touches low _ _ (can_take _ _ _ _ c.self.invariant c.self.view_is _ _ _ low s f), take_height _ _ _ _ c.self.invariant c.self.view_is _ _ _ low s f)

@@ -1,0 +1,114 @@
+use Rattle.std.proofs.Common.{◌≡◌, ℕ, ◌+◌, ◌*◌, ◌<◌, ◌≤◌, arith, ap, ◌∙◌}
+use Rattle.bimap_tree.specs.Tree.{Tree, fork}
+use Rattle.bimap_tree.proofs.Paths.{steps_within}
+use Rattle.bimap_tree.proofs.Removes.{no_child, at_within, left_tree, right_tree, left_there, right_there, depth_few, node_told, rises_left, rises_right, taken_left, taken_right, can_descend, low_within, first_within, rest_stands, was_height, rises_first, taken_first, first_followed, taking, taken_of}
+use Rattle.bimap_tree.proofs.remove.take_at.Goals as goal
+
+pub read-node-requires : goal.read-node-requires
+read-node-requires g c = at_within _ _ _ _ _ _ c.requires.3
+
+-- no left child
+pub measure-child-requires : goal.measure-child-requires
+measure-child-requires g c = (_, right_tree _ _ _ _ _ _ c.requires.3 _ c.read-node.ensures.node)
+
+pub rise-requires : goal.rise-requires
+rise-requires g c =
+    let h = c.requires.3 in
+    let none = no_child _ _ c.is_none.ensures c.if-is_none.true in
+    let stands = right_tree _ _ _ _ _ _ h _ c.read-node.ensures.node in
+    (_, _, _, rises_right _ _ _ _ _ _ h _ c.read-node.ensures.node none, c.depth-depth.ensures ∙ h.depth_is, rw c.depth-depth.ensures (depth_few _ _ _ _ _ _ h), c.measure-child.ensures.measured _ stands, ap (λ n. n.height) (node_told _ _ _ _ _ _ h _ c.read-node.ensures.node))
+
+pub returns-then-is_none-clause-tree : goal.returns-then-is_none-clause-tree
+returns-then-is_none-clause-tree g c path l r h =
+    let none = no_child _ _ c.is_none.ensures c.if-is_none.true in
+    let stands = right_tree _ _ path l _ r h _ c.read-node.ensures.node in
+    taken_right _ _ path l _ r h _ c.read-node.ensures.node none _ _
+      (c.rise.ensures.tree path _ r (rises_right _ _ path l _ r h _ c.read-node.ensures.node none) (c.depth-depth.ensures ∙ h.depth_is) (c.measure-child.ensures.measured r stands) (ap (λ n. n.height) (node_told _ _ path l _ r h _ c.read-node.ensures.node)))
+
+pub returns-then-is_none-clause-touches : goal.returns-then-is_none-clause-touches
+returns-then-is_none-clause-touches g c path l r h = omega (arith, h.depth_is, c.depth-depth.ensures, steps_within path (fork l c.args.at r))
+
+-- no right child
+pub measure-child-requires-in_default : goal.measure-child-requires-in_default
+measure-child-requires-in_default g c = (_, left_tree _ _ _ _ _ _ c.requires.3 _ c.read-node.ensures.node)
+
+pub rise-requires-in_default : goal.rise-requires-in_default
+rise-requires-in_default g c =
+    let h = c.requires.3 in
+    let stands = left_tree _ _ _ _ _ _ h _ c.read-node.ensures.node in
+    (_, _, _, rises_left _ _ _ _ _ _ h _ c.read-node.ensures.node c.in_default.is, c.depth-depth.ensures ∙ h.depth_is, rw c.depth-depth.ensures (depth_few _ _ _ _ _ _ h), c.measure-child-in_default.ensures.measured _ stands, ap (λ n. n.height) (node_told _ _ _ _ _ _ h _ c.read-node.ensures.node))
+
+pub returns-in_default-clause-tree : goal.returns-in_default-clause-tree
+returns-in_default-clause-tree g c path l r h =
+    let stands = left_tree _ _ path l _ r h _ c.read-node.ensures.node in
+    taken_left _ _ path l _ r h _ c.read-node.ensures.node c.in_default.is _ _
+      (c.rise-in_default.ensures.tree path _ l (rises_left _ _ path l _ r h _ c.read-node.ensures.node c.in_default.is) (c.depth-depth.ensures ∙ h.depth_is) (c.measure-child-in_default.ensures.measured l stands) (ap (λ n. n.height) (node_told _ _ path l _ r h _ c.read-node.ensures.node)))
+
+pub returns-in_default-clause-touches : goal.returns-in_default-clause-touches
+returns-in_default-clause-touches g c path l r h = omega (arith, h.depth_is, c.depth-depth.ensures, steps_within path (fork l c.args.at r))
+
+-- both children
+pub overflow_add-depth : goal.overflow_add-depth
+overflow_add-depth g c = omega (arith, c.depth-depth.ensures, depth_few _ _ _ _ _ _ c.requires.3)
+
+pub first_under-first-requires : goal.first_under-first-requires
+first_under-first-requires g c = (_, can_descend _ _ _ _ _ _ c.requires.3 _ c.read-node.ensures.node _ c.in-Some.is _ c.depth-depth.ensures)
+
+pub read-last-requires : goal.read-last-requires
+read-last-requires g c =
+    let h = c.requires.3 in
+    let (lefts, rest, i) = c.first_under-first.ensures.first _ (can_descend _ _ _ _ _ _ h _ c.read-node.ensures.node _ c.in-Some.is _ c.depth-depth.ensures) in
+    first_within _ c.args.route.now c.requires.0 c.requires.1 c.args.at _ lefts rest (taking _ _ _ _ _ _ _ h i.whole)
+
+pub measure-rest-requires : goal.measure-rest-requires
+measure-rest-requires g c =
+    let h = c.requires.3 in
+    let (lefts, rest, i) = c.first_under-first.ensures.first _ (can_descend _ _ _ _ _ _ h _ c.read-node.ensures.node _ c.in-Some.is _ c.depth-depth.ensures) in
+    (rest, rest_stands _ c.args.route.now c.requires.0 c.requires.1 c.args.at _ lefts rest (taking _ _ _ _ _ _ _ h i.whole) _ c.read-last.ensures.node)
+
+pub write-requires-clause-place : goal.write-requires-clause-place
+write-requires-clause-place g c =
+    let h = c.requires.3 in
+    let (lefts, rest, i) = c.first_under-first.ensures.first _ (can_descend _ _ _ _ _ _ h _ c.read-node.ensures.node _ c.in-Some.is _ c.depth-depth.ensures) in
+    first_within _ c.args.route.now c.requires.0 c.requires.1 c.args.at _ lefts rest (taking _ _ _ _ _ _ _ h i.whole)
+
+pub write-requires-clause-left : goal.write-requires-clause-left
+write-requires-clause-left g c = left_there _ _ _ _ _ _ c.requires.3 _ c.read-node.ensures.node
+
+pub write-requires-clause-right : goal.write-requires-clause-right
+write-requires-clause-right g c = right_there _ _ _ _ _ _ c.requires.3 _ c.read-node.ensures.node
+
+pub note-requires : goal.note-requires
+note-requires g c =
+    let h = c.requires.3 in
+    let (lefts, rest, i) = c.first_under-first.ensures.first _ (can_descend _ _ _ _ _ _ h _ c.read-node.ensures.node _ c.in-Some.is _ c.depth-depth.ensures) in
+    omega (arith, h.depth_is, c.depth-depth.ensures, h.deep, (low_within _ _ _ _ _ _ h _ _ _ _ _ lefts rest c.depth-depth.ensures i).1)
+
+pub rise-requires-2 : goal.rise-requires-2
+rise-requires-2 g c =
+    let h = c.requires.3 in
+    let (lefts, rest, i) = c.first_under-first.ensures.first _ (can_descend _ _ _ _ _ _ h _ c.read-node.ensures.node _ c.in-Some.is _ c.depth-depth.ensures) in
+    let h2 = taking _ _ _ _ _ _ _ h i.whole in
+    let few = low_within _ _ _ _ _ _ h _ _ _ _ _ lefts rest c.depth-depth.ensures i in
+    let is = c.depth-depth.ensures ∙ h.depth_is in
+    let (follows, low) = first_followed c.requires.0 c.requires.1 _ _ _ _ _ _ _ _ lefts rest h.follows is i (omega (arith, is, h.deep, few.1)) (omega (arith, is, h.deep, few.1)) c.note.ensures.places c.note.ensures.turns in
+    let stands = rest_stands _ c.args.route.now c.requires.0 c.requires.1 c.args.at _ lefts rest h2 _ c.read-last.ensures.node in
+    (_, _, rest, rises_first _ _ c.requires.0 c.requires.1 c.args.at _ lefts rest h2 _ c.read-node.ensures.node _ c.write.ensures.written _ _ follows, low, omega (arith, h.deep, few.0), c.measure-rest.ensures.measured rest stands, was_height _ c.args.route.now c.requires.0 c.requires.1 c.args.at _ lefts rest h2 _ c.read-last.ensures.node)
+
+pub returns-clause-tree : goal.returns-clause-tree
+returns-clause-tree g c path l r h =
+    let (lefts, rest, i) = c.first_under-first.ensures.first r (can_descend _ _ path l _ r h _ c.read-node.ensures.node _ c.in-Some.is _ c.depth-depth.ensures) in
+    let h2 = taking _ _ path l _ r _ h i.whole in
+    let few = low_within _ _ path l _ r h _ _ _ _ _ lefts rest c.depth-depth.ensures i in
+    let is = c.depth-depth.ensures ∙ h.depth_is in
+    let (follows, low) = first_followed path l _ _ _ _ _ _ _ r lefts rest h.follows is i (omega (arith, is, h.deep, few.1)) (omega (arith, is, h.deep, few.1)) c.note.ensures.places c.note.ensures.turns in
+    let stands = rest_stands _ _ path l c.args.at _ lefts rest h2 _ c.read-last.ensures.node in
+    taken_of _ _ path l r _ _ i.whole
+      (taken_first _ _ path l c.args.at _ lefts rest h2 _ c.read-node.ensures.node _ c.write.ensures.written _ _
+        (c.rise-2.ensures.tree _ _ rest (rises_first _ _ path l c.args.at _ lefts rest h2 _ c.read-node.ensures.node _ c.write.ensures.written _ _ follows) low (c.measure-rest.ensures.measured rest stands) (was_height _ _ path l c.args.at _ lefts rest h2 _ c.read-last.ensures.node)))
+
+pub returns-clause-touches : goal.returns-clause-touches
+returns-clause-touches g c path l r h =
+    let (lefts, rest, i) = c.first_under-first.ensures.first r (can_descend _ _ path l _ r h _ c.read-node.ensures.node _ c.in-Some.is _ c.depth-depth.ensures) in
+    let few = low_within _ _ path l _ r h _ _ _ _ _ lefts rest c.depth-depth.ensures i in
+    omega (arith, few.0, few.1, c.first_under-first.ensures.touches r (can_descend _ _ path l _ r h _ c.read-node.ensures.node _ c.in-Some.is _ c.depth-depth.ensures))

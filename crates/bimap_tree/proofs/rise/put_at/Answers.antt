@@ -1,0 +1,22 @@
+use Rattle.std.proofs.Common.{◌≡◌, ◌∙◌, ℕ, None, refl, lit<}
+use Rattle.bimap_tree.specs.Tree.{Tree, leaf, fork, height, size}
+use Rattle.bimap_tree.specs.Link.{Measures}
+use Rattle.bimap_tree.proofs.Rises.{can_put, put_risen}
+use Rattle.bimap_tree.proofs.rise.put_at.Goals as goal
+
+-- nothing is told of no tree
+nothing : Measures record { root = None; height = 0; size = 0 } leaf
+nothing = record { root_is = refl; height_is = refl; size_is = refl }
+
+pub link-alone-requires : goal.link-alone-requires
+link-alone-requires g c = (leaf, leaf, record { has_cell = c.requires.1.has_cell; near_shown = tt; far_shown = tt; fits = lit< tt }, nothing, nothing)
+
+pub rise-requires : goal.rise-requires
+rise-requires g c =
+    let h = c.requires.1 in
+    (_, leaf, fork leaf c.args.place leaf, can_put _ _ _ _ _ _ h _ (c.link-alone.ensures.linked leaf leaf nothing nothing), c.depth.ensures ∙ h.depth_is, rw c.depth.ensures h.deep, c.link-alone.ensures.measured leaf leaf nothing nothing, refl)
+
+pub returns-clause-tree : goal.returns-clause-tree
+returns-clause-tree g c path h =
+    let e = c.link-alone.ensures.linked leaf leaf nothing nothing in
+    put_risen _ _ _ _ path _ h _ e _ _ (c.rise.ensures.tree path leaf _ (can_put _ _ _ _ path _ h _ e) (c.depth.ensures ∙ h.depth_is) (c.link-alone.ensures.measured leaf leaf nothing nothing) refl)

@@ -1,0 +1,9 @@
+pub mod Tree
+pub mod Index
+pub mod Order
+pub mod Start
+pub mod Search
+pub mod Link
+pub mod Path
+pub mod Route
+pub mod Remove

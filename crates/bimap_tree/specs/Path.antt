@@ -1,0 +1,121 @@
+-- A way down a tree, from its top to one of its subtrees, and what goes on along it.
+use Rattle.std.specs.Prelude.{◌≡◌, ℕ, suc, ◌+◌, ◌≤◌, ◌<◌, ◌^◌, max, Bool, true, false, not, List, [], ◌∷◌, ◌++◌, Option, Some, slice_get, length}
+use Rattle.std.specs.declared.cmp.Ordering.{Ordering}
+use Rattle.std.specs.declared.cmp.Ordering.TheVariants.{Less, Greater}
+use Rattle.bimap_base.specs.declared.cells.Node.{Node}
+use Rattle.bimap_tree.specs.Tree.{Tree, leaf, fork, reading, height, size, occurs, is_at, root_of, IsBalanced, Shows, Stands, branch, far_of}
+
+-- no step, or a path, and below it a turn at a place, to its right if the turn is true, away from the sister tree
+pub data Path : Type 0 where
+  top : Path
+  below : Path → Bool → ℕ → Tree → Path
+
+-- the whole tree, with this subtree at the path's end
+abbrev pub plug : Path → Tree → Tree
+plug top t = t
+plug (below up turn p sister) t = plug up (branch turn t p sister)
+
+-- the number of steps
+abbrev pub steps : Path → ℕ
+steps top = 0
+steps (below up turn p sister) = suc (steps up)
+
+-- the places before those of the subtree, and those after them
+abbrev pub front : Path → List ℕ
+front top = []
+front (below up true p sister) = (front up ++ reading sister) ++ p ∷ []
+front (below up false p sister) = front up
+
+abbrev pub back : Path → List ℕ
+back top = []
+back (below up true p sister) = back up
+back (below up false p sister) = p ∷ reading sister ++ back up
+
+-- how often a place stands beside the subtree
+abbrev pub occurs_on : ℕ → Path → ℕ
+occurs_on q top = 0
+occurs_on q (below up turn p sister) = occurs_on q up + is_at q p + occurs q sister
+
+-- how many places stand beside the subtree
+abbrev pub size_on : Path → ℕ
+size_on top = 0
+size_on (below up turn p sister) = size_on up + size sister + 1
+
+-- the places and turns at the depths of the path are its own
+abbrev pub Follows : List ℕ → List Bool → Path → Type 0
+Follows places turns top = Unit {0}
+Follows places turns (below up turn p sister) = (slice_get places (steps up) ≡ Some p) × (slice_get turns (steps up) ≡ Some turn) × Follows places turns up
+
+-- the way that a key wants at a turn
+abbrev pub wanted : Bool → Ordering
+wanted true = Less
+wanted false = Greater
+
+-- at each place of the path the key wants the turn that it takes
+abbrev pub Wants : (ℕ → Ordering) → Path → Type 0
+Wants go top = Unit {0}
+Wants go (below up turn p sister) = (go p ≡ wanted turn) × Wants go up
+
+-- what the node of a place tells of the sister, and of the height and the size that it has with the subtree s
+pub record Tells (turn : Bool) (node : Node) (s sister : Tree) : Type 0 where
+  pub far_is : far_of turn node ≡ root_of sister
+  pub height_is : node.height ≡ max (height s) (height sister) + 1
+  pub size_is : node.size ≡ size s + size sister + 1
+
+-- the nodes show the sisters, and those of the path's places tell what they did with the subtree s
+abbrev pub Holds : List Node → Path → Tree → Type 0
+Holds nodes top s = Unit {0}
+Holds nodes (below up turn p sister) s = ((node : Node) × (slice_get nodes p ≡ Some node) × Tells turn node s sister) × Shows nodes sister × Holds nodes up (branch turn s p sister)
+
+-- 1 if it is so, else 0
+abbrev pub one_if : Bool → ℕ
+one_if true = 1
+one_if false = 0
+
+-- the tree u has one place more than s, or else one less, and its height has moved that way, if at all
+pub record Moves (grew : Bool) (s u : Tree) : Type 0 where
+  pub sizes : size u + one_if (not grew) ≡ size s + one_if grew
+  pub not_lower : height s ≤ height u + one_if (not grew)
+  pub not_higher : height u ≤ height s + one_if grew
+
+-- at the path's end the tree u stands in place of s, of which the places above do not know yet
+pub record CanRise (nodes : List Node) (places : List ℕ) (turns : List Bool) (path : Path) (grew : Bool) (s u : Tree) : Type 0 where
+  pub follows : Follows places turns path
+  pub holds : Holds nodes path s
+  pub shown : Shows nodes u
+  pub distinct : (q : ℕ) → occurs_on q path + occurs q u ≤ 1
+  pub steady : IsBalanced (plug path s)
+  pub balanced : IsBalanced u
+  pub fits : size_on path + size s + one_if grew < 2 ^ 64
+  pub moves : Moves grew s u
+
+-- at a step of the path
+pub record CanRelink (nodes : List Node) (at : ℕ) (turn grew : Bool) (node : Node) (sister s u : Tree) : Type 0 where
+  pub has_cell : at < length nodes
+  pub told : Tells turn node s sister
+  pub shown : Shows nodes u
+  pub sister_shown : Shows nodes sister
+  pub distinct : (q : ℕ) → occurs q u + is_at q at + occurs q sister ≤ 1
+  pub steady : IsBalanced (branch turn s at sister)
+  pub balanced : IsBalanced u
+  pub fits : size s + size sister + 1 + one_if grew < 2 ^ 64
+  pub moves : Moves grew s u
+
+-- the tree v that stands after all places of the path were told of the tree u
+pub record IsRisen (old new : List Node) (path : Path) (u : Tree) (root : Option ℕ) (v : Tree) : Type 0 where
+  pub tree : Stands new root v
+  pub in_order : reading v ≡ front path ++ reading u ++ back path
+  pub same_places : (q : ℕ) → occurs q v ≡ occurs_on q path + occurs q u
+  pub balanced : IsBalanced v
+  pub same_length : length new ≡ length old
+
+-- a place may be put at the path's end, where no place is
+pub record CanPut (nodes : List Node) (places : List ℕ) (turns : List Bool) (depth : ℕ) (path : Path) (place : ℕ) : Type 0 where
+  pub follows : Follows places turns path
+  pub depth_is : depth ≡ steps path
+  pub deep : depth ≤ 128
+  pub shown : Shows nodes (plug path leaf)
+  pub distinct : (q : ℕ) → occurs_on q path + is_at q place ≤ 1
+  pub balanced : IsBalanced (plug path leaf)
+  pub has_cell : place < length nodes
+  pub fits : size_on path + 1 < 2 ^ 64

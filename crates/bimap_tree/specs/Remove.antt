@@ -1,0 +1,53 @@
+-- Taking out the place at a path's end.
+use Rattle.std.specs.Prelude.{◌≡◌, ℕ, suc, ◌+◌, ◌≤◌, ◌<◌, ◌^◌, Bool, false, List, [], ◌∷◌, ◌++◌, Option, Some, slice_get, length}
+use Rattle.bimap_base.specs.declared.cells.Node.{Node}
+use Rattle.bimap_tree.specs.Tree.{Tree, leaf, fork, reading, height, size, occurs, IsBalanced, IsDistinctTree, Shows, Stands}
+use Rattle.bimap_tree.specs.Path.{Path, below, plug, steps, front, back, occurs_on, Follows}
+use Rattle.bimap_tree.specs.declared.route.Route.{Route}
+
+-- the way to a tree's first place: a tree at the end of turns to the left, each away from a place and its right tree
+abbrev pub hang : List (ℕ × Tree) → Tree → Tree
+hang [] t = t
+hang (x ∷ xs) t = fork (hang xs t) x.0 x.1
+
+-- a path that goes on by these turns to the left
+abbrev pub onward : Path → List (ℕ × Tree) → Path
+onward path [] = path
+onward path (x ∷ xs) = onward (below path false x.0 x.1) xs
+
+-- the places and turns from a depth on are those of the turns to the left
+abbrev pub FollowsOn : List ℕ → List Bool → ℕ → List (ℕ × Tree) → Type 0
+FollowsOn places turns depth [] = Unit {0}
+FollowsOn places turns depth (x ∷ xs) = (slice_get places depth ≡ Some x.0) × (slice_get turns depth ≡ Some false) × FollowsOn places turns (suc depth) xs
+
+-- the way to the first place of this tree fits a route
+pub record CanDescend (nodes : List Node) (at depth : ℕ) (s : Tree) : Type 0 where
+  pub tree : Stands nodes (Some at) s
+  pub deep : depth + height s ≤ 128
+
+-- the way from this depth on to the tree's first place, which has a tree at its right alone, was noted
+pub record IsFirst (old new : Route) (depth : ℕ) (s : Tree) (first low : ℕ) (lefts : List (ℕ × Tree)) (rest : Tree) : Type 0 where
+  pub whole : s ≡ hang lefts (fork leaf first rest)
+  pub low_is : low ≡ depth + length lefts
+  pub follows : FollowsOn new.places new.turns depth lefts
+  pub same_places : (i : ℕ) → i < depth → slice_get new.places i ≡ slice_get old.places i
+  pub same_turns : (i : ℕ) → i < depth → slice_get new.turns i ≡ slice_get old.turns i
+  pub as_long : (length new.places ≡ length old.places) × (length new.turns ≡ length old.turns)
+
+-- the place at the route's end may be taken out
+pub record CanTake (nodes : List Node) (route : Route) (path : Path) (l : Tree) (at : ℕ) (r : Tree) : Type 0 where
+  pub follows : Follows route.places route.turns path
+  pub depth_is : route.depth ≡ steps path
+  pub shown : Shows nodes (plug path (fork l at r))
+  pub distinct : IsDistinctTree (plug path (fork l at r))
+  pub balanced : IsBalanced (plug path (fork l at r))
+  pub deep : height (plug path (fork l at r)) ≤ 128
+  pub fits : size (plug path (fork l at r)) < 2 ^ 64
+
+-- the tree v that stands after it was taken out
+pub record IsTaken (old new : List Node) (path : Path) (l r : Tree) (root : Option ℕ) (v : Tree) : Type 0 where
+  pub tree : Stands new root v
+  pub in_order : reading v ≡ (front path ++ reading l) ++ reading r ++ back path
+  pub same_places : (q : ℕ) → occurs q v ≡ occurs_on q path + occurs q l + occurs q r
+  pub balanced : IsBalanced v
+  pub same_length : length new ≡ length old

@@ -1,0 +1,149 @@
+//! Linking a place above two trees, with rotations. It knows no key and no order.
+ghost use Rattle.std.specs.Prelude.{◌≡◌, ℕ, ◌+◌, ◌<◌, ◌≤◌, slice_set, Some};
+ghost use Rattle.bimap_tree.specs.Tree.{Tree, Stands, height, root_of, branch, node_on, near_of, far_of};
+ghost use Rattle.bimap_tree.specs.Link.{Measures, CanLink, CanRebalance, IsRebalanced};
+
+use bimap_base::{Cells, Meter, Node};
+
+/// A tree as its root's node tells it.
+#[derive(Clone, Copy)]
+pub struct Subtree {
+    pub root: Option<usize>,
+    pub height: usize,
+    pub size: usize,
+}
+
+// The child on the side of the turn, right if it is true, and the other one.
+pub fn children(node: Node, turn: bool) -> (Option<usize>, Option<usize>)
+    ensures near { result.0 ≡ near_of turn node }
+    ensures far { result.1 ≡ far_of turn node }
+{
+    if turn {
+        (node.right, node.left)
+    } else {
+        (node.left, node.right)
+    }
+}
+
+// The tree at this root.
+pub fn measure<M: Meter>(cells: &Cells, root: Option<usize>, meter: &mut M) -> Subtree
+    requires { (t : Tree) × Stands cells.now root t }
+    ensures measured { (t : Tree) → Stands cells.now root t → Measures result t }
+    ensures comparisons { M.comparisons meter.new ≡ M.comparisons meter.old }
+    ensures touches { M.touches meter.new ≤ M.touches meter.old + 1 }
+{
+    match root {
+        None => Subtree {
+            root,
+            height: 0,
+            size: 0,
+        },
+        Some(place) => {
+            let node = cells.read(place, meter);
+            Subtree {
+                root,
+                height: node.height,
+                size: node.size,
+            }
+        }
+    }
+}
+
+// Writes the node of a place, with the near tree on the side of the turn.
+pub fn link<M: Meter>(
+    cells: &mut Cells,
+    place: usize,
+    turn: bool,
+    near: Subtree,
+    far: Subtree,
+    meter: &mut M,
+) -> Subtree
+    requires { (n : Tree) × (f : Tree) × CanLink cells.old place n f × Measures near n × Measures far f }
+    ensures linked { (n f : Tree) → Measures near n → Measures far f → cells.new ≡ slice_set cells.old place (node_on turn n f) }
+    ensures measured { (n f : Tree) → Measures near n → Measures far f → Measures result (branch turn n place f) }
+    ensures comparisons { M.comparisons meter.new ≡ M.comparisons meter.old }
+    ensures touches { M.touches meter.new ≡ M.touches meter.old + 1 }
+{
+    let taller = if near.height < far.height { far.height } else { near.height };
+    let height = taller + 1;
+    let size = near.size + far.size + 1;
+    let (left, right) = if turn { (far.root, near.root) } else { (near.root, far.root) };
+    cells.write(
+        place,
+        Node {
+            left,
+            right,
+            height,
+            size,
+        },
+        meter,
+    );
+    Subtree {
+        root: Some(place),
+        height,
+        size,
+    }
+}
+
+// Links a place above two trees, the heavy one of which, on the side of the turn, is two levels higher: by one rotation or two.
+pub fn rotate<M: Meter>(
+    cells: &mut Cells,
+    place: usize,
+    turn: bool,
+    heavy: usize,
+    light: Subtree,
+    meter: &mut M,
+) -> Subtree
+    requires { (n : Tree) × (f : Tree) × CanRebalance cells.old place n f × (root_of n ≡ Some heavy) × Measures light f × (height n ≡ height f + 2) }
+    ensures tree { (n f : Tree) → CanRebalance cells.old place n f → root_of n ≡ Some heavy → Measures light f → height n ≡ height f + 2 → (t : Tree) × Measures result t × IsRebalanced cells.old cells.new turn place n f t }
+    ensures comparisons { M.comparisons meter.new ≡ M.comparisons meter.old }
+    ensures touches { M.touches meter.new ≤ M.touches meter.old + 9 }
+{
+    let upper = cells.read(heavy, meter);
+    let (outer_root, inner_root) = children(upper, turn);
+    let outer = measure(cells, outer_root, meter);
+    let inner = measure(cells, inner_root, meter);
+    if inner.height <= outer.height {
+        let lower = link(cells, place, turn, inner, light, meter);
+        return link(cells, heavy, turn, outer, lower, meter);
+    }
+    let Some(middle) = inner_root else {
+        unreachable!();
+    };
+    let parts = cells.read(middle, meter);
+    let (near_root, far_root) = children(parts, turn);
+    let near = measure(cells, near_root, meter);
+    let far = measure(cells, far_root, meter);
+    let upper_side = link(cells, heavy, turn, outer, near, meter);
+    let lower_side = link(cells, place, turn, far, light, meter);
+    link(cells, middle, turn, upper_side, lower_side, meter)
+}
+
+// Links a place above two trees whose heights differ by at most two, and rotates where it must.
+pub fn rebalance<M: Meter>(
+    cells: &mut Cells,
+    place: usize,
+    turn: bool,
+    near: Subtree,
+    far: Subtree,
+    meter: &mut M,
+) -> Subtree
+    requires { (n : Tree) × (f : Tree) × CanRebalance cells.old place n f × Measures near n × Measures far f }
+    ensures tree { (n f : Tree) → CanRebalance cells.old place n f → Measures near n → Measures far f → (t : Tree) × Measures result t × IsRebalanced cells.old cells.new turn place n f t }
+    ensures comparisons { M.comparisons meter.new ≡ M.comparisons meter.old }
+    ensures touches { M.touches meter.new ≤ M.touches meter.old + 9 }
+{
+    if near.height > far.height + 1 {
+        let Some(heavy) = near.root else {
+            unreachable!();
+        };
+        return rotate(cells, place, turn, heavy, far, meter);
+    }
+    if far.height > near.height + 1 {
+        let Some(heavy) = far.root else {
+            unreachable!();
+        };
+        return rotate(cells, place, !turn, heavy, near, meter);
+    }
+    link(cells, place, turn, near, far, meter)
+}

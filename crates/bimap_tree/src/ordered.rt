@@ -1,0 +1,278 @@
+//! The listed places in the order of their keys. It knows places, ranks and counts, and no key's value.
+ghost use Rattle.std.specs.Prelude.{◌≡◌, ◌≢◌, ◌⊎◌, ℕ, ◌+◌, ◌-◌, ◌*◌, ◌<◌, ◌≤◌, [], length, min, take, drop, slice_get, Some, None, IsOk, OnOk, OnErr, IsSome, IfSome, IfNone};
+ghost use Rattle.std.specs.List.{AllPairs, Contains};
+ghost use Rattle.std.specs.declared.cmp.Ordering.TheVariants.{Equal};
+ghost use Rattle.bimap_base.specs.Digits.{most_height};
+ghost use Rattle.bimap_base.specs.Keyed.{standing, Ascends, Adds, Drops};
+ghost use Rattle.bimap_tree.specs.Tree.{Tree, height};
+ghost use Rattle.bimap_tree.specs.Index.{IsBalancedIndex};
+ghost use Rattle.bimap_tree.specs.Route.{IsRoute};
+ghost use Rattle.bimap_tree.specs.Start.{IsStart};
+
+use crate::remove::take_at;
+use crate::rise::put_at;
+use crate::route::{Route, route_under};
+use crate::search::{find_under, place_under, rank_under};
+use crate::steer::{AfterKey, ToKey, ToPlace};
+use crate::walk::fill_from;
+use bimap_base::{Cells, Keys, Meter, NoMemory};
+use std::alloc::Global;
+use std::marker::Model;
+use std::ops::Bound;
+
+/// Places in the strictly ascending order of their keys, as a balanced tree with a cell for each place.
+///
+/// The keys are passed to each call that compares them, and must be those that the places were listed by.
+#[derive(Drop)]
+pub struct Ordered {
+    cells: Cells,
+    root: Option<usize>,
+    len: usize,
+}
+
+impl Model for Ordered {
+    ghost use Rattle.bimap_tree.specs.Index.{Index, IsWhole, index_of};
+
+    ghost Value = { Index };
+
+    ghost view = { λ o. index_of o.cells o.root };
+
+    ghost invariant = { λ o. IsWhole o.cells o.root o.len };
+}
+
+impl Ordered {
+    /// An index that lists no place and has no cells. It takes no memory.
+    pub fn new(alloc: Global) -> Self
+        ensures places { result.places ≡ [] }
+        ensures nodes { result.nodes ≡ [] }
+        ensures root { result.root ≡ None }
+    {
+        Ordered {
+            cells: Cells::new(alloc),
+            root: None,
+            len: 0,
+        }
+    }
+
+    /// The number of listed places, in constant time.
+    pub fn len(&self) -> usize
+        ensures len { result ≡ length self.now.places }
+
+        // What is true of each index.
+        ensures balanced { (t : Tree) × IsBalancedIndex self.now t × (height t ≤ most_height (length self.now.places)) }
+        ensures distinct { AllPairs (λ a b. a ≢ b) self.now.places }
+        ensures cells { (p : ℕ) → Contains self.now.places p → p < length self.now.nodes }
+    {
+        self.len
+    }
+
+    /// Makes cells for each place below `to`. It takes memory only where some are missing, and a refusal changes nothing.
+    pub fn grow(&mut self, to: usize) -> Result<(), NoMemory>
+        ensures places { self.new.places ≡ self.old.places }
+        ensures cells { length self.old.nodes ≤ length self.new.nodes }
+        ensures ok { OnOk result (to ≤ length self.new.nodes) }
+        ensures enough { to ≤ length self.old.nodes → IsOk result }
+        ensures unchanged { to ≤ length self.old.nodes → self.new ≡ self.old }
+        ensures err { OnErr result (self.new ≡ self.old) }
+    {
+        self.cells.grow(to)
+    }
+
+    /// Lists no place any more, in constant time. The cells stay.
+    pub fn clear(&mut self)
+        ensures places { self.new.places ≡ [] }
+        ensures nodes { self.new.nodes ≡ self.old.nodes }
+    {
+        self.root = None;
+        self.len = 0;
+    }
+
+    /// The listed place whose key is equal, in time logarithmic in the length.
+    pub fn find<K: Keys, M: Meter>(&self, keys: &K, key: &K::Key, meter: &mut M) -> Option<usize>
+        requires { Ascends (K.key_at keys.now) K.order self.now.places }
+        ensures found { IfSome result (λ p. Contains self.now.places p × (standing (K.key_at keys.now) K.order key.now p ≡ Some Equal)) }
+        ensures none { IfNone result ((p : ℕ) → Contains self.now.places p → standing (K.key_at keys.now) K.order key.now p ≡ Some Equal → ⊥) }
+        ensures comparisons { M.comparisons meter.new ≤ M.comparisons meter.old + most_height (length self.now.places) }
+        ensures touches { M.touches meter.new ≤ M.touches meter.old + most_height (length self.now.places) }
+    {
+        find_under(&self.cells, self.root, &ToKey { keys, key }, meter)
+    }
+
+    /// The same as `find`. Where no key is equal, the route leads to where a place with this key would stand.
+    pub fn find_route<K: Keys, M: Meter>(
+        &self,
+        keys: &K,
+        key: &K::Key,
+        route: &mut Route,
+        meter: &mut M,
+    ) -> Option<usize>
+        requires { Ascends (K.key_at keys.now) K.order self.now.places }
+        ensures found { IfSome result (λ p. Contains self.now.places p × (standing (K.key_at keys.now) K.order key.now p ≡ Some Equal)) }
+        ensures none { IfNone result ((p : ℕ) → Contains self.now.places p → standing (K.key_at keys.now) K.order key.now p ≡ Some Equal → ⊥) }
+        ensures route { IfNone result (IsRoute self.now (λ q. standing (K.key_at keys.now) K.order key.now q) route.new) }
+        ensures comparisons { M.comparisons meter.new ≤ M.comparisons meter.old + most_height (length self.now.places) }
+        ensures touches { M.touches meter.new ≤ M.touches meter.old + most_height (length self.now.places) }
+    {
+        route_under(&self.cells, self.root, 0, &ToKey { keys, key }, route, meter)
+    }
+
+    /// Lists a place, at the end of its key's route: no comparison, time logarithmic in the length, and no memory.
+    pub fn insert_at<K: Keys, M: Meter>(
+        &mut self,
+        keys: &K,
+        route: &Route,
+        place: usize,
+        meter: &mut M,
+    )
+        requires ascends { Ascends (K.key_at keys.now) K.order self.old.places }
+        requires live { IsSome (K.key_at keys.now place) }
+        requires cell { place < length self.old.nodes }
+        requires unlisted { Contains self.old.places place → ⊥ }
+        requires unequal { (p : ℕ) (k : _) → Contains self.old.places p → K.key_at keys.now place ≡ Some k → standing (K.key_at keys.now) K.order k p ≡ Some Equal → ⊥ }
+        requires route { (k : _) → K.key_at keys.now place ≡ Some k → IsRoute self.old (λ q. standing (K.key_at keys.now) K.order k q) route.now }
+        ensures len { length self.new.places ≡ length self.old.places + 1 }
+        ensures adds { Adds self.old.places place self.new.places }
+        ensures ascends { Ascends (K.key_at keys.now) K.order self.new.places }
+        ensures cells { length self.new.nodes ≡ length self.old.nodes }
+        ensures comparisons { M.comparisons meter.new ≡ M.comparisons meter.old }
+        ensures touches { M.touches meter.new ≤ M.touches meter.old + 64 * (most_height (length self.old.places) + 1) }
+    {
+        let _ = self.cells.places();
+        self.root = put_at(&mut self.cells, route, place, meter);
+        self.len += 1;
+    }
+
+    /// Lists a place at its key's position, in time logarithmic in the length. It takes no memory.
+    pub fn insert<K: Keys, M: Meter>(&mut self, keys: &K, place: usize, meter: &mut M)
+        requires ascends { Ascends (K.key_at keys.now) K.order self.old.places }
+        requires live { IsSome (K.key_at keys.now place) }
+        requires cell { place < length self.old.nodes }
+        requires unlisted { Contains self.old.places place → ⊥ }
+        requires unequal { (p : ℕ) (k : _) → Contains self.old.places p → K.key_at keys.now place ≡ Some k → standing (K.key_at keys.now) K.order k p ≡ Some Equal → ⊥ }
+        ensures len { length self.new.places ≡ length self.old.places + 1 }
+        ensures adds { Adds self.old.places place self.new.places }
+        ensures ascends { Ascends (K.key_at keys.now) K.order self.new.places }
+        ensures cells { length self.new.nodes ≡ length self.old.nodes }
+        ensures comparisons { M.comparisons meter.new ≤ M.comparisons meter.old + most_height (length self.old.places) }
+        ensures touches { M.touches meter.new ≤ M.touches meter.old + 64 * (most_height (length self.old.places) + 1) }
+    {
+        let _ = self.cells.places();
+        let mut route = Route::new();
+        let _ = route_under(
+            &self.cells,
+            self.root,
+            0,
+            &ToPlace { keys, place },
+            &mut route,
+            meter,
+        );
+        self.root = put_at(&mut self.cells, &route, place, meter);
+        self.len += 1;
+    }
+
+    /// Takes a place off the list, in time logarithmic in the length. It takes no memory.
+    pub fn remove<K: Keys, M: Meter>(&mut self, keys: &K, place: usize, meter: &mut M)
+        requires ascends { Ascends (K.key_at keys.now) K.order self.old.places }
+        requires listed { Contains self.old.places place }
+        ensures len { length self.new.places + 1 ≡ length self.old.places }
+        ensures drops { Drops self.old.places place self.new.places }
+        ensures ascends { Ascends (K.key_at keys.now) K.order self.new.places }
+        ensures cells { length self.new.nodes ≡ length self.old.nodes }
+        ensures comparisons { M.comparisons meter.new ≤ M.comparisons meter.old + most_height (length self.old.places) }
+        ensures touches { M.touches meter.new ≤ M.touches meter.old + 64 * (most_height (length self.old.places) + 1) }
+    {
+        let mut route = Route::new();
+        let _ = route_under(
+            &self.cells,
+            self.root,
+            0,
+            &ToPlace { keys, place },
+            &mut route,
+            meter,
+        );
+        self.root = take_at(&mut self.cells, &mut route, place, meter);
+        self.len -= 1;
+    }
+
+    /// Takes the place whose key is equal off the list, and answers it. Where there is none, nothing is written.
+    pub fn remove_key<K: Keys, M: Meter>(
+        &mut self,
+        keys: &K,
+        key: &K::Key,
+        meter: &mut M,
+    ) -> Option<usize>
+        requires { Ascends (K.key_at keys.now) K.order self.old.places }
+        ensures found { IfSome result (λ p. Contains self.old.places p × (standing (K.key_at keys.now) K.order key.now p ≡ Some Equal)) }
+        ensures none { IfNone result ((p : ℕ) → Contains self.old.places p → standing (K.key_at keys.now) K.order key.now p ≡ Some Equal → ⊥) }
+        ensures len { IfSome result (λ _. length self.new.places + 1 ≡ length self.old.places) }
+        ensures drops { IfSome result (λ p. Drops self.old.places p self.new.places) }
+        ensures unchanged { IfNone result (self.new ≡ self.old) }
+        ensures ascends { Ascends (K.key_at keys.now) K.order self.new.places }
+        ensures cells { length self.new.nodes ≡ length self.old.nodes }
+        ensures comparisons { M.comparisons meter.new ≤ M.comparisons meter.old + most_height (length self.old.places) }
+        ensures touches { M.touches meter.new ≤ M.touches meter.old + 64 * (most_height (length self.old.places) + 1) }
+    {
+        let mut route = Route::new();
+        let found = route_under(
+            &self.cells,
+            self.root,
+            0,
+            &ToKey { keys, key },
+            &mut route,
+            meter,
+        )?;
+        self.root = take_at(&mut self.cells, &mut route, found, meter);
+        self.len -= 1;
+        Some(found)
+    }
+
+    /// How many listed places stand before the first one that the bound, taken as a start, lets in: in time logarithmic in the length.
+    pub fn rank_from<K: Keys, M: Meter>(
+        &self,
+        keys: &K,
+        bound: Bound<&K::Key>,
+        meter: &mut M,
+    ) -> usize
+        requires { Ascends (K.key_at keys.now) K.order self.now.places }
+        ensures start { IsStart (K.key_at keys.now) K.order bound.entry self.now.places result }
+        ensures comparisons { M.comparisons meter.new ≤ M.comparisons meter.old + most_height (length self.now.places) }
+        ensures touches { M.touches meter.new ≤ M.touches meter.old + 2 * most_height (length self.now.places) }
+    {
+        match bound {
+            Bound::Unbounded => 0,
+            Bound::Included(key) => rank_under(&self.cells, self.root, &ToKey { keys, key }, meter),
+            Bound::Excluded(key) => rank_under(
+                &self.cells,
+                self.root,
+                &AfterKey { keys, key },
+                meter,
+            ),
+        }
+    }
+
+    /// The place at a rank, in time logarithmic in the length.
+    pub fn place_at<M: Meter>(&self, rank: usize, meter: &mut M) -> usize
+        requires { rank < length self.now.places }
+        ensures place { slice_get self.now.places rank ≡ Some result }
+        ensures comparisons { M.comparisons meter.new ≡ M.comparisons meter.old }
+        ensures touches { M.touches meter.new ≤ M.touches meter.old + 2 * most_height (length self.now.places) }
+    {
+        place_under(&self.cells, self.root, rank, meter)
+    }
+
+    /// Puts the places from a rank on into a buffer, as many as it holds, and answers how many. It takes time logarithmic in the length, once for all of them.
+    pub fn places_from<M: Meter>(
+        &self,
+        rank: usize,
+        buffer: &mut [usize; 16],
+        meter: &mut M,
+    ) -> usize
+        requires { rank ≤ length self.now.places }
+        ensures count { result ≡ min 16 (length self.now.places - rank) }
+        ensures places { take result buffer.new ≡ take 16 (drop rank self.now.places) }
+        ensures comparisons { M.comparisons meter.new ≡ M.comparisons meter.old }
+        ensures touches { M.touches meter.new ≤ M.touches meter.old + result + 3 * most_height (length self.now.places) }
+    {
+        fill_from(&self.cells, self.root, rank, buffer, meter)
+    }
+}

@@ -1,0 +1,129 @@
+//! Going up a route, from a tree at its end that has grown or shrunk by one place. It knows no key and no order.
+ghost use Rattle.std.specs.Prelude.{◌≡◌, ℕ, ◌+◌, ◌*◌, ◌<◌, ◌≤◌, ◌^◌, not};
+ghost use Rattle.bimap_tree.specs.Tree.{Tree, leaf, fork, height, root_of, branch, near_of, far_of};
+ghost use Rattle.bimap_tree.specs.Link.{Measures, IsRebalanced};
+ghost use Rattle.bimap_tree.specs.Path.{Path, steps, one_if, Moves, CanRise, CanRelink, CanPut, IsRisen};
+
+use crate::link::{Subtree, children, link, measure, rebalance};
+use crate::route::Route;
+use bimap_base::{Cells, Meter, Node};
+
+// The node with this child on the side of the turn, and one place more or less below it.
+fn recounted(node: Node, turn: bool, child: Option<usize>, grew: bool) -> Node
+    requires fits { node.size + one_if grew < 2 ^ 64 }
+    requires holds { one_if (not grew) ≤ node.size }
+    ensures near { near_of turn result ≡ child }
+    ensures far { far_of turn result ≡ far_of turn node }
+    ensures height { result.height ≡ node.height }
+    ensures size { result.size + one_if (not grew) ≡ node.size + one_if grew }
+{
+    let (_, sister) = children(node, turn);
+    let (left, right) = if turn { (sister, child) } else { (child, sister) };
+    let size = if grew { node.size + 1 } else { node.size - 1 };
+    Node {
+        left,
+        right,
+        height: node.height,
+        size,
+    }
+}
+
+// Links a place above a child that has grown or shrunk, and looks at its sister only where the place's height may move.
+fn relink<M: Meter>(
+    cells: &mut Cells,
+    at: usize,
+    node: Node,
+    turn: bool,
+    child: Subtree,
+    grew: bool,
+    meter: &mut M,
+) -> Subtree
+    requires { (sister : Tree) × (s : Tree) × (u : Tree) × CanRelink cells.old at turn grew node sister s u × Measures child u }
+    ensures tree { (sister s u : Tree) → CanRelink cells.old at turn grew node sister s u → Measures child u → (t : Tree) × Measures result t × IsRebalanced cells.old cells.new turn at u sister t × Moves grew (branch turn s at sister) t }
+    ensures comparisons { M.comparisons meter.new ≡ M.comparisons meter.old }
+    ensures touches { M.touches meter.new ≤ M.touches meter.old + 10 }
+{
+    if grew && child.height < node.height {
+        let more = recounted(node, turn, child.root, true);
+        cells.write(at, more, meter);
+        return Subtree {
+            root: Some(at),
+            height: more.height,
+            size: more.size,
+        };
+    }
+    let (_, root) = children(node, turn);
+    let sister = measure(cells, root, meter);
+    rebalance(cells, at, turn, child, sister, meter)
+}
+
+// Goes up where no height moves any more: links the child, and counts its places, in each node of the way.
+fn recount<M: Meter>(
+    cells: &mut Cells,
+    route: &Route,
+    depth: usize,
+    child: Option<usize>,
+    grew: bool,
+    meter: &mut M,
+) -> Option<usize>
+    requires { (path : Path) × (s : Tree) × (u : Tree) × CanRise cells.old route.now.places route.now.turns path grew s u × (depth ≡ steps path) × (depth ≤ 128) × (root_of u ≡ child) × (height u ≡ height s) }
+    ensures tree { (path : Path) (s u : Tree) → CanRise cells.old route.now.places route.now.turns path grew s u → depth ≡ steps path → root_of u ≡ child → height u ≡ height s → (v : Tree) × IsRisen cells.old cells.new path u result v }
+    ensures comparisons { M.comparisons meter.new ≡ M.comparisons meter.old }
+    ensures touches { M.touches meter.new ≤ M.touches meter.old + 2 * depth }
+{
+    if depth == 0 {
+        return child;
+    }
+    let (at, turn) = route.step(depth - 1);
+    let node = cells.read(at, meter);
+    cells.write(at, recounted(node, turn, child, grew), meter);
+    recount(cells, route, depth - 1, Some(at), grew, meter)
+}
+
+// Goes up from a child that stands in place of a tree of the height `was`, and answers the new root.
+pub fn rise<M: Meter>(
+    cells: &mut Cells,
+    route: &Route,
+    depth: usize,
+    child: Subtree,
+    was: usize,
+    grew: bool,
+    meter: &mut M,
+) -> Option<usize>
+    requires { (path : Path) × (s : Tree) × (u : Tree) × CanRise cells.old route.now.places route.now.turns path grew s u × (depth ≡ steps path) × (depth ≤ 128) × Measures child u × (was ≡ height s) }
+    ensures tree { (path : Path) (s u : Tree) → CanRise cells.old route.now.places route.now.turns path grew s u → depth ≡ steps path → Measures child u → was ≡ height s → (v : Tree) × IsRisen cells.old cells.new path u result v }
+    ensures comparisons { M.comparisons meter.new ≡ M.comparisons meter.old }
+    ensures touches { M.touches meter.new ≤ M.touches meter.old + 11 * depth }
+{
+    if child.height == was {
+        return recount(cells, route, depth, child.root, grew, meter);
+    }
+    if depth == 0 {
+        return child.root;
+    }
+    let (at, turn) = route.step(depth - 1);
+    let node = cells.read(at, meter);
+    let next = relink(cells, at, node, turn, child, grew, meter);
+    rise(cells, route, depth - 1, next, node.height, grew, meter)
+}
+
+// Puts a place in at the end of a route that leads to no place, and answers the new root.
+pub fn put_at<M: Meter>(
+    cells: &mut Cells,
+    route: &Route,
+    place: usize,
+    meter: &mut M,
+) -> Option<usize>
+    requires { (path : Path) × CanPut cells.old route.now.places route.now.turns route.now.depth path place }
+    ensures tree { (path : Path) → CanPut cells.old route.now.places route.now.turns route.now.depth path place → (v : Tree) × IsRisen cells.old cells.new path (fork leaf place leaf) result v }
+    ensures comparisons { M.comparisons meter.new ≡ M.comparisons meter.old }
+    ensures touches { M.touches meter.new ≤ M.touches meter.old + 11 * route.now.depth + 1 }
+{
+    let nothing = Subtree {
+        root: None,
+        height: 0,
+        size: 0,
+    };
+    let alone = link(cells, place, false, nothing, nothing, meter);
+    rise(cells, route, route.depth(), alone, 0, true, meter)
+}

@@ -1,0 +1,102 @@
+//! The way of a search down a tree. It knows which way a key wants, and not the key.
+ghost use Rattle.std.specs.Prelude.{◌≡◌, ℕ, ◌+◌, ◌<◌, ◌≤◌, Option, Some, None, slice_get, slice_set};
+ghost use Rattle.std.specs.declared.cmp.Ordering.{Ordering};
+ghost use Rattle.bimap_tree.specs.Tree.{Tree, leaf, Stands, height, reading};
+ghost use Rattle.bimap_tree.specs.Order.{first_equal};
+ghost use Rattle.bimap_tree.specs.Index.{Index, IsBalancedIndex};
+ghost use Rattle.bimap_tree.specs.Path.{Path, plug};
+ghost use Rattle.bimap_tree.specs.Route.{CanFollow, IsFollowed, IsRoute};
+
+use crate::steer::Steer;
+use bimap_base::{Cells, Meter};
+use std::cmp::Ordering;
+
+/// The way that a search went down an index: at each depth a place, and whether the way goes on to its right.
+///
+/// It is longer than any tree of places is high, and takes no memory from an allocator.
+#[derive(Drop)]
+pub struct Route {
+    places: [usize; 128],
+    turns: [bool; 128],
+    depth: usize,
+}
+
+impl Route {
+    /// A route of no steps, for `Ordered::find_route` to write.
+    pub fn new() -> Self
+        ensures { (index : Index) (standing : ℕ → Option Ordering) → IsBalancedIndex index leaf → IsRoute index standing result }
+    {
+        Route {
+            places: [0; 128],
+            turns: [false; 128],
+            depth: 0,
+        }
+    }
+
+    // The number of steps.
+    pub(crate) fn depth(&self) -> usize
+        ensures { result ≡ self.now.depth }
+    {
+        self.depth
+    }
+
+    // The place and the turn at a depth.
+    pub(crate) fn step(&self, depth: usize) -> (usize, bool)
+        requires { depth < 128 }
+        ensures place { slice_get self.now.places depth ≡ Some result.0 }
+        ensures turn { slice_get self.now.turns depth ≡ Some result.1 }
+    {
+        (self.places[depth], self.turns[depth])
+    }
+
+    // Notes the place and the turn at a depth.
+    pub(crate) fn note(&mut self, depth: usize, place: usize, turn: bool)
+        requires { depth < 128 }
+        ensures places { self.new.places ≡ slice_set self.old.places depth place }
+        ensures turns { self.new.turns ≡ slice_set self.old.turns depth turn }
+        ensures depth { self.new.depth ≡ self.old.depth }
+    {
+        self.places[depth] = place;
+        self.turns[depth] = turn;
+    }
+}
+
+// Goes on down to what is sought, noting the way, and answers the place there.
+pub fn route_under<S: Steer, M: Meter>(
+    cells: &Cells,
+    root: Option<usize>,
+    depth: usize,
+    steer: &S,
+    route: &mut Route,
+    meter: &mut M,
+) -> Option<usize>
+    requires { (path : Path) × (s : Tree) × CanFollow cells.now root (S.live steer.now) (S.go steer.now) route.old.places route.old.turns depth path s }
+    ensures found { (path : Path) (s : Tree) → CanFollow cells.now root (S.live steer.now) (S.go steer.now) route.old.places route.old.turns depth path s → result ≡ first_equal (S.go steer.now) (reading s) }
+    ensures follows { (path : Path) (s : Tree) → CanFollow cells.now root (S.live steer.now) (S.go steer.now) route.old.places route.old.turns depth path s → (low : Path) × (e : Tree) × IsFollowed (S.go steer.now) route.new.places route.new.turns route.new.depth result (plug path s) low e }
+    ensures comparisons { (s : Tree) → Stands cells.now root s → M.comparisons meter.new ≤ M.comparisons meter.old + height s }
+    ensures touches { (s : Tree) → Stands cells.now root s → M.touches meter.new ≤ M.touches meter.old + height s }
+{
+    match root {
+        None => {
+            route.depth = depth;
+            None
+        }
+        Some(at) => {
+            let node = cells.read(at, meter);
+            match steer.side(at, meter) {
+                Ordering::Less => {
+                    route.note(depth, at, true);
+                    route_under(cells, node.right, depth + 1, steer, route, meter)
+                }
+                Ordering::Greater => {
+                    route.note(depth, at, false);
+                    route_under(cells, node.left, depth + 1, steer, route, meter)
+                }
+                Ordering::Equal => {
+                    route.depth = depth;
+                    Some(at)
+                }
+            }
+        }
+    }
+}

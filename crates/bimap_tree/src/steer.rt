@@ -1,0 +1,73 @@
+//! Which way a descent goes at a place. It knows keys through `Keys` alone, and no tree.
+ghost use Rattle.std.specs.Prelude.{◌≡◌, ℕ, ◌+◌, Some, IsSome};
+ghost use Rattle.std.specs.declared.cmp.Ordering.{Ordering};
+ghost use Rattle.bimap_tree.specs.Order.{order_of};
+ghost use Rattle.bimap_tree.specs.Order.{after_key};
+
+use bimap_base::{Keys, Meter};
+use std::cmp::Ordering;
+
+pub trait Steer {
+    ghost live: { Self → ℕ → Type 0 };
+
+    ghost go: { Self → ℕ → Ordering };
+
+    // How a place stands to what is sought.
+    fn side<M: Meter>(&self, place: usize, meter: &mut M) -> Ordering
+        requires { live self.now place }
+        ensures side { result ≡ go self.now place }
+        ensures comparisons { M.comparisons meter.new ≡ M.comparisons meter.old + 1 }
+        ensures touches { M.touches meter.new ≡ M.touches meter.old };
+}
+
+#[derive(Drop)]
+pub struct ToKey<'a, K: Keys> {
+    pub keys: &'a K,
+    pub key: &'a K::Key,
+}
+
+impl<K: Keys> Steer for ToKey<'_, K> {
+    ghost live = { λ s p. IsSome (K.key_at s.keys.now p) };
+
+    ghost go = { λ s p. order_of K.order (K.key_at s.keys.now p) (Some s.key.now) };
+
+    fn side<M: Meter>(&self, place: usize, meter: &mut M) -> Ordering {
+        self.keys.compare(place, self.key, meter)
+    }
+}
+
+#[derive(Drop)]
+pub struct ToPlace<'a, K: Keys> {
+    pub keys: &'a K,
+    pub place: usize,
+}
+
+impl<K: Keys> Steer for ToPlace<'_, K> {
+    ghost live = { λ s p. IsSome (K.key_at s.keys.now p) × IsSome (K.key_at s.keys.now s.place) };
+
+    ghost go = { λ s p. order_of K.order (K.key_at s.keys.now p) (K.key_at s.keys.now s.place) };
+
+    fn side<M: Meter>(&self, place: usize, meter: &mut M) -> Ordering {
+        self.keys.compare_places(place, self.place, meter)
+    }
+}
+
+// To the position just after a key.
+#[derive(Drop)]
+pub struct AfterKey<'a, K: Keys> {
+    pub keys: &'a K,
+    pub key: &'a K::Key,
+}
+
+impl<K: Keys> Steer for AfterKey<'_, K> {
+    ghost live = { λ s p. IsSome (K.key_at s.keys.now p) };
+
+    ghost go = { λ s p. after_key (order_of K.order (K.key_at s.keys.now p) (Some s.key.now)) };
+
+    fn side<M: Meter>(&self, place: usize, meter: &mut M) -> Ordering {
+        match self.keys.compare(place, self.key, meter) {
+            Ordering::Equal => Ordering::Less,
+            other => other,
+        }
+    }
+}
