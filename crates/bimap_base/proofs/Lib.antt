@@ -1,3 +1,4 @@
 pub mod Digits
 pub mod FreeList
+pub mod Packing
 pub mod Packs

@@ -1,0 +1,9 @@
+//! The hashed bimap: pairs, each found by its left and by its right, through hash numbers. It knows no order.
+#![tactic(auto)]
+
+mod insert;
+mod look_up;
+mod map;
+mod write;
+
+pub use map::BiHashMap;
