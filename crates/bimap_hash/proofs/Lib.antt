@@ -1,3 +1,5 @@
 pub mod Places
 pub mod Numbering
 pub mod Inserting
+pub mod Inserted
+pub mod Removing

@@ -1,10 +1,10 @@
 -- An index beside the store, under writes.
 use Rattle.std.proofs.Common.{◌≡◌, ◌≢◌, ◌⊎◌, ℕ, zero, suc, ◌+◌, ◌-◌, ◌<◌, ◌≤◌, Bool, true, false, List, [], ◌∷◌, ◌++◌, length, replicate, Option, Some, None, refl, sym, ap, subst, ◌∙◌, inl, inr, arith}
-use Rattle.std.specs.Prelude.{IfSome, IfNone, IsSomeAnd, IsTrue, slice_set, slice_index_or}
+use Rattle.std.specs.Prelude.{Result, Ok, Err, OnOk, OnErr, max, IfSome, IfNone, IsSomeAnd, IsTrue, slice_set, slice_index_or}
 use Rattle.std.specs.Option.{option_map}
 use Rattle.std.specs.Cmp.{IsEquivalence}
 use Rattle.std.proofs.lemmas.Bool.{cases_eq}
-use Rattle.std.proofs.lemmas.List.{get_or-set_same, get_or-set_other, length-set}
+use Rattle.std.proofs.lemmas.List.{get_or-set_same, get_or-set_other, length-set, length-append, length-replicate}
 use Rattle.bimap_base.specs.Slots.{pair_at}
 use Rattle.bimap_base.specs.Places.{IsFoundAt}
 use Rattle.bimap_chain.specs.Chains.{number_at, IsListed, Matches}
@@ -96,3 +96,25 @@ number_filled [] (suc k) zero = refl
 number_filled [] (suc k) (suc place) = number_filled [] k place
 number_filled (x ∷ numbers) k zero = refl
 number_filled (x ∷ numbers) k (suc place) = number_filled numbers k place
+
+module _ {T E : Type 0} (numbers numbers' : List (Option ℕ)) (to : ℕ) (r : Result T E) (ok : OnOk r (numbers' ≡ numbers ++ replicate (to - length numbers) None)) (err : OnErr r (numbers' ≡ numbers)) where
+  -- a growth changes no number, whatever its answer
+  pub number_kept : (place : ℕ) → number_at numbers' place ≡ number_at numbers place
+  number_kept place = by r ok err
+    where
+      by : (r : Result T E) → OnOk r (numbers' ≡ numbers ++ replicate (to - length numbers) None) → OnErr r (numbers' ≡ numbers) → number_at numbers' place ≡ number_at numbers place
+      by (Ok x) o e = ap (λ z. number_at z place) o ∙ number_filled numbers (to - length numbers) place
+      by (Err x) o e = ap (λ z. number_at z place) e
+
+  pub cells_not_fewer : length numbers ≤ length numbers'
+  cells_not_fewer = by r ok err
+    where
+      by : (r : Result T E) → OnOk r (numbers' ≡ numbers ++ replicate (to - length numbers) None) → OnErr r (numbers' ≡ numbers) → length numbers ≤ length numbers'
+      by (Ok x) o e = omega (arith, ap length o, length-append numbers (replicate (to - length numbers) None))
+      by (Err x) o e = omega (arith, ap length e)
+
+-- cells were made for the new places
+pub cells_enough : {T E P : Type 0} (slots slots' : List (Option P)) (numbers numbers' : List (Option ℕ)) (to : ℕ) (r : Result T E) → OnOk r (length slots' ≡ max to (length slots)) → OnErr r (slots' ≡ slots) → length slots ≤ length numbers
+    → numbers' ≡ numbers ++ replicate (to - length numbers) None → length slots' ≤ length numbers'
+cells_enough slots slots' numbers numbers' to (Ok x) o e h g = omega (arith, o, ap length g, length-append numbers (replicate (to - length numbers) None), length-replicate {A = Option ℕ} (to - length numbers) None)
+cells_enough slots slots' numbers numbers' to (Err x) o e h g = omega (arith, ap length e, ap length g, length-append numbers (replicate (to - length numbers) None), length-replicate {A = Option ℕ} (to - length numbers) None)

@@ -4,6 +4,7 @@
 mod insert;
 mod look_up;
 mod map;
+mod remove;
 mod write;
 
 pub use map::BiHashMap;
