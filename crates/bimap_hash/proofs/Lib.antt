@@ -3,3 +3,4 @@ pub mod Numbering
 pub mod Inserting
 pub mod Inserted
 pub mod Removing
+pub mod Retaining

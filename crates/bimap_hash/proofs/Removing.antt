@@ -4,13 +4,13 @@ use Rattle.std.specs.Prelude.{Contains, slice_set, replicate}
 use Rattle.std.specs.Option.{option_map}
 use Rattle.std.proofs.lemmas.Bool.{cases_eq}
 use Rattle.std.proofs.lemmas.List.{get_or-set_same, get_or-set_other, length-set, length-replicate}
-use Rattle.bimap_base.specs.Sets.{IsWithoutLeft, IsWithoutRight}
+use Rattle.bimap_base.specs.Sets.{IsApart, IsWithoutLeft, IsWithoutRight}
 use Rattle.bimap_base.specs.Holding.{IsRemovalByLeft, IsRemovalByRight}
 use Rattle.bimap_base.specs.Slots.{pair_at}
 use Rattle.bimap_base.specs.Places.{pairs_in, IsFoundAt}
 use Rattle.bimap_chain.specs.Chains.{number_at}
 use Rattle.bimap_hash.specs.Numbered.{IsNumbered}
-use Rattle.bimap_hash.proofs.Places.{held_at, place_of, live_within, left_lacking, right_lacking}
+use Rattle.bimap_hash.proofs.Places.{held_at, place_of, live_within, left_lacking, right_lacking, pairs_none}
 use Rattle.bimap_hash.proofs.Inserted.{holding_of}
 
 module _ {P K : Type 0} (key : P → K) (same : K → K → Bool) (slots : List (Option P)) (k : K) where
@@ -68,3 +68,9 @@ numbered_none number slots n free place = none n place ∙ ap (option_map number
     none zero place = refl
     none (suc n) zero = refl
     none (suc n) (suc place) = none n place
+
+pub cells_cleared : {P : Type 0} (slots slots' : List (Option P)) (numbers numbers' : List (Option ℕ)) → length slots' ≡ length slots → length slots ≤ length numbers → numbers' ≡ replicate (length numbers) None → length slots' ≤ length numbers'
+cells_cleared slots slots' numbers numbers' e h g = omega (arith, ap length g, length-replicate {A = Option ℕ} (length numbers) None)
+
+pub apart_none : {L R : Type 0} (same_left : L → L → Bool) (same_right : R → R → Bool) (slots : List (Option (L × R))) → ((place : ℕ) → pair_at slots place ≡ None) → IsApart same_left same_right (pairs_in slots)
+apart_none same_left same_right slots free i j d l m = absurd (omega (arith, ap length (pairs_none slots free)))

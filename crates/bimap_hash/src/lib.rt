@@ -5,6 +5,7 @@ mod insert;
 mod look_up;
 mod map;
 mod remove;
+mod retain;
 mod write;
 
 pub use map::BiHashMap;
