@@ -163,3 +163,23 @@ module _ {F L R : Type 0} (g : Mut F (Bor L × (Bor R × Unit {0})) Bool) where
   -- what a test at a place tells, where it has a pair
   pub tested_at : (o : Option (L × R)) (p : L × R) (f : F) (b : Bool) (f' : F) → o ≡ Some p → IfSome o (λ p. TestedAt g f p b f') → TestedAt g f p b f'
   tested_at o p f b f' e h = subst (λ z. IfSome z (λ p. TestedAt g f p b f')) e h
+
+  module _ (first f f' : F) (old now : List (Option (L × R))) (place : ℕ) (going : Going first f old now place) (inside : place < length now) (b : Bool) where
+    -- the place was kept: it has no pair, or one on which the closure answered true
+    pub goes_on : b ≡ true → IfSome (pair_at now place) (λ p. TestedAt g f p b f') → IfNone (pair_at now place) ((b ≡ true) × (f' ≡ f)) → Going first f' old now (place + 1)
+    goes_on e some none = by (pair_at now place) refl some none
+      where
+        by : (o : Option (L × R)) → pair_at now place ≡ o → IfSome o (λ p. TestedAt g f p b f') → IfNone o ((b ≡ true) × (f' ≡ f)) → Going first f' old now (place + 1)
+        by None is some none = passed_free first f old now place going inside is f' none.1
+        by (Some p) is some none = passed first f old now place going inside p is f' (subst (λ z. TestedAt g f p z f') e some)
+
+    -- the pair of the place was taken out
+    pub goes_off : b ≡ false → IfSome (pair_at now place) (λ p. TestedAt g f p b f') → IfNone (pair_at now place) ((b ≡ true) × (f' ≡ f)) → (now' : List (Option (L × R))) → now' ≡ slice_set now place None → Going first f' old now' (place + 1)
+    goes_off e some none now' taken = by (pair_at now place) refl some none
+      where
+        by : (o : Option (L × R)) → pair_at now place ≡ o → IfSome o (λ p. TestedAt g f p b f') → IfNone o ((b ≡ true) × (f' ≡ f)) → Going first f' old now' (place + 1)
+        by None is some none = absurd (true≢false (sym none.0 ∙ e))
+        by (Some p) is some none = refused first f old now place going inside p is f' now' taken (subst (λ z. TestedAt g f p z f') e some)
+
+pub same_pair : {L R : Type 0} (p : L × R) (l : L) (r : R) → l ≡ p.0 → r ≡ p.1 → ◌≡◌ {A = L × R} (l, r) p
+same_pair {L} {R} p l r x y = ap (λ (a : L). (a, r)) x ∙ ap (λ (b : R). (p.0, b)) y
