@@ -4,3 +4,4 @@ pub mod Inserting
 pub mod Inserted
 pub mod Removing
 pub mod Retaining
+pub mod Reserving

@@ -1,6 +1,7 @@
 //! The hashed bimap: pairs, each found by its left and by its right, through hash numbers. It knows no order.
 #![tactic(auto)]
 
+mod capacity;
 mod insert;
 mod look_up;
 mod map;
