@@ -1,10 +1,10 @@
 -- What each arm of an insertion answers and leaves.
-use Rattle.std.proofs.Common.{◌≡◌, ◌≢◌, ◌⊎◌, ◌↔◌, ℕ, ◌<◌, ◌≤◌, Bool, true, false, List, length, Option, Some, None, is_some, IsSome, refl, sym, ap, subst, ◌∙◌, inl, inr, arith, true≢false}
-use Rattle.std.specs.Prelude.{Contains, Result, Ok, Err, OnErr, OnOk, slice_set, IfSome, IsSomeAnd, ◌||◌, MatchBool, is_err}
+use Rattle.std.proofs.Common.{◌≡◌, ◌≢◌, ℕ, ◌<◌, ◌≤◌, Bool, true, false, List, length, Option, Some, None, IsSome, refl, sym, ap, subst, ◌∙◌, inl, inr, arith, true≢false}
+use Rattle.std.specs.Prelude.{Contains, Result, Ok, Err, OnErr, OnOk, slice_set, IsSomeAnd, MatchBool, is_err}
 use Rattle.std.specs.Cmp.{IsEquivalence}
 use Rattle.std.proofs.lemmas.List.{length-set, get_or-set_same, get_or-set_other}
 use Rattle.std.proofs.lemmas.Bool.{cases_eq}
-use Rattle.bimap_base.specs.Sets.{shares, NoneShares, SomeShares, IsWithPut, HasLeft, LacksLeft, HasRight, LacksRight}
+use Rattle.bimap_base.specs.Sets.{shares, IsWithPut, HasLeft, HasRight}
 use Rattle.bimap_base.specs.Answer.{IsAllowed}
 use Rattle.bimap_base.specs.Holding.{Holding, IsRoomAfter, IsInsertionUnder}
 use Rattle.bimap_base.specs.Slots.{pair_at, pair_count}
@@ -12,9 +12,9 @@ use Rattle.bimap_base.specs.Places.{pairs_in, IsFoundAt}
 use Rattle.bimap_base.specs.declared.policy.Policy.{Policy}
 use Rattle.bimap_base.specs.declared.policy.OnHeld.TheVariants.{Refuse}
 use Rattle.bimap_base.specs.declared.overwritten.Overwritten.TheVariants.{Neither, Left, Right, Pair, Both}
-use Rattle.bimap_base.specs.declared.refusal.NotInsertedWith.TheVariants.{LeftHeld, RightHeld, Memory}
+use Rattle.bimap_base.specs.declared.refusal.NotInsertedWith.TheVariants.{Memory}
 use Rattle.bimap_hash.specs.Numbered.{IsAloneAt}
-use Rattle.bimap_hash.proofs.Places.{held_at, place_of, live_within, pair_of, pairs_kept, length-pairs_in, left_lacking, right_lacking, apart_at_places}
+use Rattle.bimap_hash.proofs.Places.{held_at, live_within, pair_of, pairs_kept, length-pairs_in, left_lacking, right_lacking}
 use Rattle.bimap_hash.proofs.Inserting.{neither, left_of_two, right_of_two, alone_at, none_shares, only_struck, with_put, with_put_after, both_struck}
 
 -- the pairs and the room of a store
@@ -183,8 +183,8 @@ module _ {L R : Type 0} (same_left : L → L → Bool) (same_right : R → R →
         let by_other = right_true other q f second in
         let inside : place < length (slice_set slots other None) = live_within (slice_set slots other None) place p was in
         let put = with_put_after same_left same_right slots other q (l, r) (Contains (pairs_in (slice_set (slice_set slots other None) place (Some (l, r))))) second (right_of_two _ _ by_other)
-            (with_put same_left same_right (slice_set slots other None) place (l, r) inside (alone_after place other e f (live_within slots other q second))
-            (λ s i. let j : Some s ≡ Some p = sym i ∙ was in let k : s ≡ p = cc in ap (λ z. shares same_left same_right z (l, r)) k ∙ left_of_two _ _ by)) in
+        (with_put same_left same_right (slice_set slots other None) place (l, r) inside (alone_after place other e f (live_within slots other q second))
+        (λ s i. let j : Some s ≡ Some p = sym i ∙ was in let k : s ≡ p = cc in ap (λ z. shares same_left same_right z (l, r)) k ∙ left_of_two _ _ by)) in
         let long : length slots' ≡ length slots = ap length now ∙ length-set (slice_set slots other None) place (Some (l, r)) ∙ length-set slots other None in
         record {
           allowed = allowed_by;

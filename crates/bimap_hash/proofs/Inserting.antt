@@ -1,10 +1,9 @@
 -- What an insertion strikes and leaves, from the places that were found.
-use Rattle.std.proofs.Common.{◌≡◌, ◌≢◌, ◌⊎◌, ◌↔◌, ℕ, ◌<◌, ◌≤◌, Bool, true, false, List, length, Option, Some, None, refl, sym, ap, subst, ◌∙◌, inl, inr, arith, true≢false}
-use Rattle.std.specs.Prelude.{Contains, slice_set, IfSome, IsSomeAnd, ◌||◌, MatchBool}
-use Rattle.std.specs.Cmp.{IsEquivalence}
+use Rattle.std.proofs.Common.{◌≡◌, ◌≢◌, ℕ, ◌<◌, Bool, true, false, List, length, Option, Some, None, refl, sym, ap, subst, ◌∙◌, inl, inr, true≢false}
+use Rattle.std.specs.Prelude.{Contains, slice_set, ◌||◌}
 use Rattle.std.proofs.lemmas.Bool.{cases_eq}
 use Rattle.std.proofs.lemmas.List.{get_or-set_same, get_or-set_other}
-use Rattle.bimap_base.specs.Sets.{shares, NoneShares, SomeShares, IsWithPut, HasLeft, LacksLeft, HasRight, LacksRight}
+use Rattle.bimap_base.specs.Sets.{shares, NoneShares, IsWithPut}
 use Rattle.bimap_base.specs.Answer.{IsOnlyStruck, AreBothStruck}
 use Rattle.bimap_base.specs.Slots.{pair_at}
 use Rattle.bimap_base.specs.Places.{pairs_in, IsFoundAt}

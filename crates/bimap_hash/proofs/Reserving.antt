@@ -1,5 +1,5 @@
 -- What a reservation leaves.
-use Rattle.std.proofs.Common.{◌≡◌, ℕ, ◌+◌, ◌<◌, ◌≤◌, List, length, Option, refl, sym, ap, ◌∙◌, arith}
+use Rattle.std.proofs.Common.{◌≡◌, ℕ, ◌+◌, ◌<◌, List, length, Option, ap, arith}
 use Rattle.std.specs.Prelude.{Result, Ok, Err, OnOk, OnErr, max}
 use Rattle.bimap_base.specs.declared.refusal.NoMemory.{NoMemory}
 use Rattle.bimap_base.specs.Slots.{pair_at}

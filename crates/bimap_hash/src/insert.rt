@@ -52,7 +52,12 @@ impl<L: Eq + Hash, R: Eq + Hash, LS: BuildHasher, RS: BuildHasher> BiHashMap<L, 
 
     /// Inserts a pair where the policy lets it overwrite what it shares a value with. A refusal changes nothing. It
     /// takes memory only where it strikes nothing and no place is free.
-    pub fn insert_with(&mut self, left: L, right: R, policy: Policy) -> Result<Overwritten<L, R>, NotInsertedWith<L, R>>
+    pub fn insert_with(
+        &mut self,
+        left: L,
+        right: R,
+        policy: Policy,
+    ) -> Result<Overwritten<L, R>, NotInsertedWith<L, R>>
         ensures { IsInsertionUnder L.eq R.eq (holding self.old) (left, right) policy result (holding self.new) }
     {
         let left_number = self.left_number(&left);

@@ -20,7 +20,13 @@ impl<L: Eq + Hash, R: Eq + Hash, LS: BuildHasher, RS: BuildHasher> BiHashMap<L, 
     }
 
     // Puts a pair in the place of one with an equal left. The right index alone is relinked.
-    pub(crate) fn swap_right(&mut self, place: usize, left: L, right: R, right_number: u64) -> (L, R)
+    pub(crate) fn swap_right(
+        &mut self,
+        place: usize,
+        left: L,
+        right: R,
+        right_number: u64,
+    ) -> (L, R)
         requires same_left { IsSomeAnd (pair_at self.old.pairs place) (λ p. L.eq p.0 left ≡ true) }
         requires number { right_number ≡ number_by RS.Hasher.finish RS.Hasher.write RS.build_hasher R.hash_input self.old.right_builder right }
         requires alone { IsAloneAt L.eq R.eq self.old.pairs place (left, right) }
@@ -46,7 +52,14 @@ impl<L: Eq + Hash, R: Eq + Hash, LS: BuildHasher, RS: BuildHasher> BiHashMap<L, 
     }
 
     // Puts a pair in the place of another. Both indexes are relinked.
-    pub(crate) fn swap_both(&mut self, place: usize, left: L, right: R, left_number: u64, right_number: u64) -> (L, R)
+    pub(crate) fn swap_both(
+        &mut self,
+        place: usize,
+        left: L,
+        right: R,
+        left_number: u64,
+        right_number: u64,
+    ) -> (L, R)
         requires live { IsLive self.old.pairs place }
         requires left_number { left_number ≡ number_by LS.Hasher.finish LS.Hasher.write LS.build_hasher L.hash_input self.old.left_builder left }
         requires right_number { right_number ≡ number_by RS.Hasher.finish RS.Hasher.write RS.build_hasher R.hash_input self.old.right_builder right }

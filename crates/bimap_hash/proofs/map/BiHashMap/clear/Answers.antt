@@ -1,7 +1,4 @@
-use Rattle.std.proofs.Common.{◌≡◌, ◌≤◌, ◌∙◌, ap, sym, refl, subst, arith, length, replicate, None}
-use Rattle.std.proofs.lemmas.List.{length-replicate}
-use Rattle.bimap_base.specs.Sets.{IsApart}
-use Rattle.bimap_base.specs.Places.{pairs_in}
+use Rattle.std.proofs.Common.{sym, subst, length}
 use Rattle.bimap_hash.specs.Numbered.{number_by, IsNumbered}
 use Rattle.bimap_hash.proofs.Places.{pairs_none, fits_in}
 use Rattle.bimap_hash.proofs.Removing.{numbered_none, cells_cleared, apart_none}

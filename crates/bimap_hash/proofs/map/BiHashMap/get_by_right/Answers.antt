@@ -1,6 +1,6 @@
-use Rattle.std.proofs.Common.{◌≡◌, ◌∙◌, sym, Some}
+use Rattle.std.proofs.Common.{◌≡◌, sym, Some}
 use Rattle.bimap_base.specs.Slots.{pair_at}
-use Rattle.bimap_hash.proofs.Places.{held_at, right_lacking, pair_of}
+use Rattle.bimap_hash.proofs.Places.{held_at, right_lacking}
 use Rattle.bimap_hash.proofs.map.BiHashMap.get_by_right.Goals as goal
 
 pub returns-in-Some-at : goal.returns-in-Some-at

@@ -1,6 +1,5 @@
-use Rattle.std.proofs.Common.{◌≡◌, ◌≤◌, ◌∙◌, ap, sym, refl, subst, arith, length}
+use Rattle.std.proofs.Common.{sym, refl, subst, arith}
 use Rattle.bimap_base.specs.Sets.{IsApart}
-use Rattle.bimap_base.specs.Places.{pairs_in}
 use Rattle.bimap_hash.specs.Numbered.{number_by}
 use Rattle.bimap_hash.proofs.Places.{pairs_kept, fits_in}
 use Rattle.bimap_hash.proofs.Numbering.{numbered_grown, number_kept, cells_not_fewer, cells_enough}

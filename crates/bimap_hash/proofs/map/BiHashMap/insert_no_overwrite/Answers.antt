@@ -1,4 +1,3 @@
-use Rattle.std.proofs.Common.{◌≡◌, refl, sym, ap, ◌∙◌}
 use Rattle.bimap_hash.proofs.Inserting.{left_of_two, right_of_two}
 use Rattle.bimap_hash.proofs.map.BiHashMap.insert_no_overwrite.Goals as goal
 

@@ -1,7 +1,6 @@
-use Rattle.std.proofs.Common.{◌≡◌, ◌∙◌, ap, sym, refl, subst, Some, None, Bool, true, false, IsSome}
-use Rattle.std.specs.Prelude.{MatchBool}
-use Rattle.bimap_hash.proofs.Places.{left_lacking, live_within, apart_at_places}
-use Rattle.bimap_hash.proofs.Inserted.{may, must, on_ok, on_err, left_held, right_held, room_kept, refused_memory, put_new, put_left, put_right, put_pair, put_both}
+use Rattle.std.proofs.Common.{◌∙◌, ap, sym, refl, Some}
+use Rattle.bimap_hash.proofs.Places.{left_lacking, apart_at_places}
+use Rattle.bimap_hash.proofs.Inserted.{may, must, on_err, left_held, right_held, room_kept, refused_memory, put_new, put_left, put_right, put_pair, put_both}
 use Rattle.bimap_hash.proofs.map.BiHashMap.insert_with.Goals as goal
 
 pub returns-then-keeps : goal.returns-then-keeps
@@ -25,8 +24,12 @@ returns-then-keeps-2 g c =
       allowed = tt;
       answer = tt;
       put = tt;
-      refused = (refl, (λ e. left_lacking g.L.PartialEq.eq slots c.args.left c.left_place-by_left.result c.left_place-by_left.ensures (may _ _ c.if-keeps.false c.keeps.ensures e)), kept.1,
-          right_held g.L.PartialEq.eq g.R.PartialEq.eq slots c.args.right c.right_place-by_right.result c.right_place-by_right.ensures kept.0);
+      refused = (
+        refl,
+        (λ e. left_lacking g.L.PartialEq.eq slots c.args.left c.left_place-by_left.result c.left_place-by_left.ensures (may _ _ c.if-keeps.false c.keeps.ensures e)),
+        kept.1,
+        right_held g.L.PartialEq.eq g.R.PartialEq.eq slots c.args.right c.right_place-by_right.result c.right_place-by_right.ensures kept.0,
+      );
       unchanged = refl;
       room = room_kept g.L.PartialEq.eq g.R.PartialEq.eq slots slots (c.args.left, c.args.right) refl;
     }

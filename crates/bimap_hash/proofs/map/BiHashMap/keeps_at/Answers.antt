@@ -1,7 +1,6 @@
-use Rattle.std.proofs.Common.{rules, ◌≡◌, ◌∙◌, sym, refl, Some, subst}
+use Rattle.std.proofs.Common.{rules, refl, subst}
 use Rattle.std.specs.Prelude.{IfSome}
 use Rattle.bimap_base.specs.Kept.{TestedAt}
-use Rattle.bimap_base.specs.Slots.{pair_at}
 use Rattle.bimap_hash.proofs.map.BiHashMap.keeps_at.Goals as goal
 
 pub returns-in-Some-clause-tested : goal.returns-in-Some-clause-tested

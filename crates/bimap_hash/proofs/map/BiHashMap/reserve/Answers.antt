@@ -1,5 +1,4 @@
-use Rattle.std.proofs.Common.{◌≡◌, ◌≤◌, ◌+◌, ◌∙◌, ap, sym, refl, arith, length}
-use Rattle.bimap_hash.proofs.Places.{pairs_kept}
+use Rattle.std.proofs.Common.{refl, arith}
 use Rattle.bimap_hash.proofs.Reserving.{reserved}
 use Rattle.bimap_hash.proofs.map.BiHashMap.reserve.Goals as goal
 

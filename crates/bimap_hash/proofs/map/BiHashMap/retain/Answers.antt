@@ -1,9 +1,6 @@
-use Rattle.std.proofs.Common.{◌≡◌, ◌<◌, ◌∙◌, ◌+◌, sym, refl, ap, Some, None, subst, arith, length, Option, true, false}
-use Rattle.std.specs.Prelude.{IfSome, IfNone}
+use Rattle.std.proofs.Common.{◌<◌, ◌∙◌, sym, refl, ap, Some, None, arith, length}
 use Rattle.std.proofs.lemmas.List.{length-set}
-use Rattle.bimap_base.specs.Kept.{TestedAt}
-use Rattle.bimap_base.specs.Slots.{pair_at}
-use Rattle.bimap_hash.proofs.Retaining.{start, may, ended, goes_on, goes_off, same_pair}
+use Rattle.bimap_hash.proofs.Retaining.{start, may, goes_on, goes_off, same_pair}
 use Rattle.bimap_hash.proofs.map.BiHashMap.retain.Goals as goal
 use Rattle.bimap_hash.proofs.map.BiHashMap.retain.Goals.{then-not-keeps_at, else-not-keeps_at}
 
@@ -22,11 +19,11 @@ loop-place-preserved g c =
     let inside : c.loop-place.place < length c.loop-place.self.pairs = omega (arith, c.loop-place-test.true, c.places-places.ensures, i.long) in
     elim c.if-not-keeps_at.branch [
       | then-not-keeps_at w ↦ rw w.self-is record {
-          going = goes_off g.F.FnMut c.args.f c.loop-place.f c.keeps_at.new.f c.args.self.now.pairs c.loop-place.self.pairs c.loop-place.place i.going inside _ w.if-not-keeps_at.true c.keeps_at.ensures.tested c.keeps_at.ensures.none w.take.new.self.pairs w.take.ensures.pairs;
-          long = ap length w.take.ensures.pairs ∙ length-set c.loop-place.self.pairs c.loop-place.place None ∙ i.long;
-        }
+        going = goes_off g.F.FnMut c.args.f c.loop-place.f c.keeps_at.new.f c.args.self.now.pairs c.loop-place.self.pairs c.loop-place.place i.going inside _ w.if-not-keeps_at.true c.keeps_at.ensures.tested c.keeps_at.ensures.none w.take.new.self.pairs w.take.ensures.pairs;
+        long = ap length w.take.ensures.pairs ∙ length-set c.loop-place.self.pairs c.loop-place.place None ∙ i.long;
+      }
       | else-not-keeps_at w ↦ rw w.self-is record {
-          going = goes_on g.F.FnMut c.args.f c.loop-place.f c.keeps_at.new.f c.args.self.now.pairs c.loop-place.self.pairs c.loop-place.place i.going inside _ w.if-not-keeps_at.false c.keeps_at.ensures.tested c.keeps_at.ensures.none;
-          long = i.long;
-        }
+        going = goes_on g.F.FnMut c.args.f c.loop-place.f c.keeps_at.new.f c.args.self.now.pairs c.loop-place.self.pairs c.loop-place.place i.going inside _ w.if-not-keeps_at.false c.keeps_at.ensures.tested c.keeps_at.ensures.none;
+        long = i.long;
+      }
     ]

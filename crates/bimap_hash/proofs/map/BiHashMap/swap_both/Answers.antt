@@ -1,10 +1,8 @@
-use Rattle.std.proofs.Common.{◌≡◌, ◌<◌, ◌∙◌, ap, sym, refl, subst, arith, Some, None, length}
+use Rattle.std.proofs.Common.{◌<◌, arith, Some, length}
 use Rattle.std.specs.Prelude.{slice_set}
-use Rattle.std.specs.List.{fold}
-use Rattle.bimap_base.specs.Places.{pairs_in}
 use Rattle.bimap_hash.specs.Numbered.{number_by}
-use Rattle.bimap_hash.proofs.Places.{pair_of, pair_of_live, live_within, fits_in, apart_set, apart_taken}
-use Rattle.bimap_hash.proofs.Numbering.{numbered_kept, numbered_linked, numbered_relinked, numbered_taken, cells_kept, length-unlinked, length-linked, length-relinked}
+use Rattle.bimap_hash.proofs.Places.{live_within, fits_in, apart_set}
+use Rattle.bimap_hash.proofs.Numbering.{numbered_relinked, cells_kept, length-relinked}
 use Rattle.bimap_hash.proofs.map.BiHashMap.swap_both.Goals as goal
 
 pub invariant_of-self : goal.invariant_of-self
