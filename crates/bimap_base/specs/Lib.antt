@@ -10,3 +10,4 @@ pub mod Slots
 pub mod FreeSlots
 pub mod Keyed
 pub mod Packed
+pub mod Places

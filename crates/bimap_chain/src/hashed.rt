@@ -120,6 +120,15 @@ impl Hashed {
         ensures err { OnErr result (self.new ≡ self.old) }
         ensures succeeds { to ≤ length self.old → IsOk result }
     {
+        self.grow_to(to)
+    }
+
+    /// As `grow`, which has no use for the keys.
+    pub fn grow_to(&mut self, to: usize) -> Result<(), NoMemory>
+        ensures ok { OnOk result (self.new ≡ self.old ++ replicate (to - length self.old) None) }
+        ensures err { OnErr result (self.new ≡ self.old) }
+        ensures succeeds { to ≤ length self.old → IsOk result }
+    {
         if to <= self.threads.cells.len() {
             return Ok(());
         }
