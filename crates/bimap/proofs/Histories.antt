@@ -24,7 +24,8 @@ module _ {L R : Type 0} (same_left : L → L → Bool) (same_right : R → R →
   IsOnlyStruck_along : (new p : L × R) → IsOnlyStruck same_left same_right S new p → IsOnlyStruck same_left same_right T new p
   IsOnlyStruck_along new p h = record { member = to p h.member; only = λ q m. h.only q (from q m) }
 
-  IsAnswer_along : (new : L × R) (a : Overwritten L R) → IsAnswer same_left same_right S new a → IsAnswer same_left same_right T new a
+  -- an answer about a set is one about a set with the same members
+  pub IsAnswer_along : (new : L × R) (a : Overwritten L R) → IsAnswer same_left same_right S new a → IsAnswer same_left same_right T new a
   IsAnswer_along new Neither h = λ q m. h q (from q m)
   IsAnswer_along new (Left l r) h = (IsOnlyStruck_along new (l, r) h.0, h.1, h.2)
   IsAnswer_along new (Right l r) h = (IsOnlyStruck_along new (l, r) h.0, h.1, h.2)

@@ -2,12 +2,13 @@
 use Rattle.std.proofs.Common.{◌≡◌, ◌↔◌, ◌⊎◌, inl, inr, ℕ, suc, ◌+◌, ◌≤◌, Bool, List, [], ◌∷◌, ◌++◌, length, refl, sym, ap, ◌∙◌, subst, arith}
 use Rattle.std.specs.Prelude.{Contains}
 use Rattle.std.specs.Cmp.{IsEquivalence}
-use Rattle.bimap_base.specs.Sets.{IsApart, IsSameSet}
-use Rattle.bimap_base.specs.Answer.{IsBoth}
+use Rattle.bimap_base.specs.Sets.{IsApart, IsSameSet, IsWithPut}
+use Rattle.bimap_base.specs.Answer.{IsAnswer, IsBoth}
 use Rattle.bimap_base.specs.Undoing.{IsUndoable, IsUndone, IsInserting, IsTrail}
 use Rattle.bimap_base.specs.declared.overwritten.Overwritten.{Overwritten}
 use Rattle.bimap_base.specs.declared.overwritten.Overwritten.TheVariants.{Neither, Left, Right, Pair, Both}
 use Rattle.bimap_base.proofs.Undoing.{inserting_undoable, undone_same, inserting_shorter}
+use Rattle.bimap.proofs.Histories.{IsAnswer_along}
 use Rattle.bimap.specs.Trail.{IsWithin, Leads, LeadsWithin}
 
 module _ {L R : Type 0} (same_left : L → L → Bool) (same_right : R → R → Bool) (lefts : IsEquivalence same_left) (rights : IsEquivalence same_right) where
@@ -50,6 +51,30 @@ module _ {L R : Type 0} (same_left : L → L → Bool) (same_right : R → R →
         led = record { trail = (h.trail.0, h.trail.1, h.trail.2, w.led.trail); within = (h.within.0, w.led.within) };
         last = w.last;
       }
+
+  inserting_from : (A S T : List (L × R)) (left : L) (answer : Overwritten L R) → IsSameSet (Contains A) (Contains S) → IsInserting same_left same_right S left answer T → IsInserting same_left same_right A left answer T
+  inserting_from A S T left answer s i = record {
+    pair = i.pair;
+    by_left = i.by_left;
+    is_answer = IsAnswer_along same_left same_right (Contains S) (Contains A) (λ p. (s p).1) (λ p. (s p).0) i.pair answer i.is_answer;
+    put = λ q. (
+      λ m. elim ((i.put q).0 m) [ inl e ↦ inl e | inr w ↦ inr ((s q).1 w.0, w.1) ],
+      λ m. (i.put q).1 (elim m [ inl e ↦ inl e | inr w ↦ inr ((s q).0 w.0, w.1) ]),
+    );
+  }
+
+  trail_push : (A : List (L × R)) (entries : List (L × Overwritten L R)) (S T : List (L × R)) (left : L) (answer : Overwritten L R) → IsTrail same_left same_right A entries S → IsApart same_left same_right T → IsInserting same_left same_right S left answer T → IsTrail same_left same_right A (entries ++ (left, answer) ∷ []) T
+  trail_push A [] S T left answer h a i = (T, a, inserting_from A S T left answer h i, λ q. (λ m. m, λ m. m))
+  trail_push A ((l, o) ∷ entries) S T left answer h a i = (h.0, h.1, h.2, trail_push h.0 entries S T left answer h.3 a i)
+
+  -- nothing was inserted
+  pub leads_none : (S : List (L × R)) → IsApart same_left same_right S → Leads same_left same_right S [] S
+  leads_none S a = record { apart = a; trail = λ q. (λ m. m, λ m. m) }
+
+  -- one more insertion
+  pub leads_push : (first : List (L × R)) (entries : List (L × Overwritten L R)) (S T : List (L × R)) (left : L) (right : R) (answer : Overwritten L R) → Leads same_left same_right first entries S → IsApart same_left same_right T → IsAnswer same_left same_right (Contains S) (left, right) answer → IsWithPut same_left same_right (Contains S) (left, right) (Contains T) → Leads same_left same_right first (entries ++ (left, answer) ∷ []) T
+  leads_push first entries S T left right answer h a is put =
+      record { apart = h.apart; trail = trail_push first entries S T left answer h.trail a (record { pair = (left, right); by_left = lefts.refl left; is_answer = is; put = put }) }
 
   within_more : (room more : ℕ) (A : List (L × R)) (entries : List (L × Overwritten L R)) (S : List (L × R)) (trail : IsTrail same_left same_right A entries S) → room ≤ more → IsWithin same_left same_right room A entries S trail → IsWithin same_left same_right more A entries S trail
   within_more room more A [] S trail h w = tt
