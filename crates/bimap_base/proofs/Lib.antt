@@ -1,3 +1,5 @@
 pub mod Digits
 pub mod FreeList
+pub mod Members
 pub mod Packs
+pub mod Survivors
