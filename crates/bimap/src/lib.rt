@@ -3,6 +3,7 @@
 
 mod call;
 mod runs;
+pub mod value;
 
 pub use bimap_base::{
     Bijection, ExtendStopped, NoMemory, NoRoom, NotInserted, NotInsertedWith, OnHeld, Overwritten,
