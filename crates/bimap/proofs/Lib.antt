@@ -1,1 +1,3 @@
 pub mod JsonTexts
+pub mod JsonEntries
+pub mod JsonWriting
