@@ -110,6 +110,14 @@ unfolding IsStrictlySortedBy
 map_ascends [] up = tt
 map_ascends (e ∷ es) up = (map_below e.0 es up.0, map_ascends es up.1)
 
+pub map_has : (value : Data) (es all : List (String Global × Value)) → Some (members_view es) ≡ as_object value → all ≡ es → IsStrictlySortedBy string_cmp (keys_of es) → HasEntries value (entries_of (members_view all))
+map_has value es all is same up = record {
+  members = members_view all;
+  is_object = sym is ∙ ap (λ l. Some (members_view l)) (sym same);
+  are = refl;
+  ascends = subst (λ l. Ascends (entries_of (members_view l))) (sym same) (map_ascends es up);
+}
+
 pub has_entries : (value : Data) (es : List (String Global × Value)) → as_object value ≡ Some (members_view es) → Ascends (entries_of (members_view es)) → HasEntries value (entries_of (members_view es))
 has_entries value es is up = record { members = members_view es; is_object = is; are = refl; ascends = up }
 

@@ -1,3 +1,4 @@
 pub mod JsonTexts
 pub mod JsonEntries
 pub mod JsonWriting
+pub mod JsonReading
