@@ -1,3 +1,6 @@
+pub mod Histories
+pub mod Tested
+pub mod Trails
 pub mod JsonTexts
 pub mod JsonEntries
 pub mod JsonWriting

@@ -3,6 +3,7 @@
 
 mod call;
 mod runs;
+mod undone;
 pub mod value;
 
 pub use bimap_base::{
@@ -11,3 +12,4 @@ pub use bimap_base::{
 };
 pub use call::{Call, Reply, RunRefused};
 pub use runs::run;
+pub use undone::{UndoRunStopped, undo_run};
