@@ -154,10 +154,10 @@ module _ {L R : Type 0} (same_left : L → L → Bool) (same_right : R → R →
         reread_same : IsApart same_left same_right held → IsSame same_left same_right ps held
         reread_same other = (
           (
-            let a = length-le_from_lefts same_left same_right left_laws held ps apart (λ p c. let f = forth p c in (f.0, f.1, f.2.0)) in
-            let b = length-le_from_lefts same_left same_right left_laws ps held other (λ q c. let f = back q c in (f.0, f.1, left_laws.symm f.0.0 q.0 ∙ f.2.0)) in
-            omega (arith, a, b)
-          ),
+              let a = length-le_from_lefts same_left same_right left_laws held ps apart (λ p c. let f = forth p c in (f.0, f.1, f.2.0)) in
+              let b = length-le_from_lefts same_left same_right left_laws ps held other (λ q c. let f = back q c in (f.0, f.1, left_laws.symm f.0.0 q.0 ∙ f.2.0)) in
+              omega (arith, a, b)
+              ),
           λ p c. let f = forth p c in (f.0, f.1, alike_eq p f.0 f.2),
         )
 

@@ -15,19 +15,6 @@ use bimap_base::NoMemory;
 use serde_json::Value;
 use std::alloc::Global;
 
-/// The number as one of a narrower type.
-macro_rules! narrowed {
-    ($t:ty, $wide:expr) => {
-        match $wide {
-            Some(wide) => match <$t>::try_from(wide) {
-                Ok(number) => Ok(number),
-                Err(_) => Err(ReadFault::Bad),
-            },
-            None => Err(ReadFault::Bad),
-        }
-    };
-}
-
 impl JsonKey for i32 {
     ghost writes_key = { signed_decimal };
 
@@ -35,8 +22,8 @@ impl JsonKey for i32 {
 
     #[tactic(auto, using(crate::proofs::JsonTexts::back_i32))]
     fn to_key(&self, alloc: Global) -> Result<String, NoMemory> {
-        let number = *self;
-        Ok(number.to_string(alloc)?)
+        let key: i32 = *self;
+        Ok(key.to_string(alloc)?)
     }
 
     #[tactic(auto, using(crate::proofs::JsonTexts::narrow_i32))]
@@ -44,7 +31,13 @@ impl JsonKey for i32 {
         ensures reads { Reads (IsSignedText 31 text.now) result }
         ensures takes_no_memory { IfErr result (λ fault. fault ≡ Bad) }
     {
-        narrowed!(i32, read_signed(text))
+        match read_signed(text) {
+            Some(key) => match i32::try_from(key) {
+                Ok(narrow) => Ok(narrow),
+                Err(_) => Err(ReadFault::Bad),
+            },
+            None => Err(ReadFault::Bad),
+        }
     }
 }
 
@@ -59,15 +52,18 @@ impl JsonValue for i32 {
         ensures reads_back { ReadsBack int_eq (IsSignedValue 31 (number (of_integer self.now))) self.now }
         ensures takes_no_memory { IsOk result }
     {
-        let number = *self;
-        Ok(Value::from(number))
+        let value: i32 = *self;
+        Ok(Value::from(value))
     }
 
     fn from_json(_alloc: Global, value: &Value) -> Result<i32, ReadFault>
         ensures reads { Reads (IsSignedValue 31 (view value.now)) result }
         ensures takes_no_memory { IfErr result (λ fault. fault ≡ Bad) }
     {
-        narrowed!(i32, value.as_i64())
+        match value.as_i64() {
+            Some(number) => i32::try_from(number).or(Err(ReadFault::Bad)),
+            None => Err(ReadFault::Bad),
+        }
     }
 }
 
@@ -78,8 +74,8 @@ impl JsonKey for i64 {
 
     #[tactic(auto, using(crate::proofs::JsonTexts::back_i64))]
     fn to_key(&self, alloc: Global) -> Result<String, NoMemory> {
-        let number = *self;
-        Ok(number.to_string(alloc)?)
+        let key: i64 = *self;
+        Ok(key.to_string(alloc)?)
     }
 
     fn from_key(_alloc: Global, text: &str) -> Result<i64, ReadFault>
@@ -101,8 +97,8 @@ impl JsonValue for i64 {
         ensures reads_back { ReadsBack int_eq (IsSignedValue 63 (number (of_integer self.now))) self.now }
         ensures takes_no_memory { IsOk result }
     {
-        let number = *self;
-        Ok(Value::from(number))
+        let value: i64 = *self;
+        Ok(Value::from(value))
     }
 
     fn from_json(_alloc: Global, value: &Value) -> Result<i64, ReadFault>

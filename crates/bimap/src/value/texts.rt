@@ -3,7 +3,7 @@ ghost use Rattle.std.specs.Prelude.{◌≡◌, string_bytes, IfErr};
 ghost use Rattle.std.specs.Char.{encode_utf8};
 ghost use Rattle.serde_json.specs.Data.{string};
 ghost use Rattle.serde_json.specs.View.{view};
-ghost use Rattle.bimap.specs.JsonReading.{Reads};
+ghost use Rattle.bimap.specs.JsonReading.{Reads, ReadsSome};
 ghost use Rattle.bimap.specs.JsonTexts.{IsCharText, IsCharValue, IsStringText, IsStringValue};
 ghost use Rattle.bimap.specs.declared.value.sides.ReadFault.TheVariants.{Bad, Memory};
 
@@ -12,6 +12,21 @@ use bimap_base::NoMemory;
 use serde_json::Value;
 use std::alloc::Global;
 
+/// The one character of a text.
+fn one_character(text: &str) -> Option<char>
+    ensures { ReadsSome (IsCharText text.now) result }
+{
+    text.parse::<char>().ok()
+}
+
+/// A text of its own.
+fn copied(alloc: Global, text: &str) -> Result<String, ReadFault>
+    ensures reads { Reads (IsStringText text.now) result }
+    ensures never_bad { IfErr result (λ fault. fault ≡ Memory) }
+{
+    String::from_str(alloc, text).or(Err(ReadFault::Memory))
+}
+
 impl JsonKey for char {
     ghost writes_key = { encode_utf8 };
 
@@ -19,9 +34,9 @@ impl JsonKey for char {
 
     #[tactic(auto, using(crate::proofs::JsonTexts::back_char))]
     fn to_key(&self, alloc: Global) -> Result<String, NoMemory> {
-        let character = *self;
+        let key: char = *self;
         let mut text = String::new(alloc);
-        text.push(character)?;
+        text.push(key)?;
         Ok(text)
     }
 
@@ -29,10 +44,7 @@ impl JsonKey for char {
         ensures reads { Reads (IsCharText text.now) result }
         ensures takes_no_memory { IfErr result (λ fault. fault ≡ Bad) }
     {
-        match text.parse::<char>() {
-            Ok(character) => Ok(character),
-            Err(_) => Err(ReadFault::Bad),
-        }
+        one_character(text).ok_or(ReadFault::Bad)
     }
 }
 
@@ -43,9 +55,9 @@ impl JsonValue for char {
 
     #[tactic(auto, using(crate::proofs::JsonTexts::back_char_json))]
     fn to_json(&self, alloc: Global) -> Result<Value, NoMemory> {
-        let character = *self;
+        let value: char = *self;
         let mut text = String::new(alloc);
-        text.push(character)?;
+        text.push(value)?;
         Ok(Value::String(text))
     }
 
@@ -54,10 +66,7 @@ impl JsonValue for char {
         ensures takes_no_memory { IfErr result (λ fault. fault ≡ Bad) }
     {
         match value.as_str() {
-            Some(text) => match text.parse::<char>() {
-                Ok(character) => Ok(character),
-                Err(_) => Err(ReadFault::Bad),
-            },
+            Some(text) => one_character(text).ok_or(ReadFault::Bad),
             None => Err(ReadFault::Bad),
         }
     }
@@ -77,10 +86,7 @@ impl JsonKey for String {
         ensures reads { Reads (IsStringText text.now) result }
         ensures never_bad { IfErr result (λ fault. fault ≡ Memory) }
     {
-        match String::from_str(alloc, text) {
-            Ok(copy) => Ok(copy),
-            Err(_) => Err(ReadFault::Memory),
-        }
+        copied(alloc, text)
     }
 }
 
@@ -96,10 +102,7 @@ impl JsonValue for String {
 
     fn from_json(alloc: Global, value: &Value) -> Result<String, ReadFault> {
         match value.as_str() {
-            Some(text) => match String::from_str(alloc, text) {
-                Ok(copy) => Ok(copy),
-                Err(_) => Err(ReadFault::Memory),
-            },
+            Some(text) => copied(alloc, text),
             None => Err(ReadFault::Bad),
         }
     }

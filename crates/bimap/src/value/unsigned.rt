@@ -12,19 +12,6 @@ use bimap_base::NoMemory;
 use serde_json::Value;
 use std::alloc::Global;
 
-/// The number as one of a narrower type.
-macro_rules! narrowed {
-    ($t:ty, $wide:expr) => {
-        match $wide {
-            Some(wide) => match <$t>::try_from(wide) {
-                Ok(number) => Ok(number),
-                Err(_) => Err(ReadFault::Bad),
-            },
-            None => Err(ReadFault::Bad),
-        }
-    };
-}
-
 impl JsonKey for u8 {
     ghost writes_key = { decimal };
 
@@ -32,8 +19,8 @@ impl JsonKey for u8 {
 
     #[tactic(auto, using(crate::proofs::JsonTexts::back_u8))]
     fn to_key(&self, alloc: Global) -> Result<String, NoMemory> {
-        let number = *self;
-        Ok(number.to_string(alloc)?)
+        let key: u8 = *self;
+        Ok(key.to_string(alloc)?)
     }
 
     #[tactic(auto, using(crate::proofs::JsonTexts::narrow_u8))]
@@ -41,7 +28,10 @@ impl JsonKey for u8 {
         ensures reads { Reads (IsUnsignedText 8 text.now) result }
         ensures takes_no_memory { IfErr result (λ fault. fault ≡ Bad) }
     {
-        narrowed!(u8, read_unsigned(text))
+        match read_unsigned(text) {
+            Some(key) => u8::try_from(key).or(Err(ReadFault::Bad)),
+            None => Err(ReadFault::Bad),
+        }
     }
 }
 
@@ -56,15 +46,18 @@ impl JsonValue for u8 {
         ensures reads_back { ReadsBack nat_eq (IsUnsignedValue 8 (number (unsigned self.now))) self.now }
         ensures takes_no_memory { IsOk result }
     {
-        let number = *self;
-        Ok(Value::from(number))
+        let value: u8 = *self;
+        Ok(Value::from(value))
     }
 
     fn from_json(_alloc: Global, value: &Value) -> Result<u8, ReadFault>
         ensures reads { Reads (IsUnsignedValue 8 (view value.now)) result }
         ensures takes_no_memory { IfErr result (λ fault. fault ≡ Bad) }
     {
-        narrowed!(u8, value.as_u64())
+        match value.as_u64() {
+            Some(number) => u8::try_from(number).or(Err(ReadFault::Bad)),
+            None => Err(ReadFault::Bad),
+        }
     }
 }
 
@@ -75,8 +68,8 @@ impl JsonKey for u32 {
 
     #[tactic(auto, using(crate::proofs::JsonTexts::back_u32))]
     fn to_key(&self, alloc: Global) -> Result<String, NoMemory> {
-        let number = *self;
-        Ok(number.to_string(alloc)?)
+        let key: u32 = *self;
+        Ok(key.to_string(alloc)?)
     }
 
     #[tactic(auto, using(crate::proofs::JsonTexts::narrow_u32))]
@@ -84,7 +77,10 @@ impl JsonKey for u32 {
         ensures reads { Reads (IsUnsignedText 32 text.now) result }
         ensures takes_no_memory { IfErr result (λ fault. fault ≡ Bad) }
     {
-        narrowed!(u32, read_unsigned(text))
+        match read_unsigned(text) {
+            Some(key) => u32::try_from(key).or(Err(ReadFault::Bad)),
+            None => Err(ReadFault::Bad),
+        }
     }
 }
 
@@ -99,15 +95,18 @@ impl JsonValue for u32 {
         ensures reads_back { ReadsBack nat_eq (IsUnsignedValue 32 (number (unsigned self.now))) self.now }
         ensures takes_no_memory { IsOk result }
     {
-        let number = *self;
-        Ok(Value::from(number))
+        let value: u32 = *self;
+        Ok(Value::from(value))
     }
 
     fn from_json(_alloc: Global, value: &Value) -> Result<u32, ReadFault>
         ensures reads { Reads (IsUnsignedValue 32 (view value.now)) result }
         ensures takes_no_memory { IfErr result (λ fault. fault ≡ Bad) }
     {
-        narrowed!(u32, value.as_u64())
+        match value.as_u64() {
+            Some(number) => u32::try_from(number).or(Err(ReadFault::Bad)),
+            None => Err(ReadFault::Bad),
+        }
     }
 }
 
@@ -118,8 +117,8 @@ impl JsonKey for u64 {
 
     #[tactic(auto, using(crate::proofs::JsonTexts::back_u64))]
     fn to_key(&self, alloc: Global) -> Result<String, NoMemory> {
-        let number = *self;
-        Ok(number.to_string(alloc)?)
+        let key: u64 = *self;
+        Ok(key.to_string(alloc)?)
     }
 
     fn from_key(_alloc: Global, text: &str) -> Result<u64, ReadFault>
@@ -141,8 +140,8 @@ impl JsonValue for u64 {
         ensures reads_back { ReadsBack nat_eq (IsUnsignedValue 64 (number (unsigned self.now))) self.now }
         ensures takes_no_memory { IsOk result }
     {
-        let number = *self;
-        Ok(Value::from(number))
+        let value: u64 = *self;
+        Ok(Value::from(value))
     }
 
     fn from_json(_alloc: Global, value: &Value) -> Result<u64, ReadFault>

@@ -37,9 +37,9 @@ returns-in-Err-Bad g c =
     let val = g.R.JsonValue.reads in
     let held = (g.B.Bijection.holding c.loop-key.bimap).pairs in
     reading_stops key val g.L.PartialEq.eq g.R.PartialEq.eq (view c.args.value.now) (entries_of (members_view c.iter-entries.result)) (entries_of (members_view c.next.new.self)) (string_bytes c.in-Some-next.key.now, view c.in-Some-next.value.now) held c.loop-key.at (λ e. ReadsNothing (key e.0))
-        (map_has (view c.args.value.now) c.in-Some.map.now.entries c.iter-entries.result c.in-Some.ensures c.iter-entries.ensures.rest c.iter-entries.ensures.ordered)
-        (subst (λ l. IsReading key val g.L.PartialEq.eq g.R.PartialEq.eq (entries_of (members_view c.iter-entries.result)) (entries_of (members_view l)) held c.loop-key.at) c.in-Some-next.ensures.steps c.loop-key.invariant.reading)
-        (λ l t. subst (λ e. Reads (key c.as_str.result.now) (Err e)) c.in-Err-Bad.field-0-is c.in-Err-Bad.ensures l (subst (λ s. key s l) (sym c.as_str.ensures.value) t))
+    (map_has (view c.args.value.now) c.in-Some.map.now.entries c.iter-entries.result c.in-Some.ensures c.iter-entries.ensures.rest c.iter-entries.ensures.ordered)
+    (subst (λ l. IsReading key val g.L.PartialEq.eq g.R.PartialEq.eq (entries_of (members_view c.iter-entries.result)) (entries_of (members_view l)) held c.loop-key.at) c.in-Some-next.ensures.steps c.loop-key.invariant.reading)
+    (λ l t. subst (λ e. Reads (key c.as_str.result.now) (Err e)) c.in-Err-Bad.field-0-is c.in-Err-Bad.ensures l (subst (λ s. key s l) (sym c.as_str.ensures.value) t))
 
 pub returns-in-Err-Bad-from_json : goal.returns-in-Err-Bad-from_json
 returns-in-Err-Bad-from_json g c =
@@ -47,39 +47,45 @@ returns-in-Err-Bad-from_json g c =
     let val = g.R.JsonValue.reads in
     let held = (g.B.Bijection.holding c.loop-key.bimap).pairs in
     reading_stops key val g.L.PartialEq.eq g.R.PartialEq.eq (view c.args.value.now) (entries_of (members_view c.iter-entries.result)) (entries_of (members_view c.next.new.self)) (string_bytes c.in-Some-next.key.now, view c.in-Some-next.value.now) held c.loop-key.at (λ e. ((l : g.row.L.Denot) × key e.0 l) × ReadsNothing (val e.1))
-        (map_has (view c.args.value.now) c.in-Some.map.now.entries c.iter-entries.result c.in-Some.ensures c.iter-entries.ensures.rest c.iter-entries.ensures.ordered)
-        (subst (λ l. IsReading key val g.L.PartialEq.eq g.R.PartialEq.eq (entries_of (members_view c.iter-entries.result)) (entries_of (members_view l)) held c.loop-key.at) c.in-Some-next.ensures.steps c.loop-key.invariant.reading)
-        ((c.in-Ok.left, subst (λ t. key t c.in-Ok.left) c.as_str.ensures.value c.in-Ok.ensures), subst (λ e. Reads (val (view c.in-Some-next.value.now)) (Err e)) c.in-Err-Bad-from_json.field-0-is c.in-Err-Bad-from_json.ensures)
+    (map_has (view c.args.value.now) c.in-Some.map.now.entries c.iter-entries.result c.in-Some.ensures c.iter-entries.ensures.rest c.iter-entries.ensures.ordered)
+    (subst (λ l. IsReading key val g.L.PartialEq.eq g.R.PartialEq.eq (entries_of (members_view c.iter-entries.result)) (entries_of (members_view l)) held c.loop-key.at) c.in-Some-next.ensures.steps c.loop-key.invariant.reading)
+    ((c.in-Ok.left, subst (λ t. key t c.in-Ok.left) c.as_str.ensures.value c.in-Ok.ensures), subst (λ e. Reads (val (view c.in-Some-next.value.now)) (Err e)) c.in-Err-Bad-from_json.field-0-is c.in-Err-Bad-from_json.ensures)
 
 pub returns-in-Err-Memory : goal.returns-in-Err-Memory
 returns-in-Err-Memory g c =
     let key = g.L.JsonKey.reads_key in
     let val = g.R.JsonValue.reads in
-    let held = (g.B.Bijection.holding c.loop-key.bimap).pairs in
-    (c.loop-key.at, reading_stops key val g.L.PartialEq.eq g.R.PartialEq.eq (view c.args.value.now) (entries_of (members_view c.iter-entries.result)) (entries_of (members_view c.next.new.self)) (string_bytes c.in-Some-next.key.now, view c.in-Some-next.value.now) held c.loop-key.at (λ e. Unit {0})
-        (map_has (view c.args.value.now) c.in-Some.map.now.entries c.iter-entries.result c.in-Some.ensures c.iter-entries.ensures.rest c.iter-entries.ensures.ordered)
-        (subst (λ l. IsReading key val g.L.PartialEq.eq g.R.PartialEq.eq (entries_of (members_view c.iter-entries.result)) (entries_of (members_view l)) held c.loop-key.at) c.in-Some-next.ensures.steps c.loop-key.invariant.reading)
-        (tt))
+    let held = (g.B.Bijection.holding c.loop-key.bimap).pairs in (
+      c.loop-key.at,
+      reading_stops key val g.L.PartialEq.eq g.R.PartialEq.eq (view c.args.value.now) (entries_of (members_view c.iter-entries.result)) (entries_of (members_view c.next.new.self)) (string_bytes c.in-Some-next.key.now, view c.in-Some-next.value.now) held c.loop-key.at (λ e. Unit {0})
+          (map_has (view c.args.value.now) c.in-Some.map.now.entries c.iter-entries.result c.in-Some.ensures c.iter-entries.ensures.rest c.iter-entries.ensures.ordered)
+          (subst (λ l. IsReading key val g.L.PartialEq.eq g.R.PartialEq.eq (entries_of (members_view c.iter-entries.result)) (entries_of (members_view l)) held c.loop-key.at) c.in-Some-next.ensures.steps c.loop-key.invariant.reading)
+          (tt),
+    )
 
 pub returns-in-Err-Memory-from_json : goal.returns-in-Err-Memory-from_json
 returns-in-Err-Memory-from_json g c =
     let key = g.L.JsonKey.reads_key in
     let val = g.R.JsonValue.reads in
-    let held = (g.B.Bijection.holding c.loop-key.bimap).pairs in
-    (c.loop-key.at, reading_stops key val g.L.PartialEq.eq g.R.PartialEq.eq (view c.args.value.now) (entries_of (members_view c.iter-entries.result)) (entries_of (members_view c.next.new.self)) (string_bytes c.in-Some-next.key.now, view c.in-Some-next.value.now) held c.loop-key.at (λ e. Unit {0})
-        (map_has (view c.args.value.now) c.in-Some.map.now.entries c.iter-entries.result c.in-Some.ensures c.iter-entries.ensures.rest c.iter-entries.ensures.ordered)
-        (subst (λ l. IsReading key val g.L.PartialEq.eq g.R.PartialEq.eq (entries_of (members_view c.iter-entries.result)) (entries_of (members_view l)) held c.loop-key.at) c.in-Some-next.ensures.steps c.loop-key.invariant.reading)
-        (tt))
+    let held = (g.B.Bijection.holding c.loop-key.bimap).pairs in (
+      c.loop-key.at,
+      reading_stops key val g.L.PartialEq.eq g.R.PartialEq.eq (view c.args.value.now) (entries_of (members_view c.iter-entries.result)) (entries_of (members_view c.next.new.self)) (string_bytes c.in-Some-next.key.now, view c.in-Some-next.value.now) held c.loop-key.at (λ e. Unit {0})
+          (map_has (view c.args.value.now) c.in-Some.map.now.entries c.iter-entries.result c.in-Some.ensures c.iter-entries.ensures.rest c.iter-entries.ensures.ordered)
+          (subst (λ l. IsReading key val g.L.PartialEq.eq g.R.PartialEq.eq (entries_of (members_view c.iter-entries.result)) (entries_of (members_view l)) held c.loop-key.at) c.in-Some-next.ensures.steps c.loop-key.invariant.reading)
+          (tt),
+    )
 
 pub returns-in-Err : goal.returns-in-Err
 returns-in-Err g c =
     let key = g.L.JsonKey.reads_key in
     let val = g.R.JsonValue.reads in
-    let held = (g.B.Bijection.holding c.loop-key.bimap).pairs in
-    (c.loop-key.at, reading_stops key val g.L.PartialEq.eq g.R.PartialEq.eq (view c.args.value.now) (entries_of (members_view c.iter-entries.result)) (entries_of (members_view c.next.new.self)) (string_bytes c.in-Some-next.key.now, view c.in-Some-next.value.now) held c.loop-key.at (λ e. Unit {0})
-        (map_has (view c.args.value.now) c.in-Some.map.now.entries c.iter-entries.result c.in-Some.ensures c.iter-entries.ensures.rest c.iter-entries.ensures.ordered)
-        (subst (λ l. IsReading key val g.L.PartialEq.eq g.R.PartialEq.eq (entries_of (members_view c.iter-entries.result)) (entries_of (members_view l)) held c.loop-key.at) c.in-Some-next.ensures.steps c.loop-key.invariant.reading)
-        (tt))
+    let held = (g.B.Bijection.holding c.loop-key.bimap).pairs in (
+      c.loop-key.at,
+      reading_stops key val g.L.PartialEq.eq g.R.PartialEq.eq (view c.args.value.now) (entries_of (members_view c.iter-entries.result)) (entries_of (members_view c.next.new.self)) (string_bytes c.in-Some-next.key.now, view c.in-Some-next.value.now) held c.loop-key.at (λ e. Unit {0})
+          (map_has (view c.args.value.now) c.in-Some.map.now.entries c.iter-entries.result c.in-Some.ensures c.iter-entries.ensures.rest c.iter-entries.ensures.ordered)
+          (subst (λ l. IsReading key val g.L.PartialEq.eq g.R.PartialEq.eq (entries_of (members_view c.iter-entries.result)) (entries_of (members_view l)) held c.loop-key.at) c.in-Some-next.ensures.steps c.loop-key.invariant.reading)
+          (tt),
+    )
 
 pub returns : goal.returns
 returns g c =
@@ -88,5 +94,5 @@ returns g c =
     let held = (g.B.Bijection.holding c.loop-key.bimap).pairs in
     let all = entries_of (members_view c.iter-entries.result) in
     reading_done key val g.L.PartialEq.eq g.R.PartialEq.eq (view c.args.value.now) all held c.loop-key.at
-        (map_has (view c.args.value.now) c.in-Some.map.now.entries c.iter-entries.result c.in-Some.ensures c.iter-entries.ensures.rest c.iter-entries.ensures.ordered)
-        (subst (λ l. IsReading key val g.L.PartialEq.eq g.R.PartialEq.eq all (entries_of (members_view l)) held c.loop-key.at) c.in_default-next.ensures.steps.0 c.loop-key.invariant.reading)
+    (map_has (view c.args.value.now) c.in-Some.map.now.entries c.iter-entries.result c.in-Some.ensures c.iter-entries.ensures.rest c.iter-entries.ensures.ordered)
+    (subst (λ l. IsReading key val g.L.PartialEq.eq g.R.PartialEq.eq all (entries_of (members_view l)) held c.loop-key.at) c.in_default-next.ensures.steps.0 c.loop-key.invariant.reading)
