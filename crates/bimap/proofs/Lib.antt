@@ -1,3 +1,9 @@
 pub mod Histories
 pub mod Tested
 pub mod Trails
+pub mod JsonTexts
+pub mod JsonEntries
+pub mod JsonWriting
+pub mod JsonReading
+pub mod JsonCounts
+pub mod JsonRoundTrip

@@ -4,6 +4,7 @@
 mod call;
 mod runs;
 mod undone;
+pub mod value;
 
 pub use bimap_base::{
     Bijection, ExtendStopped, NoMemory, NoRoom, NotInserted, NotInsertedWith, OnHeld, Overwritten,
