@@ -4,6 +4,7 @@ pub mod Survivors
 pub mod Kept
 pub mod Undoing
 pub mod Holding
+pub mod Extension
 pub mod Digits
 pub mod Slots
 pub mod FreeSlots

@@ -3,6 +3,7 @@
 
 mod bijection;
 mod cells;
+mod fill;
 mod keys;
 mod meter;
 mod overwritten;
@@ -12,6 +13,7 @@ mod refusal;
 
 pub use bijection::Bijection;
 pub use cells::{Cells, Node};
+pub use fill::{extend, from_iter};
 pub use keys::{Keys, LeftOf, RightOf};
 pub use meter::Meter;
 pub use overwritten::Overwritten;
