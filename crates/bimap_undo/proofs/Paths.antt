@@ -100,6 +100,20 @@ module _ {L R : Type 0} (same_left : L → L → Bool) (same_right : R → R →
   path_pop A (first ∷ entries) entry T apart h =
       let w = path_pop h.0 entries entry T h.1 h.3 in (w.0, w.1, (h.0, h.1, h.2, w.2), w.3)
 
+  -- the last mark stands for what is held
+  pub held_before_last : (u : Marked L R) (mark : ℕ) → mark ≡ length u.entries → IsApart same_left same_right u.held.pairs → IsBefore same_left same_right u mark u.held.pairs
+  held_before_last u mark last apart = record {
+    apart = apart;
+    path = subst (λ entries. IsPath same_left same_right u.held.pairs entries u.held.pairs) (sym (ap (λ n. drop n u.entries) last ∙ drop-length u.entries)) (same_set (Contains u.held.pairs));
+  }
+
+  pub last_is_held : (u : Marked L R) (A : List (L × R)) → IsBefore same_left same_right u (length u.entries) A → IsSameSet (Contains A) (Contains u.held.pairs)
+  last_is_held u A b = subst (λ entries. IsPath same_left same_right A entries u.held.pairs) (drop-length u.entries) b.path
+
+  -- a bimap with nothing recorded
+  pub no_marks : (u : Marked L R) → u.entries ≡ [] → IsApart same_left same_right u.held.pairs → length u.held.pairs ≤ u.held.room → HasMarks same_left same_right u
+  no_marks u none apart fits mark within = (u.held.pairs, held_before_last u mark (omega (arith, within, ap length none)) apart, fits)
+
   module _ (u v : Marked L R) (entry : Entry L R) (grown : v.entries ≡ u.entries ++ entry ∷ []) (apart : IsApart same_left same_right v.held.pairs) (change : IsChange same_left same_right u.held.pairs entry v.held.pairs) where
     -- a recorded change keeps what the marks stand for
     pub keeps_push : KeepsMarks same_left same_right u (length u.entries) v
@@ -112,22 +126,12 @@ module _ {L R : Type 0} (same_left : L → L → Bool) (same_right : R → R →
     marks_push marks rooms fits mark within =
         elim (cases_lt (length u.entries) mark) [
           | inl past ↦
-              let all : mark ≡ length v.entries = omega (arith, ap length grown, length-append u.entries (entry ∷ [])) in
-              (v.held.pairs, record { apart = apart; path = subst (λ entries. IsPath same_left same_right v.held.pairs entries v.held.pairs) (sym (ap (λ n. drop n v.entries) all ∙ drop-length v.entries)) (same_set (Contains v.held.pairs)) }, fits)
+              let last : mark ≡ length v.entries = omega (arith, within, past, ap length grown, length-append u.entries (entry ∷ [])) in
+              (v.held.pairs, held_before_last v mark last apart, fits)
           | inr old ↦
               let w = marks mark (omega (arith, old)) in
               (w.0, keeps_push mark (omega (arith, old)) w.0 w.1, omega (arith, w.2, rooms))
         ]
-
-  -- what the last mark stands for is held
-  pub last_is_held : (u : Marked L R) (A : List (L × R)) → IsBefore same_left same_right u (length u.entries) A → IsSameSet (Contains A) (Contains u.held.pairs)
-  last_is_held u A b = subst (λ entries. IsPath same_left same_right A entries u.held.pairs) (drop-length u.entries) b.path
-
-  -- a bimap with nothing recorded
-  pub no_marks : (u : Marked L R) → u.entries ≡ [] → IsApart same_left same_right u.held.pairs → length u.held.pairs ≤ u.held.room → HasMarks same_left same_right u
-  no_marks u none apart fits mark within =
-      let all : mark ≡ length u.entries = omega (arith, ap length none) in
-      (u.held.pairs, record { apart = apart; path = subst (λ entries. IsPath same_left same_right u.held.pairs entries u.held.pairs) (sym (ap (λ n. drop n u.entries) all ∙ drop-length u.entries)) (same_set (Contains u.held.pairs)) }, fits)
 
 module _ {L R : Type 0} (same_left : L → L → Bool) (same_right : R → R → Bool) (lefts : IsEquivalence same_left) (rights : IsEquivalence same_right) where
   -- a record without its last change

@@ -1,7 +1,7 @@
 //! Copies of lefts, of which the record of an insertion holds one.
 ghost use Rattle.std.specs.Prelude.{◌≡◌, true, IfOk};
 
-use bimap_base::NoMemory;
+use bimap::NoMemory;
 use std::alloc::Global;
 
 /// A left that can be copied, where there is memory for the copy.

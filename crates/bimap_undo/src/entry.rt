@@ -1,5 +1,5 @@
 //! What the record says of one change of a bimap.
-use bimap_base::Overwritten;
+use bimap::Overwritten;
 
 /// A change of a bimap, with what takes it back.
 #[derive(Debug, Drop)]

@@ -5,7 +5,7 @@ ghost use Rattle.bimap_undo.specs.Operations.{StaysAbove};
 
 use crate::copy_left::CopyLeft;
 use crate::undoable::Undoable;
-use bimap_base::Bijection;
+use bimap::Bijection;
 
 /// What is done to a bimap with a record.
 #[derive(Debug, Drop)]
@@ -38,9 +38,9 @@ fn perform<B: Bijection<L, R> + Drop, L: CopyLeft + Drop, R: Eq + Drop>(
         Operation::RemoveByRight(right) => {
             let _done = undoable.remove_by_right(&right);
         }
-        Operation::BackTo(mark) => {
-            if mark <= undoable.mark() {
-                undoable.back_to(mark);
+        Operation::BackTo(to) => {
+            if to <= undoable.mark() {
+                undoable.back_to(to);
             }
         }
     }

@@ -5,7 +5,7 @@ ghost use Rattle.bimap_undo.specs.Marks.{IsChange, IsBefore, IsRecordedInsertion
 
 use crate::copy_left::CopyLeft;
 use crate::entry::Entry;
-use bimap_base::{Bijection, NoMemory, NoRoom};
+use bimap::{Bijection, NoMemory, NoRoom};
 use std::alloc::Global;
 use std::marker::Model;
 
@@ -47,10 +47,11 @@ impl<B: Bijection<L, R> + Drop, L: CopyLeft + Drop, R: Eq + Drop> Undoable<B, L,
         ensures held { result.held ≡ B.holding bimap }
         ensures nothing_recorded { result.entries ≡ [] }
     {
+        let changes = Vec::new(alloc);
         Undoable {
             alloc,
             bimap,
-            changes: Vec::new(alloc),
+            changes,
         }
     }
 
@@ -126,6 +127,7 @@ impl<B: Bijection<L, R> + Drop, L: CopyLeft + Drop, R: Eq + Drop> Undoable<B, L,
     /// Takes constant time.
     pub fn mark(&self) -> usize
         ensures recorded { result ≡ length self.now.entries }
+        ensures stands_for_what_is_held { IsBefore L.eq R.eq self.now result self.now.held.pairs }
         ensures stands_for_a_set { (mark : _) → mark ≤ result → (A : _) × IsBefore L.eq R.eq self.now mark A }
         ensures for_one_set { (mark : _) (A B : _) → mark ≤ result → IsBefore L.eq R.eq self.now mark A → IsBefore L.eq R.eq self.now mark B → IsSameSet (Contains A) (Contains B) }
     {
@@ -161,7 +163,8 @@ impl<B: Bijection<L, R> + Drop, L: CopyLeft + Drop, R: Eq + Drop> Undoable<B, L,
     pub fn into_inner(self) -> B
         ensures { B.holding result ≡ self.held }
     {
-        self.bimap
+        let Undoable { bimap, .. } = self;
+        bimap
     }
 }
 
