@@ -5,12 +5,12 @@ use Rattle.std.specs.Cmp.{IsEquivalence}
 use Rattle.std.proofs.lemmas.Bool.{cases_lt, cases_Bool, or_left, or_right, or_parts}
 use Rattle.std.proofs.lemmas.List.{drop-append-le}
 use Rattle.std.proofs.Math.Seq.{drop-length, drop-append_seam}
-use Rattle.bimap_base.specs.Sets.{shares, NoneShares, SomeShares, IsApart, IsSameSet}
-use Rattle.bimap_base.specs.Answer.{IsAnswer, IsBoth, overwrites}
-use Rattle.bimap_base.specs.Undoing.{IsInserting, IsUndone}
-use Rattle.bimap_base.specs.declared.overwritten.Overwritten.{Overwritten}
-use Rattle.bimap_base.specs.declared.overwritten.Overwritten.TheVariants.{Neither, Left, Right, Pair, Both}
-use Rattle.bimap_base.proofs.Undoing.{named_struck, struck_named, undone_same}
+use Rattle.bimap.specs.Sets.{shares, NoneShares, SomeShares, IsApart, IsSameSet}
+use Rattle.bimap.specs.Answer.{IsAnswer, IsBoth, overwrites}
+use Rattle.bimap.specs.Undoing.{IsInserting, IsUndone}
+use Rattle.bimap.specs.declared.Overwritten.{Overwritten}
+use Rattle.bimap.specs.declared.Overwritten.TheVariants.{Neither, Left, Right, Pair, Both}
+use Rattle.bimap.proofs.Undoing.{named_struck, struck_named, undone_same}
 use Rattle.bimap_undo.specs.declared.entry.Entry.{Entry}
 use Rattle.bimap_undo.specs.declared.entry.Entry.TheVariants.{Inserted, Removed}
 use Rattle.bimap_undo.specs.Marks.{Marked, IsRemoving, IsChange, IsPath, IsBefore, KeepsMarks, HasMarks}

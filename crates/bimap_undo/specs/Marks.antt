@@ -1,10 +1,10 @@
 -- The record of a bimap's changes, and the sets of pairs that its marks stand for.
 use Rattle.std.specs.Prelude.{◌≡◌, ◌≢◌, ◌↔◌, ℕ, ◌+◌, ◌≤◌, Bool, true, false, Result, List, [], ◌∷◌, length, drop, Contains, IfOk, IfErr, OnOk, OnErr, MatchBool}
-use Rattle.bimap_base.specs.Sets.{IsApart, IsSameSet, NoneShares, SomeShares, IsWithPut, HasLeft, LacksLeft, IsWithoutLeft, HasRight, LacksRight, IsWithoutRight}
-use Rattle.bimap_base.specs.Holding.{Holding, IsRoomAfter}
-use Rattle.bimap_base.specs.Undoing.{IsInserting}
-use Rattle.bimap_base.specs.declared.refusal.NoMemory.{NoMemory}
-use Rattle.bimap_base.specs.declared.refusal.NoRoom.{NoRoom}
+use Rattle.bimap.specs.Sets.{IsApart, IsSameSet, NoneShares, SomeShares, IsWithPut, HasLeft, LacksLeft, IsWithoutLeft, HasRight, LacksRight, IsWithoutRight}
+use Rattle.bimap.specs.Holding.{Holding, IsRoomAfter}
+use Rattle.bimap.specs.Undoing.{IsInserting}
+use Rattle.bimap.specs.declared.NoMemory.{NoMemory}
+use Rattle.bimap.specs.declared.NoRoom.{NoRoom}
 use Rattle.bimap_undo.specs.declared.entry.Entry.{Entry}
 use Rattle.bimap_undo.specs.declared.entry.Entry.TheVariants.{Inserted, Removed}
 

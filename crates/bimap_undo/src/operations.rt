@@ -8,7 +8,7 @@ use crate::undoable::Undoable;
 use bimap::Bijection;
 
 /// What is done to a bimap with a record.
-#[derive(Debug, Drop)]
+#[derive(Clone, Copy, Debug, Drop, Eq, PartialEq)]
 pub enum Operation<L, R> {
     Insert(L, R),
     RemoveByLeft(L),

@@ -1,6 +1,6 @@
 //! A bimap with a record of its insertions and removals. It doesn't know which bimap it is.
 ghost use Rattle.std.specs.Prelude.{◌≡◌, ◌≤◌, List, [], length, Contains};
-ghost use Rattle.bimap_base.specs.Sets.{IsApart, IsSameSet};
+ghost use Rattle.bimap.specs.Sets.{IsApart, IsSameSet};
 ghost use Rattle.bimap_undo.specs.Marks.{IsChange, IsBefore, IsRecordedInsertion, IsRecordedRemovalByLeft, IsRecordedRemovalByRight, IsReturn};
 
 use crate::copy_left::CopyLeft;

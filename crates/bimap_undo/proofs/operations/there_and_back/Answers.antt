@@ -1,6 +1,6 @@
 use Rattle.std.proofs.Common.{arith, refl}
 use Rattle.std.specs.Vec.Iter.{into_iter_items}
-use Rattle.bimap_base.proofs.Members.{head_in, more_in}
+use Rattle.bimap.proofs.Members.{head_in, more_in}
 use Rattle.bimap_undo.proofs.operations.there_and_back.Goals as goal
 
 pub perform-requires : goal.perform-requires
