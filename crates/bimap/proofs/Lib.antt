@@ -7,3 +7,6 @@ pub mod JsonWriting
 pub mod JsonReading
 pub mod JsonCounts
 pub mod JsonRoundTrip
+pub use Rattle.bimap_base.proofs.Apart
+pub use Rattle.bimap_base.proofs.Members
+pub use Rattle.bimap_base.proofs.Undoing
