@@ -1,3 +1,5 @@
 pub mod Words
 pub mod Texts
 pub mod Pieces
+pub mod Leading
+pub mod Progress

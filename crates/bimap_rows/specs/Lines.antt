@@ -1,8 +1,9 @@
 -- The lines that the program reads and writes, and the calls that they say.
-use Rattle.std.specs.Prelude.{◌≡◌, ◌≢◌, ℕ, ◌<◌, ◌^◌, List, [], ◌∷◌, ◌++◌, length, codes, true, Bool, false, Option, Some, None, decimal, flat_map, map}
+use Rattle.std.specs.Prelude.{◌≡◌, ◌≢◌, ℕ, ◌<◌, ◌^◌, List, [], ◌∷◌, ◌++◌, length, codes, true, Bool, false, Option, Some, None, decimal, ◌⊎◌, ◌+◌}
 use Rattle.std.specs.Char.{encode_utf8, IsScalar}
 use Rattle.std.specs.Str.{all_ascii_digits}
 use Rattle.std.specs.Str.Parse.{digits_value}
+use Rattle.std.specs.Io.BufRead.{strip_last}
 use Rattle.bimap.specs.declared.call.Call as call
 use Rattle.bimap.specs.declared.call.Call.TheVariants.{Insert, InsertNoOverwrite, InsertWith, RemoveByLeft, RemoveByRight, Clear}
 use Rattle.bimap.specs.declared.call.Reply.{Reply}
@@ -104,3 +105,43 @@ reply_line (Removed (Some p)) = codes "Removed " ++ pair_words p.0 p.1 ++ 10 ∷
 reply_line (Removed None) = codes "None" ++ 10 ∷ []
 reply_line Done = codes "Done" ++ 10 ∷ []
 reply_line reply = []
+
+-- the bytes begin with the lines, each with a line feed after it, and then come these
+abbrev pub IsLinesThen : List ℕ → List (List ℕ) → List ℕ → Type 0
+IsLinesThen bytes [] rest = bytes ≡ rest
+IsLinesThen bytes (line ∷ lines) rest = (more : List ℕ) × (bytes ≡ line ++ 10 ∷ more) × NoFeed line × IsLinesThen more lines rest
+
+-- the lines, each less one carriage return at its end, are empty or, in order, say the calls
+abbrev pub Says : List (List ℕ) → List Request → Type 0
+Says [] calls = calls ≡ []
+Says (line ∷ lines) calls =
+    ((strip_last 13 line ≡ []) × Says lines calls)
+    ⊎ ((call : Request) × (later : List Request) × (calls ≡ call ∷ later) × SaysCall (strip_last 13 line) call × Says lines later)
+
+-- the lines that the bytes begin with say the calls
+pub record SaysAtFirst (bytes : List ℕ) (calls : List Request) : Type 0 where
+  pub lines : List (List ℕ)
+  pub rest : List ℕ
+  pub are : IsLinesThen bytes lines rest
+  pub say : Says lines calls
+
+-- all lines of the bytes say the calls
+pub record SaysInAll (bytes : List ℕ) (calls : List Request) : Type 0 where
+  pub lines : List (List ℕ)
+  pub last : List ℕ
+  pub are : IsLinesThen bytes lines last
+  pub whole : NoFeed last
+  pub say : Says (lines ++ last ∷ []) calls
+
+-- the lines of the bytes before the one of this number say the calls, and that one isn't empty and says none
+pub record SaysBefore (number : ℕ) (bytes : List ℕ) (calls : List Request) : Type 0 where
+  pub lines : List (List ℕ)
+  pub rest : List ℕ
+  pub are : IsLinesThen bytes lines rest
+  pub say : Says lines calls
+  pub place : length lines + 1 ≡ number
+  pub bad : List ℕ
+  pub ended : Bool
+  pub left : Option (List ℕ)
+  pub next : IsNextLine rest bad ended left
+  pub read : IsRead (strip_last 13 bad) line.Bad

@@ -4,6 +4,7 @@
 mod input;
 mod line;
 mod reply;
+mod serve;
 
 use std::io;
 

@@ -1,0 +1,115 @@
+//! The program's work over any reader and writer: each line is performed, and its reply is written.
+ghost use Rattle.std.specs.Prelude.{◌≡◌, ◌⊎◌, [], ◌∷◌, IfSome, OnOk, IfErr};
+ghost use Rattle.std.specs.Io.KnownBytes.{Appends};
+ghost use Rattle.bimap_rows.specs.Lines.{SaysInAll};
+ghost use Rattle.bimap_rows.specs.Serving.{LeadsTo, TakesLine, StopsAtLine, IsServed, Stops, IsFlushed};
+
+use crate::input::{read_line, without_return};
+use crate::line::{Line, Request, parse_line};
+use crate::reply::write_reply;
+use bimap::{Bijection, Call, Reply};
+use std::alloc::Global;
+use std::io::{BufRead, Error, ErrorKind, Write};
+
+/// How the work ended.
+#[derive(Clone, Copy, Debug, Eq, PartialEq)]
+pub enum Ending {
+    /// All lines were performed, and what is held was written.
+    Clean,
+    /// A read failed, or there were more lines than a `u64` counts.
+    InputFailed,
+    /// A write or a flush failed.
+    OutputFailed,
+    /// The line of this number, from 1 on, says no call.
+    BadLine(u64),
+    /// There was no memory.
+    NoMemory,
+}
+
+// Performs one call, and answers `None` where there was no memory.
+fn perform<B: Bijection<char, u32>>(
+    alloc: Global,
+    held: &mut B,
+    call: Request,
+) -> Option<Reply<char, u32>>
+    ensures { IfSome result (λ reply. LeadsTo (B.holding held.old).pairs ((call, reply) ∷ []) (B.holding held.new).pairs) }
+{
+    None
+}
+
+// Performs what a line says, and writes the reply.
+fn take_line<B: Bijection<char, u32>, W: Write>(
+    alloc: Global,
+    held: &mut B,
+    output: &mut W,
+    line: &[u8],
+    number: u64,
+) -> Result<(), Ending>
+    ensures ok { OnOk result (TakesLine line.now (B.holding held.old).pairs (B.holding held.new).pairs (W.contents output.old) (W.contents output.new)) }
+    ensures err { IfErr result (λ ending. StopsAtLine line.now number ending (W.contents output.old) (W.contents output.new)) }
+{
+    let call = match parse_line(line) {
+        Line::Empty => return Ok(()),
+        Line::Bad => return Err(Ending::BadLine(number)),
+        Line::Call(call) => call,
+    };
+    let Some(reply) = perform(alloc, held, call) else {
+        return Err(Ending::NoMemory);
+    };
+    match write_reply(output, reply) {
+        Ok(()) => Ok(()),
+        Err(_) => Err(Ending::OutputFailed),
+    }
+}
+
+// Why a line could not be read.
+fn read_fault(error: &Error) -> Ending
+    ensures { (result ≡ Ending.NoMemory) ⊎ (result ≡ Ending.InputFailed) }
+{
+    if error.kind() == ErrorKind::OutOfMemory {
+        Ending::NoMemory
+    } else {
+        Ending::InputFailed
+    }
+}
+
+// Performs all lines of the input on an empty bimap, and writes their replies.
+fn serve_lines<B: Bijection<char, u32>, I: BufRead, W: Write>(
+    alloc: Global,
+    held: &mut B,
+    input: &mut I,
+    output: &mut W,
+) -> Result<(), Ending>
+    requires { (B.holding held.old).pairs ≡ [] }
+    ensures ok { OnOk result (IsServed SaysInAll (I.remaining input.old) (W.contents output.old) (W.contents output.new) (B.holding held.new).pairs []) }
+    ensures err { IfErr result (λ ending. Stops ending (I.remaining input.old) (W.contents output.old) (W.contents output.new)) }
+{
+    let mut line = Vec::new(alloc);
+    let mut number = 0u64;
+    while number < u64::MAX {
+        number += 1;
+        let ended = match read_line(input, &mut line) {
+            Ok(ended) => ended,
+            Err(error) => return Err(read_fault(&error)),
+        };
+        let text = without_return(line.as_slice());
+        match take_line(alloc, held, output, text, number) {
+            Ok(()) => {}
+            Err(ending) => return Err(ending),
+        }
+        if !ended {
+            return Ok(());
+        }
+    }
+    Err(Ending::InputFailed)
+}
+
+// Flushes the output before the work ends.
+fn finish<W: Write>(output: &mut W, ending: Ending) -> Ending
+    ensures { IsFlushed ending result (W.contents output.old) (W.contents output.new) }
+{
+    match output.flush() {
+        Ok(()) => ending,
+        Err(_) => Ending::OutputFailed,
+    }
+}
