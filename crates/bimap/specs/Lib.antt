@@ -1,3 +1,4 @@
 pub mod Test
 pub mod History
 pub mod Step
+pub mod Trail

@@ -3,6 +3,7 @@
 
 mod call;
 mod runs;
+mod undone;
 
 pub use bimap_base::{
     Bijection, ExtendStopped, NoMemory, NoRoom, NotInserted, NotInsertedWith, OnHeld, Overwritten,
@@ -10,3 +11,4 @@ pub use bimap_base::{
 };
 pub use call::{Call, Reply, RunRefused};
 pub use runs::run;
+pub use undone::{UndoRunStopped, undo_run};

@@ -1,5 +1,7 @@
+pub mod Apart
 pub mod Digits
 pub mod FreeList
 pub mod Members
 pub mod Packs
 pub mod Survivors
+pub mod Undoing

@@ -2,6 +2,7 @@
 use Rattle.std.proofs.Common.{◌≡◌, ◌↔◌, ◌⊎◌, inl, inr, Bool, true, false, List, [], ◌∷◌, ◌++◌, refl, sym, ap, ◌∙◌, subst, true≢false, append_assoc}
 use Rattle.std.specs.Prelude.{Contains}
 use Rattle.std.proofs.lemmas.List.Elements.{Contains-append_left, Contains-append_right, Contains-append_cases, Contains-push, Contains-push_cases}
+use Rattle.std.proofs.lemmas.Bool.{false_from_ne_true}
 use Rattle.bimap_base.specs.Sets.{shares, IsWithPut}
 use Rattle.bimap_base.specs.Survivors.{IsUntouched, IsPutToStay, Survives, PutsItself, TouchesSharing, AreSurvivors}
 use Rattle.bimap_base.proofs.Members.{none_in}
@@ -108,15 +109,11 @@ module _ {E X : Type 0} (Puts Touches : E → X → Type 0) where
       )
 
 module _ {L R : Type 0} (same_left : L → L → Bool) (same_right : R → R → Bool) where
-  not_true : (b : Bool) → (b ≡ true → ⊥) → b ≡ false
-  not_true true n = absurd (n refl)
-  not_true false n = refl
-
   -- a pair that is put in touches those that share a value with it
   pub put_touches : (S T : L × R → Type 0) (new : L × R) → IsWithPut same_left same_right S new T → (p : L × R) → T p ↔ ((p ≡ new) ⊎ (S p × (shares same_left same_right p new ≡ true → ⊥)))
   put_touches S T new put p = (
     λ t. elim ((put p).0 t) [ inl e ↦ inl e | inr w ↦ inr (w.0, λ q. absurd (true≢false (sym q ∙ w.1))) ],
-    λ t. (put p).1 (elim t [ inl e ↦ inl e | inr w ↦ inr (w.0, not_true _ w.1) ]),
+    λ t. (put p).1 (elim t [ inl e ↦ inl e | inr w ↦ inr (w.0, false_from_ne_true _ w.1) ]),
   )
 
   pub items_none : (S : L × R → Type 0) → AreSurvivors same_left same_right S [] S
