@@ -1,16 +1,23 @@
 -- A history of the program that grows by one entry, and the history of one call.
-use Rattle.std.proofs.Common.{◌≡◌, ◌↔◌, ◌⊎◌, inl, inr, ℕ, ◌≤◌, List, [], ◌∷◌, ◌++◌, Bool, false, refl, sym, ap, subst, arith, nat_eq, cond}
+use Rattle.std.proofs.Common.{◌≡◌, ◌↔◌, ◌⊎◌, inl, inr, ℕ, ◌≤◌, List, [], ◌∷◌, ◌++◌, Bool, refl, sym, ap, subst, arith, nat_eq, ◌∙◌, ◌≢◌, ◌+◌, length, Option, None, Some, IfSome}
+use Rattle.std.specs.List.{zip}
+use Rattle.std.proofs.lemmas.List.{length_push}
+use Rattle.bimap.specs.declared.call.Reply.{Reply}
 use Rattle.std.specs.Prelude.{Contains}
 use Rattle.std.proofs.lemmas.List.Elements.{Contains-append_cases, Contains-append_right, Contains-push, Contains-push_cases}
 use Rattle.bimap_base.specs.Holding.{Holding}
 use Rattle.bimap_base.proofs.Members.{none_in, head_in}
 use Rattle.bimap_base.proofs.Survivors.{split_push, not_split, Survives_none, Survives_one}
 use Rattle.bimap.specs.declared.call.Call.TheVariants.{Insert, InsertNoOverwrite, InsertWith, RemoveByLeft, RemoveByRight, Retain, Clear}
-use Rattle.bimap.specs.declared.call.Reply.TheVariants.{Inserted, Put}
+use Rattle.bimap.specs.declared.call.Reply.TheVariants.{Inserted, NoRoom, Put}
 use Rattle.bimap.specs.History.{Puts, Touches, IsNoRoom, IsRight, IsLegal, IsSurvivor, IsHistory}
 use Rattle.bimap.proofs.Histories.{IsHistory_append, IsRight_along}
 use Rattle.bimap_rows.specs.Lines.{Request}
 use Rattle.bimap_rows.specs.Serving.{Answered, NoTest, LeadsTo}
+
+pub weaker : {X : Type 0} (o : Option X) (P Q : X → Type 0) → ((x : X) → P x → Q x) → IfSome o P → IfSome o Q
+weaker None P Q f p = tt
+weaker (Some x) P Q f p = f x p
 
 -- with no places counted, since none is wanted
 abbrev holding : List (ℕ × ℕ) → Holding ℕ ℕ
@@ -81,9 +88,29 @@ module _ (Test : Unit {0} → ℕ × ℕ → Bool → Type 0) (old new : Holding
       )
 
   -- one call but `Retain` that found memory
-  pub LeadsTo_one : (IsNoRoom e → ⊥) → LeadsTo old.pairs (e ∷ []) new.pairs
+  LeadsTo_one : (IsNoRoom e → ⊥) → LeadsTo old.pairs (e ∷ []) new.pairs
   LeadsTo_one n = record {
     legal = legal_one;
     survivors = survivors_one;
     has_room = λ f m w. elim (Contains-push_cases [] e f m) [ inl k ↦ none_in f k | inr k ↦ n (subst IsNoRoom (sym k) w) ];
   }
+
+wants_memory : (call : Request) (reply : Reply ℕ ℕ) → IsNoRoom (call, reply) → (l : ℕ) × (r : ℕ) × (reply ≡ NoRoom l r)
+wants_memory call (NoRoom l r) n = (l, r, refl)
+wants_memory call reply n = absurd n
+
+-- the one reply of a list is the last
+only_reply : (replies front : List (Reply ℕ ℕ)) (reply : Reply ℕ ℕ) → length replies ≡ 1 → replies ≡ front ++ reply ∷ [] → replies ≡ reply ∷ []
+only_reply replies [] reply n e = e
+only_reply replies (x ∷ front) reply n e = absurd (omega (arith, n, ap length e, length_push front reply))
+
+-- a list of one call, run
+pub LeadsTo_run : (Test : Unit {0} → ℕ × ℕ → Bool → Type 0) (old new : Holding ℕ ℕ) (calls : List Request) (replies front : List (Reply ℕ ℕ)) (call : Request) (reply kept : Reply ℕ ℕ)
+    → IsHistory nat_eq nat_eq Test old (zip calls replies) new → calls ≡ call ∷ [] → length replies ≡ length calls → replies ≡ front ++ reply ∷ []
+    → ((key : Unit {0}) → call ≢ Retain key) → (kept ≡ reply) × ((l r : ℕ) → reply ≢ NoRoom l r) → LeadsTo old.pairs ((call, kept) ∷ []) new.pairs
+LeadsTo_run Test old new calls replies front call reply kept h c n e other k =
+    let one : replies ≡ reply ∷ [] = only_reply replies front reply (n ∙ ap length c) e in
+    let both : zip calls replies ≡ (call, reply) ∷ [] = ap (λ cs. zip cs replies) c ∙ ap (zip (call ∷ [])) one in
+    subst (λ r. LeadsTo old.pairs ((call, r) ∷ []) new.pairs) (sym k.0)
+    (LeadsTo_one Test old new (call, reply) (subst (λ l. IsHistory nat_eq nat_eq Test old l new) both h) other
+    (λ w. let m = wants_memory call reply w in k.1 m.0 m.1 m.2))

@@ -10,7 +10,7 @@ use Rattle.bimap_rows.specs.Serving.{Answered, LeadsTo, calls, told, IsServed, T
 use Rattle.bimap_rows.specs.declared.line.Line.TheVariants.{Bad}
 use Rattle.bimap_rows.specs.declared.serve.Ending.{Ending}
 use Rattle.bimap_rows.specs.declared.serve.Ending.TheVariants.{Clean, InputFailed, OutputFailed, BadLine, NoMemory}
-use Rattle.bimap_rows.proofs.Leading.{LeadsTo_push, LeadsTo_none}
+use Rattle.bimap_rows.proofs.Leading.{weaker, LeadsTo_push, LeadsTo_none}
 
 -- so many lines of the bytes were read and say the calls, and these bytes are left
 pub record HasRead (bytes : List ℕ) (left : Option (List ℕ)) (number : ℕ) (said : List Request) : Type 0 where
@@ -27,10 +27,6 @@ pub record HasServed (input left : Option (List ℕ)) (number : ℕ) (before aft
   pub leads : LeadsTo [] history pairs
   pub read : IfSome input (λ bytes. HasRead bytes left number (calls history))
   pub wrote : Appends before after (told history)
-
-weaker : {X : Type 0} (o : Option X) (P Q : X → Type 0) → ((x : X) → P x → Q x) → IfSome o P → IfSome o Q
-weaker None P Q f p = tt
-weaker (Some x) P Q f p = f x p
 
 push_line : (bytes : List ℕ) (lines : List (List ℕ)) (rest line more : List ℕ) → IsLinesThen bytes lines rest → rest ≡ line ++ 10 ∷ more → NoFeed line → IsLinesThen bytes (lines ++ line ∷ []) more
 push_line bytes [] rest line more h e n = (more, h ∙ e, n, refl)

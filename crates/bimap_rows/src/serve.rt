@@ -1,5 +1,5 @@
 //! The program's work over any reader and writer: each line is performed, and its reply is written.
-ghost use Rattle.std.specs.Prelude.{◌≡◌, ◌⊎◌, [], ◌∷◌, IfSome, OnOk, IfErr};
+ghost use Rattle.std.specs.Prelude.{◌≡◌, ◌≢◌, ◌⊎◌, ℕ, [], ◌∷◌, IfSome, OnOk, IfErr};
 ghost use Rattle.std.specs.Io.KnownBytes.{Appends};
 ghost use Rattle.bimap_rows.specs.Lines.{SaysInAll};
 ghost use Rattle.bimap_rows.specs.Serving.{LeadsTo, TakesLine, StopsAtLine, IsServed, Stops, IsFlushed};
@@ -7,7 +7,7 @@ ghost use Rattle.bimap_rows.specs.Serving.{LeadsTo, TakesLine, StopsAtLine, IsSe
 use crate::input::{read_line, without_return};
 use crate::line::{Line, Request, parse_line};
 use crate::reply::write_reply;
-use bimap::{Bijection, Call, Reply};
+use bimap::{Bijection, Call, Reply, run};
 use std::alloc::Global;
 use std::io::{BufRead, Error, ErrorKind, Write};
 
@@ -26,15 +26,35 @@ pub enum Ending {
     NoMemory,
 }
 
+// The reply, unless it is that there was no memory.
+fn with_room(reply: Reply<char, u32>) -> Option<Reply<char, u32>>
+    ensures { IfSome result (λ kept. (kept ≡ reply) × ((left right : ℕ) → reply ≢ Reply.NoRoom left right)) }
+{
+    match reply {
+        Reply::NoRoom(_, _) => None,
+        reply => Some(reply),
+    }
+}
+
 // Performs one call, and answers `None` where there was no memory.
 fn perform<B: Bijection<char, u32>>(
     alloc: Global,
     held: &mut B,
     call: Request,
 ) -> Option<Reply<char, u32>>
+    requires { (key : _) → call ≢ Call.Retain key }
     ensures { IfSome result (λ reply. LeadsTo (B.holding held.old).pairs ((call, reply) ∷ []) (B.holding held.new).pairs) }
 {
-    None
+    let Ok(calls) = Vec::from_array(alloc, [call]) else {
+        return None;
+    };
+    let Ok(mut replies) = run(alloc, held, calls, |_: &(), _: &char, _: &u32| true) else {
+        return None;
+    };
+    match replies.pop() {
+        Some(reply) => with_room(reply),
+        None => None,
+    }
 }
 
 // Performs what a line says, and writes the reply.
