@@ -4,7 +4,8 @@ use Rattle.std.specs.Io.BufRead.{take_through, drop_through, DropsThrough}
 use borrow.Author.Tests.{eqb-true, eqb-false}
 use Rattle.std.specs.Option.{IfSome}
 use Rattle.std.proofs.lemmas.List.{length_push, take_at, get_or_push, get_or_default}
-use Rattle.bimap_rows.specs.Lines.{NoFeed, IsNextLine}
+use Rattle.bimap_rows.specs.Lines.{NoFeed}
+use Rattle.bimap_rows.specs.Steps.{IsNextLine}
 
 -- the bytes up to the first line feed, and those after it
 record Cut (bytes : List ℕ) : Type 0 where

@@ -1,13 +1,12 @@
 -- One line on.
 use Rattle.std.proofs.Common.{◌≡◌, ◌⊎◌, ℕ, List, [], ◌∷◌, ◌++◌, Option, None, Some, IfSome, Bool, true, false, length, map, ◌+◌, refl, sym, ap, subst, ◌∙◌, inl, inr, arith, append_assoc, append-nil}
 use Rattle.std.specs.Prelude.{Contains, flat_map}
-use Rattle.std.specs.Io.BufRead.{strip_last}
 use Rattle.std.specs.Io.KnownBytes.{Appends}
 use Rattle.std.proofs.KnownBytes.{Appends-trans}
 use Rattle.std.proofs.lemmas.List.{length_push}
-use Rattle.bimap_rows.specs.Lines.{Request, IsNextLine, NoFeed, IsLinesThen, Says, SaysCall, IsRead, SaysAtFirst, SaysInAll, SaysBefore, reply_line}
-use Rattle.bimap_rows.specs.Serving.{Answered, LeadsTo, calls, told, IsServed, TakesLine, StopsAtLine, Stops}
-use Rattle.bimap_rows.specs.declared.line.Line.TheVariants.{Bad}
+use Rattle.bimap_rows.specs.Lines.{Request, NoFeed, AreLinesThen, Says, SaysCall, IsBad, text_of, SaysAtFirst, SaysInAll, SaysBefore, reply_line}
+use Rattle.bimap_rows.specs.Serving.{Answered, LeadsTo, calls, told, IsServed, Stops}
+use Rattle.bimap_rows.specs.Steps.{IsNextLine, TakesLine, StopsAtLine}
 use Rattle.bimap_rows.specs.declared.serve.Ending.{Ending}
 use Rattle.bimap_rows.specs.declared.serve.Ending.TheVariants.{Clean, InputFailed, OutputFailed, BadLine, NoMemory}
 use Rattle.bimap_rows.proofs.Leading.{weaker, LeadsTo_push, LeadsTo_none}
@@ -17,7 +16,7 @@ pub record HasRead (bytes : List ℕ) (left : Option (List ℕ)) (number : ℕ) 
   pub lines : List (List ℕ)
   pub rest : List ℕ
   pub left_is : left ≡ Some rest
-  pub are : IsLinesThen bytes lines rest
+  pub are : AreLinesThen bytes lines rest
   pub count : length lines ≡ number
   pub say : Says lines said
 
@@ -28,13 +27,13 @@ pub record HasServed (input left : Option (List ℕ)) (number : ℕ) (before aft
   pub read : IfSome input (λ bytes. HasRead bytes left number (calls history))
   pub wrote : Appends before after (told history)
 
-push_line : (bytes : List ℕ) (lines : List (List ℕ)) (rest line more : List ℕ) → IsLinesThen bytes lines rest → rest ≡ line ++ 10 ∷ more → NoFeed line → IsLinesThen bytes (lines ++ line ∷ []) more
+push_line : (bytes : List ℕ) (lines : List (List ℕ)) (rest line more : List ℕ) → AreLinesThen bytes lines rest → rest ≡ line ++ 10 ∷ more → NoFeed line → AreLinesThen bytes (lines ++ line ∷ []) more
 push_line bytes [] rest line more h e n = (more, h ∙ e, n, refl)
 push_line bytes (l ∷ lines) rest line more h e n = (h.0, h.1, h.2, push_line h.0 lines rest line more h.3 e n)
 
 -- what one more line adds to the calls
 abbrev Adds : List ℕ → List Request → List Request → Type 0
-Adds line said more = ((strip_last 13 line ≡ []) × (more ≡ said)) ⊎ ((call : Request) × SaysCall (strip_last 13 line) call × (more ≡ said ++ call ∷ []))
+Adds line said more = ((text_of line ≡ []) × (more ≡ said)) ⊎ ((call : Request) × SaysCall (text_of line) call × (more ≡ said ++ call ∷ []))
 
 Says_push : (lines : List (List ℕ)) (line : List ℕ) (said more : List Request) → Says lines said → Adds line said more → Says (lines ++ line ∷ []) more
 Says_push [] line said more e (inl h) = inl (h.0, h.1 ∙ e)
@@ -55,10 +54,16 @@ module _ (bytes : List ℕ) (left : Option (List ℕ)) (number : ℕ) (said : Li
   last_read : (more : List Request) (after : Option (List ℕ)) → Adds line said more → IfSome left (λ b. IsNextLine b line false after) → SaysInAll bytes more
   last_read more after a p =
       let n = here (λ b. IsNextLine b line false after) p in
-      record { lines = r.lines; last = line; are = subst (IsLinesThen bytes r.lines) n.0 r.are; whole = n.1; say = Says_push r.lines line said more r.say a }
+      record { lines = r.lines; last = line; are = subst (AreLinesThen bytes r.lines) n.0 r.are; whole = n.1; say = Says_push r.lines line said more r.say a }
 
-  bad_read : (ended : Bool) (after : Option (List ℕ)) → IsRead (strip_last 13 line) Bad → IfSome left (λ b. IsNextLine b line ended after) → SaysBefore (number + 1) bytes said
-  bad_read ended after b p = record { lines = r.lines; rest = r.rest; are = r.are; say = r.say; place = ap (λ k. k + 1) r.count; bad = line; ended = ended; left = after; next = here (λ b. IsNextLine b line ended after) p; read = b }
+  next_is : (ended : Bool) (after : Option (List ℕ)) → IsNextLine r.rest line ended after → NoFeed line × ((r.rest ≡ line) ⊎ ((more : List ℕ) × (r.rest ≡ line ++ 10 ∷ more)))
+  next_is true after n = (n.2, inr (n.0, n.1))
+  next_is false after n = (n.1, inl n.0)
+
+  bad_read : (ended : Bool) (after : Option (List ℕ)) → IsBad line → IfSome left (λ b. IsNextLine b line ended after) → SaysBefore (number + 1) bytes said
+  bad_read ended after b p =
+      let n = next_is ended after (here (λ x. IsNextLine x line ended after) p) in
+      record { lines = r.lines; rest = r.rest; are = r.are; say = r.say; place = ap (λ k. k + 1) r.count; line = line; whole = n.0; next = n.1; bad = b }
 
 first_read : (bytes : List ℕ) (left : Option (List ℕ)) (number : ℕ) (said : List Request) → HasRead bytes left number said → SaysAtFirst bytes said
 first_read bytes left number said r = record { lines = r.lines; rest = r.rest; are = r.are; say = r.say }
@@ -82,7 +87,7 @@ record Took (line : List ℕ) (before after : Option (List ℕ)) (said : List Re
   pub wrote : Appends before after (told history)
 
 module _ (input left : Option (List ℕ)) (number : ℕ) (before between : Option (List ℕ)) (pairs : List (ℕ × ℕ)) (s : HasServed input left number before between pairs) where
-  took : (line : List ℕ) (after : Option (List ℕ)) (new : List (ℕ × ℕ)) → TakesLine (strip_last 13 line) pairs new between after → Took line before after (calls s.history) new
+  took : (line : List ℕ) (after : Option (List ℕ)) (new : List (ℕ × ℕ)) → TakesLine line pairs new between after → Took line before after (calls s.history) new
   took line after new (inl h) = record { history = s.history; leads = subst (LeadsTo [] s.history) (sym h.1) s.leads; adds = inl (h.0, refl); wrote = unwritten before between after (told s.history) s.wrote h.2 }
   took line after new (inr h) = record {
     history = s.history ++ h.0 ∷ [];
@@ -92,13 +97,13 @@ module _ (input left : Option (List ℕ)) (number : ℕ) (before between : Optio
   }
 
   -- after a line with a line feed
-  pub next_served : (line : List ℕ) (rest after : Option (List ℕ)) (new : List (ℕ × ℕ)) → TakesLine (strip_last 13 line) pairs new between after → IfSome left (λ b. IsNextLine b line true rest) → HasServed input rest (number + 1) before after new
+  pub next_served : (line : List ℕ) (rest after : Option (List ℕ)) (new : List (ℕ × ℕ)) → TakesLine line pairs new between after → IfSome left (λ b. IsNextLine b line true rest) → HasServed input rest (number + 1) before after new
   next_served line rest after new h p =
       let t = took line after new h in
       record { history = t.history; leads = t.leads; read = weaker input _ _ (λ bytes r. next_read bytes left number (calls s.history) r line (calls t.history) rest t.adds p) s.read; wrote = t.wrote }
 
   -- after the last line
-  pub all_served : (line : List ℕ) (rest after : Option (List ℕ)) (new : List (ℕ × ℕ)) → TakesLine (strip_last 13 line) pairs new between after → IfSome left (λ b. IsNextLine b line false rest) → IsServed SaysInAll input before after new []
+  pub all_served : (line : List ℕ) (rest after : Option (List ℕ)) (new : List (ℕ × ℕ)) → TakesLine line pairs new between after → IfSome left (λ b. IsNextLine b line false rest) → IsServed SaysInAll input before after new []
   all_served line rest after new h p =
       let t = took line after new h in
       record { history = t.history; leads = t.leads; says = weaker input _ _ (λ bytes r. last_read bytes left number (calls s.history) r line (calls t.history) rest t.adds p) s.read; wrote = subst (Appends before after) (sym (append-nil (told t.history))) t.wrote }
@@ -107,7 +112,7 @@ module _ (input left : Option (List ℕ)) (number : ℕ) (before between : Optio
   first_served after a = record { history = s.history; leads = s.leads; says = weaker input _ _ (λ bytes r. first_read bytes left number (calls s.history) r) s.read; wrote = Appends-trans before between after (told s.history) [] s.wrote a }
 
   -- at a line that was not taken
-  pub stopped_at : (line : List ℕ) (ended : Bool) (rest after : Option (List ℕ)) (ending : Ending) → StopsAtLine (strip_last 13 line) (number + 1) ending between after → IfSome left (λ b. IsNextLine b line ended rest) → Stops ending input before after
+  pub stopped_at : (line : List ℕ) (ended : Bool) (rest after : Option (List ℕ)) (ending : Ending) → StopsAtLine line (number + 1) ending between after → IfSome left (λ b. IsNextLine b line ended rest) → Stops ending input before after
   stopped_at line ended rest after OutputFailed h p = tt
   stopped_at line ended rest after (BadLine n) h p =
       (pairs, record {

@@ -1,5 +1,5 @@
--- The lines that the program reads and writes, and the calls that they say.
-use Rattle.std.specs.Prelude.{◌≡◌, ◌≢◌, ℕ, ◌<◌, ◌^◌, List, [], ◌∷◌, ◌++◌, length, codes, true, Bool, false, Option, Some, None, decimal, ◌⊎◌, ◌+◌}
+-- The lines that the program reads, the calls that they say, and the lines of replies.
+use Rattle.std.specs.Prelude.{◌≡◌, ◌≢◌, ◌⊎◌, ℕ, ◌+◌, ◌<◌, ◌^◌, List, [], ◌∷◌, ◌++◌, length, codes, true, Some, None, decimal}
 use Rattle.std.specs.Char.{encode_utf8, IsScalar}
 use Rattle.std.specs.Str.{all_ascii_digits}
 use Rattle.std.specs.Str.Parse.{digits_value}
@@ -15,8 +15,6 @@ use Rattle.bimap_base.specs.declared.policy.OnHeld.TheVariants.{Overwrite, Refus
 use Rattle.bimap_base.specs.declared.policy.Policy.{Policy}
 use Rattle.bimap_rows.specs.declared.line.Command.{Command}
 use Rattle.bimap_rows.specs.declared.line.Command.TheVariants as command
-use Rattle.bimap_rows.specs.declared.line.Line.{Line}
-use Rattle.bimap_rows.specs.declared.line.Line.TheVariants as line
 
 -- a call that a line may say
 abbrev pub Request : Type 0
@@ -34,7 +32,7 @@ IsNumeral word n = (all_ascii_digits word ≡ true) × (0 < length word) × (dig
 abbrev pub IsPairText : List ℕ → ℕ → ℕ → Type 0
 IsPairText text c n = (word : List ℕ) × (digits : List ℕ) × (text ≡ word ++ 32 ∷ digits) × IsSymbol word c × IsNumeral digits n
 
--- the letter of what an insertion does where a value is held
+-- the letter of what an insertion does where a value is held: o or r
 abbrev pub letter : OnHeld → ℕ
 letter Overwrite = 111
 letter Refuse = 114
@@ -62,25 +60,61 @@ IsArguments command.DropRight rest (RemoveByRight n) = IsNumeral rest n
 IsArguments command.Clear rest Clear = rest ≡ []
 IsArguments command rest call = ⊥
 
--- the line says the call
+-- the text says the call
 abbrev pub SaysCall : List ℕ → Request → Type 0
-SaysCall line call = (command : Command) × (rest : List ℕ) × (line ≡ command_text command ++ rest) × IsArguments command rest call
+SaysCall text call = (command : Command) × (rest : List ℕ) × (text ≡ command_text command ++ rest) × IsArguments command rest call
 
--- what a line was read as
-abbrev pub IsRead : List ℕ → Line → Type 0
-IsRead bytes line.Empty = bytes ≡ []
-IsRead bytes (line.Call call) = SaysCall bytes call
-IsRead bytes line.Bad = (bytes ≢ []) × ((call : Request) → SaysCall bytes call → ⊥)
+-- a line without one carriage return at its end
+abbrev pub text_of : List ℕ → List ℕ
+text_of line = strip_last 13 line
+
+-- the line isn't empty, and says no call
+abbrev pub IsBad : List ℕ → Type 0
+IsBad line = (text_of line ≢ []) × ((call : Request) → SaysCall (text_of line) call → ⊥)
+
+-- the lines are empty or, in order, say the calls
+abbrev pub Says : List (List ℕ) → List Request → Type 0
+Says [] calls = calls ≡ []
+Says (line ∷ lines) calls =
+    ((text_of line ≡ []) × Says lines calls)
+    ⊎ ((call : Request) × (later : List Request) × (calls ≡ call ∷ later) × SaysCall (text_of line) call × Says lines later)
 
 -- no line feed stands in the bytes
 abbrev pub NoFeed : List ℕ → Type 0
 NoFeed [] = Unit {0}
 NoFeed (b ∷ bytes) = (b ≢ 10) × NoFeed bytes
 
--- the line that the bytes begin with, whether a line feed ends it, and what is left then
-abbrev pub IsNextLine : List ℕ → List ℕ → Bool → Option (List ℕ) → Type 0
-IsNextLine bytes line true left = (rest : List ℕ) × (bytes ≡ line ++ 10 ∷ rest) × NoFeed line × (left ≡ Some rest)
-IsNextLine bytes line false left = (bytes ≡ line) × NoFeed line
+-- the bytes are the lines, each with a line feed after it, and then the rest
+abbrev pub AreLinesThen : List ℕ → List (List ℕ) → List ℕ → Type 0
+AreLinesThen bytes [] rest = bytes ≡ rest
+AreLinesThen bytes (line ∷ lines) rest = (more : List ℕ) × (bytes ≡ line ++ 10 ∷ more) × NoFeed line × AreLinesThen more lines rest
+
+-- the bytes begin with lines that say the calls
+pub record SaysAtFirst (bytes : List ℕ) (calls : List Request) : Type 0 where
+  pub lines : List (List ℕ)
+  pub rest : List ℕ
+  pub are : AreLinesThen bytes lines rest
+  pub say : Says lines calls
+
+-- the bytes are lines that say the calls, the last without a line feed
+pub record SaysInAll (bytes : List ℕ) (calls : List Request) : Type 0 where
+  pub lines : List (List ℕ)
+  pub last : List ℕ
+  pub are : AreLinesThen bytes lines last
+  pub whole : NoFeed last
+  pub say : Says (lines ++ last ∷ []) calls
+
+-- the bytes begin with lines that say the calls, and the next line, the one of this number, is bad
+pub record SaysBefore (number : ℕ) (bytes : List ℕ) (calls : List Request) : Type 0 where
+  pub lines : List (List ℕ)
+  pub rest : List ℕ
+  pub are : AreLinesThen bytes lines rest
+  pub say : Says lines calls
+  pub place : length lines + 1 ≡ number
+  pub line : List ℕ
+  pub whole : NoFeed line
+  pub next : (rest ≡ line) ⊎ ((more : List ℕ) × (rest ≡ line ++ 10 ∷ more))
+  pub bad : IsBad line
 
 -- the words of a pair
 abbrev pub pair_words : ℕ → ℕ → List ℕ
@@ -105,43 +139,3 @@ reply_line (Removed (Some p)) = codes "Removed " ++ pair_words p.0 p.1 ++ 10 ∷
 reply_line (Removed None) = codes "None" ++ 10 ∷ []
 reply_line Done = codes "Done" ++ 10 ∷ []
 reply_line reply = []
-
--- the bytes begin with the lines, each with a line feed after it, and then come these
-abbrev pub IsLinesThen : List ℕ → List (List ℕ) → List ℕ → Type 0
-IsLinesThen bytes [] rest = bytes ≡ rest
-IsLinesThen bytes (line ∷ lines) rest = (more : List ℕ) × (bytes ≡ line ++ 10 ∷ more) × NoFeed line × IsLinesThen more lines rest
-
--- the lines, each less one carriage return at its end, are empty or, in order, say the calls
-abbrev pub Says : List (List ℕ) → List Request → Type 0
-Says [] calls = calls ≡ []
-Says (line ∷ lines) calls =
-    ((strip_last 13 line ≡ []) × Says lines calls)
-    ⊎ ((call : Request) × (later : List Request) × (calls ≡ call ∷ later) × SaysCall (strip_last 13 line) call × Says lines later)
-
--- the lines that the bytes begin with say the calls
-pub record SaysAtFirst (bytes : List ℕ) (calls : List Request) : Type 0 where
-  pub lines : List (List ℕ)
-  pub rest : List ℕ
-  pub are : IsLinesThen bytes lines rest
-  pub say : Says lines calls
-
--- all lines of the bytes say the calls
-pub record SaysInAll (bytes : List ℕ) (calls : List Request) : Type 0 where
-  pub lines : List (List ℕ)
-  pub last : List ℕ
-  pub are : IsLinesThen bytes lines last
-  pub whole : NoFeed last
-  pub say : Says (lines ++ last ∷ []) calls
-
--- the lines of the bytes before the one of this number say the calls, and that one isn't empty and says none
-pub record SaysBefore (number : ℕ) (bytes : List ℕ) (calls : List Request) : Type 0 where
-  pub lines : List (List ℕ)
-  pub rest : List ℕ
-  pub are : IsLinesThen bytes lines rest
-  pub say : Says lines calls
-  pub place : length lines + 1 ≡ number
-  pub bad : List ℕ
-  pub ended : Bool
-  pub left : Option (List ℕ)
-  pub next : IsNextLine rest bad ended left
-  pub read : IsRead (strip_last 13 bad) line.Bad

@@ -1,11 +1,10 @@
 -- What the program does: the history that its lines lead to, what it writes, and its five endings.
-use Rattle.std.specs.Prelude.{◌≡◌, ◌↔◌, ◌⊎◌, ℕ, ◌<◌, List, [], ◌∷◌, ◌++◌, length, map, flat_map, Bool, Option, IfSome, Contains, codes, decimal, nat_eq}
+use Rattle.std.specs.Prelude.{◌≡◌, ◌↔◌, ℕ, ◌<◌, List, [], ◌∷◌, ◌++◌, length, map, flat_map, Bool, Option, IfSome, Contains, codes, decimal, nat_eq}
 use Rattle.std.specs.List.{AllPairs}
 use Rattle.std.specs.Char.{encode_utf8}
 use Rattle.std.specs.Io.KnownBytes.{Appends}
 use Rattle.bimap.specs.History.{Entry, IsNoRoom, IsLegal, IsSurvivor}
-use Rattle.bimap_rows.specs.Lines.{Request, IsRead, SaysCall, SaysAtFirst, SaysInAll, SaysBefore, reply_line}
-use Rattle.bimap_rows.specs.declared.line.Line.TheVariants as line
+use Rattle.bimap_rows.specs.Lines.{Request, SaysAtFirst, SaysInAll, SaysBefore, reply_line}
 use Rattle.bimap_rows.specs.declared.serve.Ending.{Ending}
 use Rattle.bimap_rows.specs.declared.serve.Ending.TheVariants.{Clean, InputFailed, OutputFailed, BadLine, NoMemory}
 
@@ -33,24 +32,25 @@ told history = flat_map (λ e. reply_line e.1) history
 
 -- the line of a pair that is held at the end
 abbrev pub pair_line : ℕ × ℕ → List ℕ
-pair_line p = encode_utf8 p.0 ++ codes " <> " ++ decimal p.1 ++ 10 ∷ []
+pair_line p = encode_utf8 p.0 ++ (codes " <> " ++ decimal p.1 ++ 10 ∷ [])
 
 -- the lines at the end
 abbrev pub tail : List (ℕ × ℕ) → List ℕ
 tail pairs = codes "held " ++ decimal (length pairs) ++ 10 ∷ flat_map pair_line pairs
 
--- no two lefts are equal, and they ascend
+-- each left is below those after it
 abbrev pub AscendsByLeft : List (ℕ × ℕ) → Type 0
 AscendsByLeft pairs = AllPairs (λ p q. p.0 < q.0) pairs
 
--- a history of the calls that the input says leads from nothing to the pairs. Its replies and then `end` were written
+-- a history of the calls that the input says leads from nothing to the pairs, and its replies and `end` were written.
+-- The bytes of the reader, and of the writer before and after, are told where they are known
 pub record IsServed (Say : List ℕ → List Request → Type 0) (input before after : Option (List ℕ)) (pairs : List (ℕ × ℕ)) (end : List ℕ) : Type 0 where
   pub history : List Answered
   pub leads : LeadsTo [] history pairs
   pub says : IfSome input (λ bytes. Say bytes (calls history))
   pub wrote : Appends before after (told history ++ end)
 
--- how the lines end that aren't all served, by the reader's bytes, and the writer's before and after, where they are known
+-- how the work ends where not all lines are served
 abbrev pub Stops : Ending → Option (List ℕ) → Option (List ℕ) → Option (List ℕ) → Type 0
 Stops Clean input before after = ⊥
 Stops InputFailed input before after = (pairs : List (ℕ × ℕ)) × IsServed SaysAtFirst input before after pairs []
@@ -62,20 +62,3 @@ Stops NoMemory input before after = (pairs : List (ℕ × ℕ)) × IsServed Says
 abbrev pub Ends : Ending → Option (List ℕ) → Option (List ℕ) → Option (List ℕ) → Type 0
 Ends Clean input before after = (pairs : List (ℕ × ℕ)) × AscendsByLeft pairs × IsServed SaysInAll input before after pairs (tail pairs)
 Ends ending input before after = Stops ending input before after
-
--- a line was taken: it is empty and nothing happened, or its call was answered
-abbrev pub TakesLine : List ℕ → List (ℕ × ℕ) → List (ℕ × ℕ) → Option (List ℕ) → Option (List ℕ) → Type 0
-TakesLine line old new before after =
-    ((line ≡ []) × (new ≡ old) × Appends before after [])
-    ⊎ ((e : Answered) × SaysCall line e.0 × LeadsTo old (e ∷ []) new × Appends before after (reply_line e.1))
-
--- the line of this number was not taken
-abbrev pub StopsAtLine : List ℕ → ℕ → Ending → Option (List ℕ) → Option (List ℕ) → Type 0
-StopsAtLine bytes number OutputFailed before after = Unit {0}
-StopsAtLine bytes number (BadLine n) before after = (n ≡ number) × IsRead bytes line.Bad × Appends before after []
-StopsAtLine bytes number NoMemory before after = Appends before after []
-StopsAtLine bytes number ending before after = ⊥
-
--- the flush failed, or the ending stands and nothing more was written
-abbrev pub IsFlushed : Ending → Ending → Option (List ℕ) → Option (List ℕ) → Type 0
-IsFlushed ending result before after = (result ≡ OutputFailed) ⊎ ((result ≡ ending) × Appends before after [])

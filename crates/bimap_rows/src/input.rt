@@ -1,7 +1,7 @@
 //! One line from a reader. It doesn't know what lines say.
 ghost use Rattle.std.specs.Prelude.{◌≡◌, IfOk, IfSome};
-ghost use Rattle.std.specs.Io.BufRead.{strip_last};
-ghost use Rattle.bimap_rows.specs.Lines.{IsNextLine};
+ghost use Rattle.bimap_rows.specs.Lines.{text_of};
+ghost use Rattle.bimap_rows.specs.Steps.{IsNextLine};
 
 use std::io::{self, BufRead};
 
@@ -24,7 +24,7 @@ pub fn read_line<I: BufRead>(input: &mut I, line: &mut Vec<u8>) -> io::Result<bo
 
 /// A line without one carriage return at its end.
 pub fn without_return(line: &[u8]) -> &[u8]
-    ensures { result.now ≡ strip_last 13 line.now }
+    ensures { result.now ≡ text_of line.now }
 {
     let len = line.len();
     if len > 0 && line[len - 1] == b'\r' {

@@ -1,6 +1,7 @@
 //! What a line says. It knows no bimap, and not where lines come from.
 ghost use Rattle.std.specs.Prelude.{◌≡◌, ◌≢◌, ◌∷◌, ◌++◌, List, ℕ, MatchOption};
-ghost use Rattle.bimap_rows.specs.Lines.{IsNumeral, IsSymbol, letter, policy_text, IsPairText, command_text, IsArguments, SaysCall, IsRead};
+ghost use Rattle.bimap_rows.specs.Lines.{IsNumeral, IsSymbol, letter, policy_text, IsPairText, command_text, IsArguments, SaysCall};
+ghost use Rattle.bimap_rows.specs.Steps.{IsRead};
 ghost use Rattle.bimap_rows.specs.declared.line.Command.{Command};
 ghost use Rattle.bimap.specs.declared.call.Call.{Call};
 
@@ -177,14 +178,14 @@ fn parse_call(text: &str) -> Option<Request>
     }
 }
 
-/// What a line says, which has no line feed and no carriage return at its end. It takes no memory.
-pub fn parse_line(line: &[u8]) -> Line
-    ensures { IsRead line.now result }
+/// What a line says, without its line feed and one carriage return before it. It takes no memory.
+pub fn parse_line(text: &[u8]) -> Line
+    ensures { IsRead text.now result }
 {
-    if line.is_empty() {
+    if text.is_empty() {
         return Line::Empty;
     }
-    let Ok(text) = str::from_utf8(line) else {
+    let Ok(text) = str::from_utf8(text) else {
         return Line::Bad;
     };
     match parse_call(text) {

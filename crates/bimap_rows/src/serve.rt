@@ -2,8 +2,10 @@
 ghost use Rattle.std.specs.Prelude.{◌≡◌, ◌≢◌, ◌⊎◌, ℕ, [], ◌∷◌, IfSome, OnOk, IfErr};
 ghost use Rattle.std.specs.Io.KnownBytes.{Appends};
 ghost use Rattle.bimap_rows.specs.Lines.{SaysInAll};
-ghost use Rattle.bimap_rows.specs.Serving.{LeadsTo, TakesLine, StopsAtLine, IsServed, Stops, IsFlushed};
+ghost use Rattle.bimap_rows.specs.Serving.{LeadsTo, IsServed, Stops, Ends};
+ghost use Rattle.bimap_rows.specs.Steps.{TakesLine, StopsAtLine, IsFlushed};
 
+use crate::held::{Held, write_held};
 use crate::input::{read_line, without_return};
 use crate::line::{Line, Request, parse_line};
 use crate::reply::write_reply;
@@ -68,7 +70,7 @@ fn take_line<B: Bijection<char, u32>, W: Write>(
     ensures ok { OnOk result (TakesLine line.now (B.holding held.old).pairs (B.holding held.new).pairs (W.contents output.old) (W.contents output.new)) }
     ensures err { IfErr result (λ ending. StopsAtLine line.now number ending (W.contents output.old) (W.contents output.new)) }
 {
-    let call = match parse_line(line) {
+    let call = match parse_line(without_return(line)) {
         Line::Empty => return Ok(()),
         Line::Bad => return Err(Ending::BadLine(number)),
         Line::Call(call) => call,
@@ -112,8 +114,7 @@ fn serve_lines<B: Bijection<char, u32>, I: BufRead, W: Write>(
             Ok(ended) => ended,
             Err(error) => return Err(read_fault(&error)),
         };
-        let text = without_return(line.as_slice());
-        match take_line(alloc, held, output, text, number) {
+        match take_line(alloc, held, output, line.as_slice(), number) {
             Ok(()) => {}
             Err(ending) => return Err(ending),
         }
@@ -131,5 +132,24 @@ fn finish<W: Write>(output: &mut W, ending: Ending) -> Ending
     match output.flush() {
         Ok(()) => ending,
         Err(_) => Ending::OutputFailed,
+    }
+}
+
+/// Performs the lines of the input on an empty bimap, writes their replies, and at the end of the input what is held.
+///
+/// It ends at the first line that says no call, and wherever reading, writing or memory fails: the replies of the
+/// lines before have been written then, and what is held has not. It flushes the output before it ends, unless the
+/// output has failed. Each line takes memory for its own bytes, and what its call takes.
+pub fn serve<I: BufRead, W: Write>(alloc: Global, input: &mut I, output: &mut W) -> Ending
+    ensures { Ends result (I.remaining input.old) (W.contents output.old) (W.contents output.new) }
+{
+    let mut held = Held::new(alloc);
+    match serve_lines(alloc, &mut held, input, output) {
+        Ok(()) => match write_held(output, &held) {
+            Ok(()) => finish(output, Ending::Clean),
+            Err(_) => Ending::OutputFailed,
+        },
+        Err(Ending::OutputFailed) => Ending::OutputFailed,
+        Err(ending) => finish(output, ending),
     }
 }

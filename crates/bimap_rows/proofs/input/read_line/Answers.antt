@@ -1,6 +1,6 @@
 use Rattle.std.proofs.Common.{◌≡◌, ◌<◌, ◌∙◌, ap, length, arith, subst, sym, List, ℕ, IfSome, true, false}
 use Rattle.bimap_rows.proofs.Pieces.{known_full, known_last, no_bytes, other_byte}
-use Rattle.bimap_rows.specs.Lines.{IsNextLine}
+use Rattle.bimap_rows.specs.Steps.{IsNextLine}
 use Rattle.bimap_rows.proofs.input.read_line.Goals as goal
 
 pub returns-then-len-eq0 : goal.returns-then-len-eq0

@@ -1,8 +1,6 @@
 use Rattle.std.proofs.Common.{◌≡◌, ap, subst, sym, ◌∙◌, ◌+◌, IfSome, true, false}
-use Rattle.std.specs.Io.BufRead.{strip_last}
 use Rattle.std.proofs.KnownBytes.{Appends-nil}
-use Rattle.bimap_rows.specs.Lines.{IsNextLine}
-use Rattle.bimap_rows.specs.Serving.{TakesLine, StopsAtLine}
+use Rattle.bimap_rows.specs.Steps.{IsNextLine, TakesLine, StopsAtLine}
 use Rattle.bimap_rows.proofs.Progress.{none_served, next_served, all_served, stopped_at}
 use Rattle.bimap_rows.proofs.serve.serve_lines.Goals as goal
 
@@ -18,10 +16,9 @@ returns-in-Err-take_line-clause-err g c =
     let l = c.loop-number in
     let items = c.read_line.new.line.items in
     let q = w c.take_line.new.output in
-    let is : c.without_return-text.result.now ≡ strip_last 13 items = c.without_return-text.ensures ∙ ap (strip_last 13) c.as_slice.ensures.value in
     stopped_at (r c.args.input.now) (r l.input) l.number (w c.args.output.now) (w l.output) (g.B.Bijection.holding l.held).pairs l.invariant
     items c.in-Ok.ended (r c.read_line.new.input) q c.in-Err-take_line.ending
-    (subst (λ t. StopsAtLine t (l.number + 1) c.in-Err-take_line.ending (w l.output) q) is c.in-Err-take_line.ensures.err) c.in-Ok.ensures
+    (subst (λ t. StopsAtLine t (l.number + 1) c.in-Err-take_line.ending (w l.output) q) c.as_slice.ensures.value c.in-Err-take_line.ensures.err) c.in-Ok.ensures
 
 pub returns-then-not-ended-clause-ok : goal.returns-then-not-ended-clause-ok
 returns-then-not-ended-clause-ok g c =
@@ -33,9 +30,8 @@ returns-then-not-ended-clause-ok g c =
     let left = r c.read_line.new.input in
     let q = w c.take_line.new.output in
     let new = (h c.take_line.new.held).pairs in
-    let is : c.without_return-text.result.now ≡ strip_last 13 items = c.without_return-text.ensures ∙ ap (strip_last 13) c.as_slice.ensures.value in
     all_served (r c.args.input.now) (r l.input) l.number (w c.args.output.now) (w l.output) (h l.held).pairs l.invariant items left q new
-    (subst (λ t. TakesLine t (h l.held).pairs new (w l.output) q) is c.in-Ok-take_line.ensures.ok)
+    (subst (λ t. TakesLine t (h l.held).pairs new (w l.output) q) c.as_slice.ensures.value c.in-Ok-take_line.ensures.ok)
     (subst (λ b. IfSome (r l.input) (λ bytes. IsNextLine bytes items b left)) c.if-not-ended.true c.in-Ok.ensures)
 
 pub loop-number-preserved : goal.loop-number-preserved
@@ -48,7 +44,6 @@ loop-number-preserved g c =
     let left = r c.read_line.new.input in
     let q = w c.take_line.new.output in
     let new = (h c.take_line.new.held).pairs in
-    let is : c.without_return-text.result.now ≡ strip_last 13 items = c.without_return-text.ensures ∙ ap (strip_last 13) c.as_slice.ensures.value in
     next_served (r c.args.input.now) (r l.input) l.number (w c.args.output.now) (w l.output) (h l.held).pairs l.invariant items left q new
-    (subst (λ t. TakesLine t (h l.held).pairs new (w l.output) q) is c.in-Ok-take_line.ensures.ok)
+    (subst (λ t. TakesLine t (h l.held).pairs new (w l.output) q) c.as_slice.ensures.value c.in-Ok-take_line.ensures.ok)
     (subst (λ b. IfSome (r l.input) (λ bytes. IsNextLine bytes items b left)) c.if-not-ended.false c.in-Ok.ensures)
