@@ -10,6 +10,7 @@ mod overwritten;
 mod pairs;
 mod policy;
 mod refusal;
+mod spread;
 
 pub use bijection::Bijection;
 pub use cells::{Cells, Node};
@@ -20,6 +21,7 @@ pub use overwritten::Overwritten;
 pub use pairs::Pairs;
 pub use policy::{OnHeld, Policy};
 pub use refusal::{ExtendStopped, NoMemory, NoRoom, NotInserted, NotInsertedWith, UndoStopped};
+pub use spread::{LeftSpread, RightSpread, Spread};
 
 #[cfg(test)]
 mod tests;
