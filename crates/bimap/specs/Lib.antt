@@ -8,3 +8,4 @@ pub mod Test
 pub mod History
 pub mod Step
 pub mod Trail
+pub mod Types

@@ -1,13 +1,13 @@
 -- A history of the program that grows by one entry, and the history of one call.
-use Rattle.std.proofs.Common.{◌≡◌, ◌↔◌, ◌⊎◌, inl, inr, ℕ, ◌≤◌, List, [], ◌∷◌, ◌++◌, Bool, refl, sym, ap, subst, arith, nat_eq, ◌∙◌, ◌≢◌, ◌+◌, length, Option, None, Some, IfSome}
+use Rattle.std.proofs.Common.{◌≡◌, ◌↔◌, ◌⊎◌, inl, inr, ℕ, ◌≤◌, List, [], ◌∷◌, ◌++◌, Bool, refl, sym, ap, subst, arith, nat_eq, ◌∙◌, ◌≢◌, ◌+◌, length, Option, None, Some, IfSome, MatchOption}
 use Rattle.std.specs.List.{zip}
 use Rattle.std.proofs.lemmas.List.{length_push}
 use Rattle.bimap.specs.declared.call.Reply.{Reply}
 use Rattle.std.specs.Prelude.{Contains}
 use Rattle.std.proofs.lemmas.List.Elements.{Contains-append_cases, Contains-append_right, Contains-push, Contains-push_cases}
-use Rattle.bimap_base.specs.Holding.{Holding}
-use Rattle.bimap_base.proofs.Members.{none_in, head_in}
-use Rattle.bimap_base.proofs.Survivors.{split_push, not_split, Survives_none, Survives_one}
+use Rattle.bimap.specs.Holding.{Holding}
+use Rattle.bimap.proofs.Members.{none_in, head_in}
+use Rattle.bimap.proofs.Survivors.{split_push, not_split, Survives_none, Survives_one}
 use Rattle.bimap.specs.declared.call.Call.TheVariants.{Insert, InsertNoOverwrite, InsertWith, RemoveByLeft, RemoveByRight, Retain, Clear}
 use Rattle.bimap.specs.declared.call.Reply.TheVariants.{Inserted, NoRoom, Put}
 use Rattle.bimap.specs.History.{Puts, Touches, IsNoRoom, IsRight, IsLegal, IsSurvivor, IsHistory}
@@ -15,6 +15,7 @@ use Rattle.bimap.proofs.Histories.{IsHistory_append, IsRight_along}
 use Rattle.bimap_rows.specs.Lines.{Request}
 use Rattle.bimap_rows.specs.Serving.{Answered, NoTest, LeadsTo}
 
+-- what holds of a value that may be there
 pub weaker : {X : Type 0} (o : Option X) (P Q : X → Type 0) → ((x : X) → P x → Q x) → IfSome o P → IfSome o Q
 weaker None P Q f p = tt
 weaker (Some x) P Q f p = f x p
@@ -114,3 +115,8 @@ LeadsTo_run Test old new calls replies front call reply kept h c n e other k =
     subst (λ r. LeadsTo old.pairs ((call, r) ∷ []) new.pairs) (sym k.0)
     (LeadsTo_one Test old new (call, reply) (subst (λ l. IsHistory nat_eq nat_eq Test old l new) both h) other
     (λ w. let m = wants_memory call reply w in k.1 m.0 m.1 m.2))
+
+-- what follows from the facts of a value that may be there
+pub kept_leads : {X : Type 0} (o : Option X) (A : Type 0) (P Q : X → Type 0) → ((x : X) → P x → Q x) → MatchOption o A P → IfSome o Q
+kept_leads None A P Q f p = tt
+kept_leads (Some x) A P Q f p = f x p

@@ -8,9 +8,9 @@ use Rattle.bimap_rows.specs.Lines.{Request, IsSymbol, IsNumeral, IsPairText, let
 use Rattle.bimap_rows.specs.declared.line.Command.{Command}
 use Rattle.bimap_rows.specs.declared.line.Command.TheVariants as command
 use Rattle.bimap.specs.declared.call.Call.TheVariants.{Insert, InsertNoOverwrite, InsertWith, RemoveByLeft, RemoveByRight, Clear}
-use Rattle.bimap_base.specs.declared.policy.OnHeld.{OnHeld}
-use Rattle.bimap_base.specs.declared.policy.OnHeld.TheVariants.{Overwrite, Refuse}
-use Rattle.bimap_base.specs.declared.policy.Policy.{Policy}
+use Rattle.bimap.specs.Types.{OnHeld}
+use Rattle.bimap.specs.Types.{Overwrite, Refuse}
+use Rattle.bimap.specs.Types.{Policy}
 
 pub empty_utf8 : (text : List ℕ) → text ≡ [] → IsUtf8 text
 empty_utf8 text e = subst IsUtf8 (sym e) ([], (refl, refl))

@@ -7,7 +7,7 @@ use borrow.Author.Tests.{eqb-true}
 use Rattle.bimap_rows.specs.Lines.{Request, IsSymbol, IsNumeral, IsPairText, policy_text, IsArguments}
 use Rattle.bimap_rows.specs.declared.line.Command.TheVariants as command
 use Rattle.bimap.specs.declared.call.Call.TheVariants.{Insert, InsertNoOverwrite, InsertWith}
-use Rattle.bimap_base.specs.declared.policy.Policy.{Policy}
+use Rattle.bimap.specs.Types.{Policy}
 
 no_test : (c : ℕ) → c ≢ 32 → (b : Bool) → eqb c 32 ≡ b → b ≡ false
 no_test c n true e = absurd (n (eqb-true c 32 e))

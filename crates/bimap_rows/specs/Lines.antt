@@ -8,11 +8,7 @@ use Rattle.bimap.specs.declared.call.Call as call
 use Rattle.bimap.specs.declared.call.Call.TheVariants.{Insert, InsertNoOverwrite, InsertWith, RemoveByLeft, RemoveByRight, Clear}
 use Rattle.bimap.specs.declared.call.Reply.{Reply}
 use Rattle.bimap.specs.declared.call.Reply.TheVariants.{Inserted, Put, Occupied, LeftHeld, RightHeld, Removed, Done}
-use Rattle.bimap_base.specs.declared.overwritten.Overwritten.{Overwritten}
-use Rattle.bimap_base.specs.declared.overwritten.Overwritten.TheVariants.{Neither, Left, Right, Pair, Both}
-use Rattle.bimap_base.specs.declared.policy.OnHeld.{OnHeld}
-use Rattle.bimap_base.specs.declared.policy.OnHeld.TheVariants.{Overwrite, Refuse}
-use Rattle.bimap_base.specs.declared.policy.Policy.{Policy}
+use Rattle.bimap.specs.Types.{Overwritten, Neither, Left, Right, Pair, Both, OnHeld, Overwrite, Refuse, Policy}
 use Rattle.bimap_rows.specs.declared.line.Command.{Command}
 use Rattle.bimap_rows.specs.declared.line.Command.TheVariants as command
 

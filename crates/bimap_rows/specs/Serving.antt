@@ -62,3 +62,11 @@ Stops NoMemory input before after = (pairs : List (ℕ × ℕ)) × IsServed Says
 abbrev pub Ends : Ending → Option (List ℕ) → Option (List ℕ) → Option (List ℕ) → Type 0
 Ends Clean input before after = (pairs : List (ℕ × ℕ)) × AscendsByLeft pairs × IsServed SaysInAll input before after pairs (tail pairs)
 Ends ending input before after = Stops ending input before after
+
+-- the status with which the program ends
+abbrev pub status_of : Ending → ℕ
+status_of Clean = 0
+status_of InputFailed = 1
+status_of OutputFailed = 1
+status_of (BadLine number) = 2
+status_of NoMemory = 3

@@ -1,6 +1,9 @@
 //! The program: it performs the lines of standard input on a bimap, and prints their replies and what is held.
 #![tactic(auto)]
 
+ghost use Rattle.std.specs.Prelude.{◌≡◌};
+ghost use Rattle.bimap_rows.specs.Serving.{status_of};
+
 mod held;
 mod input;
 mod line;
@@ -26,7 +29,9 @@ fn run(rt: &HostRuntime) -> Ending {
 }
 
 // The status that tells how the work ended.
-fn status(ending: Ending) -> u8 {
+fn status(ending: Ending) -> u8
+    ensures { result ≡ status_of ending }
+{
     match ending {
         Ending::Clean => 0,
         Ending::InputFailed | Ending::OutputFailed => 1,

@@ -1,5 +1,6 @@
 //! The program's work over any reader and writer: each line is performed, and its reply is written.
-ghost use Rattle.std.specs.Prelude.{◌≡◌, ◌≢◌, ◌⊎◌, ℕ, [], ◌∷◌, IfSome, OnOk, IfErr};
+ghost use Rattle.std.specs.Prelude.{◌≡◌, ◌≢◌, ◌⊎◌, ℕ, [], ◌∷◌, IfSome, MatchOption, OnOk, IfErr};
+ghost use Rattle.std.specs.IoError.{error_kind};
 ghost use Rattle.std.specs.Io.KnownBytes.{Appends};
 ghost use Rattle.bimap_rows.specs.Lines.{SaysInAll};
 ghost use Rattle.bimap_rows.specs.Serving.{LeadsTo, IsServed, Stops, Ends};
@@ -30,7 +31,7 @@ pub enum Ending {
 
 // The reply, unless it is that there was no memory.
 fn with_room(reply: Reply<char, u32>) -> Option<Reply<char, u32>>
-    ensures { IfSome result (λ kept. (kept ≡ reply) × ((left right : ℕ) → reply ≢ Reply.NoRoom left right)) }
+    ensures { MatchOption result ((left : ℕ) × (right : ℕ) × (reply ≡ Reply.NoRoom left right)) (λ kept. (kept ≡ reply) × ((left right : ℕ) → reply ≢ Reply.NoRoom left right)) }
 {
     match reply {
         Reply::NoRoom(_, _) => None,
@@ -86,7 +87,9 @@ fn take_line<B: Bijection<char, u32>, W: Write>(
 
 // Why a line could not be read.
 fn read_fault(error: &Error) -> Ending
-    ensures { (result ≡ Ending.NoMemory) ⊎ (result ≡ Ending.InputFailed) }
+    ensures memory { error_kind error.now ≡ ErrorKind.OutOfMemory → result ≡ Ending.NoMemory }
+    ensures other { error_kind error.now ≢ ErrorKind.OutOfMemory → result ≡ Ending.InputFailed }
+    ensures either { (result ≡ Ending.NoMemory) ⊎ (result ≡ Ending.InputFailed) }
 {
     if error.kind() == ErrorKind::OutOfMemory {
         Ending::NoMemory

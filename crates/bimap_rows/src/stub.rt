@@ -2,8 +2,8 @@
 ghost use Rattle.std.specs.Prelude.{◌≡◌, []};
 ghost use native.Mathlib.Omega.{arith};
 ghost use Rattle.std.specs.Prelude.{Contains};
-ghost use Rattle.bimap_base.specs.Holding.{Holding, IsUndoing};
-ghost use Rattle.bimap_base.specs.Undoing.{IsUndoable};
+ghost use Rattle.bimap.specs.Holding.{Holding, IsUndoing};
+ghost use Rattle.bimap.specs.Undoing.{IsUndoable};
 ghost use Rattle.bimap_rows.specs.Nothing.{nothing};
 use bimap::{
     Bijection, NoRoom, NotInserted, NotInsertedWith, Overwritten, Policy, UndoStopped,

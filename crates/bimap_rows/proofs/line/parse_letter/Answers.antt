@@ -1,6 +1,6 @@
 use Rattle.std.proofs.Common.{◌≡◌, ◌∷◌, List, ℕ, None, arith}
 use Rattle.std.proofs.lemmas.Str.Pattern.{strip_prefix_char}
-use Rattle.bimap_base.specs.declared.policy.OnHeld.TheVariants.{Overwrite, Refuse}
+use Rattle.bimap.specs.Types.{Overwrite, Refuse}
 use Rattle.bimap_rows.proofs.line.parse_letter.Goals as goal
 
 pub returns : goal.returns
