@@ -13,3 +13,4 @@ pub mod JsonReading
 pub mod JsonTexts
 pub mod JsonObjects
 pub mod JsonDigits
+pub mod Types
