@@ -5,6 +5,9 @@ pub use Rattle.bimap_base.specs.Kept
 pub use Rattle.bimap_base.specs.Same
 pub use Rattle.bimap_base.specs.Survivors
 pub use Rattle.bimap_base.specs.Undoing
+pub use Rattle.bimap_base.specs.Extension
+pub use Rattle.bimap_base.specs.Digits
+pub mod BTree
 pub mod Test
 pub mod History
 pub mod Step

@@ -1,6 +1,7 @@
 //! The facade: both bimaps' interface and plain types, lists of calls on any bimap, and their undoing.
 #![tactic(auto)]
 
+pub mod btree;
 mod call;
 mod runs;
 mod undone;
@@ -10,6 +11,7 @@ pub use bimap_base::{
     Bijection, ExtendStopped, NoMemory, NoRoom, NotInserted, NotInsertedWith, OnHeld, Overwritten,
     Policy, UndoStopped,
 };
+pub use bimap_btree::BiBTreeMap;
 pub use call::{Call, Reply, RunRefused};
 pub use runs::run;
 pub use undone::{UndoRunStopped, undo_run};

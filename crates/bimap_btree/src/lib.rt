@@ -2,6 +2,7 @@
 #![tactic(auto)]
 
 mod bijection;
+mod build;
 mod count;
 mod insert;
 mod iter;

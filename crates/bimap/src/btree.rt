@@ -1,0 +1,3 @@
+//! The ordered bimap and what belongs to it.
+pub use bimap_base::Meter;
+pub use bimap_btree::{BiBTreeMap, Count, Iter};
