@@ -1,0 +1,4 @@
+pub mod Fitting
+pub mod Held
+pub mod Indexed
+pub mod PairsAt

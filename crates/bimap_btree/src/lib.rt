@@ -1,0 +1,17 @@
+//! A bimap whose sides are ordered: pairs in places of one store, found through a balanced tree of places for each side.
+#![tactic(auto)]
+
+mod bijection;
+mod count;
+mod insert;
+mod iter;
+mod look_up;
+mod map;
+mod parts;
+mod remove;
+mod retain;
+mod undo;
+
+pub use count::Count;
+pub use iter::Iter;
+pub use map::BiBTreeMap;
