@@ -17,3 +17,4 @@ pub mod Removes
 pub mod Found
 pub mod Starts
 pub mod Whole
+pub mod Routes
