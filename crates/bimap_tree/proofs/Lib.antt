@@ -12,6 +12,7 @@ pub mod Rotate
 pub mod Ascending
 pub mod Paths
 pub mod Rises
+pub mod Routes
 pub mod Follow
 pub mod Removes
 pub mod Found
