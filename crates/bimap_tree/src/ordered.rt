@@ -74,6 +74,7 @@ impl Ordered {
         ensures enough { to ≤ length self.old.nodes → IsOk result }
         ensures unchanged { to ≤ length self.old.nodes → self.new ≡ self.old }
         ensures err { OnErr result (self.new ≡ self.old) }
+        ensures routes { (standing : _) (route : _) → IsRoute self.old standing route → IsRoute self.new standing route }
     {
         self.cells.grow(to)
     }

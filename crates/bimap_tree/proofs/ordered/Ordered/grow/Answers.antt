@@ -1,4 +1,8 @@
-use Rattle.bimap_tree.proofs.Whole.{whole_grown, places_grown}
+use Rattle.std.proofs.Common.{◌∙◌, sym, refl, subst}
+use Rattle.bimap_tree.specs.Index.{index_of}
+use Rattle.bimap_tree.specs.Route.{IsRoute}
+use Rattle.bimap_tree.proofs.Routes.{IsRoute-grown}
+use Rattle.bimap_tree.proofs.Whole.{whole_grown, places_grown, places_are}
 use Rattle.bimap_tree.proofs.ordered.Ordered.grow.Goals as goal
 
 pub invariant_of-self : goal.invariant_of-self
@@ -6,3 +10,8 @@ invariant_of-self c = whole_grown _ _ _ _ c.self.invariant c.self.view_is _ c.gr
 
 pub returns-clause-places : goal.returns-clause-places
 returns-clause-places c = places_grown _ _ _ _ c.self.invariant c.self.view_is _ c.grow.ensures.kept
+
+pub returns-clause-routes : goal.returns-clause-routes
+returns-clause-routes c standing route =
+    let places = places_grown _ _ _ _ c.self.invariant c.self.view_is _ c.grow.ensures.kept ∙ sym (places_are _ _ _ _ c.self.invariant c.self.view_is) in
+    subst (λ v. IsRoute v standing route → IsRoute (index_of c.grow.new.self c.self.inside.root) standing route) c.self.view_is (IsRoute-grown (index_of c.self.inside.cells c.self.inside.root) (index_of c.grow.new.self c.self.inside.root) standing route c.grow.ensures.kept refl places)
