@@ -134,10 +134,10 @@ module _ {L R K : Type 0} (same_left : L → L → Bool) (same_right : R → R �
     pub IsHistory_one : IsHistory same_left same_right Test old (e ∷ []) new
     IsHistory_one = record {
       legal = only (λ before f. IsRight same_left same_right (IsSurvivor same_left same_right Test (Contains old.pairs) before) f)
-      (IsRight_along same_left same_right (Contains old.pairs) (IsSurvivor same_left same_right Test (Contains old.pairs) []) (λ p. (unchanged p).0) (λ p. (unchanged p).1) e right);
+          (IsRight_along same_left same_right (Contains old.pairs) (IsSurvivor same_left same_right Test (Contains old.pairs) []) (λ p. (unchanged p).0) (λ p. (unchanged p).1) e right);
       survivors = survivors_push Puts (Touches same_left same_right Test) (Contains old.pairs) (Contains old.pairs) (Contains new.pairs) [] e unchanged step;
       needs_room = only (λ before f. IsNoRoom f → IsOutOfRoom same_left same_right Test (Contains old.pairs) before old.room)
-      (λ n. record { pairs = old.pairs; apart = apart; survivors = unchanged; full = full n });
+          (λ n. record { pairs = old.pairs; apart = apart; survivors = unchanged; full = full n });
       not_lower = not_lower;
     }
 

@@ -39,10 +39,7 @@ pub fn from_iter<
     R: Eq + Drop,
     B: Bijection<L, R> + Drop,
     I: IntoIterator<Item = (L, R)>,
->(
-    empty: B,
-    items: I,
-) -> Result<B, ExtendStopped<L, R>>
+>(empty: B, items: I) -> Result<B, ExtendStopped<L, R>>
     requires empty { (B.holding empty).pairs ≡ [] }
     requires ends { IsFiniteIterable I.into_iter_gives I.IntoIter.can_next I.IntoIter.remaining items }
     ensures extended { IfOk result (λ bimap. IsExtension L.eq R.eq (I.into_iter_gives items) I.IntoIter.next_gives (B.holding empty) (B.holding bimap)) }

@@ -170,10 +170,7 @@ pub fn undo<L: Eq + Drop, R: Eq + Drop>(
 }
 
 /// Keeps the pairs at which the closure answers true.
-pub fn keep<L: Eq + Drop, R: Eq + Drop, F: FnMut(&L, &R) -> bool>(
-    pairs: &mut Vec<(L, R)>,
-    mut f: F,
-)
+pub fn keep<L: Eq + Drop, R: Eq + Drop, F: FnMut(&L, &R) -> bool>(pairs: &mut Vec<(L, R)>, mut f: F)
     requires apart { IsApart L.eq R.eq pairs.old.items }
     requires may_test { MayTest F.FnMut f pairs.old.items }
     ensures kept { IsKept F.FnMut f pairs.old.items pairs.new.items }

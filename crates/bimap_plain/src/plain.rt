@@ -5,8 +5,7 @@ ghost use Rattle.bimap_base.specs.Holding.{IsUndoing};
 ghost use Rattle.bimap_base.specs.Undoing.{IsUndoable};
 ghost use Rattle.bimap_plain.specs.Plain.{shown};
 
-use crate::changes;
-use crate::scan;
+use crate::{changes, scan};
 use bimap_base::{
     Bijection, NoMemory, NoRoom, NotInserted, NotInsertedWith, Overwritten, Policy, UndoStopped,
 };

@@ -66,10 +66,7 @@ pub fn take_left<L: Eq + Drop, R: Eq + Drop>(pairs: &mut Vec<(L, R)>, left: &L) 
 }
 
 #[tactic(auto, using(crate::proofs::Removal::lacked_right))]
-pub fn take_right<L: Eq + Drop, R: Eq + Drop>(
-    pairs: &mut Vec<(L, R)>,
-    right: &R,
-) -> Option<(L, R)>
+pub fn take_right<L: Eq + Drop, R: Eq + Drop>(pairs: &mut Vec<(L, R)>, right: &R) -> Option<(L, R)>
     requires { IsApart L.eq R.eq pairs.old.items }
     ensures removed { MatchOption result (LacksRight R.eq (Contains pairs.old.items) right.now) (λ p. Contains pairs.old.items p × (R.eq p.1 right.now ≡ true)) }
     ensures without { IsWithoutRight R.eq (Contains pairs.old.items) right.now (Contains pairs.new.items) }

@@ -4,7 +4,6 @@
 mod copy_left;
 mod entry;
 mod operations;
-
 mod undoable;
 
 pub use copy_left::CopyLeft;

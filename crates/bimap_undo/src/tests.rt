@@ -150,7 +150,14 @@ fn a_refused_insertion_changes_nothing(rt: HostRuntime) -> Result<(), Fail> {
     for (operation, _, held, mark) in OF_INSERTIONS {
         match operation {
             Operation::Insert(left, right) => {
-                let refused = insert_in_famine(rt.alloc(), &mut undoable, left, right, before.0, before.1)?;
+                let refused = insert_in_famine(
+                    rt.alloc(),
+                    &mut undoable,
+                    left,
+                    right,
+                    before.0,
+                    before.1,
+                )?;
                 refusals = refusals.saturating_add(refused.ok_or("a refusal changed something")?);
             }
             other => {

@@ -62,7 +62,7 @@ loop-left-preserved g c =
       not_lower = omega (arith, c.loop-left.invariant.not_lower, e.not_lower);
       fits = λ first h. (
         leads_within_pop g.L.PartialEq.eq g.R.PartialEq.eq g.met.L.Eq.laws g.met.R.Eq.laws c.pop.new.self.items c.in-Some.left c.in-Some.answer (g.B.Bijection.holding c.loop-left.bimap).pairs first (g.B.Bijection.holding c.args.bimap.now).room (g.B.Bijection.holding c.undo_insert.new.self).pairs
-        (led_within g now first h) c.in-Ok.ensures.undone,
+            (led_within g now first h) c.in-Ok.ensures.undone,
         elim (both_or_not c.in-Some.answer) [ inl b ↦ e.had_place (spare g now first h b) | inr n ↦ e.not_both n ] ∙ (c.loop-left.invariant.fits first h).1,
       );
     }

@@ -20,11 +20,15 @@ returns-then-has_right-clause-insertion g c = record {
   allowed = tt;
   answer = tt;
   put = tt;
-  refused = (refl,
-  elim c.else-refuses.branch [
-    | else-refuses-via-then-refuses+else-has_left w ↦ λ e. rw w.deref.ensures.value at (rw w.if-has_left.false at w.has_left.ensures)
-    | else-refuses-via-else-refuses w ↦ λ e. absurd (true≢false (sym (c.refuses.ensures.1 e) ∙ w.if-refuses.false))
-  ], c.refuses-2.ensures.0 c.if-refuses-2.true, rw c.deref-then-refuses-2.ensures.value at (rw c.if-has_right.true at c.has_right.ensures));
+  refused = (
+    refl,
+    elim c.else-refuses.branch [
+      | else-refuses-via-then-refuses+else-has_left w ↦ λ e. rw w.deref.ensures.value at (rw w.if-has_left.false at w.has_left.ensures)
+      | else-refuses-via-else-refuses w ↦ λ e. absurd (true≢false (sym (c.refuses.ensures.1 e) ∙ w.if-refuses.false))
+    ],
+    c.refuses-2.ensures.0 c.if-refuses-2.true,
+    rw c.deref-then-refuses-2.ensures.value at (rw c.if-has_right.true at c.has_right.ensures),
+  );
   unchanged = refl;
   room = record { not_lower = omega arith; had_place = λ h. refl; strikes = λ h. refl };
 }

@@ -16,9 +16,9 @@ pub loop-self-preserved : goal.loop-self-preserved
 loop-self-preserved g c = record {
   above = omega (arith, shorter g c, c.loop-self-test.true, c.len.ensures, c.loop-self.self-inside.changes.ok.0);
   marks = marks_pop g.L.PartialEq.eq g.R.PartialEq.eq g.met.L.Eq.laws g.met.R.Eq.laws
-  (marked (g.B.Bijection.holding c.loop-self.self-inside.bimap) c.loop-self.self-inside.changes.items)
-  (marked (g.B.Bijection.holding c.take_back.new.bimap) c.pop.new.self.items)
-  c.in-Some.entry c.in-Some.ensures.items c.take_back.ensures.taken_back c.loop-self.invariant.marks c.take_back.ensures.room;
+      (marked (g.B.Bijection.holding c.loop-self.self-inside.bimap) c.loop-self.self-inside.changes.items)
+      (marked (g.B.Bijection.holding c.take_back.new.bimap) c.pop.new.self.items)
+      c.in-Some.entry c.in-Some.ensures.items c.take_back.ensures.taken_back c.loop-self.invariant.marks c.take_back.ensures.room;
   kept = λ mark within A b.
       keeps_pop g.L.PartialEq.eq g.R.PartialEq.eq g.met.L.Eq.laws g.met.R.Eq.laws
       (marked (g.B.Bijection.holding c.loop-self.self-inside.bimap) c.loop-self.self-inside.changes.items)

@@ -37,9 +37,9 @@ returns-in-Ok-insert g c =
       put = c.in-Ok-insert.ensures.put;
       recorded = ap length (grown g c) ∙ length-append c.self.inside.changes.items (Inserted c.in-Ok.copy c.in-Ok-insert.answer ∷ []);
       kept = keeps_push g.L.PartialEq.eq g.R.PartialEq.eq
-      (marked (g.B.Bijection.holding c.self.inside.bimap) c.self.inside.changes.items)
-      (marked (g.B.Bijection.holding c.insert.new.self) c.push_reserved.new.self.items)
-      (Inserted c.in-Ok.copy c.in-Ok-insert.answer) (grown g c) (g.met.B.Bijection.apart c.insert.new.self) (change g c);
+          (marked (g.B.Bijection.holding c.self.inside.bimap) c.self.inside.changes.items)
+          (marked (g.B.Bijection.holding c.insert.new.self) c.push_reserved.new.self.items)
+          (Inserted c.in-Ok.copy c.in-Ok-insert.answer) (grown g c) (g.met.B.Bijection.apart c.insert.new.self) (change g c);
       room = c.insert.ensures.room;
       handed_back = tt;
       unchanged = tt;

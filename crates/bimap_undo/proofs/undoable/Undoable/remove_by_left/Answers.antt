@@ -58,9 +58,9 @@ returns g c =
       without = c.remove_by_left.ensures.without;
       recorded = ap length (grown g c) ∙ length-append c.self.inside.changes.items (Removed c.in-Some.left c.in-Some.right ∷ []);
       kept = keeps_push g.L.PartialEq.eq g.R.PartialEq.eq
-      (marked (g.B.Bijection.holding c.self.inside.bimap) c.self.inside.changes.items)
-      (marked (g.B.Bijection.holding c.remove_by_left.new.self) c.push_reserved.new.self.items)
-      (Removed c.in-Some.left c.in-Some.right) (grown g c) (g.met.B.Bijection.apart c.remove_by_left.new.self) (change g c);
+          (marked (g.B.Bijection.holding c.self.inside.bimap) c.self.inside.changes.items)
+          (marked (g.B.Bijection.holding c.remove_by_left.new.self) c.push_reserved.new.self.items)
+          (Removed c.in-Some.left c.in-Some.right) (grown g c) (g.met.B.Bijection.apart c.remove_by_left.new.self) (change g c);
       room = c.remove_by_left.ensures.room;
       refused = tt;
       unchanged = tt;
