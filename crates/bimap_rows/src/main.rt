@@ -9,7 +9,6 @@ mod input;
 mod line;
 mod reply;
 mod serve;
-mod stub;
 #[cfg(test)]
 mod tests;
 
