@@ -4,8 +4,11 @@ pub mod Survivors
 pub mod Kept
 pub mod Undoing
 pub mod Holding
+pub mod Same
+pub mod Extension
 pub mod Digits
 pub mod Slots
 pub mod FreeSlots
 pub mod Keyed
 pub mod Packed
+pub mod Places

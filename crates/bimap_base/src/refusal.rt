@@ -1,9 +1,16 @@
 //! Why a call did nothing, or not all, and what it hands back.
 use crate::overwritten::Overwritten;
+use std::alloc::AllocError;
 
 /// There was no memory, and nothing has changed.
 #[derive(Clone, Copy, Debug, Eq, PartialEq)]
 pub struct NoMemory;
+
+impl From<AllocError> for NoMemory {
+    fn from(_: AllocError) -> NoMemory {
+        NoMemory
+    }
+}
 
 /// There was no memory for a pair that would strike nothing. Nothing has changed, and the pair is handed back.
 #[derive(Debug, Drop, Eq, PartialEq)]

@@ -1,5 +1,5 @@
 -- Lists of places in the order of their keys.
-use Rattle.std.proofs.Common.{◌≡◌, ◌≢◌, ℕ, zero, suc, ◌+◌, ◌≤◌, ◌<◌, true, false, List, [], ◌∷◌, ◌++◌, length, Option, Some, None, refl, sym, ◌∙◌, ap, subst, arith, ◌⊎◌, inl, inr}
+use Rattle.std.proofs.Common.{◌≡◌, ◌≢◌, ℕ, zero, suc, ◌+◌, ◌<◌, true, false, List, [], ◌∷◌, ◌++◌, length, Option, Some, None, refl, sym, ◌∙◌, ap, subst, arith, ◌⊎◌, inl, inr}
 use Rattle.std.specs.Prelude.{is_some, IsSome, slice_index}
 use Rattle.std.specs.Cmp.{IsTotalOrder}
 use Rattle.std.specs.List.{AllByRecursion, Contains}
@@ -82,10 +82,10 @@ module _ {K : Type 0} (key : ℕ → Option K) (order : K → K → Ordering) wh
   rising (x ∷ xs) up =
       let first = key_is (key x) (up.live 0 (omega arith)) in
       sorted_more (λ a b. order_of order (key a) (key b)) x xs
-        (all_at (λ y. order_of order (key x) (key y) ≡ Less) xs (λ i few.
-          let next = key_is (key (slice_index xs i)) (up.live (suc i) (omega arith)) in
-          order_is x (slice_index xs i) first.0 next.0 first.1 next.1 ∙ up.rises 0 (suc i) first.0 next.0 (omega arith) (omega arith) first.1 next.1))
-        (rising xs (ascends_tail x xs up))
+      (all_at (λ y. order_of order (key x) (key y) ≡ Less) xs (λ i few.
+      let next = key_is (key (slice_index xs i)) (up.live (suc i) (omega arith)) in
+      order_is x (slice_index xs i) first.0 next.0 first.1 next.1 ∙ up.rises 0 (suc i) first.0 next.0 (omega arith) (omega arith) first.1 next.1))
+      (rising xs (ascends_tail x xs up))
 
   rises_from : (xs : List ℕ) → IsStrictlySortedBy (λ a b. order_of order (key a) (key b)) xs → (i j : ℕ) (k l : K) → i < j → j < length xs → key (slice_index xs i) ≡ Some k → key (slice_index xs j) ≡ Some l → order k l ≡ Less
   rises_from [] s i j k l lt few e f = absurd (omega arith)
@@ -101,8 +101,8 @@ module _ {K : Type 0} (key : ℕ → Option K) (order : K → K → Ordering) wh
   pub ascends_without : (xs ys : List ℕ) (p : ℕ) → Ascends key order (xs ++ p ∷ ys) → Ascends key order (xs ++ ys)
   ascends_without xs ys p up =
       ascends_from (xs ++ ys)
-        (all_without (λ q. IsSome (key q)) xs ys p (live_all (xs ++ p ∷ ys) up))
-        (sorted_without (λ a b. order_of order (key a) (key b)) xs ys p (rising (xs ++ p ∷ ys) up))
+      (all_without (λ q. IsSome (key q)) xs ys p (live_all (xs ++ p ∷ ys) up))
+      (sorted_without (λ a b. order_of order (key a) (key b)) xs ys p (rising (xs ++ p ∷ ys) up))
 
   module _ (total : IsTotalOrder order) where
     -- ---- as seen from one key
@@ -157,8 +157,8 @@ module _ {K : Type 0} (key : ℕ → Option K) (order : K → K → Ordering) wh
     ascends_with xs ys p k e a b up =
         let live = live_all (xs ++ ys) up in
         ascends_from (xs ++ p ∷ ys)
-          (all_with (λ q. IsSome (key q)) xs ys p (ap is_some e) live)
-          (sorted_with (λ a b. order_of order (key a) (key b)) xs ys p (before_key p k e xs a) (behind_key p k e ys (all_behind (λ q. IsSome (key q)) xs ys live) b) (rising (xs ++ ys) up))
+        (all_with (λ q. IsSome (key q)) xs ys p (ap is_some e) live)
+        (sorted_with (λ a b. order_of order (key a) (key b)) xs ys p (before_key p k e xs a) (behind_key p k e ys (all_behind (λ q. IsSome (key q)) xs ys live) b) (rising (xs ++ ys) up))
 
     -- ---- only one place of a list has a key equal to this one
     apart : (xs : List ℕ) → Ascends key order xs → (k : K) (i j : ℕ) → i < j → j < length xs → order_of order (key (slice_index xs i)) (Some k) ≡ Equal → order_of order (key (slice_index xs j)) (Some k) ≡ Equal → ⊥

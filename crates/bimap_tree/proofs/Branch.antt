@@ -1,8 +1,8 @@
 -- A place with a tree on the side of a turn, and one on the other.
-use Rattle.std.proofs.Common.{◌≡◌, ℕ, ◌+◌, ◌≤◌, ◌<◌, max, Bool, true, false, not, List, Option, Some, length, refl, sym, ap, ◌∙◌, arith}
+use Rattle.std.proofs.Common.{◌≡◌, ℕ, ◌+◌, ◌≤◌, ◌<◌, max, Bool, true, false, not, List, Some, length, refl, sym, ap, ◌∙◌, arith}
 use Rattle.std.specs.Prelude.{slice_get, slice_set}
 use Rattle.bimap_base.specs.declared.cells.Node.{Node}
-use Rattle.bimap_tree.specs.Tree.{Tree, leaf, fork, height, size, root_of, IsBalanced, node_of, Shows, is_at, occurs, Stands, branch, node_on, near_of, far_of}
+use Rattle.bimap_tree.specs.Tree.{Tree, height, size, root_of, IsBalanced, Shows, is_at, occurs, Stands, branch, node_on, near_of, far_of}
 use Rattle.bimap_base.specs.Packed.{IsThere}
 use Rattle.bimap_tree.specs.Link.{Measures}
 use Rattle.bimap_tree.specs.declared.link.Subtree.{Subtree}
@@ -104,21 +104,27 @@ pub record Opened (ns : List Node) (p : ℕ) (turn : Bool) (node : Node) (t near
 
 pub opened_on : (ns : List Node) (p : ℕ) (turn : Bool) (node : Node) (t : Tree) → Stands ns (Some p) t → slice_get ns p ≡ Some node → (near : Tree) × (far : Tree) × Opened ns p turn node t near far
 opened_on ns p true node t h e =
-    let (l, r, o) = opened ns p node t h e in
-    (r, l, record {
-      is = o.is;
-      node_is = o.node_is;
-      near_stands = record { root_is = sym (ap (λ n. n.right) o.node_is); shown = o.right_shown };
-      far_stands = record { root_is = sym (ap (λ n. n.left) o.node_is); shown = o.left_shown };
-    })
+    let (l, r, o) = opened ns p node t h e in (
+      r,
+      l,
+      record {
+        is = o.is;
+        node_is = o.node_is;
+        near_stands = record { root_is = sym (ap (λ n. n.right) o.node_is); shown = o.right_shown };
+        far_stands = record { root_is = sym (ap (λ n. n.left) o.node_is); shown = o.left_shown };
+      },
+    )
 opened_on ns p false node t h e =
-    let (l, r, o) = opened ns p node t h e in
-    (l, r, record {
-      is = o.is;
-      node_is = o.node_is;
-      near_stands = record { root_is = sym (ap (λ n. n.left) o.node_is); shown = o.left_shown };
-      far_stands = record { root_is = sym (ap (λ n. n.right) o.node_is); shown = o.right_shown };
-    })
+    let (l, r, o) = opened ns p node t h e in (
+      l,
+      r,
+      record {
+        is = o.is;
+        node_is = o.node_is;
+        near_stands = record { root_is = sym (ap (λ n. n.left) o.node_is); shown = o.left_shown };
+        far_stands = record { root_is = sym (ap (λ n. n.right) o.node_is); shown = o.right_shown };
+      },
+    )
 
 -- the root that is told of a tree that the nodes show is there
 pub told_there : (ns : List Node) (told : Subtree) (t : Tree) → Measures told t → Shows ns t → IsThere (length ns) told.root

@@ -1,10 +1,10 @@
 -- Searching down a path.
-use Rattle.std.proofs.Common.{◌≡◌, ℕ, suc, ◌+◌, ◌≤◌, ◌<◌, max, Bool, true, false, List, Option, length, refl, sym, subst, ◌∙◌, ap, arith, length-set}
+use Rattle.std.proofs.Common.{◌≡◌, ℕ, ◌+◌, ◌<◌, max, Bool, List, Option, length, sym, subst, ◌∙◌, ap, arith, length-set}
 use Rattle.std.specs.Prelude.{slice_set}
 use Rattle.std.specs.declared.cmp.Ordering.{Ordering}
 use Rattle.bimap_base.specs.declared.cells.Node.{Node}
 use Rattle.bimap_tree.specs.Tree.{Tree, height, branch}
-use Rattle.bimap_tree.specs.Path.{Path, below, plug, steps, Follows, wanted, Wants}
+use Rattle.bimap_tree.specs.Path.{Path, below, plug, Follows, wanted}
 use Rattle.bimap_tree.specs.Route.{CanFollow, IsFollowed}
 use Rattle.bimap_tree.specs.Search.{CanSeek}
 use Rattle.bimap_tree.proofs.Branch.{height-branch}

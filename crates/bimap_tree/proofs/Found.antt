@@ -1,12 +1,12 @@
 -- What a search of a list finds, in terms of how its places stand to the key.
-use Rattle.std.proofs.Common.{◌≡◌, ◌≢◌, ◌⊎◌, ℕ, zero, suc, ◌+◌, ◌≤◌, ◌<◌, Bool, true, false, cond, List, [], ◌∷◌, length, Option, Some, None, refl, sym, subst, ◌∙◌, ap, arith, inl, inr}
+use Rattle.std.proofs.Common.{◌≡◌, ◌≢◌, ◌⊎◌, ℕ, zero, suc, ◌+◌, ◌≤◌, ◌<◌, cond, List, [], ◌∷◌, Option, Some, None, refl, sym, subst, ◌∙◌, ap, arith, inl, inr}
 use Rattle.std.specs.Prelude.{IfSome, IfNone, slice_get}
 use Rattle.std.specs.List.{Contains}
 use Rattle.std.specs.Ordering.{is_eq, is_lt}
 use Rattle.std.specs.declared.cmp.Ordering.{Ordering}
 use Rattle.std.specs.declared.cmp.Ordering.TheVariants.{Less, Equal, Greater}
-use Rattle.bimap_tree.specs.Order.{told, first_equal, count_below, AllStand, IsSplit, after_key}
-use Rattle.bimap_tree.proofs.Split.{count_none, count_length}
+use Rattle.bimap_tree.specs.Order.{told, first_equal, count_below, AllStand, IsSplit}
+use Rattle.bimap_tree.proofs.Split.{count_none}
 
 pub told_equal : (o : Option Ordering) → told o ≡ Equal → o ≡ Some Equal
 told_equal (Some how) e = ap Some e

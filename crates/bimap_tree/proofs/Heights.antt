@@ -1,10 +1,10 @@
 -- The height of a balanced tree.
-use Rattle.std.proofs.Common.{◌≡◌, ℕ, zero, suc, ◌+◌, ◌*◌, ◌^◌, ◌≤◌, ◌<◌, max, refl, arith, inl, inr}
+use Rattle.std.proofs.Common.{ℕ, zero, suc, ◌+◌, ◌*◌, ◌^◌, ◌≤◌, arith, inl, inr}
 use Rattle.std.proofs.lemmas.Bool.Decides.{leb_tells}
 use Rattle.std.proofs.Math.Nat.{pow-suc}
 use Rattle.std.proofs.lemmas.Nat.{pow_pos}
 use Rattle.bimap_tree.specs.Tree.{Tree, leaf, fork, height, size, IsBalanced}
-use Rattle.bimap_base.specs.Digits.{bits, most_height}
+use Rattle.bimap_base.specs.Digits.{bits}
 use Rattle.bimap_base.proofs.Digits.{bits-enough}
 
 -- a balanced tree of height 2 k - 1 or more has at least 2 ^ k - 1 places

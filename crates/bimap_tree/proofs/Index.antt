@@ -1,8 +1,8 @@
 -- The tree that nodes tell is the one that they show.
-use Rattle.std.proofs.Common.{◌≡◌, ℕ, zero, suc, ◌+◌, ◌^◌, ◌≤◌, ◌<◌, List, Option, Some, None, refl, sym, subst, ap, arith, ◌∙◌}
+use Rattle.std.proofs.Common.{◌≡◌, ℕ, zero, suc, ◌^◌, ◌≤◌, ◌<◌, List, Option, None, refl, sym, subst, ap, arith, ◌∙◌}
 use Rattle.std.specs.Prelude.{slice_get}
 use Rattle.bimap_base.specs.declared.cells.Node.{Node}
-use Rattle.bimap_tree.specs.Tree.{Tree, leaf, fork, height, size, Shows, Stands, root_of, node_of}
+use Rattle.bimap_tree.specs.Tree.{Tree, leaf, fork, height, size, Shows, Stands, root_of}
 use Rattle.bimap_tree.specs.Index.{height_at}
 use Rattle.bimap_tree.specs.Index.{tree_at, tree_in, told_left, told_right, IsIndex, IsWhole}
 use Rattle.bimap_tree.proofs.Shown.{height_told}

@@ -1,13 +1,13 @@
 -- Ways down a tree.
-use Rattle.std.proofs.Common.{◌≡◌, ◌≢◌, ℕ, zero, suc, ◌+◌, ◌≤◌, ◌<◌, max, Bool, true, false, List, [], ◌∷◌, ◌++◌, Option, Some, None, length, refl, sym, subst, ◌∙◌, ap, arith, append_assoc, append-nil, inl, inr, length-set}
+use Rattle.std.proofs.Common.{◌≡◌, ℕ, ◌+◌, ◌≤◌, ◌<◌, Bool, true, false, List, [], ◌∷◌, ◌++◌, length, sym, subst, ◌∙◌, arith, append_assoc, append-nil}
 use Rattle.std.specs.Prelude.{slice_get, slice_set}
 use Rattle.std.specs.declared.cmp.Ordering.{Ordering}
-use Rattle.std.specs.declared.cmp.Ordering.TheVariants.{Less, Equal, Greater}
+use Rattle.std.specs.declared.cmp.Ordering.TheVariants.{Less, Greater}
 use Rattle.bimap_base.specs.declared.cells.Node.{Node}
-use Rattle.bimap_tree.specs.Tree.{Tree, leaf, fork, reading, height, size, occurs, is_at, root_of, IsBalanced, Shows, branch, node_on}
+use Rattle.bimap_tree.specs.Tree.{Tree, fork, reading, height, size, occurs, IsBalanced, Shows, branch, node_on}
 use Rattle.bimap_tree.specs.Order.{AllStand, IsSplit}
 use Rattle.bimap_tree.specs.Path.{Path, top, below, plug, steps, front, back, occurs_on, size_on, Follows, wanted, Wants, Tells, Holds}
-use Rattle.bimap_tree.proofs.Branch.{height-branch, size-branch, occurs-branch, far-node_on, height-node_on, size-node_on, parts, Level, level, IsBalanced-branch}
+use Rattle.bimap_tree.proofs.Branch.{height-branch, size-branch, occurs-branch, far-node_on, height-node_on, size-node_on, parts, level, IsBalanced-branch}
 use Rattle.bimap_tree.proofs.Shown.{is_at-same, Shows-frame, get-written, get-elsewhere}
 use Rattle.bimap_tree.proofs.Split.{split_below, split_above}
 
@@ -68,8 +68,8 @@ Follows-noted places turns path turn p sister a b h = (
   get-written places (steps path) p a,
   get-written turns (steps path) turn b,
   Follows-frame places (slice_set places (steps path) p) turns (slice_set turns (steps path) turn) path
-    (λ i l. get-elsewhere places (steps path) i p (λ e. absurd (omega arith)))
-    (λ i l. get-elsewhere turns (steps path) i turn (λ e. absurd (omega arith))) h,
+      (λ i l. get-elsewhere places (steps path) i p (λ e. absurd (omega arith)))
+      (λ i l. get-elsewhere turns (steps path) i turn (λ e. absurd (omega arith))) h,
 )
 
 -- ---- what stands before the path's end is below the key, and what stands behind it is above
@@ -114,8 +114,8 @@ Holds-alike ns (below up turn p sister) s t a b h =
       (h.0.0, h.0.1, record { far_is = told.far_is; height_is = omega arith; size_is = omega arith }),
       h.1,
       Holds-alike ns up (branch turn s p sister) (branch turn t p sister)
-        (omega (arith, height-branch turn s p sister, height-branch turn t p sister, a))
-        (omega (arith, size-branch turn s p sister, size-branch turn t p sister, b)) h.2,
+          (omega (arith, height-branch turn s p sister, height-branch turn t p sister, a))
+          (omega (arith, size-branch turn s p sister, size-branch turn t p sister, b)) h.2,
     )
 
 -- a subtree of the same height keeps the whole in balance
@@ -126,4 +126,4 @@ IsBalanced-alike (below up turn p sister) s t same b h =
     let l1 = lv.near_level in
     let l2 = lv.far_level in
     IsBalanced-alike up (branch turn s p sister) (branch turn t p sister) (omega (arith, height-branch turn s p sister, height-branch turn t p sister, same))
-      (IsBalanced-branch turn t p sister record { near_level = omega arith; far_level = omega arith; near_balanced = b; far_balanced = lv.far_balanced }) h
+    (IsBalanced-branch turn t p sister record { near_level = omega arith; far_level = omega arith; near_balanced = b; far_balanced = lv.far_balanced }) h

@@ -1,9 +1,9 @@
 -- Places by their rank.
-use Rattle.std.proofs.Common.{◌≡◌, ◌≢◌, ℕ, zero, suc, ◌+◌, ◌-◌, ◌*◌, ◌≤◌, ◌<◌, max, List, [], ◌∷◌, ◌++◌, Option, Some, None, length, refl, sym, subst, ◌∙◌, ap, arith, zero-add}
+use Rattle.std.proofs.Common.{◌≡◌, ℕ, zero, suc, ◌+◌, ◌<◌, List, [], ◌∷◌, ◌++◌, Option, Some, length, refl, sym, ◌∙◌, ap, arith, zero-add}
 use Rattle.std.specs.Prelude.{slice_get}
 use Rattle.bimap_base.specs.declared.cells.Node.{Node}
-use Rattle.bimap_tree.specs.Tree.{Tree, leaf, fork, reading, height, size, node_of, Stands}
-use Rattle.bimap_tree.proofs.Shown.{opened, Opened, left_stands, right_stands, Stands-at}
+use Rattle.bimap_tree.specs.Tree.{Tree, fork, reading, height, size, Stands}
+use Rattle.bimap_tree.proofs.Shown.{opened, left_stands, right_stands, Stands-at}
 use Rattle.bimap_tree.proofs.Shown.{size-reading, height_told}
 use Rattle.bimap_tree.specs.Index.{height_at}
 

@@ -1,15 +1,15 @@
 -- Taking out the place at a path's end.
-use Rattle.std.proofs.Common.{◌≡◌, ◌≢◌, ℕ, zero, suc, ◌+◌, ◌^◌, ◌≤◌, ◌<◌, max, Bool, true, false, not, List, [], ◌∷◌, ◌++◌, Option, Some, None, length, refl, sym, subst, ◌∙◌, ap, arith, append_assoc, append-nil, length-set}
+use Rattle.std.proofs.Common.{◌≡◌, ℕ, suc, ◌+◌, ◌^◌, ◌≤◌, ◌<◌, Bool, true, false, not, List, [], ◌∷◌, ◌++◌, Option, Some, None, length, refl, sym, subst, ◌∙◌, ap, arith, append_assoc, append-nil, length-set}
 use Rattle.std.specs.Prelude.{is_some, slice_get, slice_set}
 use Rattle.std.proofs.lemmas.Option.{slice_get_within}
 use Rattle.bimap_base.specs.declared.cells.Node.{Node}
 use Rattle.bimap_base.specs.Packed.{IsThere}
-use Rattle.bimap_tree.specs.Tree.{Tree, leaf, fork, reading, height, size, occurs, is_at, root_of, node_of, IsBalanced, IsDistinctTree, Shows, Stands, branch, node_on}
+use Rattle.bimap_tree.specs.Tree.{Tree, leaf, fork, reading, height, size, occurs, is_at, root_of, node_of, IsBalanced, Shows, Stands}
 use Rattle.bimap_tree.specs.Path.{Path, top, below, plug, steps, front, back, occurs_on, size_on, Follows, Tells, Holds, Moves, CanRise, IsRisen}
 use Rattle.bimap_tree.specs.Remove.{hang, onward, FollowsOn, CanDescend, IsFirst, CanTake, IsTaken}
 use Rattle.bimap_tree.specs.declared.route.Route.{Route}
 use Rattle.bimap_tree.proofs.Paths.{occurs-plug, size-plug, reading-plug, steps_within, balanced_inside, tells, holds_of, Holds-frame, Holds-alike, IsBalanced-alike, Follows-frame, Follows-noted}
-use Rattle.bimap_tree.proofs.Shown.{is_at-same, is_at-apart, Shows-frame, get-written, get-elsewhere, opened, Opened, left_stands, right_stands, Stands-at, height_told, in_tree, there}
+use Rattle.bimap_tree.proofs.Shown.{is_at-same, is_at-apart, Shows-frame, get-written, get-elsewhere, opened, left_stands, Stands-at, height_told, there}
 use Rattle.bimap_tree.specs.Index.{height_at}
 
 -- a tree with no root has no place
@@ -36,46 +36,55 @@ module _ (nodes : List Node) (at depth : ℕ) (node : Node) (s : Tree) (h : CanD
   descent =
       let (l, r, o) = opened nodes at node s h.tree told in
       let stands = left_stands nodes at node s l r o in
-      let tall = ap height o.is in
-      (l, r, record {
-        is = o.is;
-        left_stands = stands;
-        here = omega (arith, h.deep, tall);
-        deeper = omega (arith, h.deep, tall);
-        lower = omega (arith, height_told nodes (Some at) s h.tree, height_told nodes node.left l stands, tall);
-        low = omega (arith, tall);
-      })
+      let tall = ap height o.is in (
+        l,
+        r,
+        record {
+          is = o.is;
+          left_stands = stands;
+          here = omega (arith, h.deep, tall);
+          deeper = omega (arith, h.deep, tall);
+          lower = omega (arith, height_told nodes (Some at) s h.tree, height_told nodes node.left l stands, tall);
+          low = omega (arith, tall);
+        },
+      )
 
   -- it is this place, which has no left child
   pub first_here : node.left ≡ None → (route : Route) → (lefts : List (ℕ × Tree)) × (rest : Tree) × IsFirst route route depth s at depth lefts rest
   first_here none route =
       let (l, r, d) = descent in
-      let no = no_root l (d.left_stands.root_is ∙ none) in
-      ([], r, record {
-        whole = d.is ∙ ap (λ x. fork x at r) no;
-        low_is = omega arith;
-        follows = tt;
-        same_places = λ i few. refl;
-        same_turns = λ i few. refl;
-        as_long = (refl, refl);
-      })
+      let no = no_root l (d.left_stands.root_is ∙ none) in (
+        [],
+        r,
+        record {
+          whole = d.is ∙ ap (λ x. fork x at r) no;
+          low_is = omega arith;
+          follows = tt;
+          same_places = λ i few. refl;
+          same_turns = λ i few. refl;
+          as_long = (refl, refl);
+        },
+      )
 
   -- it is the first place of the left tree
   pub first_left : (old mid new : Route) (l r : Tree) → Descent l r → mid.places ≡ slice_set old.places depth at → mid.turns ≡ slice_set old.turns depth false → depth < length old.places → depth < length old.turns → (first low : ℕ) → (lefts : List (ℕ × Tree)) × (rest : Tree) × IsFirst mid new (depth + 1) l first low lefts rest → (lefts : List (ℕ × Tree)) × (rest : Tree) × IsFirst old new depth s first low lefts rest
   first_left old mid new l r d e f a b first low (lefts, rest, i) =
-      let next : depth + 1 ≡ suc depth = omega arith in
-      ((at, r) ∷ lefts, rest, record {
-        whole = d.is ∙ ap (λ x. fork x at r) i.whole;
-        low_is = omega (arith, i.low_is);
-        follows = (
-          i.same_places depth (omega arith) ∙ ap (λ x. slice_get x depth) e ∙ get-written old.places depth at a,
-          i.same_turns depth (omega arith) ∙ ap (λ x. slice_get x depth) f ∙ get-written old.turns depth false b,
-          subst (λ x. FollowsOn new.places new.turns x lefts) next i.follows,
-        );
-        same_places = λ j few. i.same_places j (omega arith) ∙ ap (λ x. slice_get x j) e ∙ get-elsewhere old.places depth j at (λ w. absurd (omega arith));
-        same_turns = λ j few. i.same_turns j (omega arith) ∙ ap (λ x. slice_get x j) f ∙ get-elsewhere old.turns depth j false (λ w. absurd (omega arith));
-        as_long = (i.as_long.0 ∙ ap length e ∙ length-set old.places depth at, i.as_long.1 ∙ ap length f ∙ length-set old.turns depth false);
-      })
+      let next : depth + 1 ≡ suc depth = omega arith in (
+        (at, r) ∷ lefts,
+        rest,
+        record {
+          whole = d.is ∙ ap (λ x. fork x at r) i.whole;
+          low_is = omega (arith, i.low_is);
+          follows = (
+            i.same_places depth (omega arith) ∙ ap (λ x. slice_get x depth) e ∙ get-written old.places depth at a,
+            i.same_turns depth (omega arith) ∙ ap (λ x. slice_get x depth) f ∙ get-written old.turns depth false b,
+            subst (λ x. FollowsOn new.places new.turns x lefts) next i.follows,
+          );
+          same_places = λ j few. i.same_places j (omega arith) ∙ ap (λ x. slice_get x j) e ∙ get-elsewhere old.places depth j at (λ w. absurd (omega arith));
+          same_turns = λ j few. i.same_turns j (omega arith) ∙ ap (λ x. slice_get x j) f ∙ get-elsewhere old.turns depth j false (λ w. absurd (omega arith));
+          as_long = (i.as_long.0 ∙ ap length e ∙ length-set old.places depth at, i.as_long.1 ∙ ap length f ∙ length-set old.turns depth false);
+        },
+      )
 
 -- ---- turns to the left
 plug-onward : (path : Path) (lefts : List (ℕ × Tree)) (t : Tree) → plug (onward path lefts) t ≡ plug path (hang lefts t)
@@ -200,25 +209,29 @@ module _ (nodes : List Node) (route : Route) (path : Path) (l : Tree) (at : ℕ)
 
   pub taken_right : (node : Node) → slice_get nodes at ≡ Some node → node.left ≡ None → (new : List Node) (root : Option ℕ) → (v : Tree) × IsRisen nodes new path r root v → (v : Tree) × IsTaken nodes new path l r root v
   taken_right node e none new root (v, i) =
-      let no = no_root l ((left_tree node e).root_is ∙ none) in
-      (v, record {
-        tree = i.tree;
-        in_order = i.in_order ∙ ap (λ x. x ++ reading r ++ back path) (sym (ap (λ x. front path ++ reading x) no ∙ append-nil (front path)));
-        same_places = λ q. omega (arith, i.same_places q, ap (λ x. occurs q x) no);
-        balanced = i.balanced;
-        same_length = i.same_length;
-      })
+      let no = no_root l ((left_tree node e).root_is ∙ none) in (
+        v,
+        record {
+          tree = i.tree;
+          in_order = i.in_order ∙ ap (λ x. x ++ reading r ++ back path) (sym (ap (λ x. front path ++ reading x) no ∙ append-nil (front path)));
+          same_places = λ q. omega (arith, i.same_places q, ap (λ x. occurs q x) no);
+          balanced = i.balanced;
+          same_length = i.same_length;
+        },
+      )
 
   pub taken_left : (node : Node) → slice_get nodes at ≡ Some node → node.right ≡ None → (new : List Node) (root : Option ℕ) → (v : Tree) × IsRisen nodes new path l root v → (v : Tree) × IsTaken nodes new path l r root v
   taken_left node e none new root (v, i) =
-      let no = no_root r ((right_tree node e).root_is ∙ none) in
-      (v, record {
-        tree = i.tree;
-        in_order = i.in_order ∙ ap (λ x. x ++ back path) (sym (ap (λ x. (front path ++ reading l) ++ reading x) no ∙ append-nil (front path ++ reading l)));
-        same_places = λ q. omega (arith, i.same_places q, ap (λ x. occurs q x) no);
-        balanced = i.balanced;
-        same_length = i.same_length;
-      })
+      let no = no_root r ((right_tree node e).root_is ∙ none) in (
+        v,
+        record {
+          tree = i.tree;
+          in_order = i.in_order ∙ ap (λ x. x ++ back path) (sym (ap (λ x. (front path ++ reading l) ++ reading x) no ∙ append-nil (front path ++ reading l)));
+          same_places = λ q. omega (arith, i.same_places q, ap (λ x. occurs q x) no);
+          balanced = i.balanced;
+          same_length = i.same_length;
+        },
+      )
 
   -- the way to the right tree's first place
   pub can_descend : (node : Node) → slice_get nodes at ≡ Some node → (right : ℕ) → node.right ≡ Some right → (depth : ℕ) → depth ≡ route.depth → CanDescend nodes right (depth + 1) r
@@ -308,18 +321,21 @@ module _ (nodes : List Node) (route : Route) (path : Path) (l : Tree) (at first 
         }
 
     pub taken_first : (last : List Node) (root : Option ℕ) → (v : Tree) × IsRisen new last (onward (below path true first l) lefts) rest root v → (v : Tree) × IsTaken nodes last path l (hang lefts (fork leaf first rest)) root v
-    taken_first last root (v, i) = (v, record {
-      tree = i.tree;
-      in_order = i.in_order
-        ∙ sym (reading-plug (onward (below path true first l) lefts) rest)
-        ∙ ap reading (as_whole rest)
-        ∙ reading-plug path (fork l first (hang lefts rest))
-        ∙ ap (λ x. front path ++ (reading l ++ x) ++ back path) (sym (reading-hang lefts first rest))
-        ∙ ap (λ x. x ++ back path) (sym (append_assoc (front path) (reading l) (reading (hang lefts (fork leaf first rest)))));
-      same_places = λ q. omega (arith, i.same_places q, occurs-plug q (onward (below path true first l) lefts) rest, ap (λ x. occurs q x) (as_whole rest), occurs-plug q path (fork l first (hang lefts rest)), occurs-hang q lefts rest, occurs-hang q lefts (fork leaf first rest));
-      balanced = i.balanced;
-      same_length = i.same_length ∙ ap length e ∙ length-set nodes first node;
-    })
+    taken_first last root (v, i) = (
+      v,
+      record {
+        tree = i.tree;
+        in_order = i.in_order
+            ∙ sym (reading-plug (onward (below path true first l) lefts) rest)
+            ∙ ap reading (as_whole rest)
+            ∙ reading-plug path (fork l first (hang lefts rest))
+            ∙ ap (λ x. front path ++ (reading l ++ x) ++ back path) (sym (reading-hang lefts first rest))
+            ∙ ap (λ x. x ++ back path) (sym (append_assoc (front path) (reading l) (reading (hang lefts (fork leaf first rest)))));
+        same_places = λ q. omega (arith, i.same_places q, occurs-plug q (onward (below path true first l) lefts) rest, ap (λ x. occurs q x) (as_whole rest), occurs-plug q path (fork l first (hang lefts rest)), occurs-hang q lefts rest, occurs-hang q lefts (fork leaf first rest));
+        balanced = i.balanced;
+        same_length = i.same_length ∙ ap length e ∙ length-set nodes first node;
+      },
+    )
 
 -- the route that was noted to the first place
 pub first_followed : (path : Path) (l : Tree) (old mid : Route) (places : List ℕ) (turns : List Bool) (depth first low : ℕ) (s : Tree) (lefts : List (ℕ × Tree)) (rest : Tree) → Follows old.places old.turns path → depth ≡ steps path → IsFirst old mid (depth + 1) s first low lefts rest → depth < length old.places → depth < length old.turns → places ≡ slice_set mid.places depth first → turns ≡ slice_set mid.turns depth true → Follows places turns (onward (below path true first l) lefts) × (low ≡ steps (onward (below path true first l) lefts))

@@ -1,15 +1,15 @@
 -- Going up a path.
-use Rattle.std.proofs.Common.{◌≡◌, ◌≢◌, ℕ, zero, suc, ◌+◌, ◌-◌, ◌^◌, ◌≤◌, ◌<◌, max, Bool, true, false, not, List, [], ◌∷◌, ◌++◌, Option, Some, None, length, refl, sym, subst, ◌∙◌, ap, arith, append_assoc, append-nil, inl, inr, length-set}
+use Rattle.std.proofs.Common.{◌≡◌, ◌≢◌, ℕ, ◌+◌, ◌-◌, ◌^◌, ◌≤◌, ◌<◌, max, Bool, true, false, not, List, ◌++◌, Option, Some, length, refl, sym, subst, ◌∙◌, ap, arith, append_assoc, append-nil, inl, inr, length-set}
 use Rattle.std.specs.Prelude.{slice_get, slice_set}
 use Rattle.std.proofs.lemmas.Option.{slice_get_within}
 use Rattle.std.proofs.lemmas.Bool.Decides.{leb_tells}
 use Rattle.bimap_base.specs.declared.cells.Node.{Node}
 use Rattle.bimap_base.specs.Packed.{IsThere}
-use Rattle.bimap_tree.specs.Tree.{Tree, leaf, fork, reading, height, size, occurs, is_at, root_of, IsBalanced, Shows, Stands, branch, node_on, near_of, far_of}
+use Rattle.bimap_tree.specs.Tree.{Tree, leaf, fork, reading, height, size, root_of, Stands, branch, node_on, near_of, far_of}
 use Rattle.bimap_tree.specs.Link.{CanRebalance, IsRebalanced}
-use Rattle.bimap_tree.specs.Path.{Path, top, below, plug, steps, front, back, occurs_on, size_on, Follows, Tells, Holds, one_if, Moves, CanRise, CanRelink, CanPut, IsRisen}
-use Rattle.bimap_tree.proofs.Branch.{height-branch, size-branch, occurs-branch, root-branch, height-node_on, size-node_on, near-node_on, far-node_on, node_is, level, Level, IsBalanced-branch, Shows-branch, Shows-linked}
-use Rattle.bimap_tree.proofs.Paths.{balanced_inside, Holds-frame, holds_of, occurs-plug, size-plug}
+use Rattle.bimap_tree.specs.Path.{Path, top, below, steps, front, back, Tells, one_if, Moves, CanRise, CanRelink, CanPut, IsRisen}
+use Rattle.bimap_tree.proofs.Branch.{height-branch, size-branch, height-node_on, size-node_on, near-node_on, far-node_on, node_is, level, Shows-linked}
+use Rattle.bimap_tree.proofs.Paths.{balanced_inside, Holds-frame, holds_of}
 use Rattle.bimap_tree.proofs.Rotate.{no_rotation}
 use Rattle.bimap_tree.proofs.Shown.{is_at-same, is_at-apart, get-elsewhere, size-reading, there, Stands-at}
 
@@ -83,10 +83,10 @@ module _ (nodes : List Node) (at : ℕ) (turn grew : Bool) (node : Node) (sister
       let same_height : more.height ≡ max (height u) (height sister) + 1 = omega (arith, tall, h.told.height_is, even) in
       let same_size : more.size ≡ size u + size sister + 1 = omega (arith, counted, h.told.size_is, m1) in
       let is : more ≡ node_on turn u sister = node_is turn more (node_on turn u sister)
-        (near ∙ sym (near-node_on turn u sister))
-        (far ∙ h.told.far_is ∙ sym (far-node_on turn u sister))
-        (same_height ∙ sym (height-node_on turn u sister))
-        (same_size ∙ sym (size-node_on turn u sister)) in
+      (near ∙ sym (near-node_on turn u sister))
+      (far ∙ h.told.far_is ∙ sym (far-node_on turn u sister))
+      (same_height ∙ sym (height-node_on turn u sister))
+      (same_size ∙ sym (size-node_on turn u sister)) in
       record {
         linked = no_rotation nodes new turn at u sister can_rebalance l1 l2 (e ∙ ap (λ x. slice_set nodes at x) is);
         height_is = same_height ∙ sym (height-branch turn u at sister);
@@ -122,8 +122,8 @@ module _ (nodes : List Node) (at : ℕ) (turn grew : Bool) (node : Node) (sister
   pub children_there : (more : Node) (child : Option ℕ) → root_of u ≡ child → near_of turn more ≡ child → far_of turn more ≡ far_of turn node → IsThere (length nodes) more.left × IsThere (length nodes) more.right
   children_there more child root near far =
       both_there (length nodes) turn more
-        (there nodes (near_of turn more) u record { root_is = root ∙ sym near; shown = h.shown })
-        (there nodes (far_of turn more) sister (Stands-at nodes (far_of turn node) (far_of turn more) sister (sym far) sister_stands))
+      (there nodes (near_of turn more) u record { root_is = root ∙ sym near; shown = h.shown })
+      (there nodes (far_of turn more) sister (Stands-at nodes (far_of turn node) (far_of turn more) sister (sym far) sister_stands))
 
   -- the node's count can be told
   pub counts : (node.size + one_if grew < 2 ^ 64) × (one_if (not grew) ≤ node.size)
@@ -203,13 +203,16 @@ risen_on nodes new last path up turn at sister u t root v is b r =
 
 -- the way up is at its end
 pub at_top : (nodes : List Node) (places : List ℕ) (turns : List Bool) (path : Path) (grew : Bool) (s u : Tree) (depth : ℕ) (root : Option ℕ) → CanRise nodes places turns path grew s u → depth ≡ steps path → depth ≡ 0 → root_of u ≡ root → (v : Tree) × IsRisen nodes nodes path u root v
-at_top nodes places turns top grew s u depth root c e n r = (u, record {
-  tree = record { root_is = r; shown = c.shown };
-  in_order = sym (append-nil (reading u));
-  same_places = λ q. omega arith;
-  balanced = c.balanced;
-  same_length = refl;
-})
+at_top nodes places turns top grew s u depth root c e n r = (
+  u,
+  record {
+    tree = record { root_is = r; shown = c.shown };
+    in_order = sym (append-nil (reading u));
+    same_places = λ q. omega arith;
+    balanced = c.balanced;
+    same_length = refl;
+  },
+)
 at_top nodes places turns (below up turn p sister) grew s u depth root c e n r = absurd (omega (arith, e, n))
 
 -- ---- a place alone at a path's end

@@ -1,8 +1,8 @@
 -- A tree has no more places than there are nodes.
-use Rattle.std.proofs.Common.{◌≡◌, ◌≢◌, ℕ, zero, suc, ◌+◌, ◌≤◌, ◌<◌, List, Some, None, length, refl, sym, ap, arith, inl, inr}
-use Rattle.std.proofs.lemmas.Bool.Decides.{eqb_tells, leb_tells}
+use Rattle.std.proofs.Common.{◌≡◌, ◌≢◌, ℕ, zero, suc, ◌+◌, ◌≤◌, ◌<◌, List, length, refl, ap, arith, inl, inr}
+use Rattle.std.proofs.lemmas.Bool.Decides.{eqb_tells}
 use Rattle.bimap_base.specs.declared.cells.Node.{Node}
-use Rattle.bimap_tree.specs.Tree.{Tree, leaf, fork, size, occurs, is_at, Shows, IsDistinctTree}
+use Rattle.bimap_tree.specs.Tree.{Tree, leaf, fork, size, occurs, is_at, Shows}
 use Rattle.bimap_tree.proofs.Shown.{is_at-same, is_at-other}
 use Rattle.bimap_tree.proofs.Shown.{in_tree}
 

@@ -1,12 +1,12 @@
 -- The rotations of a tree that is two levels higher on the side of a turn.
-use Rattle.std.proofs.Common.{◌≡◌, ℕ, ◌+◌, ◌^◌, ◌≤◌, ◌<◌, max, Bool, true, false, not, List, [], ◌∷◌, ◌++◌, Option, Some, None, refl, sym, subst, ◌∙◌, ap, arith, length, append_assoc, length-set}
+use Rattle.std.proofs.Common.{◌≡◌, ℕ, ◌+◌, ◌^◌, ◌≤◌, ◌<◌, Bool, true, false, not, List, ◌∷◌, Option, Some, refl, sym, subst, ◌∙◌, ap, arith, length, append_assoc, length-set}
 use Rattle.std.specs.Prelude.{slice_get, slice_set}
 use Rattle.std.proofs.lemmas.Option.{slice_get_within}
 use Rattle.bimap_base.specs.declared.cells.Node.{Node}
-use Rattle.bimap_tree.specs.Tree.{Tree, leaf, fork, reading, height, size, root_of, IsBalanced, Shows, Stands, is_at, occurs, branch, node_on, near_of, far_of}
+use Rattle.bimap_tree.specs.Tree.{Tree, reading, height, size, root_of, Shows, Stands, is_at, occurs, branch, node_on, near_of, far_of}
 use Rattle.bimap_tree.specs.Link.{CanLink, CanRebalance, IsRebalanced}
-use Rattle.bimap_tree.proofs.Shown.{is_at-same, is_at-apart, Shows-keeps, get-elsewhere, Stands-at, root_within}
-use Rattle.bimap_tree.proofs.Branch.{branch-not, height-branch, size-branch, occurs-branch, Parts, parts, Level, level, IsBalanced-branch, Shows-linked, opened_on}
+use Rattle.bimap_tree.proofs.Shown.{is_at-same, is_at-apart, Shows-keeps, get-elsewhere, Stands-at}
+use Rattle.bimap_tree.proofs.Branch.{branch-not, height-branch, size-branch, occurs-branch, Parts, parts, level, IsBalanced-branch, Shows-linked, opened_on}
 
 single_reading : (turn : Bool) (a : Tree) (heavy : ℕ) (b : Tree) (place : ℕ) (r : Tree) → reading (branch turn a heavy (branch turn b place r)) ≡ reading (branch turn (branch turn a heavy b) place r)
 single_reading true a heavy b place r = append_assoc (reading r) (place ∷ reading b) (heavy ∷ reading a)
@@ -213,13 +213,16 @@ module _ (turn : Bool) (N0 : List Node) (place heavy : ℕ) (upper_node : Node) 
 
   pub upper_of : CanRebalance N0 place n f → root_of n ≡ Some heavy → slice_get N0 heavy ≡ Some upper_node → outer ≡ near_of turn upper_node → inner_root ≡ far_of turn upper_node → (a : Tree) × (b : Tree) × Upper a b
   upper_of h root e near far =
-      let (a, b, o) = opened_on N0 heavy turn upper_node n record { root_is = root; shown = h.link.near_shown } e in
-      (a, b, record {
-        is = o.is;
-        outer_stands = Stands-at N0 (near_of turn upper_node) outer a (sym near) o.near_stands;
-        inner_stands = Stands-at N0 (far_of turn upper_node) inner_root b (sym far) o.far_stands;
-        can = subst (λ x. CanRebalance N0 place x f) o.is h;
-      })
+      let (a, b, o) = opened_on N0 heavy turn upper_node n record { root_is = root; shown = h.link.near_shown } e in (
+        a,
+        b,
+        record {
+          is = o.is;
+          outer_stands = Stands-at N0 (near_of turn upper_node) outer a (sym near) o.near_stands;
+          inner_stands = Stands-at N0 (far_of turn upper_node) inner_root b (sym far) o.far_stands;
+          can = subst (λ x. CanRebalance N0 place x f) o.is h;
+        },
+      )
 
   -- the two trees of the inner one
   pub record Inner (middle : ℕ) (near far : Option ℕ) (a b d : Tree) : Type 0 where
@@ -232,15 +235,18 @@ module _ (turn : Bool) (N0 : List Node) (place heavy : ℕ) (upper_node : Node) 
 
   pub inner_of : (a b : Tree) → Upper a b → (middle : ℕ) → inner_root ≡ Some middle → (inner_node : Node) → slice_get N0 middle ≡ Some inner_node → (near far : Option ℕ) → near ≡ near_of turn inner_node → far ≡ far_of turn inner_node → (b2 : Tree) × (d : Tree) × Inner middle near far a b2 d
   inner_of a b u middle some inner_node e near far en ef =
-      let (b2, d, o) = opened_on N0 middle turn inner_node b (Stands-at N0 inner_root (Some middle) b some u.inner_stands) e in
-      (b2, d, record {
-        is = u.is ∙ ap (λ x. branch turn a heavy x) o.is;
-        outer_stands = u.outer_stands;
-        inner_stands = subst (λ x. Stands N0 inner_root x) o.is u.inner_stands;
-        near_stands = Stands-at N0 (near_of turn inner_node) near b2 (sym en) o.near_stands;
-        far_stands = Stands-at N0 (far_of turn inner_node) far d (sym ef) o.far_stands;
-        can = subst (λ x. CanRebalance N0 place (branch turn a heavy x) f) o.is u.can;
-      })
+      let (b2, d, o) = opened_on N0 middle turn inner_node b (Stands-at N0 inner_root (Some middle) b some u.inner_stands) e in (
+        b2,
+        d,
+        record {
+          is = u.is ∙ ap (λ x. branch turn a heavy x) o.is;
+          outer_stands = u.outer_stands;
+          inner_stands = subst (λ x. Stands N0 inner_root x) o.is u.inner_stands;
+          near_stands = Stands-at N0 (near_of turn inner_node) near b2 (sym en) o.near_stands;
+          far_stands = Stands-at N0 (far_of turn inner_node) far d (sym ef) o.far_stands;
+          can = subst (λ x. CanRebalance N0 place (branch turn a heavy x) f) o.is u.can;
+        },
+      )
 
 -- the same, said of an equal tree
 pub rebalanced_of : (old new : List Node) (turn : Bool) (place : ℕ) (n x f t : Tree) → n ≡ x → IsRebalanced old new turn place x f t → IsRebalanced old new turn place n f t

@@ -1,13 +1,12 @@
 -- Trees that nodes show.
-use Rattle.std.proofs.Common.{◌≡◌, ◌≢◌, ℕ, zero, suc, ◌+◌, ◌≤◌, ◌<◌, max, Bool, true, false, cond, eqb, List, [], ◌∷◌, ◌++◌, Option, Some, None, refl, sym, subst, ◌∙◌, ap, arith, rules, length, length-append, length-set, inl, inr}
+use Rattle.std.proofs.Common.{◌≡◌, ◌≢◌, ℕ, zero, suc, ◌+◌, ◌≤◌, ◌<◌, List, [], ◌∷◌, Option, Some, None, refl, sym, ◌∙◌, ap, arith, length, length-append, inl, inr}
 use Rattle.std.specs.Prelude.{slice_get, slice_set}
-use Rattle.std.proofs.lemmas.Grind.{common_steps}
 use Rattle.std.proofs.lemmas.Bool.{eq-eqb}
 use Rattle.std.proofs.lemmas.Option.{slice_get_within}
 use Rattle.std.proofs.lemmas.Bool.Decides.{eqb_tells, leb_tells}
 use Rattle.bimap_base.specs.declared.cells.Node.{Node}
 use Rattle.bimap_base.specs.Packed.{IsThere}
-use Rattle.bimap_tree.specs.Tree.{Tree, leaf, fork, reading, height, size, root_of, node_of, Shows, is_at, occurs, IsDistinctTree, Stands}
+use Rattle.bimap_tree.specs.Tree.{Tree, leaf, fork, reading, height, size, node_of, Shows, is_at, occurs, IsDistinctTree, Stands}
 use Rattle.bimap_tree.specs.Index.{height_at}
 
 pub is_at-same : (p : ℕ) → is_at p p ≡ 1

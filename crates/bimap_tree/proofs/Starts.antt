@@ -1,16 +1,15 @@
 -- Where a range of keys begins.
-use Rattle.std.proofs.Common.{◌≡◌, ◌≢◌, ◌⊎◌, ℕ, ◌+◌, ◌≤◌, ◌<◌, List, length, Option, Some, None, refl, sym, subst, ◌∙◌, ap, arith, inl, inr, true, false}
+use Rattle.std.proofs.Common.{◌≡◌, ◌≢◌, ◌⊎◌, ℕ, List, Option, Some, None, refl, sym, subst, ◌∙◌, ap, arith, inl, inr, true, false}
 use Rattle.std.specs.Prelude.{IsSome, slice_get, slice_index, option_map}
 use Rattle.std.specs.Borrow.{Bor}
 use Rattle.std.specs.Cmp.{IsTotalOrder}
 use Rattle.std.specs.declared.cmp.Ordering.{Ordering}
 use Rattle.std.specs.declared.cmp.Ordering.TheVariants.{Less, Equal, Greater}
-use Rattle.std.specs.declared.ops.Bound.{Bound}
 use Rattle.std.specs.declared.ops.Bound.TheVariants.{Included, Excluded, Unbounded}
 use Rattle.std.proofs.lemmas.Option.{get_or_from_slice_get, slice_get_within}
 use Rattle.bimap_base.specs.Keyed.{standing, Ascends}
 use Rattle.bimap_tree.specs.Order.{told, order_of, after_key, count_below}
-use Rattle.bimap_tree.specs.Start.{LetsIn, IsStart}
+use Rattle.bimap_tree.specs.Start.{IsStart}
 use Rattle.bimap_tree.proofs.Ascending.{split, split_after}
 use Rattle.bimap_tree.proofs.Found.{below_first, not_below}
 use Rattle.bimap_tree.proofs.Split.{count_length}

@@ -1,19 +1,18 @@
 -- The fields of an index, and what it shows.
-use Rattle.std.proofs.Common.{◌≡◌, ◌≢◌, ℕ, suc, ◌+◌, ◌-◌, ◌*◌, ◌^◌, ◌≤◌, ◌<◌, Bool, true, false, List, [], ◌∷◌, ◌++◌, Option, Some, None, length, refl, sym, subst, ◌∙◌, ap, arith, append_assoc, append-nil}
+use Rattle.std.proofs.Common.{◌≡◌, ℕ, ◌+◌, ◌-◌, ◌*◌, ◌^◌, ◌≤◌, ◌<◌, Bool, List, [], ◌∷◌, ◌++◌, Option, Some, None, length, refl, sym, subst, ◌∙◌, ap, arith, append_assoc, append-nil}
 use Rattle.std.specs.Prelude.{IsSome, IfNone, slice_get}
 use Rattle.std.specs.Cmp.{IsTotalOrder}
-use Rattle.std.specs.List.{AllByRecursion, Contains}
+use Rattle.std.specs.List.{Contains}
 use Rattle.std.specs.declared.cmp.Ordering.{Ordering}
-use Rattle.std.specs.declared.cmp.Ordering.TheVariants.{Less, Equal, Greater}
-use Rattle.std.proofs.lemmas.Bool.Decides.{eqb_tells, leb_tells}
+use Rattle.std.specs.declared.cmp.Ordering.TheVariants.{Equal}
 use Rattle.bimap_base.specs.declared.cells.Node.{Node}
 use Rattle.bimap_base.specs.Digits.{bits, most_height}
 use Rattle.bimap_base.specs.Keyed.{standing, Ascends, Adds, Drops}
 use Rattle.bimap_base.proofs.Digits.{bits-least}
 use Rattle.bimap_tree.specs.Tree.{Tree, leaf, fork, reading, height, size, root_of, occurs, is_at, IsBalanced, IsDistinctTree, Stands, Shows}
 use Rattle.bimap_tree.specs.Index.{Index, IsIndex, IsBalancedIndex, IsWhole, index_of, tree_in}
-use Rattle.bimap_tree.specs.Order.{told, order_of, after_key, first_equal, IsSplit, AllStand}
-use Rattle.bimap_tree.specs.Path.{Path, top, plug, steps, front, back, occurs_on, size_on, Follows, Wants, CanPut, IsRisen}
+use Rattle.bimap_tree.specs.Order.{told, order_of, after_key, first_equal, IsSplit}
+use Rattle.bimap_tree.specs.Path.{Path, top, plug, front, back, Wants, CanPut, IsRisen}
 use Rattle.bimap_tree.specs.Remove.{CanTake, IsTaken}
 use Rattle.bimap_tree.specs.Route.{IsRoute, CanFollow, IsFollowed}
 use Rattle.bimap_tree.specs.Search.{CanSeek}
@@ -207,8 +206,8 @@ module _ (ns : List Node) (root : Option ℕ) (len : ℕ) (v : Index) (w : IsWho
         pub put_whole : IsWhole ms last (len + 1)
         put_whole =
             whole_of ms last (len + 1) done.0
-              (record { tree = done.1.tree; balanced = done.1.balanced; distinct = λ q. omega (arith, one_more q, with_absent (plug r.path leaf) place q at_fields.distinct none) })
-              (sym sized) len_fits
+            (record { tree = done.1.tree; balanced = done.1.balanced; distinct = λ q. omega (arith, one_more q, with_absent (plug r.path leaf) place q at_fields.distinct none) })
+            (sym sized) len_fits
 
         reads : reading (tree_in ms last) ≡ reading done.0
         reads = ap reading (tree_in-shown ms last done.0 done.1.tree)
@@ -231,8 +230,8 @@ module _ (ns : List Node) (root : Option ℕ) (len : ℕ) (v : Index) (w : IsWho
             let wants : Wants (λ q. order_of order (key q) (Some k)) r.path = Wants-alike (λ q. told (standing q)) (λ q. order_of order (key q) (Some k)) r.path (λ q n. sym (same q)) r.wants in
             subst (λ x. Ascends key order x) (sym (reads ∙ read_now))
             (ascends_with key order total (front r.path) (back r.path) place k is
-              (front_below (λ q. order_of order (key q) (Some k)) r.path leaf divided wants)
-              (back_above (λ q. order_of order (key q) (Some k)) r.path leaf divided wants) parts)
+            (front_below (λ q. order_of order (key q) (Some k)) r.path leaf divided wants)
+            (back_above (λ q. order_of order (key q) (Some k)) r.path leaf divided wants) parts)
 
   -- ---- the place at a route's end taken out
   module _ (go : ℕ → Ordering) (route : Route) (found : ℕ) (low : Path) (s : Tree) (f : IsFollowed go route.places route.turns route.depth (Some found) (tree_in ns root) low s) where
@@ -278,8 +277,8 @@ module _ (ns : List Node) (root : Option ℕ) (len : ℕ) (v : Index) (w : IsWho
       pub take_whole : IsWhole ms last (len - 1)
       take_whole =
           whole_of ms last (len - 1) done.0
-            (record { tree = done.1.tree; balanced = done.1.balanced; distinct = λ q. omega (arith, one_less q, w.index.distinct q) })
-            (omega (arith, left_size)) (omega (arith, w.few))
+          (record { tree = done.1.tree; balanced = done.1.balanced; distinct = λ q. omega (arith, one_less q, w.index.distinct q) })
+          (omega (arith, left_size)) (omega (arith, w.few))
 
       pub take_length : length (reading (tree_in ms last)) + 1 ≡ length v.places
       take_length = omega (arith, ap length left_reads, size-reading done.0, left_size, length_is)

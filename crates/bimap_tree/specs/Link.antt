@@ -1,5 +1,5 @@
 -- Linking a place above two trees.
-use Rattle.std.specs.Prelude.{◌≡◌, ℕ, ◌+◌, ◌≤◌, ◌<◌, ◌^◌, max, Bool, List, Option, slice_get, length}
+use Rattle.std.specs.Prelude.{◌≡◌, ℕ, ◌+◌, ◌≤◌, ◌<◌, ◌^◌, max, Bool, List, slice_get, length}
 use Rattle.bimap_base.specs.declared.cells.Node.{Node}
 use Rattle.bimap_tree.specs.Tree.{Tree, reading, height, size, root_of, IsBalanced, Shows, is_at, occurs, branch}
 use Rattle.bimap_tree.specs.declared.link.Subtree.{Subtree}

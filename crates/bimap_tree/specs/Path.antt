@@ -3,7 +3,7 @@ use Rattle.std.specs.Prelude.{◌≡◌, ℕ, suc, ◌+◌, ◌≤◌, ◌<◌, 
 use Rattle.std.specs.declared.cmp.Ordering.{Ordering}
 use Rattle.std.specs.declared.cmp.Ordering.TheVariants.{Less, Greater}
 use Rattle.bimap_base.specs.declared.cells.Node.{Node}
-use Rattle.bimap_tree.specs.Tree.{Tree, leaf, fork, reading, height, size, occurs, is_at, root_of, IsBalanced, Shows, Stands, branch, far_of}
+use Rattle.bimap_tree.specs.Tree.{Tree, leaf, reading, height, size, occurs, is_at, root_of, IsBalanced, Shows, Stands, branch, far_of}
 
 -- no step, or a path, and below it a turn at a place, to its right if the turn is true, away from the sister tree
 pub data Path : Type 0 where

@@ -64,10 +64,18 @@ pub fn link<M: Meter>(
     ensures comparisons { M.comparisons meter.new ≡ M.comparisons meter.old }
     ensures touches { M.touches meter.new ≡ M.touches meter.old + 1 }
 {
-    let taller = if near.height < far.height { far.height } else { near.height };
+    let taller = if near.height < far.height {
+        far.height
+    } else {
+        near.height
+    };
     let height = taller + 1;
     let size = near.size + far.size + 1;
-    let (left, right) = if turn { (far.root, near.root) } else { (near.root, far.root) };
+    let (left, right) = if turn {
+        (far.root, near.root)
+    } else {
+        (near.root, far.root)
+    };
     cells.write(
         place,
         Node {

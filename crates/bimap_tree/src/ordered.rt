@@ -114,7 +114,14 @@ impl Ordered {
         ensures comparisons { M.comparisons meter.new ≤ M.comparisons meter.old + most_height (length self.now.places) }
         ensures touches { M.touches meter.new ≤ M.touches meter.old + most_height (length self.now.places) }
     {
-        route_under(&self.cells, self.root, 0, &ToKey { keys, key }, route, meter)
+        route_under(
+            &self.cells,
+            self.root,
+            0,
+            &ToKey { keys, key },
+            route,
+            meter,
+        )
     }
 
     /// Lists a place, at the end of its key's route: no comparison, time logarithmic in the length, and no memory.

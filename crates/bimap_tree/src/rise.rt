@@ -18,7 +18,11 @@ fn recounted(node: Node, turn: bool, child: Option<usize>, grew: bool) -> Node
     ensures size { result.size + one_if (not grew) ≡ node.size + one_if grew }
 {
     let (_, sister) = children(node, turn);
-    let (left, right) = if turn { (sister, child) } else { (child, sister) };
+    let (left, right) = if turn {
+        (sister, child)
+    } else {
+        (child, sister)
+    };
     let size = if grew { node.size + 1 } else { node.size - 1 };
     Node {
         left,

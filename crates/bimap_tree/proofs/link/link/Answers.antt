@@ -1,4 +1,4 @@
-use Rattle.std.proofs.Common.{◌≡◌, ℕ, ◌+◌, ◌<◌, ◌≤◌, arith, sym, subst, length}
+use Rattle.std.proofs.Common.{arith, sym, subst, length}
 use Rattle.bimap_base.specs.Packed.{IsThere}
 use Rattle.bimap_tree.proofs.Branch.{told_there}
 use Rattle.bimap_tree.proofs.Heights.{height_below_size}

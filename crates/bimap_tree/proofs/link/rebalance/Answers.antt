@@ -1,5 +1,5 @@
-use Rattle.std.proofs.Common.{◌≡◌, ℕ, ◌+◌, ◌<◌, ◌≤◌, arith, sym, subst, not, ap, ◌∙◌}
-use Rattle.bimap_tree.specs.Tree.{Tree, branch, height}
+use Rattle.std.proofs.Common.{◌+◌, ◌≤◌, arith, ◌∙◌}
+use Rattle.bimap_tree.specs.Tree.{height}
 use Rattle.bimap_tree.proofs.Heights.{height_below_size}
 use Rattle.bimap_tree.proofs.Rotate.{no_rotation, turned, can_turned}
 use Rattle.bimap_tree.proofs.Shown.{no_tree}

@@ -1,5 +1,5 @@
-use Rattle.std.proofs.Common.{◌≡◌, ℕ, ◌+◌, ◌<◌, ◌≤◌, arith, sym, ap, ◌∙◌}
-use Rattle.bimap_tree.specs.Tree.{Tree, branch, height}
+use Rattle.std.proofs.Common.{◌<◌, ◌≤◌, arith, sym, ap, ◌∙◌}
+use Rattle.bimap_tree.specs.Tree.{branch, height}
 use Rattle.bimap_tree.proofs.Rotate.{upper_of, inner_of, rebalanced_of, single_first, single_second, single_done, double_first, double_second, double_third, double_done}
 use Rattle.bimap_tree.proofs.Shown.{Stands-at, root_within}
 use Rattle.bimap_tree.proofs.link.rotate.Goals as goal

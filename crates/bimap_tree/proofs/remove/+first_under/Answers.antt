@@ -1,4 +1,4 @@
-use Rattle.std.proofs.Common.{◌≡◌, ℕ, ◌<◌, ◌+◌, arith}
+use Rattle.std.proofs.Common.{arith}
 use Rattle.bimap_tree.proofs.Removes.{first_here, first_left, descent}
 use Rattle.bimap_tree.proofs.Shown.{Stands-at}
 use Rattle.bimap_tree.proofs.remove.+first_under.Goals as goal

@@ -1,5 +1,5 @@
-use Rattle.std.proofs.Common.{◌≡◌, ℕ, ◌+◌, ◌*◌, ◌<◌, ◌≤◌, arith, ap, ◌∙◌}
-use Rattle.bimap_tree.specs.Tree.{Tree, fork}
+use Rattle.std.proofs.Common.{arith, ap, ◌∙◌}
+use Rattle.bimap_tree.specs.Tree.{fork}
 use Rattle.bimap_tree.proofs.Paths.{steps_within}
 use Rattle.bimap_tree.proofs.Removes.{no_child, at_within, left_tree, right_tree, left_there, right_there, depth_few, node_told, rises_left, rises_right, taken_left, taken_right, can_descend, low_within, first_within, rest_stands, was_height, rises_first, taken_first, first_followed, taking, taken_of}
 use Rattle.bimap_tree.proofs.remove.take_at.Goals as goal
@@ -23,7 +23,7 @@ returns-then-is_none-clause-tree g c path l r h =
     let none = no_child _ _ c.is_none.ensures c.if-is_none.true in
     let stands = right_tree _ _ path l _ r h _ c.read-node.ensures.node in
     taken_right _ _ path l _ r h _ c.read-node.ensures.node none _ _
-      (c.rise.ensures.tree path _ r (rises_right _ _ path l _ r h _ c.read-node.ensures.node none) (c.depth-depth.ensures ∙ h.depth_is) (c.measure-child.ensures.measured r stands) (ap (λ n. n.height) (node_told _ _ path l _ r h _ c.read-node.ensures.node)))
+    (c.rise.ensures.tree path _ r (rises_right _ _ path l _ r h _ c.read-node.ensures.node none) (c.depth-depth.ensures ∙ h.depth_is) (c.measure-child.ensures.measured r stands) (ap (λ n. n.height) (node_told _ _ path l _ r h _ c.read-node.ensures.node)))
 
 pub returns-then-is_none-clause-touches : goal.returns-then-is_none-clause-touches
 returns-then-is_none-clause-touches g c path l r h = omega (arith, h.depth_is, c.depth-depth.ensures, steps_within path (fork l c.args.at r))
@@ -42,7 +42,7 @@ pub returns-in_default-clause-tree : goal.returns-in_default-clause-tree
 returns-in_default-clause-tree g c path l r h =
     let stands = left_tree _ _ path l _ r h _ c.read-node.ensures.node in
     taken_left _ _ path l _ r h _ c.read-node.ensures.node c.in_default.is _ _
-      (c.rise-in_default.ensures.tree path _ l (rises_left _ _ path l _ r h _ c.read-node.ensures.node c.in_default.is) (c.depth-depth.ensures ∙ h.depth_is) (c.measure-child-in_default.ensures.measured l stands) (ap (λ n. n.height) (node_told _ _ path l _ r h _ c.read-node.ensures.node)))
+    (c.rise-in_default.ensures.tree path _ l (rises_left _ _ path l _ r h _ c.read-node.ensures.node c.in_default.is) (c.depth-depth.ensures ∙ h.depth_is) (c.measure-child-in_default.ensures.measured l stands) (ap (λ n. n.height) (node_told _ _ path l _ r h _ c.read-node.ensures.node)))
 
 pub returns-in_default-clause-touches : goal.returns-in_default-clause-touches
 returns-in_default-clause-touches g c path l r h = omega (arith, h.depth_is, c.depth-depth.ensures, steps_within path (fork l c.args.at r))
@@ -104,8 +104,8 @@ returns-clause-tree g c path l r h =
     let (follows, low) = first_followed path l _ _ _ _ _ _ _ r lefts rest h.follows is i (omega (arith, is, h.deep, few.1)) (omega (arith, is, h.deep, few.1)) c.note.ensures.places c.note.ensures.turns in
     let stands = rest_stands _ _ path l c.args.at _ lefts rest h2 _ c.read-last.ensures.node in
     taken_of _ _ path l r _ _ i.whole
-      (taken_first _ _ path l c.args.at _ lefts rest h2 _ c.read-node.ensures.node _ c.write.ensures.written _ _
-        (c.rise-2.ensures.tree _ _ rest (rises_first _ _ path l c.args.at _ lefts rest h2 _ c.read-node.ensures.node _ c.write.ensures.written _ _ follows) low (c.measure-rest.ensures.measured rest stands) (was_height _ _ path l c.args.at _ lefts rest h2 _ c.read-last.ensures.node)))
+    (taken_first _ _ path l c.args.at _ lefts rest h2 _ c.read-node.ensures.node _ c.write.ensures.written _ _
+    (c.rise-2.ensures.tree _ _ rest (rises_first _ _ path l c.args.at _ lefts rest h2 _ c.read-node.ensures.node _ c.write.ensures.written _ _ follows) low (c.measure-rest.ensures.measured rest stands) (was_height _ _ path l c.args.at _ lefts rest h2 _ c.read-last.ensures.node)))
 
 pub returns-clause-touches : goal.returns-clause-touches
 returns-clause-touches g c path l r h =

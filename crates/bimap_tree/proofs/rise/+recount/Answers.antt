@@ -1,7 +1,6 @@
-use Rattle.std.proofs.Common.{◌≡◌, ◌≢◌, ℕ, ◌+◌, ◌-◌, ◌<◌, ◌≤◌, arith, sym, ap, ◌∙◌, length}
-use Rattle.bimap_tree.specs.Tree.{Tree, branch}
+use Rattle.std.proofs.Common.{arith, sym, ◌∙◌}
 use Rattle.bimap_tree.proofs.Branch.{root-branch}
-use Rattle.bimap_tree.proofs.Rises.{LastStep, last_step, within, can_relink, can_rise, risen_on, at_top, counts, steady, moved, children_there}
+use Rattle.bimap_tree.proofs.Rises.{last_step, within, can_relink, can_rise, risen_on, at_top, counts, steady, moved, children_there}
 use Rattle.bimap_tree.proofs.rise.+recount.Goals as goal
 
 pub returns-then-depth-eq0-clause-tree : goal.returns-then-depth-eq0-clause-tree

@@ -1,6 +1,5 @@
-use Rattle.std.proofs.Common.{◌≡◌, ◌≢◌, ℕ, ◌+◌, ◌-◌, ◌<◌, ◌≤◌, arith, sym, ap, ◌∙◌}
-use Rattle.bimap_tree.specs.Tree.{Tree, branch}
-use Rattle.bimap_tree.proofs.Rises.{LastStep, last_step, within, can_relink, can_rise, risen_on, at_top, as_told}
+use Rattle.std.proofs.Common.{arith, sym, ◌∙◌}
+use Rattle.bimap_tree.proofs.Rises.{last_step, within, can_relink, can_rise, risen_on, at_top, as_told}
 use Rattle.bimap_tree.proofs.rise.+rise.Goals as goal
 
 pub recount-requires : goal.recount-requires

@@ -1,5 +1,5 @@
-use Rattle.std.proofs.Common.{◌≡◌, ◌∙◌, ℕ, None, refl, lit<}
-use Rattle.bimap_tree.specs.Tree.{Tree, leaf, fork, height, size}
+use Rattle.std.proofs.Common.{◌∙◌, None, refl, lit<}
+use Rattle.bimap_tree.specs.Tree.{leaf, fork}
 use Rattle.bimap_tree.specs.Link.{Measures}
 use Rattle.bimap_tree.proofs.Rises.{can_put, put_risen}
 use Rattle.bimap_tree.proofs.rise.put_at.Goals as goal

@@ -1,5 +1,4 @@
-use Rattle.std.proofs.Common.{◌≡◌, ℕ, arith, sym, ◌+◌, ◌∙◌}
-use Rattle.bimap_tree.specs.Tree.{Tree}
+use Rattle.std.proofs.Common.{arith, sym, ◌∙◌}
 use Rattle.bimap_tree.proofs.Branch.{root-branch}
 use Rattle.bimap_tree.proofs.Rises.{sister_stands, can_rebalance, moved, low, children_there}
 use Rattle.bimap_tree.proofs.Shown.{Stands-at}

@@ -1,4 +1,4 @@
-use Rattle.std.proofs.Common.{◌≡◌, ℕ, arith, sym, ◌∙◌, true, false}
+use Rattle.std.proofs.Common.{arith, sym, ◌∙◌, true, false}
 use Rattle.bimap_tree.proofs.Searches.{seek_into, found_right, found_left, found_here}
 use Rattle.bimap_tree.proofs.Follow.{goes_on, all_the_way}
 use Rattle.bimap_tree.proofs.route.+route_under.Goals as goal

@@ -1,4 +1,4 @@
-use Rattle.std.proofs.Common.{◌≡◌, ℕ, arith, sym, subst, Some, None, ◌∙◌}
+use Rattle.std.proofs.Common.{arith, sym, ◌∙◌}
 use Rattle.bimap_tree.proofs.Searches.{seek_into}
 use Rattle.bimap_tree.proofs.Searches.{found_right, found_left, found_here}
 use Rattle.bimap_tree.proofs.search.+find_under.Goals as goal

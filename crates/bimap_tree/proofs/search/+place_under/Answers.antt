@@ -1,5 +1,5 @@
-use Rattle.std.proofs.Common.{◌≡◌, ℕ, suc, ◌+◌, ◌-◌, ◌<◌, arith, sym, ap, Some, ◌∙◌}
-use Rattle.bimap_tree.specs.Tree.{Tree, size, fork}
+use Rattle.std.proofs.Common.{◌-◌, ◌<◌, arith, ap, ◌∙◌}
+use Rattle.bimap_tree.specs.Tree.{size}
 use Rattle.bimap_tree.proofs.Ranks.{rank_into, rank_left, rank_here, rank_right}
 use Rattle.bimap_tree.proofs.search.+place_under.Goals as goal
 

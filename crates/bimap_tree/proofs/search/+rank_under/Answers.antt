@@ -1,4 +1,4 @@
-use Rattle.std.proofs.Common.{◌≡◌, ℕ, ◌+◌, arith, sym, Some, ◌∙◌}
+use Rattle.std.proofs.Common.{arith, sym, ◌∙◌}
 use Rattle.bimap_tree.proofs.Searches.{seek_into}
 use Rattle.bimap_tree.proofs.Searches.{counted_right, counted_left, counted_fits}
 use Rattle.bimap_tree.proofs.search.+rank_under.Goals as goal

@@ -1,5 +1,4 @@
-use Rattle.std.proofs.Common.{◌≡◌, ℕ, ◌+◌, ◌≤◌, arith, take, length, length-take-le, length-set, ◌∙◌}
-use Rattle.bimap_tree.specs.Tree.{size}
+use Rattle.std.proofs.Common.{arith, length-take-le, length-set, ◌∙◌}
 use Rattle.bimap_tree.proofs.Ranks.{rank_into}
 use Rattle.bimap_tree.proofs.Walks.{full, nothing, went_on}
 use Rattle.bimap_tree.proofs.walk.+fill_all.Goals as goal

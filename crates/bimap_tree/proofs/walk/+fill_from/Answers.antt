@@ -1,5 +1,5 @@
-use Rattle.std.proofs.Common.{◌≡◌, ℕ, ◌+◌, ◌-◌, ◌≤◌, ◌<◌, arith, take, ap, sym, ◌∙◌}
-use Rattle.bimap_tree.specs.Tree.{size, reading}
+use Rattle.std.proofs.Common.{◌≤◌, arith, take, ap, sym, ◌∙◌}
+use Rattle.bimap_tree.specs.Tree.{size}
 use Rattle.bimap_tree.proofs.Ranks.{rank_into}
 use Rattle.bimap_tree.proofs.Walks.{drop_right, drop_left, from_here, full_list, on_list, left_length}
 use Rattle.bimap_tree.proofs.walk.+fill_from.Goals as goal

@@ -1,4 +1,4 @@
-use Rattle.std.proofs.Common.{◌≡◌, ℕ, ◌+◌, ◌*◌, ◌≤◌, arith, ap, ◌∙◌, Some}
+use Rattle.std.proofs.Common.{arith, ap, ◌∙◌, Some}
 use Rattle.bimap_base.specs.Keyed.{standing}
 use Rattle.bimap_tree.specs.Index.{tree_in}
 use Rattle.bimap_tree.specs.Order.{first_equal, order_of}
@@ -13,13 +13,13 @@ pub returns-clause-found : goal.returns-clause-found
 returns-clause-found g c =
     let s = can_seek _ _ _ _ c.self.invariant c.self.view_is _ _ g.met.K.Keys.total c.requires c.args.key.now in
     found_in (λ q. standing (g.K.Keys.key_at c.args.keys.now) g.K.Keys.order c.args.key.now q) _ _
-      (c.find_under.ensures.found _ s ∙ ap (λ x. first_equal (λ q. order_of g.K.Keys.order (g.K.Keys.key_at c.args.keys.now q) (Some c.args.key.now)) x) (places_are _ _ _ _ c.self.invariant c.self.view_is))
+    (c.find_under.ensures.found _ s ∙ ap (λ x. first_equal (λ q. order_of g.K.Keys.order (g.K.Keys.key_at c.args.keys.now q) (Some c.args.key.now)) x) (places_are _ _ _ _ c.self.invariant c.self.view_is))
 
 pub returns-clause-none : goal.returns-clause-none
 returns-clause-none g c =
     let s = can_seek _ _ _ _ c.self.invariant c.self.view_is _ _ g.met.K.Keys.total c.requires c.args.key.now in
     none_in (λ q. standing (g.K.Keys.key_at c.args.keys.now) g.K.Keys.order c.args.key.now q) _ _
-      (c.find_under.ensures.found _ s ∙ ap (λ x. first_equal (λ q. order_of g.K.Keys.order (g.K.Keys.key_at c.args.keys.now q) (Some c.args.key.now)) x) (places_are _ _ _ _ c.self.invariant c.self.view_is))
+    (c.find_under.ensures.found _ s ∙ ap (λ x. first_equal (λ q. order_of g.K.Keys.order (g.K.Keys.key_at c.args.keys.now q) (Some c.args.key.now)) x) (places_are _ _ _ _ c.self.invariant c.self.view_is))
 
 pub returns-clause-comparisons : goal.returns-clause-comparisons
 returns-clause-comparisons g c = omega (arith, c.find_under.ensures.comparisons _ c.self.invariant.index.tree, height_within _ _ _ _ c.self.invariant c.self.view_is)

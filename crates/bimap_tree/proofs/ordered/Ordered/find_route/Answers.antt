@@ -1,4 +1,4 @@
-use Rattle.std.proofs.Common.{◌≡◌, ℕ, ◌+◌, ◌*◌, ◌≤◌, arith, ap, ◌∙◌, Some}
+use Rattle.std.proofs.Common.{arith, ap, ◌∙◌, Some}
 use Rattle.bimap_base.specs.Keyed.{standing}
 use Rattle.bimap_tree.specs.Index.{tree_in}
 use Rattle.bimap_tree.specs.Order.{first_equal, order_of}
@@ -15,13 +15,13 @@ pub returns-clause-found : goal.returns-clause-found
 returns-clause-found g c =
     let f = can_follow _ _ _ _ c.self.invariant c.self.view_is _ _ c.args.route.now.places c.args.route.now.turns (omega arith) (omega arith) (can_seek _ _ _ _ c.self.invariant c.self.view_is _ _ g.met.K.Keys.total c.requires c.args.key.now) in
     found_in (λ q. standing (g.K.Keys.key_at c.args.keys.now) g.K.Keys.order c.args.key.now q) _ _
-      (c.route_under.ensures.found _ _ f ∙ ap (λ x. first_equal (λ q. order_of g.K.Keys.order (g.K.Keys.key_at c.args.keys.now q) (Some c.args.key.now)) x) (places_are _ _ _ _ c.self.invariant c.self.view_is))
+    (c.route_under.ensures.found _ _ f ∙ ap (λ x. first_equal (λ q. order_of g.K.Keys.order (g.K.Keys.key_at c.args.keys.now q) (Some c.args.key.now)) x) (places_are _ _ _ _ c.self.invariant c.self.view_is))
 
 pub returns-clause-none : goal.returns-clause-none
 returns-clause-none g c =
     let f = can_follow _ _ _ _ c.self.invariant c.self.view_is _ _ c.args.route.now.places c.args.route.now.turns (omega arith) (omega arith) (can_seek _ _ _ _ c.self.invariant c.self.view_is _ _ g.met.K.Keys.total c.requires c.args.key.now) in
     none_in (λ q. standing (g.K.Keys.key_at c.args.keys.now) g.K.Keys.order c.args.key.now q) _ _
-      (c.route_under.ensures.found _ _ f ∙ ap (λ x. first_equal (λ q. order_of g.K.Keys.order (g.K.Keys.key_at c.args.keys.now q) (Some c.args.key.now)) x) (places_are _ _ _ _ c.self.invariant c.self.view_is))
+    (c.route_under.ensures.found _ _ f ∙ ap (λ x. first_equal (λ q. order_of g.K.Keys.order (g.K.Keys.key_at c.args.keys.now q) (Some c.args.key.now)) x) (places_are _ _ _ _ c.self.invariant c.self.view_is))
 
 pub returns-clause-route : goal.returns-clause-route
 returns-clause-route g c =

@@ -1,4 +1,4 @@
-use Rattle.std.proofs.Common.{◌≡◌, ℕ, ◌+◌, ◌*◌, ◌≤◌, ◌<◌, Some, arith, refl}
+use Rattle.std.proofs.Common.{◌≡◌, Some, arith, refl}
 use Rattle.bimap_base.specs.Keyed.{standing}
 use Rattle.bimap_tree.specs.Index.{tree_in}
 use Rattle.bimap_tree.specs.Path.{top}

@@ -1,4 +1,4 @@
-use Rattle.std.proofs.Common.{◌≡◌, ℕ, ◌+◌, ◌*◌, ◌≤◌, ◌<◌, arith, refl}
+use Rattle.std.proofs.Common.{arith, refl}
 use Rattle.bimap_tree.proofs.Ascending.{key_is}
 use Rattle.bimap_tree.proofs.Whole.{can_put, len_fits, put_whole, put_length, put_adds, put_cells, put_ascends, route_depth}
 use Rattle.bimap_tree.proofs.ordered.Ordered.insert_at.Goals as goal

@@ -1,7 +1,6 @@
-use Rattle.std.proofs.Common.{sym, subst, ◌∙◌}
 use Rattle.bimap_tree.specs.Index.{tree_in}
 use Rattle.bimap_tree.proofs.Distinct.{distinct_reading}
-use Rattle.bimap_tree.proofs.Whole.{length_is, places_are, shown_index, height_within, listed_within}
+use Rattle.bimap_tree.proofs.Whole.{length_is, shown_index, height_within, listed_within}
 use Rattle.bimap_tree.proofs.ordered.Ordered.len.Goals as goal
 
 pub returns-clause-len : goal.returns-clause-len

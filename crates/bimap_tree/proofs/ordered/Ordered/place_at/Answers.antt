@@ -1,4 +1,4 @@
-use Rattle.std.proofs.Common.{◌≡◌, ℕ, ◌+◌, ◌*◌, ◌≤◌, arith, ap, ◌∙◌, sym, Some}
+use Rattle.std.proofs.Common.{arith, ap, ◌∙◌, sym}
 use Rattle.std.specs.Prelude.{slice_get}
 use Rattle.bimap_tree.specs.Index.{tree_in}
 use Rattle.bimap_tree.proofs.Whole.{rank_within, places_are, height_within}

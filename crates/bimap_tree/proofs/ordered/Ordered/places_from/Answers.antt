@@ -1,4 +1,4 @@
-use Rattle.std.proofs.Common.{◌≡◌, ℕ, ◌+◌, ◌*◌, ◌≤◌, arith, ap, ◌∙◌, refl, take, drop, length, sym}
+use Rattle.std.proofs.Common.{◌≤◌, arith, ap, ◌∙◌, take, drop}
 use Rattle.bimap_tree.specs.Index.{tree_in}
 use Rattle.bimap_tree.specs.Tree.{size}
 use Rattle.bimap_tree.proofs.Whole.{places_are, height_within, length_is}

@@ -1,4 +1,4 @@
-use Rattle.std.proofs.Common.{◌≡◌, ℕ, ◌+◌, ◌*◌, ◌≤◌, arith, ap, sym, subst, ◌∙◌, Some}
+use Rattle.std.proofs.Common.{arith, ap, sym, subst, ◌∙◌, Some}
 use Rattle.bimap_tree.specs.Index.{tree_in}
 use Rattle.bimap_tree.specs.Order.{count_below, after_key, order_of}
 use Rattle.bimap_tree.specs.Start.{IsStart}
@@ -22,7 +22,7 @@ returns-in-Included-clause-start g c =
     let s = can_seek _ _ _ _ c.self.invariant c.self.view_is _ _ g.met.K.Keys.total c.requires c.in-Included.key.now in
     subst (λ b. IsStart (g.K.Keys.key_at c.args.keys.now) g.K.Keys.order b c.args.self.now.places c.rank_under.result) (sym c.in-Included.is)
     (start_included _ _ g.met.K.Keys.total _ c.requires _ _
-      (c.rank_under.ensures.rank _ s ∙ ap (λ x. count_below (λ q. order_of g.K.Keys.order (g.K.Keys.key_at c.args.keys.now q) (Some c.in-Included.key.now)) x) (places_are _ _ _ _ c.self.invariant c.self.view_is)))
+    (c.rank_under.ensures.rank _ s ∙ ap (λ x. count_below (λ q. order_of g.K.Keys.order (g.K.Keys.key_at c.args.keys.now q) (Some c.in-Included.key.now)) x) (places_are _ _ _ _ c.self.invariant c.self.view_is)))
 
 pub returns-in-Included-clause-comparisons : goal.returns-in-Included-clause-comparisons
 returns-in-Included-clause-comparisons g c = omega (arith, c.rank_under.ensures.comparisons _ c.self.invariant.index.tree, height_within _ _ _ _ c.self.invariant c.self.view_is)
@@ -35,7 +35,7 @@ returns-in-Excluded-clause-start g c =
     let s = can_seek_after _ _ _ _ c.self.invariant c.self.view_is _ _ g.met.K.Keys.total c.requires c.in-Excluded.key.now in
     subst (λ b. IsStart (g.K.Keys.key_at c.args.keys.now) g.K.Keys.order b c.args.self.now.places c.rank_under-in-Excluded.result) (sym c.in-Excluded.is)
     (start_excluded _ _ g.met.K.Keys.total _ c.requires _ _
-      (c.rank_under-in-Excluded.ensures.rank _ s ∙ ap (λ x. count_below (λ q. after_key (order_of g.K.Keys.order (g.K.Keys.key_at c.args.keys.now q) (Some c.in-Excluded.key.now))) x) (places_are _ _ _ _ c.self.invariant c.self.view_is)))
+    (c.rank_under-in-Excluded.ensures.rank _ s ∙ ap (λ x. count_below (λ q. after_key (order_of g.K.Keys.order (g.K.Keys.key_at c.args.keys.now q) (Some c.in-Excluded.key.now))) x) (places_are _ _ _ _ c.self.invariant c.self.view_is)))
 
 pub returns-in-Excluded-clause-comparisons : goal.returns-in-Excluded-clause-comparisons
 returns-in-Excluded-clause-comparisons g c = omega (arith, c.rank_under-in-Excluded.ensures.comparisons _ c.self.invariant.index.tree, height_within _ _ _ _ c.self.invariant c.self.view_is)

@@ -1,11 +1,11 @@
-use Rattle.std.proofs.Common.{◌≡◌, ℕ, ◌+◌, ◌-◌, ◌*◌, ◌≤◌, ◌<◌, Some, arith, subst}
+use Rattle.std.proofs.Common.{Some, arith, subst}
 use Rattle.bimap_tree.specs.Index.{tree_in}
 use Rattle.bimap_tree.specs.Order.{order_of}
-use Rattle.bimap_tree.specs.Path.{Path, plug, top}
+use Rattle.bimap_tree.specs.Path.{Path, top}
 use Rattle.bimap_tree.specs.Route.{IsFollowed}
 use Rattle.bimap_tree.specs.Tree.{Tree}
 use Rattle.bimap_tree.proofs.Ascending.{key_listed}
-use Rattle.bimap_tree.proofs.Whole.{can_seek_place, can_follow, place_found, height_within, end, can_take, take_height, take_whole, take_length, take_drops, take_cells, take_ascends}
+use Rattle.bimap_tree.proofs.Whole.{can_seek_place, can_follow, place_found, height_within, can_take, take_height, take_whole, take_length, take_drops, take_cells, take_ascends}
 use Rattle.bimap_tree.proofs.ordered.Ordered.remove.Given.{Over}
 use Rattle.bimap_tree.proofs.ordered.Ordered.remove.Goals as goal
 use Rattle.bimap_tree.proofs.ordered.Ordered.remove.Goals.{After-route_under-self-inside}

@@ -1,10 +1,9 @@
-use Rattle.std.proofs.Common.{◌≡◌, ℕ, ◌+◌, ◌-◌, ◌*◌, ◌≤◌, ◌<◌, Some, None, arith, ap, subst, sym, ◌∙◌}
-use Rattle.std.specs.Prelude.{IfSome, IfNone}
+use Rattle.std.proofs.Common.{◌≡◌, Some, arith, ap, subst, sym, ◌∙◌}
 use Rattle.bimap_base.specs.Keyed.{standing}
 use Rattle.bimap_tree.specs.Index.{tree_in}
 use Rattle.bimap_tree.specs.Order.{first_equal, order_of}
 use Rattle.bimap_tree.specs.Path.{Path, top}
-use Rattle.bimap_tree.specs.Route.{CanFollow, IsFollowed}
+use Rattle.bimap_tree.specs.Route.{IsFollowed}
 use Rattle.bimap_tree.specs.Tree.{Tree}
 use Rattle.bimap_tree.proofs.Found.{found_in, none_told}
 use Rattle.bimap_tree.proofs.Whole.{can_seek, can_follow, places_are, height_within, can_take, take_height, take_whole, take_length, take_drops, take_cells, take_ascends}

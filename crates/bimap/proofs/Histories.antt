@@ -1,0 +1,180 @@
+-- A history that grows by one entry at its end.
+use Rattle.std.proofs.Common.{◌≡◌, ◌↔◌, ◌⊎◌, inl, inr, ℕ, ◌≤◌, Bool, true, false, Option, Some, None, List, [], ◌∷◌, ◌++◌, length, refl, sym, ap, ◌∙◌, subst, arith}
+use Rattle.std.specs.Prelude.{Contains}
+use Rattle.std.specs.List.{zip}
+use Rattle.std.proofs.lemmas.List.Elements.{Contains-append_left, Contains-append_right}
+use Rattle.bimap_base.specs.Sets.{shares, NoneShares, SomeShares, HasLeft, LacksLeft, HasRight, LacksRight, IsApart, IsWithPut}
+use Rattle.bimap_base.specs.Answer.{IsAnswer, IsAllowed, IsOnlyStruck, AreBothStruck}
+use Rattle.bimap_base.specs.Survivors.{Survives}
+use Rattle.bimap_base.specs.Holding.{Holding}
+use Rattle.bimap_base.specs.declared.overwritten.Overwritten.{Overwritten}
+use Rattle.bimap_base.specs.declared.overwritten.Overwritten.TheVariants.{Neither, Left, Right, Pair, Both}
+use Rattle.bimap_base.specs.declared.policy.Policy.{Policy}
+use Rattle.bimap_base.proofs.Members.{head_in, more_in}
+use Rattle.bimap_base.proofs.Survivors.{split_append, split_push, not_split, Survives_none, Survives_append, Survives_along, survivors_push, put_touches}
+use Rattle.bimap.specs.declared.call.Call.{Call}
+use Rattle.bimap.specs.declared.call.Call.TheVariants.{Insert, InsertNoOverwrite, InsertWith, RemoveByLeft, RemoveByRight, ContainsLeft, ContainsRight, Retain, Clear}
+use Rattle.bimap.specs.declared.call.Reply.{Reply}
+use Rattle.bimap.specs.declared.call.Reply.TheVariants.{Inserted, NoRoom, Put, Occupied, LeftHeld, RightHeld, Removed, Holds, Done}
+use Rattle.bimap.specs.Test.{IsHandedIn}
+use Rattle.bimap.specs.History.{Entry, Puts, Touches, IsNoRoom, IsSurvivor, IsRight, IsLegal, IsOutOfRoom, NeedsRoom, IsHistory}
+use Rattle.bimap.specs.Step.{MayRetain, IsStep}
+
+module _ {L R : Type 0} (same_left : L → L → Bool) (same_right : R → R → Bool) (S T : L × R → Type 0) (to : (p : L × R) → S p → T p) (from : (p : L × R) → T p → S p) where
+  IsOnlyStruck_along : (new p : L × R) → IsOnlyStruck same_left same_right S new p → IsOnlyStruck same_left same_right T new p
+  IsOnlyStruck_along new p h = record { member = to p h.member; only = λ q m. h.only q (from q m) }
+
+  -- an answer about a set is one about a set with the same members
+  pub IsAnswer_along : (new : L × R) (a : Overwritten L R) → IsAnswer same_left same_right S new a → IsAnswer same_left same_right T new a
+  IsAnswer_along new Neither h = λ q m. h q (from q m)
+  IsAnswer_along new (Left l r) h = (IsOnlyStruck_along new (l, r) h.0, h.1, h.2)
+  IsAnswer_along new (Right l r) h = (IsOnlyStruck_along new (l, r) h.0, h.1, h.2)
+  IsAnswer_along new (Pair l r) h = (IsOnlyStruck_along new (l, r) h.0, h.1, h.2)
+  IsAnswer_along new (Both p q) h = record { first = to p h.first; second = to q h.second; two = h.two; by_left = h.by_left; by_right = h.by_right; only = λ s m. h.only s (from s m) }
+
+  -- a reply that is right for a set is right for one with the same members
+  pub IsRight_along : {K : Type 0} (e : Entry L R K) → IsRight same_left same_right S e → IsRight same_left same_right T e
+  IsRight_along (Insert l r, Inserted a) h = IsAnswer_along (l, r) a h
+  IsRight_along (Insert l r, NoRoom l' r') h = (h.0, h.1, λ q m. h.2 q (from q m))
+  IsRight_along (InsertNoOverwrite l r, Put) h = λ q m. h q (from q m)
+  IsRight_along (InsertNoOverwrite l r, Occupied l' r') h = (h.0, h.1, (h.2.0, to h.2.0 h.2.1, h.2.2))
+  IsRight_along (InsertNoOverwrite l r, NoRoom l' r') h = (h.0, h.1, λ q m. h.2 q (from q m))
+  IsRight_along (InsertWith l r policy, Inserted a) h = (record { left = λ e q m. h.0.left e q (from q m); right = λ e q m. h.0.right e q (from q m) }, IsAnswer_along (l, r) a h.1)
+  IsRight_along (InsertWith l r policy, LeftHeld l' r') h = (h.0, h.1, h.2, (h.3.0, to h.3.0 h.3.1, h.3.2))
+  IsRight_along (InsertWith l r policy, RightHeld l' r') h = (h.0, h.1, (λ e q m. h.2 e q (from q m)), h.3, (h.4.0, to h.4.0 h.4.1, h.4.2))
+  IsRight_along (InsertWith l r policy, NoRoom l' r') h = (h.0, h.1, λ q m. h.2 q (from q m))
+  IsRight_along (RemoveByLeft l, Removed None) h = λ q m. h q (from q m)
+  IsRight_along (RemoveByLeft l, Removed (Some p)) h = (to p h.0, h.1)
+  IsRight_along (RemoveByRight r, Removed None) h = λ q m. h q (from q m)
+  IsRight_along (RemoveByRight r, Removed (Some p)) h = (to p h.0, h.1)
+  IsRight_along (ContainsLeft l, Holds true) h = (h.0, to h.0 h.1, h.2)
+  IsRight_along (ContainsLeft l, Holds false) h = λ q m. h q (from q m)
+  IsRight_along (ContainsRight r, Holds true) h = (h.0, to h.0 h.1, h.2)
+  IsRight_along (ContainsRight r, Holds false) h = λ q m. h q (from q m)
+  IsRight_along (Retain k, Done) h = tt
+  IsRight_along (Clear, Done) h = tt
+  IsRight_along (call, reply) h = absurd h
+
+module _ {L R K : Type 0} (same_left : L → L → Bool) (same_right : R → R → Bool) (Test : K → L × R → Bool → Type 0) where
+  -- what an insertion leaves is what its entry does
+  pub step_insert : (S T : L × R → Type 0) (l : L) (r : R) (a : Overwritten L R) → IsWithPut same_left same_right S (l, r) T → IsStep same_left same_right Test S (Insert l r, Inserted a) T
+  step_insert S T l r a h = put_touches same_left same_right S T (l, r) h
+
+  pub step_put : (S T : L × R → Type 0) (l : L) (r : R) → IsWithPut same_left same_right S (l, r) T → IsStep same_left same_right Test S (InsertNoOverwrite l r, Put) T
+  step_put S T l r h = put_touches same_left same_right S T (l, r) h
+
+  pub step_insert_with : (S T : L × R → Type 0) (l : L) (r : R) (policy : Policy) (a : Overwritten L R) → IsWithPut same_left same_right S (l, r) T → IsStep same_left same_right Test S (InsertWith l r policy, Inserted a) T
+  step_insert_with S T l r policy a h = put_touches same_left same_right S T (l, r) h
+
+  pub step_retain : (S T : L × R → Type 0) (k : K) → ((p : L × R) → T p ↔ (S p × (Test k p false → ⊥))) → IsStep same_left same_right Test S (Retain k, Done) T
+  step_retain S T k h p = (λ t. inr ((h p).0 t), λ t. elim t [ inl e ↦ absurd e | inr e ↦ (h p).1 e ])
+
+  -- nothing has happened
+  pub IsHistory_none : (old : Holding L R) → IsHistory same_left same_right Test old [] old
+  IsHistory_none old = record {
+    legal = λ before e later q. not_split before later e q;
+    survivors = Survives_none Puts (Touches same_left same_right Test) (Contains old.pairs);
+    needs_room = λ before e later q. not_split before later e q;
+    not_lower = omega arith;
+  }
+
+  module _ (first second third : Holding L R) (g h : List (Entry L R K)) (one : IsHistory same_left same_right Test first g second) (two : IsHistory same_left same_right Test second h third) where
+    -- what survives a part of the second history survives the first and that part
+    through : (before : List (Entry L R K)) (p : L × R) → IsSurvivor same_left same_right Test (Contains second.pairs) before p ↔ IsSurvivor same_left same_right Test (Contains first.pairs) (g ++ before) p
+    through before p =
+        let along = Survives_along Puts (Touches same_left same_right Test) (Contains second.pairs) (λ q. IsSurvivor same_left same_right Test (Contains first.pairs) g q) before p (one.survivors p) in
+        let all = Survives_append Puts (Touches same_left same_right Test) (Contains first.pairs) g before p in
+        (λ s. all.1 (along.0 s), λ s. along.1 (all.0 s))
+
+    legal_both : IsLegal same_left same_right Test (Contains first.pairs) (g ++ h)
+    legal_both before e later q =
+        elim (split_append g h before later e q) [
+          | inl w ↦ one.legal before e w.0 w.1
+          | inr w ↦
+              subst (λ b. IsRight same_left same_right (IsSurvivor same_left same_right Test (Contains first.pairs) b) e) (sym w.1)
+              (IsRight_along same_left same_right (IsSurvivor same_left same_right Test (Contains second.pairs) w.0) (IsSurvivor same_left same_right Test (Contains first.pairs) (g ++ w.0)) (λ p. (through w.0 p).0) (λ p. (through w.0 p).1) e (two.legal w.0 e later w.2))
+        ]
+
+    out_of_room_both : (before : List (Entry L R K)) → IsOutOfRoom same_left same_right Test (Contains second.pairs) before second.room → IsOutOfRoom same_left same_right Test (Contains first.pairs) (g ++ before) first.room
+    out_of_room_both before f = record {
+      pairs = f.pairs;
+      apart = f.apart;
+      survivors = λ p. (λ m. (through before p).0 ((f.survivors p).0 m), λ s. (f.survivors p).1 ((through before p).1 s));
+      full = omega (arith, f.full, one.not_lower);
+    }
+
+    needs_room_both : NeedsRoom same_left same_right Test (Contains first.pairs) first.room (g ++ h)
+    needs_room_both before e later q n =
+        elim (split_append g h before later e q) [
+          | inl w ↦ one.needs_room before e w.0 w.1 n
+          | inr w ↦ subst (λ b. IsOutOfRoom same_left same_right Test (Contains first.pairs) b first.room) (sym w.1) (out_of_room_both w.0 (two.needs_room w.0 e later w.2 n))
+        ]
+
+    -- two histories, one after the other
+    pub IsHistory_append : IsHistory same_left same_right Test first (g ++ h) third
+    IsHistory_append = record {
+      legal = legal_both;
+      survivors = λ p. (λ m. (through h p).0 ((two.survivors p).0 m), λ s. (two.survivors p).1 ((through h p).1 s));
+      needs_room = needs_room_both;
+      not_lower = omega (arith, one.not_lower, two.not_lower);
+    }
+
+  -- a history of one call
+  module _ (old new : Holding L R) (e : Entry L R K) (right : IsRight same_left same_right (Contains old.pairs) e) (step : IsStep same_left same_right Test (Contains old.pairs) e (Contains new.pairs)) (full : IsNoRoom e → old.room ≤ length old.pairs) (apart : IsApart same_left same_right old.pairs) (not_lower : old.room ≤ new.room) where
+    unchanged : (p : L × R) → Contains old.pairs p ↔ IsSurvivor same_left same_right Test (Contains old.pairs) [] p
+    unchanged = Survives_none Puts (Touches same_left same_right Test) (Contains old.pairs)
+
+    only : (P : List (Entry L R K) → Entry L R K → Type 0) → P [] e → (before : List (Entry L R K)) (f : Entry L R K) (later : List (Entry L R K)) → e ∷ [] ≡ before ++ f ∷ later → P before f
+    only P h before f later q =
+        elim (split_push [] before later f e q) [
+          | inl w ↦ subst (λ x. P before x) w.2 (subst (λ b. P b e) w.1 h)
+          | inr w ↦ not_split before w.0 f w.2
+        ]
+
+    pub IsHistory_one : IsHistory same_left same_right Test old (e ∷ []) new
+    IsHistory_one = record {
+      legal = only (λ before f. IsRight same_left same_right (IsSurvivor same_left same_right Test (Contains old.pairs) before) f)
+      (IsRight_along same_left same_right (Contains old.pairs) (IsSurvivor same_left same_right Test (Contains old.pairs) []) (λ p. (unchanged p).0) (λ p. (unchanged p).1) e right);
+      survivors = survivors_push Puts (Touches same_left same_right Test) (Contains old.pairs) (Contains old.pairs) (Contains new.pairs) [] e unchanged step;
+      needs_room = only (λ before f. IsNoRoom f → IsOutOfRoom same_left same_right Test (Contains old.pairs) before old.room)
+      (λ n. record { pairs = old.pairs; apart = apart; survivors = unchanged; full = full n });
+      not_lower = not_lower;
+    }
+
+module _ {L R K : Type 0} where
+  pub zip_push : (cs : List (Call L R K)) (rs : List (Reply L R)) (c : Call L R K) (r : Reply L R) → length rs ≡ length cs → zip (cs ++ c ∷ []) (rs ++ r ∷ []) ≡ zip cs rs ++ (c, r) ∷ []
+  zip_push [] [] c r e = refl
+  zip_push [] (s ∷ rs) c r e = absurd (omega arith)
+  zip_push (d ∷ cs) [] c r e = absurd (omega arith)
+  zip_push (d ∷ cs) (s ∷ rs) c r e = ap (λ h. (d, s) ∷ h) (zip_push cs rs c r (omega arith))
+
+  entry_call : (cs : List (Call L R K)) (rs : List (Reply L R)) (before : List (Entry L R K)) (e : Entry L R K) (later : List (Entry L R K)) → zip cs rs ≡ before ++ e ∷ later → Contains cs e.0
+  entry_call [] rs before e later q = not_split before later e q
+  entry_call (c ∷ cs) [] before e later q = not_split before later e q
+  entry_call (c ∷ cs) (r ∷ rs) [] e later q =
+      let w : (c, r) ≡ e = cc in
+      subst (Contains (c ∷ cs)) (ap (λ (x : Entry L R K). x.0) w) (head_in c cs)
+  entry_call (c ∷ cs) (r ∷ rs) (b ∷ before) e later q = more_in c cs e.0 (entry_call cs rs before e later (cc))
+
+  handed_put : (calls : List (Call L R K)) (e : Entry L R K) (p : L × R) → Puts e p → Contains calls e.0 → IsHandedIn calls p
+  handed_put calls (Insert l r, Inserted a) p e m = inl (subst (λ (x : L × R). Contains calls (Insert x.0 x.1)) (sym e) m)
+  handed_put calls (InsertNoOverwrite l r, Put) p e m = inr (inl (subst (λ (x : L × R). Contains calls (InsertNoOverwrite x.0 x.1)) (sym e) m))
+  handed_put calls (InsertWith l r policy, Inserted a) p e m = inr (inr (policy, subst (λ (x : L × R). Contains calls (InsertWith x.0 x.1 policy)) (sym e) m))
+  handed_put calls (call, reply) p e m = absurd e
+
+  handed_first : (done left : List (Call L R K)) (p : L × R) → IsHandedIn done p → IsHandedIn (done ++ left) p
+  handed_first done left p (inl m) = inl (Contains-append_left done left _ m)
+  handed_first done left p (inr (inl m)) = inr (inl (Contains-append_left done left _ m))
+  handed_first done left p (inr (inr m)) = inr (inr (m.0, Contains-append_left done left _ m.1))
+
+  -- what is held was held at first, or some call handed it in
+  pub handed_from : (same_left : L → L → Bool) (same_right : R → R → Bool) (Test : K → L × R → Bool → Type 0) (S : L × R → Type 0) (cs : List (Call L R K)) (rs : List (Reply L R)) (p : L × R) → IsSurvivor same_left same_right Test S (zip cs rs) p → S p ⊎ IsHandedIn cs p
+  handed_from same_left same_right Test S cs rs p (inl s) = inl s.0
+  handed_from same_left same_right Test S cs rs p (inr s) = inr (handed_put cs s.entry p s.puts (entry_call cs rs s.before s.entry s.later s.split))
+
+  -- the next call may be made
+  pub MayRetain_next : (Decided : K → L × R → Type 0) (S T : L × R → Type 0) (calls done left : List (Call L R K)) (c : Call L R K) → ((k : K) (p : L × R) → Contains calls (Retain k) → S p ⊎ IsHandedIn calls p → Decided k p) → calls ≡ done ++ c ∷ left → ((p : L × R) → T p → S p ⊎ IsHandedIn done p) → MayRetain Decided T c
+  MayRetain_next D S T calls done left (Retain k) h q t =
+      λ p m. h k p (subst (λ (cs : List (Call L R K)). Contains cs (Retain k)) (sym q) (Contains-append_right done (Retain k ∷ left) (Retain k) (head_in (Retain k) left)))
+      (elim (t p m) [ inl s ↦ inl s | inr w ↦ inr (subst (λ (cs : List (Call L R K)). IsHandedIn cs p) (sym q) (handed_first done (Retain k ∷ left) p w)) ])
+  MayRetain_next D S T calls done left c h q t = tt

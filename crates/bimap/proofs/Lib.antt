@@ -1,0 +1,14 @@
+pub use Rattle.bimap_base.proofs.Members
+pub use Rattle.bimap_base.proofs.Survivors
+pub mod Histories
+pub mod Tested
+pub mod Trails
+pub mod JsonTexts
+pub mod JsonEntries
+pub mod JsonWriting
+pub mod JsonReading
+pub mod JsonCounts
+pub mod JsonRoundTrip
+pub use Rattle.bimap_base.proofs.Apart
+pub use Rattle.bimap_base.proofs.Members
+pub use Rattle.bimap_base.proofs.Undoing

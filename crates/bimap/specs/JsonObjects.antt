@@ -1,0 +1,105 @@
+-- The object of a set of pairs, and the bimap of an object.
+use Rattle.std.specs.Prelude.{◌≡◌, ◌↔◌, ℕ, Bool, List, [], ◌∷◌, ◌++◌, Some, None, Result, Ok, Err, length, map, Contains}
+use Rattle.std.specs.List.Sorted.{IsStrictlySortedBy}
+use Rattle.std.specs.Cmp.Lexicographic.{slice_cmp}
+use Rattle.std.specs.Ordering.{nat_cmp}
+use denote.Ref.{Bor}
+use Rattle.serde_json.specs.Data.{Data, Members, no_members, member}
+use Rattle.serde_json.specs.Find.{as_object}
+use Rattle.bimap_base.specs.Survivors.{Survives, AreSurvivors}
+use Rattle.bimap_base.specs.Holding.{Holding}
+use Rattle.bimap.specs.JsonReading.{ReadsNothing, ReadsBack}
+use Rattle.bimap.specs.declared.value.object.JsonFault.{JsonFault}
+use Rattle.bimap.specs.declared.value.object.JsonFault.TheVariants.{NotAnObject, BadKey, BadValue, Memory}
+
+-- a key text with its value
+abbrev pub Entry : Type 0
+Entry = List ℕ × Data
+
+abbrev pub entries_of : Members → List Entry
+entries_of no_members = []
+entries_of (member k d ms) = (k, d) ∷ entries_of ms
+
+-- the keys ascend in the order of their bytes
+abbrev pub Ascends : List Entry → Type 0
+Ascends entries = IsStrictlySortedBy (slice_cmp nat_cmp) (map (λ e. e.0) entries)
+
+-- the value is an object, and these are its entries in the order of their keys' bytes
+pub record HasEntries (value : Data) (entries : List Entry) : Type 0 where
+  pub members : Members
+  pub is_object : as_object value ≡ Some members
+  pub are : entries ≡ entries_of members
+  pub ascends : Ascends entries
+
+-- the value is an object, and its entries are the members of S
+pub record IsObjectOf (S : Entry → Type 0) (value : Data) : Type 0 where
+  pub entries : List Entry
+  pub has : HasEntries value entries
+  pub exactly : (e : Entry) → Contains entries e ↔ S e
+
+module _ {L R : Type 0} (writes_key : L → List ℕ) (writes : R → Data) where
+  -- the pair is written as the entry
+  abbrev pub IsWrittenAs : L × R → Entry → Type 0
+  IsWrittenAs p e = e ≡ (writes_key p.0, writes p.1)
+
+  -- a member of S is written as the entry
+  abbrev pub IsEntryOf : (L × R → Type 0) → Entry → Type 0
+  IsEntryOf S e = (p : L × R) × S p × IsWrittenAs p e
+
+  -- the pair is written under the key of the entry
+  abbrev pub TakesKey : L × R → Entry → Type 0
+  TakesKey p e = e.0 ≡ writes_key p.0
+
+  -- the entry is what some pair of the list is written as, and no later one is written under its key
+  abbrev pub IsLastEntryOf : List (L × R) → Entry → Type 0
+  IsLastEntryOf pairs e = Survives IsWrittenAs TakesKey (λ s. ⊥) pairs e
+
+  -- what is written of each pair of the list reads as a pair that is equal to it on both sides
+  abbrev pub EachReadsBack : (List ℕ → L → Type 0) → (Data → R → Type 0) → (L → L → Bool) → (R → R → Bool) → List (L × R) → Type 0
+  EachReadsBack reads_key reads same_left same_right pairs =
+      (p : L × R) → Contains pairs p → ReadsBack same_left (reads_key (writes_key p.0)) p.0 × ReadsBack same_right (reads (writes p.1)) p.1
+
+module _ {L R : Type 0} (reads_key : List ℕ → L → Type 0) (reads : Data → R → Type 0) where
+  -- the entry reads as the pair
+  abbrev pub ReadsAs : Entry → L × R → Type 0
+  ReadsAs e p = reads_key e.0 p.0 × reads e.1 p.1
+
+  -- each entry reads as its pair, in order
+  abbrev pub EachReadsAs : List Entry → List (L × R) → Type 0
+  EachReadsAs [] [] = Unit {0}
+  EachReadsAs [] (p ∷ pairs) = ⊥
+  EachReadsAs (e ∷ entries) [] = ⊥
+  EachReadsAs (e ∷ entries) (p ∷ pairs) = ReadsAs e p × EachReadsAs entries pairs
+
+  -- so many entries of an object read as pairs, and the next one has P
+  pub record StopsAt (value : Data) (at : ℕ) (P : Entry → Type 0) : Type 0 where
+    pub before : List Entry
+    pub entry : Entry
+    pub rest : List Entry
+    pub has : HasEntries value (before ++ entry ∷ rest)
+    pub place : length before ≡ at
+    pub pairs : List (L × R)
+    pub read : EachReadsAs before pairs
+    pub stops : P entry
+
+  module _ (same_left : L → L → Bool) (same_right : R → R → Bool) where
+    -- all entries of the object read as pairs, and exactly the survivors of these are held
+    pub record IsReadInto (value : Data) (held : List (L × R)) : Type 0 where
+      pub entries : List Entry
+      pub has : HasEntries value entries
+      pub pairs : List (L × R)
+      pub read : EachReadsAs entries pairs
+      pub survivors : AreSurvivors same_left same_right (Contains []) pairs (Contains held)
+
+    -- what the reading of a bimap answers. The first faulty entry is named, and of it the key first
+    abbrev pub ReadsObject : {B : Type 0} → (B → Holding L R) → Data → Result B JsonFault → Type 0
+    ReadsObject holding value (Ok b) = IsReadInto value (holding b).pairs
+    ReadsObject holding value (Err NotAnObject) = as_object value ≡ None
+    ReadsObject holding value (Err (BadKey at)) = StopsAt value at (λ e. ReadsNothing (reads_key e.0))
+    ReadsObject holding value (Err (BadValue at)) = StopsAt value at (λ e. ((l : L) × reads_key e.0 l) × ReadsNothing (reads e.1))
+    ReadsObject holding value (Err Memory) = (at : ℕ) × StopsAt value at (λ e. Unit {0})
+
+-- what references to the sides show
+abbrev pub shown_pairs : {L R : Type 0} → List (Bor L × Bor R) → List (L × R)
+shown_pairs [] = []
+shown_pairs (x ∷ xs) = (x.0.now, x.1.now) ∷ shown_pairs xs

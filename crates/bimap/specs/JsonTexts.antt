@@ -1,0 +1,42 @@
+-- What texts and JSON values read as, for the types of std.
+use Rattle.std.specs.Prelude.{◌≡◌, ℕ, ◌<◌, ◌^◌, List, Some, option_and_then, decimal, ℤ, pos, negsuc, String, string_bytes}
+use Rattle.std.specs.Fmt.{signed_decimal}
+use Rattle.std.specs.Char.{encode_utf8, IsScalar}
+use Rattle.std.specs.declared.alloc.Global.{Global}
+use Rattle.serde_json.specs.Data.{Data}
+use Rattle.serde_json.specs.Find.{as_number, as_u64, as_i64, as_str}
+
+-- z is in the range of the signed type with so many bits below the sign
+abbrev pub IsWithin : ℕ → ℤ → Type 0
+IsWithin bits (pos n) = n < 2 ^ bits
+IsWithin bits (negsuc n) = n < 2 ^ bits
+
+-- the text is the plain decimal of n, which has at most so many bits
+abbrev pub IsUnsignedText : ℕ → List ℕ → ℕ → Type 0
+IsUnsignedText bits text n = (text ≡ decimal n) × (n < 2 ^ bits)
+
+-- the text is the plain decimal of z
+abbrev pub IsSignedText : ℕ → List ℕ → ℤ → Type 0
+IsSignedText bits text z = (text ≡ signed_decimal z) × IsWithin bits z
+
+-- the text is the one character c
+abbrev pub IsCharText : List ℕ → ℕ → Type 0
+IsCharText text c = (text ≡ encode_utf8 c) × IsScalar c
+
+abbrev pub IsStringText : List ℕ → String Global → Type 0
+IsStringText text s = string_bytes s ≡ text
+
+-- the value is the whole number n, which has at most so many bits
+abbrev pub IsUnsignedValue : ℕ → Data → ℕ → Type 0
+IsUnsignedValue bits value n = (option_and_then as_u64 (as_number value) ≡ Some n) × (n < 2 ^ bits)
+
+-- the value is the whole number z
+abbrev pub IsSignedValue : ℕ → Data → ℤ → Type 0
+IsSignedValue bits value z = (option_and_then as_i64 (as_number value) ≡ Some z) × IsWithin bits z
+
+-- the value is a text of the one character c
+abbrev pub IsCharValue : Data → ℕ → Type 0
+IsCharValue value c = (as_str value ≡ Some (encode_utf8 c)) × IsScalar c
+
+abbrev pub IsStringValue : Data → String Global → Type 0
+IsStringValue value s = as_str value ≡ Some (string_bytes s)

@@ -1,0 +1,16 @@
+pub use Rattle.bimap_base.specs.Sets
+pub use Rattle.bimap_base.specs.Answer
+pub use Rattle.bimap_base.specs.Holding
+pub use Rattle.bimap_base.specs.Kept
+pub use Rattle.bimap_base.specs.Same
+pub use Rattle.bimap_base.specs.Survivors
+pub use Rattle.bimap_base.specs.Undoing
+pub mod Test
+pub mod History
+pub mod Step
+pub mod Trail
+pub mod JsonReading
+pub mod JsonTexts
+pub mod JsonObjects
+pub mod JsonDigits
+pub mod Types

@@ -1,0 +1,85 @@
+//! A list of calls, performed in order on any bimap. It doesn't know how a bimap keeps its pairs.
+ghost use Rattle.std.specs.Prelude.{◌≡◌, ◌≤◌, length, Contains, IfOk, IfErr, OnErr, vec_len};
+ghost use Rattle.std.specs.List.{zip};
+ghost use Rattle.bimap.specs.Test.{Answers, IsDecided, IsTestOf};
+ghost use Rattle.bimap.specs.History.{IsNoRoom, IsRight, IsHistory};
+ghost use Rattle.bimap.specs.Step.{MayRetain, IsStep};
+
+use crate::call::{Call, Reply, RunRefused};
+use bimap_base::{Bijection, NoRoom, NotInserted, NotInsertedWith};
+use std::alloc::Global;
+
+/// Performs one call.
+fn perform<L: Eq + Drop, R: Eq + Drop, K: Drop, B: Bijection<L, R>, F: Fn(&K, &L, &R) -> bool>(
+    bimap: &mut B,
+    call: Call<L, R, K>,
+    test: &F,
+) -> Reply<L, R>
+    requires { MayRetain (IsDecided F.Fn test.now) (Contains (B.holding bimap.old).pairs) call }
+    ensures right { IsRight L.eq R.eq (Contains (B.holding bimap.old).pairs) (call, result) }
+    ensures step { IsStep L.eq R.eq (Answers F.Fn test.now) (Contains (B.holding bimap.old).pairs) (call, result) (Contains (B.holding bimap.new).pairs) }
+    ensures not_lower { (B.holding bimap.old).room ≤ (B.holding bimap.new).room }
+    ensures full { IsNoRoom (call, result) → (B.holding bimap.old).room ≤ length (B.holding bimap.old).pairs }
+{
+    match call {
+        Call::Insert(left, right) => match bimap.insert(left, right) {
+            Ok(answer) => Reply::Inserted(answer),
+            Err(NoRoom { left, right }) => Reply::NoRoom(left, right),
+        },
+        Call::InsertNoOverwrite(left, right) => match bimap.insert_no_overwrite(left, right) {
+            Ok(()) => Reply::Put,
+            Err(NotInserted::Occupied(left, right)) => Reply::Occupied(left, right),
+            Err(NotInserted::Memory(left, right)) => Reply::NoRoom(left, right),
+        },
+        Call::InsertWith(left, right, policy) => match bimap.insert_with(left, right, policy) {
+            Ok(answer) => Reply::Inserted(answer),
+            Err(NotInsertedWith::LeftHeld(left, right)) => Reply::LeftHeld(left, right),
+            Err(NotInsertedWith::RightHeld(left, right)) => Reply::RightHeld(left, right),
+            Err(NotInsertedWith::Memory(left, right)) => Reply::NoRoom(left, right),
+        },
+        Call::RemoveByLeft(left) => Reply::Removed(bimap.remove_by_left(&left)),
+        Call::RemoveByRight(right) => Reply::Removed(bimap.remove_by_right(&right)),
+        Call::ContainsLeft(left) => Reply::Holds(bimap.contains_left(&left)),
+        Call::ContainsRight(right) => Reply::Holds(bimap.contains_right(&right)),
+        Call::Retain(key) => {
+            let kept = &key;
+            bimap.retain(
+                |left: &L, right: &R| -> bool
+                    requires { F.pre test.now kept left right }
+                    ensures { F.post test.entry.now kept.entry left.entry right.entry result }
+                { test(kept, left, right) },
+            );
+            Reply::Done
+        }
+        Call::Clear => {
+            bimap.clear();
+            Reply::Done
+        }
+    }
+}
+
+/// Performs the calls in order, and answers one reply for each.
+///
+/// Memory for all replies is taken before the first call. A `NoRoom` doesn't end the run. The test must have no state:
+/// it answers whether `Retain` keeps a pair. A refusal changes nothing.
+pub fn run<L: Eq + Drop, R: Eq + Drop, K: Drop, B: Bijection<L, R>, F: Fn(&K, &L, &R) -> bool>(
+    alloc: Global,
+    bimap: &mut B,
+    calls: Vec<Call<L, R, K>>,
+    test: F,
+) -> Result<Vec<Reply<L, R>>, RunRefused<L, R, K>>
+    requires { IsTestOf F.Fn test (B.holding bimap.old).pairs calls.items }
+    ensures one_each { IfOk result (λ replies. vec_len replies ≡ vec_len calls) }
+    ensures history { IfOk result (λ replies. IsHistory L.eq R.eq (Answers F.Fn test) (B.holding bimap.old) (zip calls.items replies.items) (B.holding bimap.new)) }
+    ensures handed_back { IfErr result (λ e. e.calls.items ≡ calls.items) }
+    ensures unchanged { OnErr result (B.holding bimap.new ≡ B.holding bimap.old) }
+{
+    let Ok(mut replies) = Vec::with_capacity(alloc, calls.len()) else {
+        return Err(RunRefused { calls });
+    };
+    for call in calls {
+        let reply = perform(bimap, call, &test);
+        replies.push_reserved(reply);
+    }
+    Ok(replies)
+}

@@ -1,0 +1,40 @@
+//! A list of insertions, undone from its end on any bimap. It doesn't know how a bimap keeps its pairs.
+ghost use Rattle.std.specs.Prelude.{◌≡◌, ◌≤◌, List, Contains, IsOk, OnOk, IfErr};
+ghost use Rattle.bimap_base.specs.Sets.{IsSameSet};
+ghost use Rattle.bimap.specs.Trail.{Leads, LeadsWithin, IsStopped};
+
+use bimap_base::{Bijection, Overwritten};
+
+/// There was no memory to undo an insertion that struck two pairs. The entries that are not undone are handed back in
+/// order, that one last.
+#[derive(Debug, Drop, Eq, PartialEq)]
+pub struct UndoRunStopped<L, R> {
+    pub rest: Vec<(L, Overwritten<L, R>)>,
+}
+
+/// Undoes insertions from the last to the first. An entry is a left with what its insertion answered.
+///
+/// It takes memory only where an answer is `Both` and no place is free.
+pub fn undo_run<L: Eq + Drop, R: Eq + Drop, B: Bijection<L, R>>(
+    bimap: &mut B,
+    mut entries: Vec<(L, Overwritten<L, R>)>,
+) -> Result<(), UndoRunStopped<L, R>>
+    requires { (first : List (L × R)) × Leads L.eq R.eq first entries.items (B.holding bimap.old).pairs }
+    ensures undone { OnOk result ((first : List (L × R)) → Leads L.eq R.eq first entries.items (B.holding bimap.old).pairs → IsSameSet (Contains first) (Contains (B.holding bimap.new).pairs)) }
+    ensures stopped { IfErr result (λ e. IsStopped L.eq R.eq (B.holding bimap.old) entries.items e.rest.items (B.holding bimap.new)) }
+    ensures not_lower { (B.holding bimap.old).room ≤ (B.holding bimap.new).room }
+
+    // Where no set on the way back needs another place, all is undone in the places that are there.
+    ensures fits { (first : List (L × R)) → LeadsWithin L.eq R.eq (B.holding bimap.old).room first entries.items (B.holding bimap.old).pairs → IsOk result × ((B.holding bimap.new).room ≡ (B.holding bimap.old).room) }
+{
+    while let Some((left, answer)) = entries.pop() {
+        match bimap.undo_insert(&left, answer) {
+            Ok(_) => {}
+            Err(stopped) => {
+                entries.push_reserved((left, stopped.answer));
+                return Err(UndoRunStopped { rest: entries });
+            }
+        }
+    }
+    Ok(())
+}

@@ -1,0 +1,118 @@
+//! Any bimap as a JSON object and back. It doesn't know how a bimap keeps its pairs, nor how a side is written.
+ghost use Rattle.std.specs.Prelude.{◌≡◌, ◌↔◌, List, [], Contains, IfOk, IfErr, OnOk};
+ghost use Rattle.std.specs.Iterator.{Drains, IsFiniteIterable};
+ghost use denote.Ref.{Bor};
+ghost use Rattle.serde_json.specs.View.{view};
+ghost use Rattle.bimap_base.specs.Same.{IsSame};
+ghost use Rattle.bimap.specs.JsonObjects.{IsObjectOf, IsEntryOf, IsLastEntryOf, EachReadsBack, ReadsObject, shown_pairs};
+
+use crate::value::sides::{JsonKey, JsonValue, ReadFault};
+use bimap_base::{Bijection, NoMemory};
+use serde_json::{Map, Value};
+use std::alloc::Global;
+use std::mem;
+
+/// Why no bimap was read. Entries are counted from 0, in ascending byte order of their keys.
+#[derive(Clone, Copy, Debug, Eq, PartialEq)]
+pub enum JsonFault {
+    /// The value is not an object.
+    NotAnObject,
+    /// The entries before this one read, and its key does not.
+    BadKey(usize),
+    /// The entries before this one read, its key does too, and its value does not.
+    BadValue(usize),
+    /// Memory was wanting before any fault was met.
+    Memory,
+}
+
+/// A bimap in JSON: an object with an entry for each pair, its key the left and its value the right.
+pub trait JsonObject<L: JsonKey + Drop, R: JsonValue + Drop>: Bijection<L, R> + Sized {
+    /// The object of the pairs held. Each of its entries reads as a pair equal on both sides to the one it was written of.
+    ///
+    /// Takes memory for each pair. A refusal makes nothing.
+    fn to_value(&self, alloc: Global) -> Result<Value, NoMemory>
+        ensures object { IfOk result (λ v. IsObjectOf (IsEntryOf L.writes_key R.writes (Contains (Self.holding self.now).pairs)) (view v)) }
+        ensures reads_back { OnOk result (EachReadsBack L.writes_key R.writes L.reads_key R.reads L.eq R.eq (Self.holding self.now).pairs) };
+
+    /// The bimap of an object's entries, inserted in ascending byte order of their keys. A later one may strike earlier
+    /// ones: of several entries with equal rights the one with the greatest key stays.
+    ///
+    /// Takes memory for each entry. A fault makes nothing.
+    fn from_value(alloc: Global, value: &Value) -> Result<Self, JsonFault>
+        ensures { ReadsObject L.reads_key R.reads L.eq R.eq Self.holding (view value.now) result };
+}
+
+/// The object of the pairs that a walk gives. Of pairs with one key text the last is in it.
+///
+/// Takes memory for each pair.
+pub fn write_walk<'a, L: JsonKey + 'a, R: JsonValue + 'a, I: IntoIterator<Item = (&'a L, &'a R)>>(
+    alloc: Global,
+    walk: I,
+) -> Result<Value, NoMemory>
+    requires { IsFiniteIterable I.into_iter_gives I.IntoIter.can_next I.IntoIter.remaining walk }
+    ensures { IfOk result (λ v. (it : I.IntoIter) × (items : List (Bor L × Bor R)) × I.into_iter_gives walk it × Drains I.IntoIter.next_gives it items
+        × IsObjectOf (IsLastEntryOf L.writes_key R.writes (shown_pairs items)) (view v)
+        × EachReadsBack L.writes_key R.writes L.reads_key R.reads L.eq R.eq (shown_pairs items)) }
+{
+    let mut map = Map::new(alloc);
+    for (left, right) in walk {
+        let key = left.to_key(alloc)?;
+        let value = right.to_json(alloc)?;
+        match map.insert(key, value) {
+            Ok(replaced) => mem::drop(replaced),
+            Err(_) => return Err(NoMemory),
+        }
+    }
+    Ok(Value::Object(map))
+}
+
+/// Inserts an object's entries into an empty bimap in ascending byte order of their keys, and answers it.
+///
+/// A fault drops it.
+pub fn read_into<L: JsonKey + Drop, R: JsonValue + Drop, B: Bijection<L, R> + Drop>(
+    alloc: Global,
+    empty: B,
+    value: &Value,
+) -> Result<B, JsonFault>
+    requires { (B.holding empty).pairs ≡ [] }
+    ensures { ReadsObject L.reads_key R.reads L.eq R.eq B.holding (view value.now) result }
+{
+    let Some(map) = value.as_object() else {
+        return Err(JsonFault::NotAnObject);
+    };
+    let mut bimap = empty;
+    let mut at = 0usize;
+    let mut entries = map.iter();
+    while let Some((key, value)) = entries.next() {
+        let left = match L::from_key(alloc, key.as_str()) {
+            Ok(left) => left,
+            Err(ReadFault::Bad) => return Err(JsonFault::BadKey(at)),
+            Err(ReadFault::Memory) => return Err(JsonFault::Memory),
+        };
+        let right = match R::from_json(alloc, value) {
+            Ok(right) => right,
+            Err(ReadFault::Bad) => return Err(JsonFault::BadValue(at)),
+            Err(ReadFault::Memory) => return Err(JsonFault::Memory),
+        };
+        match bimap.insert(left, right) {
+            Ok(struck) => mem::drop(struck),
+            Err(_) => return Err(JsonFault::Memory),
+        }
+        at += 1;
+    }
+    Ok(bimap)
+}
+
+/// Writes a bimap as an object and reads it back: an equal bimap, or want of memory.
+pub fn reread<L: JsonKey + Drop, R: JsonValue + Drop, B: JsonObject<L, R> + Drop>(
+    alloc: Global,
+    bimap: &B,
+) -> Result<B, JsonFault>
+    ensures same { IfOk result (λ copy. IsSame L.eq R.eq (B.holding bimap.now).pairs (B.holding copy).pairs) }
+    ensures only_memory { IfErr result (λ fault. fault ≡ JsonFault.Memory) }
+{
+    match bimap.to_value(alloc) {
+        Ok(value) => B::from_value(alloc, &value),
+        Err(NoMemory) => Err(JsonFault::Memory),
+    }
+}

@@ -1,0 +1,90 @@
+//! How one side of a bimap is written in JSON and read back.
+ghost use Rattle.std.specs.Prelude.{◌≡◌, ℕ, List, IfOk, OnOk, string_bytes};
+ghost use Rattle.serde_json.specs.Data.{Data};
+ghost use Rattle.serde_json.specs.View.{view};
+ghost use Rattle.bimap.specs.JsonReading.{Reads, ReadsBack};
+
+use bimap_base::NoMemory;
+use serde_json::Value;
+use std::alloc::Global;
+
+/// Why nothing was read.
+#[derive(Clone, Copy, Debug, Eq, PartialEq)]
+pub enum ReadFault {
+    /// The text or JSON value reads as nothing.
+    Bad,
+    /// Memory was wanting.
+    Memory,
+}
+
+/// A left in JSON: the key of an entry.
+///
+/// What is written of a value reads as an equal value, and as no other. So lefts that are not equal have different keys.
+///
+/// A type of one's own says what it is written as (`writes_key`) and what a text reads as (`reads_key`), and mostly asks a
+/// type that has the interface. Here a seat is written as its number:
+///
+/// ```
+/// ghost use Rattle.bimap.specs.JsonTexts.{IsUnsignedText};
+/// ghost use Rattle.std.specs.Prelude.{decimal};
+///
+/// use bimap::NoMemory;
+/// use bimap::value::{JsonKey, ReadFault};
+///
+/// #[derive(Clone, Copy, Debug, Eq, PartialEq)]
+/// pub struct Seat {
+///     pub number: u8,
+/// }
+///
+/// impl JsonKey for Seat {
+///     ghost writes_key = { λ seat. decimal seat.number };
+///
+///     ghost reads_key = { λ text seat. IsUnsignedText 8 text seat.number };
+///
+///     fn to_key(&self, alloc: Global) -> Result<String, NoMemory> {
+///         Ok(self.number.to_key(alloc)?)
+///     }
+///
+///     fn from_key(alloc: Global, text: &str) -> Result<Seat, ReadFault> {
+///         let number = u8::from_key(alloc, text)?;
+///         Ok(Seat { number })
+///     }
+/// }
+/// ```
+pub trait JsonKey: Eq + Sized {
+    /// What a value is written as.
+    ghost writes_key: { Self → List ℕ };
+
+    /// The text reads as the value.
+    ghost reads_key: { List ℕ → Self → Type 0 };
+
+    /// The key text of a value.
+    fn to_key(&self, alloc: Global) -> Result<String, NoMemory>
+        ensures text { IfOk result (λ s. string_bytes s ≡ writes_key self.now) }
+        ensures reads_back { OnOk result (ReadsBack Self.eq (reads_key (writes_key self.now)) self.now) };
+
+    /// The value that a key text reads as, or `Bad` exactly where it reads as none.
+    fn from_key(alloc: Global, text: &str) -> Result<Self, ReadFault>
+        ensures { Reads (reads_key text.now) result };
+}
+
+/// A right in JSON: the value of an entry.
+///
+/// What is written of a value reads as an equal value, and as no other. A type of one's own implements it as it does
+/// `JsonKey`.
+pub trait JsonValue: Eq + Sized {
+    /// What a value is written as.
+    ghost writes: { Self → Data };
+
+    /// The JSON value reads as the value.
+    ghost reads: { Data → Self → Type 0 };
+
+    /// The JSON value of a value.
+    fn to_json(&self, alloc: Global) -> Result<Value, NoMemory>
+        ensures json { IfOk result (λ v. view v ≡ writes self.now) }
+        ensures reads_back { OnOk result (ReadsBack Self.eq (reads (writes self.now)) self.now) };
+
+    /// The value that a JSON value reads as, or `Bad` exactly where it reads as none.
+    fn from_json(alloc: Global, value: &Value) -> Result<Self, ReadFault>
+        ensures { Reads (reads (view value.now)) result };
+}

@@ -1,0 +1,19 @@
+-- The pairs of a store, and the place of a key.
+use Rattle.std.specs.Prelude.{◌≡◌, ℕ, ◌-◌, Bool, true, false, List, [], ◌∷◌, ◌++◌, length, map, replicate, Option, None, Some, IfSome, IsSomeAnd}
+use Rattle.bimap_base.specs.Slots.{pair_at}
+
+module _ {P : Type 0} where
+  -- the pairs of a store, in the order of their places
+  abbrev pub pairs_in : List (Option P) → List P
+  pairs_in [] = []
+  pairs_in (None ∷ slots) = pairs_in slots
+  pairs_in (Some pair ∷ slots) = pair ∷ pairs_in slots
+
+  -- so many places, of which the first have the pairs, in this order
+  abbrev pub packed : List P → ℕ → List (Option P)
+  packed pairs places = map Some pairs ++ replicate (places - length pairs) None
+
+-- the place has a pair with an equal key, if it is told, and no other place has one
+pub record IsFoundAt {P K : Type 0} (key : P → K) (same : K → K → Bool) (slots : List (Option P)) (k : K) (found : Option ℕ) : Type 0 where
+  pub here : IfSome found (λ place. IsSomeAnd (pair_at slots place) (λ p. same (key p) k ≡ true))
+  pub elsewhere : (place : ℕ) (p : P) → (found ≡ Some place → ⊥) → pair_at slots place ≡ Some p → same (key p) k ≡ false

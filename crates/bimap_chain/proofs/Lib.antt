@@ -1,0 +1,6 @@
+pub mod Below
+pub mod Relink
+pub mod Rethread
+pub mod Walk
+pub mod Kept
+pub mod Sized

@@ -1,0 +1,209 @@
+-- One place is listed, or taken out, and one link or head is written: the chains stand again.
+use Rattle.std.proofs.Common.{◌≡◌, ◌≢◌, ℕ, zero, suc, ◌+◌, ◌%◌, ◌<◌, ◌≤◌, Bool, true, false, List, [], ◌∷◌, length, Option, None, Some, refl, sym, ◌∙◌, ap, subst, arith, ◌⊎◌, inl, inr, add-one, get_or, eq-eqb, eqb-true, length-set, get_or-set_same, get_or-set_other}
+use Rattle.std.specs.Prelude.{◌^◌, slice_index_or, slice_set, IfSome}
+use Rattle.std.specs.Option.{MatchOption}
+use Rattle.bimap_chain.specs.Chains.{Numbers, number_at, is_of, last_below, NoneWithin, IsThreaded, IsListed, GoesOver, Links, link_or_head}
+use Rattle.bimap_chain.proofs.Below.{found, last_here, last_lower, same_last, skipped, same_above}
+use Rattle.bimap_chain.proofs.Walk.{leads, of_bucket}
+
+pub same_or_not : (p q : ℕ) → (p ≡ q) ⊎ (p ≢ q)
+same_or_not p q = grind arith
+
+below_same_above : (p q : ℕ) → (p < q) ⊎ ((p ≡ q) ⊎ (q < p))
+below_same_above p q = grind arith
+
+pub listed_within : (c : Numbers) (q h : ℕ) → number_at c q ≡ Some h → q < length c
+listed_within [] q h e = cc
+listed_within (x ∷ c) zero h e = omega arith
+listed_within (x ∷ c) (suc q) h e = omega (arith, listed_within c q h e)
+
+pub is_own : (n h : ℕ) → is_of n (h % n) (Some h) ≡ true
+is_own n h = eq-eqb (h % n) (h % n) refl
+
+pub is_others : (n h k : ℕ) → (k ≡ h % n → ⊥) → is_of n k (Some h) ≡ false
+is_others n h k differs = grind arith
+
+module _ (c : Numbers) (links heads : List (Option ℕ)) (b place : ℕ) (over : Option ℕ) (t : IsThreaded c links heads) (fits : b < length heads) (inn : place < length c) (o : GoesOver c (length heads) b place over) where
+  -- what stands in the link or head that goes over the place
+  pub link_over : link_or_head links heads b over ≡ last_below c (length heads) b (suc place)
+  link_over = by over o
+    where
+      by : (p : Option ℕ) → GoesOver c (length heads) b place p → link_or_head links heads b p ≡ last_below c (length heads) b (suc place)
+      by None g = t.heads_begin b fits ∙ skipped (length heads) b c (suc place) (length c) (omega arith) (λ q l r. g q (omega arith) r)
+      by (Some p) g = leads c links heads b p t g.2 ∙ skipped (length heads) b c (suc place) p (omega (arith, g.0)) (λ q l r. g.3 q (omega arith) r)
+
+  module _ (v : Option ℕ) (kept : List (Option ℕ)) (old_own : (k : ℕ) → k ≢ b → is_of (length heads) k (number_at c place) ≡ false) (new_own : (k : ℕ) → k ≢ b → is_of (length heads) k v ≡ false)
+      (as_long : length kept ≡ length links) (others_kept : (q : ℕ) → q ≢ place → slice_index_or kept q None ≡ slice_index_or links q None)
+      (own_link : (h : ℕ) → v ≡ Some h → slice_index_or kept place None ≡ last_below c (length heads) b place) where
+    abbrev d : Numbers
+    d = slice_set c place v
+
+    abbrev n : ℕ
+    n = length heads
+
+    at_place : number_at d place ≡ v
+    at_place = get_or-set_same c place v None inn
+
+    at_other : (q : ℕ) → q ≢ place → number_at d q ≡ number_at c q
+    at_other q e = get_or-set_other c place q v None e
+
+    -- outside the bucket no cell has changed
+    same_of : (k q : ℕ) → k ≢ b → is_of n k (number_at c q) ≡ is_of n k (number_at d q)
+    same_of k q e =
+        elim (same_or_not q place) [
+          | inl i ↦ subst (λ r. is_of n k (number_at c r) ≡ is_of n k (number_at d r)) (sym i) (old_own k e ∙ sym (new_own k e) ∙ ap (is_of n k) (sym at_place))
+          | inr i ↦ ap (is_of n k) (sym (at_other q i))
+        ]
+
+    other_bucket : (k m : ℕ) → k ≢ b → last_below d n k m ≡ last_below c n k m
+    other_bucket k m e = sym (same_last n k c d m (λ q l. same_of k q e))
+
+    -- below the place no cell has changed
+    lower : (k m : ℕ) → m ≤ place → last_below d n k m ≡ last_below c n k m
+    lower k m l = sym (same_last n k c d m (λ q r. ap (is_of n k) (sym (at_other q (omega arith)))))
+
+    -- above a place of the bucket
+    higher : (m p : ℕ) → place < p → p < m → is_of n b (number_at c p) ≡ true → last_below d n b m ≡ last_below c n b m
+    higher m p l r e = sym (same_above n b c d (suc place) m p (λ q i j. ap (is_of n b) (sym (at_other q (omega arith)))) (omega arith) r e)
+
+    -- up to the place that goes over
+    up_to : (m : ℕ) → place < m → NoneWithin c n b (place + 1) m → last_below d n b m ≡ last_below d n b (suc place)
+    up_to m l h = skipped n b d (suc place) m (omega arith) (λ q i j. ap (is_of n b) (at_other q (omega arith)) ∙ h q (omega arith) j)
+
+    same_bucket_or_not : (k : ℕ) → (k ≡ b) ⊎ (k ≢ b)
+    same_bucket_or_not k = same_or_not k b
+
+    heads_of : (p : Option ℕ) (links' heads' : List (Option ℕ)) → GoesOver c n b place p → Links b p (last_below d n b (suc place)) kept heads links' heads' → (k : ℕ) → k < length heads → slice_index_or heads' k None ≡ last_below d n k (length c)
+    heads_of None links' heads' g w k l =
+        ap (λ hs. slice_index_or hs k None) w.1 ∙
+        (elim (same_bucket_or_not k) as (λ _. slice_index_or (slice_set heads b (last_below d n b (suc place))) k None ≡ last_below d n k (length c)) [
+          | inl i ↦ subst (λ m. slice_index_or (slice_set heads b (last_below d n b (suc place))) m None ≡ last_below d n m (length c)) (sym i) (get_or-set_same heads b (last_below d n b (suc place)) None fits ∙ sym (up_to (length c) inn g))
+          | inr i ↦ get_or-set_other heads b k (last_below d n b (suc place)) None i ∙ t.heads_begin k l ∙ sym (other_bucket k (length c) i)
+        ])
+    heads_of (Some p) links' heads' g w k l =
+        ap (λ hs. slice_index_or hs k None) w.1 ∙ t.heads_begin k l ∙
+        (elim (same_bucket_or_not k) as (λ _. last_below c n k (length c) ≡ last_below d n k (length c)) [
+          | inl i ↦ subst (λ m. last_below c n m (length c) ≡ last_below d n m (length c)) (sym i) (sym (higher (length c) p g.0 g.1 g.2))
+          | inr i ↦ sym (other_bucket k (length c) i)
+        ])
+
+    -- a link that was not written, of a place other than the one
+    link_kept : (q h : ℕ) → q ≢ place → number_at c q ≡ Some h → last_below d n (h % n) q ≡ last_below c n (h % n) q → slice_index_or kept q None ≡ last_below d n (h % n) q
+    link_kept q h e a s = others_kept q e ∙ t.links_lead q h a ∙ sym s
+
+    own_bucket : (h : ℕ) → v ≡ Some h → h % n ≡ b
+    own_bucket h e =
+        elim (same_or_not (h % n) b) [
+          | inl i ↦ i
+          | inr i ↦ let f : is_of n (h % n) (Some h) ≡ false = ap (is_of n (h % n)) (sym e) ∙ new_own (h % n) i in let g = is_own n h in cc
+        ]
+
+    of_own : (q h : ℕ) → number_at c q ≡ Some h → h % n ≡ b → is_of n b (number_at c q) ≡ true
+    of_own q h a e = ap (is_of n b) a ∙ eq-eqb (h % n) b e
+
+    -- what leads on from a place whose link was not written
+    unchanged : (p : Option ℕ) → GoesOver c n b place p → (q h : ℕ) → q ≢ place → number_at c q ≡ Some h → (p ≡ Some q → ⊥) → last_below d n (h % n) q ≡ last_below c n (h % n) q
+    unchanged p g q h e a differs =
+        elim (same_or_not (h % n) b) [
+          | inr i ↦ other_bucket (h % n) q i
+          | inl i ↦ elim (below_same_above q place) [
+            | inl l ↦ lower (h % n) q (omega arith)
+            | inr r ↦ elim r [ inl j ↦ absurd (e j) | inr l ↦ subst (λ k. last_below d n k q ≡ last_below c n k q) (sym i) (above p g l (of_own q h a i) differs) ]
+          ]
+        ]
+      where
+        above : (p : Option ℕ) → GoesOver c n b place p → place < q → is_of n b (number_at c q) ≡ true → (p ≡ Some q → ⊥) → last_below d n b q ≡ last_below c n b q
+        above None g l o differs = let f = g q (omega arith) (listed_within c q h a) in cc
+        above (Some p) g l o differs =
+            elim (below_same_above q p) [
+              | inl k ↦ let f = g.3 q (omega arith) k in cc
+              | inr r ↦ elim r [ inl j ↦ absurd (differs (ap Some (sym j))) | inr k ↦ higher q p g.0 k g.2 ]
+            ]
+
+    links_of : (p : Option ℕ) (links' heads' : List (Option ℕ)) → GoesOver c n b place p → Links b p (last_below d n b (suc place)) kept heads links' heads' → (q h : ℕ) → number_at d q ≡ Some h → slice_index_or links' q None ≡ last_below d n (h % n) q
+    links_of p links' heads' g w q h a =
+        elim (same_or_not q place) [ inl i ↦ at_it p g w i | inr i ↦ at_others p g w i (sym (at_other q i) ∙ a) ]
+      where
+        kept_own : q ≡ place → slice_index_or kept q None ≡ last_below d n (h % n) q
+        kept_own i =
+            let e : v ≡ Some h = sym at_place ∙ ap (number_at d) (sym i) ∙ a in
+            ap (λ r. slice_index_or kept r None) i ∙ own_link h e ∙ ap (λ k. last_below c n k place) (sym (own_bucket h e)) ∙ sym (lower (h % n) place (omega arith)) ∙ ap (last_below d n (h % n)) (sym i)
+
+        at_it : (p : Option ℕ) → GoesOver c n b place p → Links b p (last_below d n b (suc place)) kept heads links' heads' → q ≡ place → slice_index_or links' q None ≡ last_below d n (h % n) q
+        at_it None g w i = ap (λ ls. slice_index_or ls q None) w.0 ∙ kept_own i
+        at_it (Some p) g w i = ap (λ ls. slice_index_or ls q None) w.0 ∙ get_or-set_other kept p q (last_below d n b (suc place)) None (omega (arith, g.0)) ∙ kept_own i
+
+        at_others : (p : Option ℕ) → GoesOver c n b place p → Links b p (last_below d n b (suc place)) kept heads links' heads' → q ≢ place → number_at c q ≡ Some h → slice_index_or links' q None ≡ last_below d n (h % n) q
+        at_others None g w i e = ap (λ ls. slice_index_or ls q None) w.0 ∙ link_kept q h i e (unchanged None g q h i e (λ j. cc))
+        at_others (Some p) g w i e =
+            ap (λ ls. slice_index_or ls q None) w.0 ∙
+            (elim (same_or_not q p) [
+              | inl j ↦
+                  let k = of_bucket n b (number_at c p) g.2 in
+                  let s : h ≡ k.0 = let m = ap (number_at c) j in cc in
+                  ap (λ r. slice_index_or (slice_set kept p (last_below d n b (suc place))) r None) j ∙ get_or-set_same kept p (last_below d n b (suc place)) None (omega (arith, g.1, as_long, t.as_many_links)) ∙ sym (up_to p g.0 g.3)
+                  ∙ ap (λ m. last_below d n m p) (sym k.2 ∙ ap (λ m. m % n) (sym s)) ∙ ap (last_below d n (h % n)) (sym j)
+              | inr j ↦ get_or-set_other kept p q (last_below d n b (suc place)) None j ∙ link_kept q h i e (unchanged (Some p) g q h i e (λ m. j (let z : p ≡ q = cc in sym z)))
+            ])
+
+    lengths : (p : Option ℕ) (links' heads' : List (Option ℕ)) → Links b p (last_below d n b (suc place)) kept heads links' heads' → (length links' ≡ length kept) × (length heads' ≡ length heads)
+    lengths None links' heads' w = (ap length w.0, ap length w.1 ∙ length-set heads b (last_below d n b (suc place)))
+    lengths (Some p) links' heads' w = (ap length w.0 ∙ length-set kept p (last_below d n b (suc place)), ap length w.1)
+
+    -- the chains stand again
+    pub relinked : (to : Option ℕ) (links' heads' : List (Option ℕ)) → to ≡ last_below d n b (suc place) → Links b over to kept heads links' heads' → IsThreaded d links' heads'
+    relinked to links' heads' e written =
+        let w = subst (λ s. Links b over s kept heads links' heads') e written in
+        let long = lengths over links' heads' w in
+        let cells : length d ≡ length c = length-set c place v in
+        record {
+          as_many_links = long.0 ∙ as_long ∙ t.as_many_links ∙ sym cells;
+          enough_heads = omega (arith, long.1, t.enough_heads, cells);
+          heads_begin = λ k l. heads_of over links' heads' o w k (omega (arith, long.1)) ∙ ap (λ m. last_below d m k (length c)) (sym long.1) ∙ ap (last_below d (length heads') k) (sym cells);
+          links_lead = λ q h a. links_of over links' heads' o w q h a ∙ ap (λ m. last_below d m (h % m) q) (sym long.1);
+        }
+
+-- a place is listed
+pub listed : (c : Numbers) (links heads : List (Option ℕ)) (b number place : ℕ) (over next : Option ℕ) (links' heads' : List (Option ℕ)) → IsThreaded c links heads → b ≡ number % length heads → place < length c → number_at c place ≡ None
+    → GoesOver c (length heads) b place over → next ≡ link_or_head links heads b over → Links b over (Some place) (slice_set links place next) heads links' heads' → IsThreaded (slice_set c place (Some number)) links' heads'
+listed c links heads b number place over next links' heads' t own inn free o is written =
+    let some : 0 < length heads = omega (arith, t.enough_heads) in
+    let fits : b < length heads = omega (arith, own) in
+    relinked c links heads b place over t fits inn o (Some number) (slice_set links place next)
+    (λ k differs. ap (is_of (length heads) k) free)
+    (λ k differs. is_others (length heads) number k (λ i. differs (i ∙ sym own)))
+    (length-set links place next)
+    (λ q i. get_or-set_other links place q next None i)
+    (λ h i. get_or-set_same links place next None (omega (arith, t.as_many_links)) ∙ is ∙ link_over c links heads b place over t fits inn o ∙ last_lower (length heads) b c place (ap (is_of (length heads) b) free))
+    (Some place) links' heads'
+    (sym (last_here (length heads) b (slice_set c place (Some number)) place (ap (is_of (length heads) b) (get_or-set_same c place (Some number) None inn) ∙ ap (λ k. is_of (length heads) k (Some number)) own ∙ is_own (length heads) number)))
+    written
+
+-- a place is taken out, whatever its own link is then
+pub unlisted : (c : Numbers) (links heads : List (Option ℕ)) (b number place : ℕ) (over next left : Option ℕ) (links' heads' : List (Option ℕ)) → IsThreaded c links heads → b ≡ number % length heads → number_at c place ≡ Some number
+    → GoesOver c (length heads) b place over → next ≡ slice_index_or links place None → Links b over next (slice_set links place left) heads links' heads' → IsThreaded (slice_set c place None) links' heads'
+unlisted c links heads b number place over next left links' heads' t own held o is written =
+    let inn : place < length c = listed_within c place number held in
+    let some : 0 < length heads = omega (arith, t.enough_heads) in
+    let fits : b < length heads = omega (arith, own) in
+    relinked c links heads b place over t fits inn o None (slice_set links place left)
+    (λ k differs. ap (is_of (length heads) k) held ∙ is_others (length heads) number k (λ i. differs (i ∙ sym own)))
+    (λ k differs. refl)
+    (length-set links place left)
+    (λ q i. get_or-set_other links place q left None i)
+    (λ h i. cc)
+    next links' heads'
+    (is ∙ t.links_lead place number held ∙ ap (λ k. last_below c (length heads) k place) (sym own)
+    ∙ same_last (length heads) b c (slice_set c place None) place (λ q l. ap (is_of (length heads) b) (sym (get_or-set_other c place q None None (omega arith))))
+    ∙ sym (last_lower (length heads) b (slice_set c place None) place (ap (is_of (length heads) b) (get_or-set_same c place None None inn))))
+    written
+
+-- a place to which a chain leads is told by a link
+pub few : (c : Numbers) (n b m : ℕ) (at : Option ℕ) → at ≡ last_below c n b m → m ≤ 2 ^ 63 → IfSome at (λ p. p < 2 ^ 63)
+few c n b m None e h = tt
+few c n b m (Some p) e h = omega (arith, (found n b c m p (sym e)).0)
+
+-- the place that goes over another is listed, whatever is written at that one
+pub over_listed : (c : Numbers) (n b place : ℕ) (v over : Option ℕ) → GoesOver c n b place over → IfSome over (λ p. IsListed (slice_set c place v) p)
+over_listed c n b place v None g = tt
+over_listed c n b place v (Some p) g = let o = of_bucket n b (number_at c p) g.2 in (o.0, get_or-set_other c place p v None (omega (arith, g.0)) ∙ o.1)

@@ -1,0 +1,143 @@
+-- Walks along a chain.
+use Rattle.std.proofs.Common.{◌≡◌, ◌≢◌, ℕ, zero, suc, ◌+◌, ◌%◌, ◌<◌, ◌≤◌, Bool, true, false, cond, List, length, Option, None, Some, refl, sym, ◌∙◌, ap, subst, arith, get_or, eqb-true, eq-eqb, ◌⊎◌, inl, inr}
+use Rattle.std.specs.Prelude.{slice_index_or, IsSomeAnd, IsSome, IfSome, IsTrue, nat_eq}
+use Rattle.std.specs.Option.{MatchOption, option_eq}
+use Rattle.std.specs.Cmp.{IsEquivalence}
+use Rattle.bimap_chain.specs.Chains.{Numbers, number_at, is_of, last_below, NoneWithin, IsThreaded, GoesOver, AreNumbered, Matches, IsListed}
+use Rattle.std.proofs.lemmas.List.{get_or_past}
+use Rattle.bimap_chain.proofs.Below.{found, found_none}
+
+-- a number that is of the bucket
+pub of_bucket : (n b : ℕ) (o : Option ℕ) → is_of n b o ≡ true → (h : ℕ) × (o ≡ Some h) × (h % n ≡ b)
+of_bucket n b None e = cc
+of_bucket n b (Some h) e = (h, refl, eqb-true (h % n) b e)
+
+-- the link of a place of the bucket
+pub leads : (c : Numbers) (links heads : List (Option ℕ)) (b p : ℕ) → IsThreaded c links heads → is_of (length heads) b (number_at c p) ≡ true → slice_index_or links p None ≡ last_below c (length heads) b p
+leads c links heads b p t e =
+    let o = of_bucket (length heads) b (number_at c p) e in
+    t.links_lead p o.0 o.1 ∙ ap (λ k. last_below c (length heads) k p) o.2
+
+-- The walk has come to `end`: `over` is the place whose link was read, and `at` is what was read.
+pub record AtStep (c : Numbers) (n b place : ℕ) (over : Option ℕ) (end : ℕ) (at : Option ℕ) : Type 0 where
+  pub at_last : at ≡ last_below c n b end
+  pub above : place < end
+  pub within : end ≤ length c
+  pub over_end : MatchOption over (end ≡ length c) (λ p. (p ≡ end) × (p < length c) × (is_of n b (number_at c p) ≡ true))
+
+pub came_to : (c : Numbers) (n b place : ℕ) (over : Option ℕ) (end next : ℕ) {at : Option ℕ} → AtStep c n b place over end at → at ≡ Some next → (next < end) × (next < length c)
+came_to c n b place over end next s e = let f = found n b c end next (sym s.at_last ∙ e) in (f.0, omega (arith, f.0, s.within))
+
+pub started : (c : Numbers) (links heads : List (Option ℕ)) (b place : ℕ) → IsThreaded c links heads → b < length heads → place < length c → AtStep c (length heads) b place None (length c) (slice_index_or heads b None)
+started c links heads b place t l r = record { at_last = t.heads_begin b l; above = r; within = omega arith; over_end = refl }
+
+pub stepped : (c : Numbers) (links heads : List (Option ℕ)) (b place : ℕ) (over : Option ℕ) (end next : ℕ) {at : Option ℕ} (read : Option ℕ) → IsThreaded c links heads → AtStep c (length heads) b place over end at → at ≡ Some next → place < next → read ≡ slice_index_or links next None → AtStep c (length heads) b place (Some next) next read
+stepped c links heads b place over end next read t s e l r =
+    let f = found (length heads) b c end next (sym s.at_last ∙ e) in
+    record { at_last = r ∙ leads c links heads b next t f.1; above = l; within = omega (arith, f.0, s.within); over_end = (refl, omega (arith, f.0, s.within), f.1) }
+
+-- what is not of the bucket up to the end
+over_of : (c : Numbers) (n b place : ℕ) (over : Option ℕ) (end : ℕ) (at : Option ℕ) → AtStep c n b place over end at → NoneWithin c n b (place + 1) end → GoesOver c n b place over
+over_of c n b place None end at s h = subst (λ m. NoneWithin c n b (place + 1) m) s.over_end h
+over_of c n b place (Some p) end at s h =
+    (omega (arith, s.over_end.0, s.above), s.over_end.1, s.over_end.2, subst (λ m. NoneWithin c n b (place + 1) m) (sym s.over_end.0) h)
+
+pub ended_none : (c : Numbers) (n b place : ℕ) (over : Option ℕ) (end : ℕ) {at : Option ℕ} → AtStep c n b place over end at → at ≡ None → GoesOver c n b place over
+ended_none c n b place over end {at} s e = over_of c n b place over end at s (λ q l r. found_none n b c end (sym s.at_last ∙ e) q (omega arith) r)
+
+pub ended_some : (c : Numbers) (n b place : ℕ) (over : Option ℕ) (end next : ℕ) {at : Option ℕ} → AtStep c n b place over end at → at ≡ Some next → next ≤ place → GoesOver c n b place over
+ended_some c n b place over end next {at} s e l =
+    over_of c n b place over end at s (λ q i j. (found n b c end next (sym s.at_last ∙ e)).2 q (omega arith) j)
+
+-- The search has come to `end`: `at` is the next place, and what stands from `end` on does not match.
+pub record Searched {Key : Type 0} (key_at : ℕ → Option Key) (test : Key → Bool) (c : Numbers) (n b end : ℕ) (at : Option ℕ) : Type 0 where
+  pub at_last : at ≡ last_below c n b end
+  pub within : end ≤ length c
+  pub passed : (p : ℕ) → end ≤ p → Matches key_at test c p → ⊥
+
+has : {Key : Type 0} (P : Key → Type 0) (o : Option Key) → IsSomeAnd o P → IsSome o
+has P (Some k) h = refl
+has P None h = absurd h
+
+passes : {Key : Type 0} (P : Key → Type 0) (test : Key → Bool) (o : Option Key) (r : Bool) → IsSomeAnd o P → IfSome o (λ k. r ≡ test k) → r ≡ true → IsSomeAnd o (λ k. IsTrue (test k))
+passes P test (Some k) r h i t = sym i ∙ t
+passes P test None r h i t = absurd h
+
+fails : {Key : Type 0} (test : Key → Bool) (o : Option Key) (r : Bool) → IsSomeAnd o (λ k. IsTrue (test k)) → IfSome o (λ k. r ≡ test k) → r ≡ false → ⊥
+fails test (Some k) r h i f = let e : test k ≡ false = sym i ∙ f in cc
+fails test None r h i f = absurd h
+
+-- what an equality of two options tells
+pub is_some_of : (o : Option ℕ) (n : ℕ) {r : Bool} → r ≡ option_eq nat_eq o (Some n) → r ≡ true → o ≡ Some n
+is_some_of None n e t = cc
+is_some_of (Some m) n e t = ap Some (eqb-true m n (sym e ∙ t))
+
+pub is_other : (o : Option ℕ) (n : ℕ) {r : Bool} → r ≡ option_eq nat_eq o (Some n) → r ≡ false → o ≡ Some n → ⊥
+is_other None n e f h = cc
+is_other (Some m) n e f h = let i : m ≡ n = cc in let t = eq-eqb m n i in let g = sym e ∙ f in cc
+
+same_number : {Key : Type 0} (test : Key → Bool) (number_of : Key → ℕ) (number h : ℕ) (o : Option Key) → IsSomeAnd o (λ k. number_of k ≡ h) → IsSomeAnd o (λ k. IsTrue (test k)) → ((k : Key) → IsTrue (test k) → number_of k ≡ number) → h ≡ number
+same_number test number_of number h (Some k) a t u = sym a ∙ u k t
+same_number test number_of number h None a t u = absurd a
+
+lt_or_le : (p e : ℕ) → (p < e) ⊎ (e ≤ p)
+lt_or_le p e = grind arith
+
+-- at the place, between it and the end, or past the end
+three : {P : Type 0} (place end p : ℕ) → place ≤ p → (place ≡ p → P) → (place < p → p < end → P) → (end ≤ p → P) → P
+three {P} place end p i at between past =
+    elim (lt_or_le p end) [ inl l ↦ elim (lt_or_le place p) [ inl k ↦ between k l | inr k ↦ at (omega arith) ] | inr l ↦ past l ]
+
+-- a number is of its own bucket
+other : (c : Numbers) (number n p : ℕ) → number_at c p ≡ Some number → is_of n (number % n) (number_at c p) ≡ false → ⊥
+other c number n p e f =
+    let t : is_of n (number % n) (number_at c p) ≡ true = ap (is_of n (number % n)) e ∙ eq-eqb (number % n) (number % n) refl in cc
+
+module _ {Key : Type 0} (key_at : ℕ → Option Key) (test : Key → Bool) (c : Numbers) where
+  -- a listed place whose key failed the test
+  pub miss : (p : ℕ) (r : Bool) → IfSome (key_at p) (λ k. r ≡ test k) → r ≡ false → Matches key_at test c p → ⊥
+  miss p r i f m = fails test (key_at p) r m.1 i f
+
+  pub begun : (links heads : List (Option ℕ)) (b : ℕ) → IsThreaded c links heads → b < length heads → Searched key_at test c (length heads) b (length c) (slice_index_or heads b None)
+  begun links heads b t l = record { at_last = t.heads_begin b l; within = omega arith; passed = λ p i m. past_end p i m }
+    where
+      past_end : (p : ℕ) → length c ≤ p → Matches key_at test c p → ⊥
+      past_end p i m = let e : number_at c p ≡ None = get_or_past c p None i in let o = m.0.1 in cc
+
+  pub arrived : (n b end place : ℕ) {at : Option ℕ} → Searched key_at test c n b end at → at ≡ Some place → (place < end) × (place < length c)
+  arrived n b end place s e = let f = found n b c end place (sym s.at_last ∙ e) in (f.0, omega (arith, f.0, s.within))
+
+  -- the place that a chain leads to is listed
+  pub arrived_listed : (n b end place : ℕ) {at : Option ℕ} → Searched key_at test c n b end at → at ≡ Some place → IsListed c place
+  arrived_listed n b end place s e = let o = of_bucket n b (number_at c place) (found n b c end place (sym s.at_last ∙ e)).1 in (o.0, o.1)
+
+module _ {Key : Type 0} (key_at : ℕ → Option Key) (number_of : Key → ℕ) (test : Key → Bool) (c : Numbers) where
+  -- a listed place has a key
+  pub keyed : (p h : ℕ) → AreNumbered key_at number_of c → number_at c p ≡ Some h → IsSome (key_at p)
+  keyed p h a e = has (λ k. number_of k ≡ h) (key_at p) (a.numbered p h e)
+
+  -- a listed place whose key passed the test
+  pub hit : (p h : ℕ) (r : Bool) → AreNumbered key_at number_of c → number_at c p ≡ Some h → IfSome (key_at p) (λ k. r ≡ test k) → r ≡ true → Matches key_at test c p
+  hit p h r a e i t = ((h, e), passes (λ k. number_of k ≡ h) test (key_at p) r (a.numbered p h e) i t)
+
+  -- what passes the test has its number
+  pub its_number : (p number : ℕ) → AreNumbered key_at number_of c → ((k : Key) → IsTrue (test k) → number_of k ≡ number) → Matches key_at test c p → number_at c p ≡ Some number
+  its_number p number a u m = m.0.1 ∙ ap Some (same_number test number_of number m.0.0 (key_at p) (a.numbered p m.0.0 m.0.1) m.1 u)
+
+  pub gone_on : (links heads : List (Option ℕ)) (b number end place : ℕ) {at : Option ℕ} (read : Option ℕ) → IsThreaded c links heads → AreNumbered key_at number_of c → ((k : Key) → IsTrue (test k) → number_of k ≡ number)
+      → b ≡ number % length heads → Searched key_at test c (length heads) b end at → at ≡ Some place → (Matches key_at test c place → ⊥)
+      → read ≡ slice_index_or links place None → Searched key_at test c (length heads) b place read
+  gone_on links heads b number end place read t a u i s e absent r =
+      let n = length heads in
+      let f = found n b c end place (sym s.at_last ∙ e) in
+      record {
+        at_last = r ∙ leads c links heads b place t f.1;
+        within = omega (arith, f.0, s.within);
+        passed = λ p l m. three place end p l (λ j. absent (subst (λ q. Matches key_at test c q) (sym j) m))
+            (λ j k. other c number n p (its_number p number a u m) (subst (λ k. is_of n k (number_at c p) ≡ false) i (f.2 p (omega arith) k))) (λ k. s.passed p k m);
+      }
+
+  -- at the end of the chain
+  pub nothing_left : (n b number end : ℕ) {at : Option ℕ} → AreNumbered key_at number_of c → ((k : Key) → IsTrue (test k) → number_of k ≡ number) → b ≡ number % n → Searched key_at test c n b end at → at ≡ None → (p : ℕ) → Matches key_at test c p → ⊥
+  nothing_left n b number end a u i s e p m =
+      elim (lt_or_le p end) [ inl l ↦ other c number n p (its_number p number a u m) (subst (λ k. is_of n k (number_at c p) ≡ false) i (found_none n b c end (sym s.at_last ∙ e) p (omega arith) l)) | inr l ↦ s.passed p l m ]

@@ -1,0 +1,261 @@
+//! The cells of a hashed index, and the chains that thread them. It knows numbers and places, and no keys.
+ghost use Rattle.std.specs.Prelude.{◌≡◌, ◌+◌, ◌<◌, ◌≤◌, ◌-◌, ◌%◌, ◌^◌, ℕ, ◌++◌, length, None, Some, replicate, slice_set, slice_index_or, OnOk, OnErr, IfSome, IfNone, vec_len, vec_capacity, nat_eq};
+ghost use Rattle.std.specs.Option.{option_eq};
+ghost use Rattle.std.specs.Int.{IsPowerOfTwo};
+ghost use Rattle.bimap_base.specs.Packed.{link_of};
+ghost use Rattle.bimap_chain.specs.Chains.{IsThreaded, IsListed, GoesOver, Links, link_or_head, number_at};
+ghost use Rattle.bimap_chain.specs.Packed.{numbers_of, links_of, heads_of, IsSized, IsSound};
+
+use bimap_base::NoMemory;
+
+/// A cell: the number under which its place is listed, and the next place of its chain plus one, or 0 for none. A place
+/// that isn't listed has the link `FREE`.
+#[derive(Clone, Copy)]
+pub(crate) struct Cell {
+    number: u64,
+    link: usize,
+}
+
+/// A cell for each place, and by bucket the first place of its chain plus one, or 0 for none.
+#[derive(Drop)]
+pub(crate) struct Threads {
+    pub(crate) cells: Vec<Cell>,
+    pub(crate) heads: Vec<usize>,
+}
+
+const FREE: usize = usize::MAX;
+
+// More cells than this fit no memory.
+const MOST: usize = usize::MAX / 2 + 1;
+
+fn link_to(place: Option<usize>) -> usize
+    requires { IfSome place (λ p. p < 2 ^ 63) }
+    ensures told { link_of result ≡ place }
+    ensures not_free { result < 2 ^ 64 - 1 }
+{
+    match place {
+        None => 0,
+        Some(place) => place + 1,
+    }
+}
+
+fn place_of(link: usize) -> Option<usize>
+    ensures { result ≡ link_of link }
+{
+    if link == 0 { None } else { Some(link - 1) }
+}
+
+// How many heads there are to be for so many cells, unless these fit no memory.
+fn heads_for(heads: usize, cells: usize) -> Option<usize>
+    requires { 0 < heads → IsPowerOfTwo heads }
+    ensures sized { IfSome result (λ n. IsSized cells n) }
+    ensures not_fewer { IfSome result (λ n. heads ≤ n) }
+{
+    if cells > MOST {
+        None
+    } else if cells <= heads {
+        Some(heads)
+    } else {
+        Some(cells.next_power_of_two())
+    }
+}
+
+impl Threads {
+    /// The number under which the place is listed.
+    pub(crate) fn number(&self, place: usize) -> Option<u64>
+        requires { place < length (numbers_of self.now) }
+        ensures { result ≡ number_at (numbers_of self.now) place }
+    {
+        let cell = self.cells[place];
+        if cell.link == FREE {
+            None
+        } else {
+            Some(cell.number)
+        }
+    }
+
+    /// Whether a listed place is listed under the number.
+    pub(crate) fn has_number(&self, place: usize, number: u64) -> bool
+        requires place { place < length (numbers_of self.now) }
+        requires listed { IsListed (numbers_of self.now) place }
+        ensures { result ≡ option_eq nat_eq (number_at (numbers_of self.now) place) (Some number) }
+    {
+        self.cells[place].number == number
+    }
+
+    /// The next place of its chain.
+    pub(crate) fn next(&self, place: usize) -> Option<usize>
+        requires { place < length (links_of self.now) }
+        ensures { result ≡ slice_index_or (links_of self.now) place None }
+    {
+        place_of(self.cells[place].link)
+    }
+
+    /// The first place of the bucket.
+    pub(crate) fn head(&self, bucket: usize) -> Option<usize>
+        requires { bucket < length (heads_of self.now) }
+        ensures { result ≡ slice_index_or (heads_of self.now) bucket None }
+    {
+        place_of(self.heads[bucket])
+    }
+
+    /// The bucket of a number.
+    pub(crate) fn bucket(&self, number: u64) -> usize
+        requires some { 0 < length (heads_of self.now) }
+        requires power { 0 < length self.now.heads.items → IsPowerOfTwo (length self.now.heads.items) }
+        ensures value { result ≡ number % length (heads_of self.now) }
+        ensures bound { result < length (heads_of self.now) }
+    {
+        number as usize & (self.heads.len() - 1)
+    }
+
+    /// The place of the bucket whose link goes over the given place, or `None` where that is the head.
+    pub(crate) fn over(&self, bucket: usize, place: usize) -> Option<usize>
+        requires threaded { IsThreaded (numbers_of self.now) (links_of self.now) (heads_of self.now) }
+        requires bucket { bucket < length (heads_of self.now) }
+        requires place { place < length (numbers_of self.now) }
+        ensures { GoesOver (numbers_of self.now) (length (heads_of self.now)) bucket place result }
+    {
+        let mut over = None;
+        let mut end = self.cells.len();
+        let mut at = self.head(bucket);
+        while let Some(next) = at {
+            if next <= place {
+                break;
+            }
+            over = at;
+            end = next;
+            at = self.next(next);
+        }
+        over
+    }
+
+    /// What stands in that link or head.
+    pub(crate) fn link(&self, bucket: usize, over: Option<usize>) -> Option<usize>
+        requires bucket { bucket < length (heads_of self.now) }
+        requires over { IfSome over (λ p. p < length (links_of self.now)) }
+        ensures { result ≡ link_or_head (links_of self.now) (heads_of self.now) bucket over }
+    {
+        match over {
+            None => self.head(bucket),
+            Some(place) => self.next(place),
+        }
+    }
+
+    /// Writes that link or head.
+    pub(crate) fn set_link(&mut self, bucket: usize, over: Option<usize>, to: Option<usize>)
+        requires bucket { bucket < length (heads_of self.old) }
+        requires over { IfSome over (λ p. p < length (numbers_of self.old)) }
+        requires listed { IfSome over (λ p. IsListed (numbers_of self.old) p) }
+        requires to { IfSome to (λ p. p < 2 ^ 63) }
+        ensures numbers { numbers_of self.new ≡ numbers_of self.old }
+        ensures links { Links bucket over to (links_of self.old) (heads_of self.old) (links_of self.new) (heads_of self.new) }
+        ensures cells { length self.new.cells.items ≡ length self.old.cells.items }
+        ensures heads { length self.new.heads.items ≡ length self.old.heads.items }
+    {
+        let link = link_to(to);
+        match over {
+            None => self.heads[bucket] = link,
+            Some(place) => self.cells[place].link = link,
+        }
+    }
+
+    /// Writes the number and the link of a place.
+    pub(crate) fn list(&mut self, place: usize, number: u64, next: Option<usize>)
+        requires place { place < length (numbers_of self.old) }
+        requires next { IfSome next (λ p. p < 2 ^ 63) }
+        ensures numbers { numbers_of self.new ≡ slice_set (numbers_of self.old) place (Some number) }
+        ensures links { links_of self.new ≡ slice_set (links_of self.old) place next }
+        ensures cells { length self.new.cells.items ≡ length self.old.cells.items }
+        ensures heads { self.new.heads ≡ self.old.heads }
+    {
+        let link = link_to(next);
+        self.cells[place] = Cell { number, link };
+    }
+
+    /// Takes a place off, without its link.
+    pub(crate) fn unlist(&mut self, place: usize)
+        requires { place < length (numbers_of self.old) }
+        ensures numbers { numbers_of self.new ≡ slice_set (numbers_of self.old) place None }
+        ensures links { links_of self.new ≡ slice_set (links_of self.old) place (Some (2 ^ 64 - 2)) }
+        ensures cells { length self.new.cells.items ≡ length self.old.cells.items }
+        ensures heads { self.new.heads ≡ self.old.heads }
+    {
+        self.cells[place] = Cell {
+            number: 0,
+            link: FREE,
+        };
+    }
+
+    /// Takes room for more cells and heads. Both stay, whatever the answer.
+    fn reserve(&mut self, cells: usize, heads: usize) -> Result<(), NoMemory>
+        ensures cells { self.new.cells.items ≡ self.old.cells.items }
+        ensures heads { self.new.heads.items ≡ self.old.heads.items }
+        ensures more_cells { OnOk result (vec_len self.new.cells + cells ≤ vec_capacity self.new.cells) }
+        ensures more_heads { OnOk result (vec_len self.new.heads + heads ≤ vec_capacity self.new.heads) }
+    {
+        let refused = self.cells.try_reserve_exact(cells).is_err()
+            || self.heads.try_reserve_exact(heads).is_err();
+        if refused { Err(NoMemory) } else { Ok(()) }
+    }
+
+    /// Makes cells for all places below `to`, and threads the chains anew. A refusal changes nothing.
+    pub(crate) fn grow(&mut self, to: usize) -> Result<(), NoMemory>
+        requires sound { IsSound self.old }
+        requires above { length (numbers_of self.old) ≤ to }
+        ensures sound { IsSound self.new }
+        ensures ok { OnOk result (numbers_of self.new ≡ numbers_of self.old ++ replicate (to - length (numbers_of self.old)) None) }
+        ensures err { OnErr result (numbers_of self.new ≡ numbers_of self.old) }
+    {
+        let cells = self.cells.len();
+        let heads = self.heads.len();
+        let Some(wanted) = heads_for(heads, to) else {
+            return Err(NoMemory);
+        };
+        self.reserve(to - cells, wanted - heads)?;
+        let free = Cell {
+            number: 0,
+            link: FREE,
+        };
+        let Ok(()) = self.cells.resize(to, free) else {
+            unreachable!()
+        };
+        let Ok(()) = self.heads.resize(wanted, 0) else {
+            unreachable!()
+        };
+        self.thread();
+        Ok(())
+    }
+
+    /// Threads the chains anew, by the numbers that the cells keep.
+    pub(crate) fn thread(&mut self)
+        requires { IsSized (length self.old.cells.items) (length self.old.heads.items) }
+        ensures numbers { numbers_of self.new ≡ numbers_of self.old }
+        ensures sound { IsSound self.new }
+    {
+        self.heads.fill(0);
+        let cells = self.cells.len();
+        for place in 0..cells {
+            if let Some(number) = self.number(place) {
+                let bucket = self.bucket(number);
+                let next = self.head(bucket);
+                self.list(place, number, next);
+                self.set_link(bucket, None, Some(place));
+            }
+        }
+    }
+
+    /// Takes all places off.
+    pub(crate) fn clear(&mut self)
+        requires { IsSound self.old }
+        ensures numbers { numbers_of self.new ≡ replicate (length (numbers_of self.old)) None }
+        ensures sound { IsSound self.new }
+    {
+        let free = Cell {
+            number: 0,
+            link: FREE,
+        };
+        self.cells.fill(free);
+        self.thread();
+    }
+}

@@ -1,0 +1,7 @@
+pub mod Places
+pub mod Numbering
+pub mod Inserting
+pub mod Inserted
+pub mod Removing
+pub mod Retaining
+pub mod Reserving

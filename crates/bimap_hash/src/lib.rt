@@ -1,0 +1,12 @@
+//! The hashed bimap: pairs, each found by its left and by its right, through hash numbers. It knows no order.
+#![tactic(auto)]
+
+mod capacity;
+mod insert;
+mod look_up;
+mod map;
+mod remove;
+mod retain;
+mod write;
+
+pub use map::BiHashMap;

@@ -1,0 +1,14 @@
+use Rattle.std.proofs.Common.{◌≡◌, ◌-◌, length, Contains, vec_len}
+use Rattle.std.specs.Vec.{vec_capacity}
+use Rattle.bimap_base.specs.Kept.{MayTest}
+use Rattle.bimap_plain.proofs.Keeping.{Going}
+use Rattle.bimap_plain.proofs.changes.keep.Given as goal
+
+abbrev pub invariant-loop-kept : goal.invariant-loop-kept
+invariant-loop-kept g l = record {
+  going : Going g.F.FnMut l.fn.f l.f l.fn.pairs.items l.pairs.items l.kept;
+  capacity : vec_capacity l.pairs ≡ vec_capacity l.fn.pairs;
+}
+
+abbrev pub decreases-loop-kept : goal.decreases-loop-kept
+decreases-loop-kept g l = vec_len l.pairs - l.kept

@@ -1,0 +1,139 @@
+//! The bimap. It knows nothing but the vector and what scans and changes it.
+ghost use Rattle.std.specs.Prelude.{◌≡◌, ◌≤◌, [], length, Contains, IfOk, vec_capacity};
+ghost use Rattle.bimap_base.specs.Sets.{IsApart};
+ghost use Rattle.bimap_base.specs.Holding.{IsUndoing};
+ghost use Rattle.bimap_base.specs.Undoing.{IsUndoable};
+ghost use Rattle.bimap_plain.specs.Plain.{shown};
+
+use crate::changes;
+use crate::scan;
+use bimap_base::{
+    Bijection, NoMemory, NoRoom, NotInserted, NotInsertedWith, Overwritten, Policy, UndoStopped,
+};
+use std::alloc::Global;
+
+/// Pairs in a vector, whose capacity is the room.
+#[derive(Drop)]
+pub struct Plain<L: Eq + Drop, R: Eq + Drop> {
+    pairs: Vec<(L, R)>,
+    // Whether no place may be added.
+    fixed: bool,
+    /// No two of the pairs held share a value.
+    pub ghost apart: { IsApart L.eq R.eq pairs.items },
+    /// There is a place for each pair held.
+    pub ghost fits: { length pairs.items ≤ vec_capacity pairs },
+}
+
+impl<L: Eq + Drop, R: Eq + Drop> Plain<L, R> {
+    /// No pairs and no room. It grows by one place where it must.
+    pub fn new(alloc: Global) -> Self
+        ensures { result.pairs.items ≡ [] }
+    {
+        Plain {
+            pairs: Vec::new(alloc),
+            fixed: false,
+        }
+    }
+
+    /// No pairs, and a room that stays.
+    pub fn with_room(alloc: Global, room: usize) -> Result<Self, NoMemory>
+        ensures empty { IfOk result (λ p. p.pairs.items ≡ []) }
+        ensures room { IfOk result (λ p. vec_capacity p.pairs ≡ room) }
+    {
+        let Ok(pairs) = Vec::with_capacity(alloc, room) else {
+            return Err(NoMemory);
+        };
+        Ok(Plain { pairs, fixed: true })
+    }
+
+    /// Gives up spare places where it can, and adds none from now on.
+    pub fn fix(&mut self)
+        ensures pairs { self.new.pairs.items ≡ self.old.pairs.items }
+        ensures not_higher { vec_capacity self.new.pairs ≤ vec_capacity self.old.pairs }
+    {
+        self.pairs.shrink_to_fit();
+        self.fixed = true;
+    }
+}
+
+impl<L: Eq + Drop, R: Eq + Drop> Bijection<L, R> for Plain<L, R> {
+    ghost holding = { λ s. shown s.pairs.items (vec_capacity s.pairs) };
+
+    fn len(&self) -> usize {
+        self.pairs.len()
+    }
+
+    fn contains_left(&self, left: &L) -> bool {
+        scan::has_left(&self.pairs, left)
+    }
+
+    fn contains_right(&self, right: &R) -> bool {
+        scan::has_right(&self.pairs, right)
+    }
+
+    fn get_by_left(&self, left: &L) -> Option<&R> {
+        match scan::find_left(&self.pairs, left) {
+            None => None,
+            Some(pair) => Some(&pair.1),
+        }
+    }
+
+    fn get_by_right(&self, right: &R) -> Option<&L> {
+        match scan::find_right(&self.pairs, right) {
+            None => None,
+            Some(pair) => Some(&pair.0),
+        }
+    }
+
+    fn insert(&mut self, left: L, right: R) -> Result<Overwritten<L, R>, NoRoom<L, R>> {
+        changes::insert(&mut self.pairs, self.fixed, left, right)
+    }
+
+    fn insert_no_overwrite(&mut self, left: L, right: R) -> Result<(), NotInserted<L, R>> {
+        changes::insert_new(&mut self.pairs, self.fixed, left, right)
+    }
+
+    fn insert_with(
+        &mut self,
+        left: L,
+        right: R,
+        policy: Policy,
+    ) -> Result<Overwritten<L, R>, NotInsertedWith<L, R>> {
+        changes::insert_under(&mut self.pairs, self.fixed, left, right, policy)
+    }
+
+    fn remove_by_left(&mut self, left: &L) -> Option<(L, R)> {
+        scan::take_left(&mut self.pairs, left)
+    }
+
+    fn remove_by_right(&mut self, right: &R) -> Option<(L, R)> {
+        scan::take_right(&mut self.pairs, right)
+    }
+
+    fn retain<F: FnMut(&L, &R) -> bool>(&mut self, f: F) {
+        changes::keep(&mut self.pairs, f)
+    }
+
+    fn clear(&mut self) {
+        self.pairs.clear();
+    }
+
+    fn can_undo_insert(&self, left: &L, answer: &Overwritten<L, R>) -> bool {
+        scan::may_undo(&self.pairs, left, answer)
+    }
+
+    fn undo_insert(
+        &mut self,
+        left: &L,
+        answer: Overwritten<L, R>,
+    ) -> Result<(L, R), UndoStopped<L, R>>
+        requires { IsUndoable L.eq R.eq (Contains self.old.pairs.items) left.now answer }
+        ensures { IsUndoing L.eq R.eq (shown self.old.pairs.items (vec_capacity self.old.pairs)) left.now answer result (shown self.new.pairs.items (vec_capacity self.new.pairs)) }
+    {
+        changes::undo(&mut self.pairs, self.fixed, left, answer)
+    }
+
+    ghost apart = { λ s. s.apart };
+
+    ghost fits = { λ s. s.fits };
+}

@@ -1,0 +1,35 @@
+-- The end of the work.
+use Rattle.std.proofs.Common.{◌≡◌, ◌⊎◌, inl, inr, ℕ, List, [], ◌++◌, Option, sym, ap, subst, append-nil, ◌∙◌, append_assoc}
+use Rattle.std.specs.Io.KnownBytes.{Appends}
+use Rattle.std.proofs.KnownBytes.{Appends-trans}
+use Rattle.bimap_rows.specs.Lines.{Request, SaysInAll}
+use Rattle.bimap_rows.specs.Serving.{IsServed, AscendsByLeft, told, tail, Stops, Ends}
+use Rattle.bimap_rows.specs.Steps.{IsFlushed}
+use Rattle.bimap_rows.specs.declared.serve.Ending.{Ending}
+use Rattle.bimap_rows.specs.declared.serve.Ending.TheVariants.{Clean, InputFailed, OutputFailed, BadLine, NoMemory}
+
+-- more was written
+wrote_more : (Say : List ℕ → List Request → Type 0) (input o p q : Option (List ℕ)) (pairs : List (ℕ × ℕ)) (end more : List ℕ) → IsServed Say input o p pairs end → Appends p q more → IsServed Say input o q pairs (end ++ more)
+wrote_more Say input o p q pairs end more s a =
+    record { history = s.history; leads = s.leads; says = s.says; wrote = subst (Appends o q) (append_assoc (told s.history) end more) (Appends-trans o p q (told s.history ++ end) more s.wrote a) }
+
+nothing_more : (Say : List ℕ → List Request → Type 0) (input o p q : Option (List ℕ)) (pairs : List (ℕ × ℕ)) (end : List ℕ) → IsServed Say input o p pairs end → Appends p q [] → IsServed Say input o q pairs end
+nothing_more Say input o p q pairs end s a = subst (IsServed Say input o q pairs) (append-nil end) (wrote_more Say input o p q pairs end [] s a)
+
+-- the lines ended early, and the output was flushed
+pub ends_stopped : (ending result : Ending) (input o p q : Option (List ℕ)) → Stops ending input o p → IsFlushed ending result p q → Ends result input o q
+ends_stopped ending result input o p q s (inl e) = subst (λ k. Ends k input o q) (sym e) tt
+ends_stopped ending result input o p q s (inr h) = subst (λ k. Ends k input o q) (sym h.0) (by ending s)
+  where
+    by : (k : Ending) → Stops k input o p → Ends k input o q
+    by Clean t = absurd t
+    by OutputFailed t = tt
+    by InputFailed t = (t.0, nothing_more _ input o p q t.0 [] t.1 h.1)
+    by (BadLine n) t = (t.0, nothing_more _ input o p q t.0 [] t.1 h.1)
+    by NoMemory t = (t.0, nothing_more _ input o p q t.0 [] t.1 h.1)
+
+-- all lines were served, and what is held was written
+pub ends_clean : (result : Ending) (input o p q r : Option (List ℕ)) (pairs : List (ℕ × ℕ)) → AscendsByLeft pairs → IsServed SaysInAll input o p pairs [] → Appends p q (tail pairs) → IsFlushed Clean result q r → Ends result input o r
+ends_clean result input o p q r pairs up s a (inl e) = subst (λ k. Ends k input o r) (sym e) tt
+ends_clean result input o p q r pairs up s a (inr h) =
+    subst (λ k. Ends k input o r) (sym h.0) (pairs, up, nothing_more SaysInAll input o q r pairs (tail pairs) (wrote_more SaysInAll input o p q pairs [] (tail pairs) s a) h.1)

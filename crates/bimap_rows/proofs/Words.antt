@@ -1,0 +1,66 @@
+-- The words of a line.
+use Rattle.std.proofs.Common.{◌≡◌, ◌≢◌, ℕ, ◌+◌, ◌<◌, List, [], ◌∷◌, ◌++◌, Bool, true, false, Option, Some, length, take, drop, get_or, eqb, refl, sym, ap, subst, ◌∙◌, arith, append-nil}
+use Rattle.std.specs.Char.{encode_utf8}
+use Rattle.std.specs.Str.Pattern.{FindsChar}
+use Rattle.std.proofs.lemmas.Str.Pattern.{NoCharPasses-char, finds_char_after}
+use borrow.Author.Tests.{eqb-true}
+use Rattle.bimap_rows.specs.Lines.{Request, IsSymbol, IsNumeral, IsPairText, policy_text, IsArguments}
+use Rattle.bimap_rows.specs.declared.line.Command.TheVariants as command
+use Rattle.bimap.specs.declared.call.Call.TheVariants.{Insert, InsertNoOverwrite, InsertWith}
+use Rattle.bimap.specs.Types.{Policy}
+
+no_test : (c : ℕ) → c ≢ 32 → (b : Bool) → eqb c 32 ≡ b → b ≡ false
+no_test c n true e = absurd (n (eqb-true c 32 e))
+no_test c n false e = refl
+
+-- no byte of a character but a space is a space
+no_space : (c : ℕ) → c ≢ 32 → (i : ℕ) → i < length (encode_utf8 c) → get_or (encode_utf8 c) i 0 ≢ 32
+no_space c n i l = NoCharPasses-char 32 (encode_utf8 c) i (c ∷ [], append-nil (encode_utf8 c), (no_test c n (eqb c 32) refl, tt)) (omega arith) l
+
+symbol_no_space : (word : List ℕ) (c : ℕ) → IsSymbol word c → (i : ℕ) → i < length word → get_or word i 0 ≢ 32
+symbol_no_space word c h = subst (λ w. (i : ℕ) → i < length w → get_or w i 0 ≢ 32) (sym h.0) (no_space c h.2)
+
+space_text : encode_utf8 32 ≡ 32 ∷ []
+unfolding encode_utf8
+space_text = refl
+
+-- a space is no symbol
+pub space_no_symbol : (word : List ℕ) (s c : ℕ) → word ≡ encode_utf8 s → s ≡ 32 → IsSymbol word c → ⊥
+space_no_symbol word s c e is h =
+    let t : word ≡ 32 ∷ [] = e ∙ ap encode_utf8 is ∙ space_text in
+    symbol_no_space word c h 0 (subst (λ w. 0 < length w) (sym t) (omega arith)) (ap (λ w. get_or w 0 0) t)
+
+at_end : (xs ys : List ℕ) (x : ℕ) → get_or (xs ++ x ∷ ys) (length xs) 0 ≡ x
+at_end [] ys x = refl
+at_end (y ∷ xs) ys x = at_end xs ys x
+
+long : (xs ys : List ℕ) (x : ℕ) → length xs < length (xs ++ x ∷ ys)
+long [] ys x = omega arith
+long (y ∷ xs) ys x = omega (arith, long xs ys x)
+
+-- a text without a space has no two words
+pub one_word : (text : List ℕ) (c n : ℕ) → ((i : ℕ) → i < length text → get_or text i 0 ≢ 32) → IsPairText text c n → ⊥
+one_word text c n f h = f (length h.0) (subst (λ t. length h.0 < length t) (sym h.2) (long h.0 h.1 32)) (ap (λ t. get_or t (length h.0) 0) h.2 ∙ at_end h.0 h.1 32)
+
+-- what stands before the first space and after it are the words of the pair
+pub only_words : (text word digits : List ℕ) (i j c n : ℕ) → FindsChar 32 text (Some (i, j)) → word ≡ take i text → digits ≡ drop j text → IsPairText text c n → IsSymbol word c × IsNumeral digits n
+only_words text word digits i j c n f w d h =
+    let cut = finds_char_after 32 text h.0 h.1 (Some (i, j)) f (omega arith) h.2 (symbol_no_space h.0 c h.3) in
+    (subst (λ x. IsSymbol x c) (sym (w ∙ cut.0)) h.3, subst (λ x. IsNumeral x n) (sym (d ∙ cut.1)) h.4)
+
+-- without a pair there is no insertion
+pub no_insert : (rest : List ℕ) → ((c n : ℕ) → IsPairText rest c n → ⊥) → (call : Request) → IsArguments command.Insert rest call → ⊥
+no_insert rest f (Insert c n) h = f c n h
+no_insert rest f call h = h
+
+pub no_put : (rest : List ℕ) → ((c n : ℕ) → IsPairText rest c n → ⊥) → (call : Request) → IsArguments command.Put rest call → ⊥
+no_put rest f (InsertNoOverwrite c n) h = f c n h
+no_put rest f call h = h
+
+pub no_insert_with : (rest pair : List ℕ) (policy : Policy) → rest ≡ policy_text policy ++ pair → ((c n : ℕ) → IsPairText pair c n → ⊥) → (call : Request) → IsArguments command.InsertWith rest call → ⊥
+no_insert_with rest pair policy e f (InsertWith c n other) h = f c n (subst (λ x. IsPairText x c n) (ap (drop 3) (sym h.1 ∙ e)) h.2)
+no_insert_with rest pair policy e f call h = h
+
+-- what follows the first two
+pub after_two : (text first second rest : List ℕ) (x y a b : ℕ) → text ≡ x ∷ first → first ≡ y ∷ second → text ≡ a ∷ b ∷ rest → second ≡ rest
+after_two text first second rest x y a b e f h = ap (drop 1) (sym f) ∙ ap (drop 2) (sym e ∙ h)

@@ -1,0 +1,12 @@
+use Rattle.std.proofs.Common.{◌-◌, List, []}
+use Rattle.std.specs.Io.KnownBytes.{Appends}
+use Rattle.bimap_rows.specs.Serving.{LeadsTo, calls, told}
+use Rattle.bimap_rows.proofs.Progress.{HasRead, HasServed}
+use Rattle.bimap_rows.proofs.serve.serve_lines.Given as goal
+
+abbrev pub invariant-loop-number : goal.invariant-loop-number
+invariant-loop-number g l =
+    HasServed (g.I.Read.remaining l.initial.input) (g.I.Read.remaining l.input) l.number (g.W.Write.contents l.initial.output) (g.W.Write.contents l.output) (g.B.Bijection.holding l.held).pairs
+
+abbrev pub decreases-loop-number : goal.decreases-loop-number
+decreases-loop-number g l = 18446744073709551615 - l.number

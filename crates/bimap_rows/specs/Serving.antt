@@ -1,0 +1,72 @@
+-- What the program does: the history that its lines lead to, what it writes, and its five endings.
+use Rattle.std.specs.Prelude.{◌≡◌, ◌↔◌, ℕ, ◌<◌, List, [], ◌∷◌, ◌++◌, length, map, flat_map, Bool, Option, IfSome, Contains, codes, decimal, nat_eq}
+use Rattle.std.specs.List.{AllPairs}
+use Rattle.std.specs.Char.{encode_utf8}
+use Rattle.std.specs.Io.KnownBytes.{Appends}
+use Rattle.bimap.specs.History.{Entry, IsNoRoom, IsLegal, IsSurvivor}
+use Rattle.bimap_rows.specs.Lines.{Request, SaysAtFirst, SaysInAll, SaysBefore, reply_line}
+use Rattle.bimap_rows.specs.declared.serve.Ending.{Ending}
+use Rattle.bimap_rows.specs.declared.serve.Ending.TheVariants.{Clean, InputFailed, OutputFailed, BadLine, NoMemory}
+
+-- a call of a line with its reply
+abbrev pub Answered : Type 0
+Answered = Entry ℕ ℕ (Unit {0})
+
+-- no line asks for a test of pairs
+abbrev pub NoTest : Unit {0} → ℕ × ℕ → Bool → Type 0
+NoTest key pair answer = ⊥
+
+-- the history leads from the old pairs to the new: its replies are right, none of them wants memory, and the new pairs survive
+pub record LeadsTo (old : List (ℕ × ℕ)) (history : List Answered) (new : List (ℕ × ℕ)) : Type 0 where
+  pub legal : IsLegal nat_eq nat_eq NoTest (Contains old) history
+  pub survivors : (p : ℕ × ℕ) → Contains new p ↔ IsSurvivor nat_eq nat_eq NoTest (Contains old) history p
+  pub has_room : (e : Answered) → Contains history e → IsNoRoom e → ⊥
+
+-- its calls
+abbrev pub calls : List Answered → List Request
+calls history = map (λ e. e.0) history
+
+-- the lines of its replies
+abbrev pub told : List Answered → List ℕ
+told history = flat_map (λ e. reply_line e.1) history
+
+-- the line of a pair that is held at the end
+abbrev pub pair_line : ℕ × ℕ → List ℕ
+pair_line p = encode_utf8 p.0 ++ (codes " <> " ++ decimal p.1 ++ 10 ∷ [])
+
+-- the lines at the end
+abbrev pub tail : List (ℕ × ℕ) → List ℕ
+tail pairs = codes "held " ++ decimal (length pairs) ++ 10 ∷ flat_map pair_line pairs
+
+-- each left is below those after it
+abbrev pub AscendsByLeft : List (ℕ × ℕ) → Type 0
+AscendsByLeft pairs = AllPairs (λ p q. p.0 < q.0) pairs
+
+-- a history of the calls that the input says leads from nothing to the pairs, and its replies and `end` were written.
+-- The bytes of the reader, and of the writer before and after, are told where they are known
+pub record IsServed (Say : List ℕ → List Request → Type 0) (input before after : Option (List ℕ)) (pairs : List (ℕ × ℕ)) (end : List ℕ) : Type 0 where
+  pub history : List Answered
+  pub leads : LeadsTo [] history pairs
+  pub says : IfSome input (λ bytes. Say bytes (calls history))
+  pub wrote : Appends before after (told history ++ end)
+
+-- how the work ends where not all lines are served
+abbrev pub Stops : Ending → Option (List ℕ) → Option (List ℕ) → Option (List ℕ) → Type 0
+Stops Clean input before after = ⊥
+Stops InputFailed input before after = (pairs : List (ℕ × ℕ)) × IsServed SaysAtFirst input before after pairs []
+Stops OutputFailed input before after = Unit {0}
+Stops (BadLine number) input before after = (pairs : List (ℕ × ℕ)) × IsServed (SaysBefore number) input before after pairs []
+Stops NoMemory input before after = (pairs : List (ℕ × ℕ)) × IsServed SaysAtFirst input before after pairs []
+
+-- how the work ends
+abbrev pub Ends : Ending → Option (List ℕ) → Option (List ℕ) → Option (List ℕ) → Type 0
+Ends Clean input before after = (pairs : List (ℕ × ℕ)) × AscendsByLeft pairs × IsServed SaysInAll input before after pairs (tail pairs)
+Ends ending input before after = Stops ending input before after
+
+-- the status with which the program ends
+abbrev pub status_of : Ending → ℕ
+status_of Clean = 0
+status_of InputFailed = 1
+status_of OutputFailed = 1
+status_of (BadLine number) = 2
+status_of NoMemory = 3

@@ -1,0 +1,22 @@
+//! The bimap that the program keeps, and the lines that show what it holds. No other file names the ordered bimap.
+ghost use Rattle.std.specs.Prelude.{OnOk};
+ghost use Rattle.std.specs.Io.KnownBytes.{Appends};
+ghost use Rattle.bimap_rows.specs.Serving.{tail};
+
+use crate::stub::BiBTreeMap;
+use std::io::{self, Write};
+
+/// What the program keeps.
+pub type Held = BiBTreeMap<char, u32>;
+
+/// Writes the number of the pairs held, and a line for each, by ascending left.
+pub fn write_held<W: Write>(output: &mut W, held: &Held) -> io::Result<()>
+    ensures { OnOk result (Appends (W.contents output.old) (W.contents output.new) (tail held.now.shown.entries)) }
+{
+    let count = held.shown.len();
+    writeln!(output, "held {count}")?;
+    for (left, right) in held.shown.iter() {
+        writeln!(output, "{left} <> {right}")?;
+    }
+    Ok(())
+}

@@ -1,0 +1,35 @@
+//! One line from a reader. It doesn't know what lines say.
+ghost use Rattle.std.specs.Prelude.{◌≡◌, IfOk, IfSome};
+ghost use Rattle.bimap_rows.specs.Lines.{text_of};
+ghost use Rattle.bimap_rows.specs.Steps.{IsNextLine};
+
+use std::io::{self, BufRead};
+
+/// Reads up to the next line feed, which it drops, and tells whether there was one. Memory is asked for a long line.
+pub fn read_line<I: BufRead>(input: &mut I, line: &mut Vec<u8>) -> io::Result<bool>
+    ensures { IfOk result (λ ended. IfSome (I.remaining input.old) (λ bytes. IsNextLine bytes line.new.items ended (I.remaining input.new))) }
+{
+    line.clear();
+    input.read_until(b'\n', line)?;
+    let len = line.len();
+    if len == 0 {
+        return Ok(false);
+    }
+    if line[len - 1] != b'\n' {
+        return Ok(false);
+    }
+    line.truncate(len - 1);
+    Ok(true)
+}
+
+/// A line without one carriage return at its end.
+pub fn without_return(line: &[u8]) -> &[u8]
+    ensures { result.now ≡ text_of line.now }
+{
+    let len = line.len();
+    if len > 0 && line[len - 1] == b'\r' {
+        &line[..len - 1]
+    } else {
+        line
+    }
+}

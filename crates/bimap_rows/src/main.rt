@@ -1,0 +1,54 @@
+//! The program: it performs the lines of standard input on a bimap, and prints their replies and what is held.
+#![tactic(auto)]
+
+ghost use Rattle.std.specs.Prelude.{◌≡◌};
+ghost use Rattle.bimap_rows.specs.Serving.{status_of};
+
+mod held;
+mod input;
+mod line;
+mod reply;
+mod serve;
+mod stub;
+#[cfg(test)]
+mod tests;
+
+use serve::{Ending, serve};
+use std::io::{self, BufReader, BufWriter};
+use std::process::ExitCode;
+
+// The work over standard input and output, which are read and written in blocks.
+fn run(rt: &HostRuntime) -> Ending {
+    let Ok(mut input) = BufReader::new(rt.alloc(), rt.reader()) else {
+        return Ending::NoMemory;
+    };
+    let Ok(mut output) = BufWriter::new(rt.alloc(), io::writer(rt)) else {
+        return Ending::NoMemory;
+    };
+    serve(rt.alloc(), &mut input, &mut output)
+}
+
+// The status that tells how the work ended.
+fn status(ending: Ending) -> u8
+    ensures { result ≡ status_of ending }
+{
+    match ending {
+        Ending::Clean => 0,
+        Ending::InputFailed | Ending::OutputFailed => 1,
+        Ending::BadLine(_) => 2,
+        Ending::NoMemory => 3,
+    }
+}
+
+fn main(rt: HostRuntime) -> ExitCode {
+    let ending = run(&rt);
+    // Where standard error fails too, the status still tells.
+    let _ = match ending {
+        Ending::Clean => Ok(()),
+        Ending::InputFailed => eprintln!(rt; "input failed"),
+        Ending::OutputFailed => eprintln!(rt; "output failed"),
+        Ending::BadLine(number) => eprintln!(rt; "bad line {number}"),
+        Ending::NoMemory => eprintln!(rt; "no memory"),
+    };
+    ExitCode::from(status(ending))
+}

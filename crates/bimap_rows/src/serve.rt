@@ -1,0 +1,158 @@
+//! The program's work over any reader and writer: each line is performed, and its reply is written.
+ghost use Rattle.std.specs.Prelude.{◌≡◌, ◌≢◌, ◌⊎◌, ℕ, [], ◌∷◌, IfSome, MatchOption, OnOk, IfErr};
+ghost use Rattle.std.specs.IoError.{error_kind};
+ghost use Rattle.std.specs.Io.KnownBytes.{Appends};
+ghost use Rattle.bimap_rows.specs.Lines.{SaysInAll};
+ghost use Rattle.bimap_rows.specs.Serving.{LeadsTo, IsServed, Stops, Ends};
+ghost use Rattle.bimap_rows.specs.Steps.{TakesLine, StopsAtLine, IsFlushed};
+
+use crate::held::{Held, write_held};
+use crate::input::{read_line, without_return};
+use crate::line::{Line, Request, parse_line};
+use crate::reply::write_reply;
+use bimap::{Bijection, Call, Reply, run};
+use std::alloc::Global;
+use std::io::{BufRead, Error, ErrorKind, Write};
+
+/// How the work ended.
+#[derive(Clone, Copy, Debug, Eq, PartialEq)]
+pub enum Ending {
+    /// All lines were performed, and what is held was written.
+    Clean,
+    /// A read failed, or there were more lines than a `u64` counts.
+    InputFailed,
+    /// A write or a flush failed.
+    OutputFailed,
+    /// The line of this number, from 1 on, says no call.
+    BadLine(u64),
+    /// There was no memory.
+    NoMemory,
+}
+
+// The reply, unless it is that there was no memory.
+fn with_room(reply: Reply<char, u32>) -> Option<Reply<char, u32>>
+    ensures { MatchOption result ((left : ℕ) × (right : ℕ) × (reply ≡ Reply.NoRoom left right)) (λ kept. (kept ≡ reply) × ((left right : ℕ) → reply ≢ Reply.NoRoom left right)) }
+{
+    match reply {
+        Reply::NoRoom(_, _) => None,
+        reply => Some(reply),
+    }
+}
+
+// Performs one call, and answers `None` where there was no memory.
+fn perform<B: Bijection<char, u32>>(
+    alloc: Global,
+    held: &mut B,
+    call: Request,
+) -> Option<Reply<char, u32>>
+    requires { (key : _) → call ≢ Call.Retain key }
+    ensures { IfSome result (λ reply. LeadsTo (B.holding held.old).pairs ((call, reply) ∷ []) (B.holding held.new).pairs) }
+{
+    let Ok(calls) = Vec::from_array(alloc, [call]) else {
+        return None;
+    };
+    let Ok(mut replies) = run(alloc, held, calls, |_: &(), _: &char, _: &u32| true) else {
+        return None;
+    };
+    match replies.pop() {
+        Some(reply) => with_room(reply),
+        None => None,
+    }
+}
+
+// Performs what a line says, and writes the reply.
+fn take_line<B: Bijection<char, u32>, W: Write>(
+    alloc: Global,
+    held: &mut B,
+    output: &mut W,
+    line: &[u8],
+    number: u64,
+) -> Result<(), Ending>
+    ensures ok { OnOk result (TakesLine line.now (B.holding held.old).pairs (B.holding held.new).pairs (W.contents output.old) (W.contents output.new)) }
+    ensures err { IfErr result (λ ending. StopsAtLine line.now number ending (W.contents output.old) (W.contents output.new)) }
+{
+    let call = match parse_line(without_return(line)) {
+        Line::Empty => return Ok(()),
+        Line::Bad => return Err(Ending::BadLine(number)),
+        Line::Call(call) => call,
+    };
+    let Some(reply) = perform(alloc, held, call) else {
+        return Err(Ending::NoMemory);
+    };
+    match write_reply(output, reply) {
+        Ok(()) => Ok(()),
+        Err(_) => Err(Ending::OutputFailed),
+    }
+}
+
+// Why a line could not be read.
+fn read_fault(error: &Error) -> Ending
+    ensures memory { error_kind error.now ≡ ErrorKind.OutOfMemory → result ≡ Ending.NoMemory }
+    ensures other { error_kind error.now ≢ ErrorKind.OutOfMemory → result ≡ Ending.InputFailed }
+    ensures either { (result ≡ Ending.NoMemory) ⊎ (result ≡ Ending.InputFailed) }
+{
+    if error.kind() == ErrorKind::OutOfMemory {
+        Ending::NoMemory
+    } else {
+        Ending::InputFailed
+    }
+}
+
+// Performs all lines of the input on an empty bimap, and writes their replies.
+fn serve_lines<B: Bijection<char, u32>, I: BufRead, W: Write>(
+    alloc: Global,
+    held: &mut B,
+    input: &mut I,
+    output: &mut W,
+) -> Result<(), Ending>
+    requires { (B.holding held.old).pairs ≡ [] }
+    ensures ok { OnOk result (IsServed SaysInAll (I.remaining input.old) (W.contents output.old) (W.contents output.new) (B.holding held.new).pairs []) }
+    ensures err { IfErr result (λ ending. Stops ending (I.remaining input.old) (W.contents output.old) (W.contents output.new)) }
+{
+    let mut line = Vec::new(alloc);
+    let mut number = 0u64;
+    while number < u64::MAX {
+        number += 1;
+        let ended = match read_line(input, &mut line) {
+            Ok(ended) => ended,
+            Err(error) => return Err(read_fault(&error)),
+        };
+        match take_line(alloc, held, output, line.as_slice(), number) {
+            Ok(()) => {}
+            Err(ending) => return Err(ending),
+        }
+        if !ended {
+            return Ok(());
+        }
+    }
+    Err(Ending::InputFailed)
+}
+
+// Flushes the output before the work ends.
+fn finish<W: Write>(output: &mut W, ending: Ending) -> Ending
+    ensures { IsFlushed ending result (W.contents output.old) (W.contents output.new) }
+{
+    match output.flush() {
+        Ok(()) => ending,
+        Err(_) => Ending::OutputFailed,
+    }
+}
+
+/// Performs the lines of the input on an empty bimap, writes their replies, and at the end of the input what is held.
+///
+/// It ends at the first line that says no call, and wherever reading, writing or memory fails: the replies of the
+/// lines before have been written then, and what is held has not. It flushes the output before it ends, unless the
+/// output has failed. Each line takes memory for its own bytes, and what its call takes.
+pub fn serve<I: BufRead, W: Write>(alloc: Global, input: &mut I, output: &mut W) -> Ending
+    ensures { Ends result (I.remaining input.old) (W.contents output.old) (W.contents output.new) }
+{
+    let mut held = Held::new(alloc);
+    match serve_lines(alloc, &mut held, input, output) {
+        Ok(()) => match write_held(output, &held) {
+            Ok(()) => finish(output, Ending::Clean),
+            Err(_) => Ending::OutputFailed,
+        },
+        Err(Ending::OutputFailed) => Ending::OutputFailed,
+        Err(ending) => finish(output, ending),
+    }
+}

@@ -1,0 +1,84 @@
+-- The record of a bimap's changes, and the sets of pairs that its marks stand for.
+use Rattle.std.specs.Prelude.{◌≡◌, ◌≢◌, ◌↔◌, ℕ, ◌+◌, ◌≤◌, Bool, true, false, Result, List, [], ◌∷◌, length, drop, Contains, IfOk, IfErr, OnOk, OnErr, MatchBool}
+use Rattle.bimap.specs.Sets.{IsApart, IsSameSet, NoneShares, SomeShares, IsWithPut, HasLeft, LacksLeft, IsWithoutLeft, HasRight, LacksRight, IsWithoutRight}
+use Rattle.bimap.specs.Holding.{Holding, IsRoomAfter}
+use Rattle.bimap.specs.Undoing.{IsInserting}
+use Rattle.bimap.specs.declared.NoMemory.{NoMemory}
+use Rattle.bimap.specs.declared.NoRoom.{NoRoom}
+use Rattle.bimap_undo.specs.declared.entry.Entry.{Entry}
+use Rattle.bimap_undo.specs.declared.entry.Entry.TheVariants.{Inserted, Removed}
+
+-- what a contract sees: what the bimap holds, and the changes recorded, the latest last
+pub record Marked (L R : Type 0) : Type 0 where
+  pub held : Holding L R
+  pub entries : List (Entry L R)
+
+-- a bimap with these changes recorded
+abbrev pub marked : {L R : Type 0} → Holding L R → List (Entry L R) → Marked L R
+marked held entries = record { held = held; entries = entries }
+
+-- A has the pair, and B is A without it
+pub record IsRemoving {L R : Type 0} (A : List (L × R)) (pair : L × R) (B : List (L × R)) : Type 0 where
+  pub member : Contains A pair
+  pub without : (q : L × R) → Contains B q ↔ (Contains A q × (q ≢ pair))
+
+module _ {L R : Type 0} (same_left : L → L → Bool) (same_right : R → R → Bool) where
+  -- the change of the entry leads from A to B
+  abbrev pub IsChange : List (L × R) → Entry L R → List (L × R) → Type 0
+  IsChange A (Inserted left answer) B = IsInserting same_left same_right A left answer B
+  IsChange A (Removed left right) B = IsRemoving A (left, right) B
+
+  -- changes, one after the other, lead from A to S
+  abbrev pub IsPath : List (L × R) → List (Entry L R) → List (L × R) → Type 0
+  IsPath A [] S = IsSameSet (Contains A) (Contains S)
+  IsPath A (entry ∷ entries) S =
+      (B : List (L × R)) × IsApart same_left same_right B × IsChange A entry B × IsPath B entries S
+
+  -- A is the set that the mark stands for: the changes from that number on lead from it to what is held
+  pub record IsBefore (u : Marked L R) (mark : ℕ) (A : List (L × R)) : Type 0 where
+    pub apart : IsApart same_left same_right A
+    pub path : IsPath A (drop mark u.entries) u.held.pairs
+
+  -- the marks up to this one stand for the same sets
+  abbrev pub KeepsMarks : Marked L R → ℕ → Marked L R → Type 0
+  KeepsMarks old last new = (mark : ℕ) → mark ≤ last → (A : List (L × R)) → IsBefore old mark A → IsBefore new mark A
+
+  -- each mark stands for a set, and there is a place for each of its pairs
+  abbrev pub HasMarks : Marked L R → Type 0
+  HasMarks u = (mark : ℕ) → mark ≤ length u.entries → (A : List (L × R)) × IsBefore u mark A × (length A ≤ u.held.room)
+
+  -- what an insertion answers and leaves
+  pub record IsRecordedInsertion (old : Marked L R) (pair : L × R) (result : Result Bool (NoRoom L R)) (new : Marked L R) : Type 0 where
+    pub overwrote : IfOk result (λ overwrote. MatchBool overwrote (SomeShares same_left same_right (Contains old.held.pairs) pair) (NoneShares same_left same_right (Contains old.held.pairs) pair))
+    pub put : OnOk result (IsWithPut same_left same_right (Contains old.held.pairs) pair (Contains new.held.pairs))
+    pub recorded : OnOk result (length new.entries ≡ length old.entries + 1)
+    pub kept : OnOk result (KeepsMarks old (length old.entries) new)
+    pub room : IsRoomAfter same_left same_right old.held pair new.held
+    pub handed_back : IfErr result (λ e. (e.left, e.right) ≡ pair)
+    pub unchanged : OnErr result (new ≡ old)
+
+  -- what a removal by left answers and leaves
+  pub record IsRecordedRemovalByLeft (old : Marked L R) (left : L) (result : Result Bool NoMemory) (new : Marked L R) : Type 0 where
+    pub found : IfOk result (λ found. MatchBool found (HasLeft same_left (Contains old.held.pairs) left) (LacksLeft same_left (Contains old.held.pairs) left))
+    pub without : OnOk result (IsWithoutLeft same_left (Contains old.held.pairs) left (Contains new.held.pairs))
+    pub recorded : IfOk result (λ found. MatchBool found (length new.entries ≡ length old.entries + 1) (new ≡ old))
+    pub kept : OnOk result (KeepsMarks old (length old.entries) new)
+    pub room : new.held.room ≡ old.held.room
+    pub refused : OnErr result (HasLeft same_left (Contains old.held.pairs) left)
+    pub unchanged : OnErr result (new ≡ old)
+
+  -- what a removal by right answers and leaves
+  pub record IsRecordedRemovalByRight (old : Marked L R) (right : R) (result : Result Bool NoMemory) (new : Marked L R) : Type 0 where
+    pub found : IfOk result (λ found. MatchBool found (HasRight same_right (Contains old.held.pairs) right) (LacksRight same_right (Contains old.held.pairs) right))
+    pub without : OnOk result (IsWithoutRight same_right (Contains old.held.pairs) right (Contains new.held.pairs))
+    pub recorded : IfOk result (λ found. MatchBool found (length new.entries ≡ length old.entries + 1) (new ≡ old))
+    pub kept : OnOk result (KeepsMarks old (length old.entries) new)
+    pub room : new.held.room ≡ old.held.room
+    pub refused : OnErr result (HasRight same_right (Contains old.held.pairs) right)
+    pub unchanged : OnErr result (new ≡ old)
+
+  -- what the mark stood for is held, and it is the last mark
+  pub record IsReturn (old : Marked L R) (mark : ℕ) (new : Marked L R) : Type 0 where
+    pub held : (A : List (L × R)) → IsBefore old mark A → IsSameSet (Contains A) (Contains new.held.pairs)
+    pub kept : KeepsMarks old mark new
+    pub recorded : length new.entries ≡ mark

@@ -1,0 +1,64 @@
+//! Copies of lefts, of which the record of an insertion holds one.
+ghost use Rattle.std.specs.Prelude.{◌≡◌, true, IfOk};
+
+use bimap::NoMemory;
+use std::alloc::Global;
+
+/// A left that can be copied, where there is memory for the copy.
+pub trait CopyLeft: Eq + Sized {
+    /// A value equal to this one.
+    fn copy_left(&self, alloc: Global) -> Result<Self, NoMemory>
+        ensures { IfOk result (λ copy. Self.eq copy self.now ≡ true) };
+}
+
+impl CopyLeft for char {
+    /// Takes no memory.
+    fn copy_left(&self, _alloc: Global) -> Result<char, NoMemory> {
+        Ok(*self)
+    }
+}
+
+impl CopyLeft for String {
+    /// Takes memory for the text.
+    fn copy_left(&self, _alloc: Global) -> Result<String, NoMemory> {
+        match self.clone() {
+            Ok(copy) => Ok(copy),
+            Err(_) => Err(NoMemory),
+        }
+    }
+}
+
+impl CopyLeft for u8 {
+    /// Takes no memory.
+    fn copy_left(&self, _alloc: Global) -> Result<u8, NoMemory> {
+        Ok(*self)
+    }
+}
+
+impl CopyLeft for u32 {
+    /// Takes no memory.
+    fn copy_left(&self, _alloc: Global) -> Result<u32, NoMemory> {
+        Ok(*self)
+    }
+}
+
+impl CopyLeft for u64 {
+    /// Takes no memory.
+    fn copy_left(&self, _alloc: Global) -> Result<u64, NoMemory> {
+        Ok(*self)
+    }
+}
+
+impl CopyLeft for i32 {
+    /// Takes no memory.
+    fn copy_left(&self, _alloc: Global) -> Result<i32, NoMemory> {
+        Ok(*self)
+    }
+}
+
+impl CopyLeft for i64 {
+    /// Takes no memory.
+    fn copy_left(&self, _alloc: Global) -> Result<i64, NoMemory> {
+        Ok(*self)
+    }
+}

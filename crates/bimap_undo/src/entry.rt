@@ -1,0 +1,11 @@
+//! What the record says of one change of a bimap.
+use bimap::Overwritten;
+
+/// A change of a bimap, with what takes it back.
+#[derive(Debug, Drop)]
+pub enum Entry<L, R> {
+    /// A pair of an equal left was inserted, and these pairs were struck out.
+    Inserted(L, Overwritten<L, R>),
+    /// This pair was taken out.
+    Removed(L, R),
+}

@@ -1,0 +1,15 @@
+//! A bimap that goes back to marks. It doesn't know how a bimap keeps its pairs.
+#![tactic(auto)]
+
+mod copy_left;
+mod entry;
+mod operations;
+
+mod undoable;
+
+pub use copy_left::CopyLeft;
+pub use operations::{Operation, there_and_back};
+pub use undoable::Undoable;
+
+#[cfg(test)]
+mod tests;
