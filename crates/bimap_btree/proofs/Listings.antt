@@ -155,6 +155,11 @@ module _ {K : Type 0} where
       let alike : k ≡ key = cc in
       ap (option_map (λ x. order x k)) (others q (λ at. off (subst (Contains places) at listed))) ∙ ap (λ z. option_map (λ x. order x z) (f q)) alike
 
+  -- and where each place has its key as before
+  pub standing_kept : (f g : ℕ → Option K) (order : K → K → Ordering) (key : K) → ((q : ℕ) → g q ≡ f q) → (q : ℕ) → standing g order key q ≡ standing f order key q
+  standing_kept f g order key kept q = ap (option_map (λ x. order x key)) (kept q)
+
+  -- a key that no place has, no other place has
   pub absent-elsewhere : (f : ℕ → Option K) (same : K → K → Bool) (key : K) (place : ℕ) → IsAbsent f same key → IsAbsentElsewhere f same key place
   absent-elsewhere f same key place absent q k _ is = absent q k is
 

@@ -74,3 +74,10 @@ module _ {L R : Type 0} (slots : List (Option (L × R))) where
 
     pub same_pair : place < length slots → pair_at (set slots place o) place ≡ o
     same_pair inside = get_or-set_same slots place o None inside
+
+  -- each place has what it had
+  pub left_kept : (grown : List (Option (L × R))) → ((q : ℕ) → pair_at grown q ≡ pair_at slots q) → (q : ℕ) → left_at grown q ≡ left_at slots q
+  left_kept grown kept q = ap (option_map (λ p. p.0)) (kept q)
+
+  pub right_kept : (grown : List (Option (L × R))) → ((q : ℕ) → pair_at grown q ≡ pair_at slots q) → (q : ℕ) → right_at grown q ≡ right_at slots q
+  right_kept grown kept q = ap (option_map (λ p. p.1)) (kept q)

@@ -11,6 +11,8 @@ mod map;
 mod parts;
 mod remove;
 mod retain;
+#[cfg(test)]
+mod tests;
 mod undo;
 
 pub use count::Count;

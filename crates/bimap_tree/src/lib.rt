@@ -12,3 +12,6 @@ mod walk;
 
 pub use ordered::Ordered;
 pub use route::Route;
+
+#[cfg(test)]
+mod tests;

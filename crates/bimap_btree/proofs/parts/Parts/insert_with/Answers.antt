@@ -1,5 +1,10 @@
 use Rattle.std.proofs.Common.{refl, sym, ◌∙◌, true≢false}
+use Rattle.bimap_base.specs.Keyed.{standing}
+use Rattle.bimap_base.specs.Slots.{left_at, right_at}
+use Rattle.bimap_tree.proofs.Routes.{IsRoute-alike}
+use Rattle.bimap_btree.proofs.Listings.{standing_kept}
 use Rattle.bimap_btree.proofs.Sets.{put_kept}
+use Rattle.bimap_btree.proofs.Slots.{left_kept, right_kept}
 use Rattle.bimap_btree.proofs.Policies.{found_left, found_right, missed_left}
 use Rattle.bimap_btree.proofs.parts.Parts.insert_with.Goals as goal
 use Rattle.bimap_btree.proofs.parts.Parts.insert_with.Goals.{else-is_some-via-then-is_some+else-refuses, else-is_some-via-else-is_some}
@@ -22,3 +27,17 @@ returns-then-refuses-2-clause-refused g c =
 pub returns-else-is_err-clause-put : goal.returns-else-is_err-clause-put
 returns-else-is_err-clause-put g c =
     put_kept g.L.PartialEq.eq g.R.PartialEq.eq c.args.self.now.pairs c.make_room.new.self.pairs c.insert_new.new.self.pairs (c.args.left, c.args.right) c.make_room.ensures.kept c.insert_new.ensures.put
+
+pub insert_new-requires-clause-left_route : goal.insert_new-requires-clause-left_route
+insert_new-requires-clause-left_route g c =
+    let slots = c.args.self.now.pairs in
+    let grown = c.make_room.new.self in
+    let route = rw c.in-None-None.is-0 at c.route_left-by_left.ensures.route in
+    IsRoute-alike grown.left (λ q. standing (left_at slots) g.L.Ord.cmp c.args.left q) (λ q. standing (left_at grown.pairs) g.L.Ord.cmp c.args.left q) _ (λ q _. standing_kept (left_at slots) (left_at grown.pairs) g.L.Ord.cmp c.args.left (λ p. left_kept slots grown.pairs c.make_room.ensures.kept p) q) (c.make_room.ensures.left_routes _ _ route)
+
+pub insert_new-requires-clause-right_route : goal.insert_new-requires-clause-right_route
+insert_new-requires-clause-right_route g c =
+    let slots = c.args.self.now.pairs in
+    let grown = c.make_room.new.self in
+    let route = rw c.in-None-None.is-1 at c.route_right_beside-by_right.ensures.route in
+    IsRoute-alike grown.right (λ q. standing (right_at slots) g.R.Ord.cmp c.args.right q) (λ q. standing (right_at grown.pairs) g.R.Ord.cmp c.args.right q) _ (λ q _. standing_kept (right_at slots) (right_at grown.pairs) g.R.Ord.cmp c.args.right (λ p. right_kept slots grown.pairs c.make_room.ensures.kept p) q) (c.make_room.ensures.right_routes _ _ route)
