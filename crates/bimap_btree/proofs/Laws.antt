@@ -40,14 +40,14 @@ module _ {L R : Type 0} {cmpl : L → L → Ordering} {cmpr : R → R → Orderi
       or_neither (eql p.0 q.0) (eqr p.1 q.1)
       (not_true (eql p.0 q.0) (λ e. let tie = equal_to (left_at parts.pairs) cmpl eql (side_of total_left left) p.0 q.0 e in absurd (cc)))
       (not_true (eqr p.1 q.1) (λ e.
-          let there : Contains pairs p = (i, omega arith, get_or_default pairs i p d (omega arith)) in
-          let here : Contains pairs q = (j, inside, get_or_default pairs j q d inside) in
-          let a = (shown cmpl cmpr parts kept p).1 there in
-          let b = (shown cmpl cmpr parts kept q).1 here in
-          let tie = equal_to (right_at parts.pairs) cmpr eqr (side_of total_right right) p.1 q.1 e in
-          let at : a.0 ≡ b.0 = one_place (right_at parts.pairs) cmpr eqr (side_of total_right right) parts.right.places kept.right.up q.1 a.0 b.0 p.1 q.1 (kept.right.lists a.0 (right_from_live parts.pairs a.0 (ap is_some a.1))) (kept.right.lists b.0 (right_from_live parts.pairs b.0 (ap is_some b.1))) (right_of parts.pairs a.0 p a.1) (right_of parts.pairs b.0 q b.1) tie (tied_itself total_right q.1) in
-          let first = a.1 in
-          let second : pair_at parts.pairs a.0 ≡ _ = ap (pair_at parts.pairs) at ∙ b.1 in
-          let same : p ≡ q = cc in
-          let itself : cmpl p.0 q.0 ≡ Equal = ap (λ x. cmpl p.0 x.0) (sym same) ∙ tied_itself total_left p.0 in
-          absurd (cc)))
+      let there : Contains pairs p = (i, omega arith, get_or_default pairs i p d (omega arith)) in
+      let here : Contains pairs q = (j, inside, get_or_default pairs j q d inside) in
+      let a = (shown cmpl cmpr parts kept p).1 there in
+      let b = (shown cmpl cmpr parts kept q).1 here in
+      let tie = equal_to (right_at parts.pairs) cmpr eqr (side_of total_right right) p.1 q.1 e in
+      let at : a.0 ≡ b.0 = one_place (right_at parts.pairs) cmpr eqr (side_of total_right right) parts.right.places kept.right.up q.1 a.0 b.0 p.1 q.1 (kept.right.lists a.0 (right_from_live parts.pairs a.0 (ap is_some a.1))) (kept.right.lists b.0 (right_from_live parts.pairs b.0 (ap is_some b.1))) (right_of parts.pairs a.0 p a.1) (right_of parts.pairs b.0 q b.1) tie (tied_itself total_right q.1) in
+      let first = a.1 in
+      let second : pair_at parts.pairs a.0 ≡ _ = ap (pair_at parts.pairs) at ∙ b.1 in
+      let same : p ≡ q = cc in
+      let itself : cmpl p.0 q.0 ≡ Equal = ap (λ x. cmpl p.0 x.0) (sym same) ∙ tied_itself total_left p.0 in
+      absurd (cc)))

@@ -77,9 +77,9 @@ module _ {K : Type 0} where
         elim (cases_lt there.0 here.0) [
           | inl lower ↦ let less = up.rises there.0 here.0 k l lower here.1 (ap f first ∙ is) (ap f second ∙ is2) in absurd (cc)
           | inr other ↦ elim (cases_lt here.0 there.0) [
-              | inl higher ↦ let less = up.rises here.0 there.0 l k higher there.1 (ap f second ∙ is2) (ap f first ∙ is) in absurd (cc)
-              | inr same ↦ let e : there.0 ≡ here.0 = omega arith in sym first ∙ ap (λ n. get_or places n 0) e ∙ second
-            ]
+            | inl higher ↦ let less = up.rises here.0 there.0 l k higher there.1 (ap f second ∙ is2) (ap f first ∙ is) in absurd (cc)
+            | inr same ↦ let e : there.0 ≡ here.0 = omega arith in sym first ∙ ap (λ n. get_or places n 0) e ∙ second
+          ]
         ]
 
     -- what a search found
@@ -117,10 +117,10 @@ module _ {K : Type 0} where
               | inr away ↦ ap is_some (others (get_or index.places i 0) away) ∙ listing.up.live i inside
             ];
             rises = λ i j x y before inside first second.
-              let p = get_or index.places i 0 in
-              let q = get_or index.places j 0 in
-              elim (cases_eq p place) [
-                | inl at ↦ elim (cases_eq q place) [
+                let p = get_or index.places i 0 in
+                let q = get_or index.places j 0 in
+                elim (cases_eq p place) [
+                  | inl at ↦ elim (cases_eq q place) [
                     | inl at2 ↦
                         let same_place : p ≡ q = at ∙ sym at2 in
                         let has : f p ≡ Some k = ap f at ∙ was in
@@ -132,14 +132,14 @@ module _ {K : Type 0} where
                         let x_is : x ≡ l = let a : g p ≡ Some l = ap g at ∙ now in cc in
                         ap (λ z. order z y) x_is ∙ side.total.congr l k y back ∙ less
                   ]
-                | inr away ↦ elim (cases_eq q place) [
+                  | inr away ↦ elim (cases_eq q place) [
                     | inl at2 ↦
                         let less = listing.up.rises i j x k before inside (sym (others p away) ∙ first) (ap f at2 ∙ was) in
                         let y_is : y ≡ l = let a : g q ≡ Some l = ap g at2 ∙ now in cc in
                         ap (order x) y_is ∙ alike_right side.total l k x back ∙ less
                     | inr away2 ↦ listing.up.rises i j x y before inside (sym (others p away) ∙ first) (sym (others q away2) ∙ second)
                   ]
-              ];
+                ];
           };
           lists = λ q live. elim (cases_eq q place) [
             | inl at ↦ listing.lists q (ap (λ z. is_some (f z)) at ∙ ap is_some was)

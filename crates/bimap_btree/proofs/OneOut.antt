@@ -41,9 +41,9 @@ module _ {L R : Type 0} (order : L → L → Ordering) (total : IsTotalOrder ord
       elim (Contains-cons_cases y x ys there) [
         | inl e ↦ sym e
         | inr later ↦ elim (Contains-cons_cases x y xs here) [
-            | inl e ↦ e
-            | inr later2 ↦ absurd (not_both_ways x y (up.0 y later2) (up2.0 x later))
-          ]
+          | inl e ↦ e
+          | inr later2 ↦ absurd (not_both_ways x y (up.0 y later2) (up2.0 x later))
+        ]
       ]
 
   pub unique : (xs ys : List (L × R)) → Rises xs → Rises ys → ((q : L × R) → Contains xs q ↔ Contains ys q) → xs ≡ ys
@@ -81,11 +81,13 @@ module _ {L R : Type 0} (order : L → L → Ordering) (total : IsTotalOrder ord
       let e : x ≡ y = first_same x y xs ys up up2 ((same x).1 ((0, omega arith, refl), apart)) (((same y).0 (0, omega arith, refl)).0) in
       let rest : ys ≡ take k xs ++ drop (suc k) xs = one_out xs ys k p up.1 up2.1 (omega arith) is (λ q. (
         λ there.
-          let w = (same q).0 (Contains-cons y q ys there) in
-          (elim (Contains-cons_cases x q xs w.0) [
-            | inl f ↦ absurd (not_below_itself y (subst (λ (z : L × R). order y.0 z.0 ≡ Less) (sym (sym e ∙ f)) (up2.0 q there)))
-            | inr after ↦ after
-          ], w.1),
+            let w = (same q).0 (Contains-cons y q ys there) in (
+              elim (Contains-cons_cases x q xs w.0) [
+                | inl f ↦ absurd (not_below_itself y (subst (λ (z : L × R). order y.0 z.0 ≡ Less) (sym (sym e ∙ f)) (up2.0 q there)))
+                | inr after ↦ after
+              ],
+              w.1,
+            ),
         λ w. elim (Contains-cons_cases y q ys ((same q).1 (Contains-cons x q xs w.0, w.1))) [
           | inl f ↦ absurd (not_below_itself x (subst (λ (z : L × R). order x.0 z.0 ≡ Less) (sym (e ∙ f)) (up.0 q w.0)))
           | inr after ↦ after
@@ -102,10 +104,10 @@ module _ {L R : Type 0} (cmpl : L → L → Ordering) (cmpr : R → R → Orderi
       let gone = has_cleared old.pairs place (live_within old.pairs place (ap is_some was)) in
       one_out cmpl side.total (pairs_at old.pairs old.left.places) (pairs_at new.pairs new.left.places) k p (rises_from cmpl side.total _ (ascends-shown cmpl cmpr old kept)) (rises_from cmpl side.total _ (ascends-shown cmpl cmpr new after)) inside is (λ q. (
         λ there.
-          let has : Has (set old.pairs place None) q = subst (λ slots. Has slots q) now ((then q).1 there) in
-          let w = (gone q).0 has in
-          ((before q).0 (w.0, w.2), λ e. w.1 (one_place (left_at old.pairs) cmpl same side old.left.places kept.left.up p.0 w.0 place q.0 p.0 (kept.left.lists w.0 (left_from_live old.pairs w.0 (ap is_some w.2))) (kept.left.lists place (left_from_live old.pairs place (ap is_some was))) (left_of old.pairs w.0 q w.2) (left_of old.pairs place p was) (ap (λ (z : L × R). cmpl z.0 p.0) e ∙ tied_itself side.total p.0) (tied_itself side.total p.0))),
+            let has : Has (set old.pairs place None) q = subst (λ slots. Has slots q) now ((then q).1 there) in
+            let w = (gone q).0 has in
+            ((before q).0 (w.0, w.2), λ e. w.1 (one_place (left_at old.pairs) cmpl same side old.left.places kept.left.up p.0 w.0 place q.0 p.0 (kept.left.lists w.0 (left_from_live old.pairs w.0 (ap is_some w.2))) (kept.left.lists place (left_from_live old.pairs place (ap is_some was))) (left_of old.pairs w.0 q w.2) (left_of old.pairs place p was) (ap (λ (z : L × R). cmpl z.0 p.0) e ∙ tied_itself side.total p.0) (tied_itself side.total p.0))),
         λ w.
-          let has = (before q).1 w.0 in
-          (then q).0 (subst (λ slots. Has slots q) (sym now) ((gone q).1 (has.0, (λ at. let here : pair_at old.pairs place ≡ Some q = ap (pair_at old.pairs) (sym at) ∙ has.1 in w.1 (cc)), has.1))),
+            let has = (before q).1 w.0 in
+            (then q).0 (subst (λ slots. Has slots q) (sym now) ((gone q).1 (has.0, (λ at. let here : pair_at old.pairs place ≡ Some q = ap (pair_at old.pairs) (sym at) ∙ has.1 in w.1 (cc)), has.1))),
       ))

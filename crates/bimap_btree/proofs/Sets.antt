@@ -76,9 +76,9 @@ module _ {L R : Type 0} (eql : L → L → Bool) (eqr : R → R → Bool) where
       λ either. elim either [
         | inl same ↦ (place, now ∙ ap Some (sym same))
         | inr old ↦ elim (cases_eq old.0.0 place) [
-            | inl at ↦ absurd (true≢false (sym (was p (ap (pair_at slots) (sym at) ∙ old.0.1)) ∙ old.1))
-            | inr away ↦ (old.0.0, kept old.0.0 p away old.0.1 old.1)
-          ]
+          | inl at ↦ absurd (true≢false (sym (was p (ap (pair_at slots) (sym at) ∙ old.0.1)) ∙ old.1))
+          | inr away ↦ (old.0.0, kept old.0.0 p away old.0.1 old.1)
+        ]
       ],
     )
 
@@ -95,16 +95,16 @@ module _ {L R : Type 0} (eql : L → L → Bool) (eqr : R → R → Bool) where
         let mid = set slots other None in
         put_from_places (set mid place (Some pair)) place pair (same_pair mid place (Some pair) (omega (arith, length-set slots other None))) was
         (λ q p away is.
-            let middle : pair_at mid q ≡ Some p = sym (other_pair mid place (Some pair) q away) ∙ is in
-            elim (cases_eq q other) [
-              | inl at ↦ let none : pair_at mid q ≡ None = ap (pair_at mid) at ∙ same_pair slots other None inside2 in absurd (cc)
-              | inr away2 ↦ (sym (other_pair slots other None q away2) ∙ middle, alone q p away middle)
-            ])
+        let middle : pair_at mid q ≡ Some p = sym (other_pair mid place (Some pair) q away) ∙ is in
+        elim (cases_eq q other) [
+          | inl at ↦ let none : pair_at mid q ≡ None = ap (pair_at mid) at ∙ same_pair slots other None inside2 in absurd (cc)
+          | inr away2 ↦ (sym (other_pair slots other None q away2) ∙ middle, alone q p away middle)
+        ])
         (λ q p away is apart2.
-            elim (cases_eq q other) [
-              | inl at ↦ absurd (true≢false (sym (was2 p (ap (pair_at slots) (sym at) ∙ is)) ∙ apart2))
-              | inr away2 ↦ other_pair mid place (Some pair) q away ∙ other_pair slots other None q away2 ∙ is
-            ])
+        elim (cases_eq q other) [
+          | inl at ↦ absurd (true≢false (sym (was2 p (ap (pair_at slots) (sym at) ∙ is)) ∙ apart2))
+          | inr away2 ↦ other_pair mid place (Some pair) q away ∙ other_pair slots other None q away2 ∙ is
+        ])
 
     -- the searched keys after another place was taken out
     pub only_after : (l : L) (place other : ℕ) → other < length slots → (place ≡ other → ⊥) → IsOnlyAt (left_at slots) eql l place → IsOnlyAt (left_at (set slots other None)) eql l place

@@ -26,11 +26,11 @@ module _ {L R : Type 0} (same_left : L → L → Bool) (same_right : R → R →
             let differ = apart m.0 n.0 p lower n.1 in
             absurd (true≢false (sym e ∙ sym (ap (λ z. shares same_left same_right z q) first ∙ refl) ∙ sym (ap (λ z. shares same_left same_right (get_or xs m.0 p) z) second) ∙ differ))
         | inr other ↦ elim (cases_lt n.0 m.0) [
-            | inl higher ↦
-                let differ = apart n.0 m.0 p higher m.1 in
-                absurd (true≢false (sym e ∙ shares_turned p q ∙ sym (ap (λ z. shares same_left same_right z p) second) ∙ sym (ap (λ z. shares same_left same_right (get_or xs n.0 p) z) first) ∙ differ))
-            | inr same ↦ let at : m.0 ≡ n.0 = omega arith in sym first ∙ ap (λ i. get_or xs i p) at ∙ second
-          ]
+          | inl higher ↦
+              let differ = apart n.0 m.0 p higher m.1 in
+              absurd (true≢false (sym e ∙ shares_turned p q ∙ sym (ap (λ z. shares same_left same_right z p) second) ∙ sym (ap (λ z. shares same_left same_right (get_or xs n.0 p) z) first) ∙ differ))
+          | inr same ↦ let at : m.0 ≡ n.0 = omega arith in sym first ∙ ap (λ i. get_or xs i p) at ∙ second
+        ]
       ]
 
   tie : (a b c : L) → same_left a c ≡ true → same_left b c ≡ true → same_left a b ≡ true

@@ -40,8 +40,7 @@ module _ {L R : Type 0} where
   pub has_both : (slots : List (Option (L × R))) (place other : ℕ) (q s : L × R) → place < length slots → other < length (set slots place (Some q)) → pair_at (set slots place (Some q)) other ≡ None → (x : L × R) → Has (set (set slots place (Some q)) other (Some s)) x ↔ (((x ≡ q) ⊎ (x ≡ s)) ⊎ HasElsewhere slots place x)
   has_both slots place other q s inside inside2 free x =
       let first = has_set slots place q inside x in
-      let second = has_set (set slots place (Some q)) other s inside2 x in
-      (
+      let second = has_set (set slots place (Some q)) other s inside2 x in (
         λ has. elim (second.0 has) [
           | inl e ↦ inl (inr e)
           | inr v ↦ elim (first.0 (v.0, v.2)) [ inl e ↦ inl (inl e) | inr w ↦ inr w ]

@@ -75,7 +75,8 @@ impl<L: Ord, R: Ord> Parts<L, R> {
         ensures comparisons { M.comparisons meter.new ≤ M.comparisons meter.old + most_height (pair_count self.now.pairs) }
         ensures touches { M.touches meter.new ≤ M.touches meter.old + most_height (pair_count self.now.pairs) }
     {
-        self.left.find_route(&LeftOf::new(&self.pairs), left, route, meter)
+        self.left
+            .find_route(&LeftOf::new(&self.pairs), left, route, meter)
     }
 
     // The place whose right is equal. Where there is none, the route leads to where a place with this right would stand.
@@ -92,7 +93,8 @@ impl<L: Ord, R: Ord> Parts<L, R> {
         ensures comparisons { M.comparisons meter.new ≤ M.comparisons meter.old + most_height (pair_count self.now.pairs) }
         ensures touches { M.touches meter.new ≤ M.touches meter.old + most_height (pair_count self.now.pairs) }
     {
-        self.right.find_route(&RightOf::new(&self.pairs), right, route, meter)
+        self.right
+            .find_route(&RightOf::new(&self.pairs), right, route, meter)
     }
 
     // Whether the right at a place is equal: one comparison, and no search.
@@ -103,7 +105,10 @@ impl<L: Ord, R: Ord> Parts<L, R> {
         ensures comparisons { M.comparisons meter.new ≡ M.comparisons meter.old + 1 }
         ensures touches { M.touches meter.new ≡ M.touches meter.old }
     {
-        matches!(RightOf::new(&self.pairs).compare(place, right, meter), Ordering::Equal)
+        matches!(
+            RightOf::new(&self.pairs).compare(place, right, meter),
+            Ordering::Equal
+        )
     }
 
     // The same as `route_right`, where the place of the equal left, if any, is known: its right is asked first.

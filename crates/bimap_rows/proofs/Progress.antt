@@ -114,13 +114,15 @@ module _ (input left : Option (List ℕ)) (number : ℕ) (before between : Optio
   -- at a line that was not taken
   pub stopped_at : (line : List ℕ) (ended : Bool) (rest after : Option (List ℕ)) (ending : Ending) → StopsAtLine line (number + 1) ending between after → IfSome left (λ b. IsNextLine b line ended rest) → Stops ending input before after
   stopped_at line ended rest after OutputFailed h p = tt
-  stopped_at line ended rest after (BadLine n) h p =
-      (pairs, record {
-        history = s.history;
-        leads = s.leads;
-        says = weaker input _ _ (λ bytes r. subst (λ k. SaysBefore k bytes (calls s.history)) (sym h.0) (bad_read bytes left number (calls s.history) r line ended rest h.1 p)) s.read;
-        wrote = Appends-trans before between after (told s.history) [] s.wrote h.2;
-      })
+  stopped_at line ended rest after (BadLine n) h p = (
+    pairs,
+    record {
+      history = s.history;
+      leads = s.leads;
+      says = weaker input _ _ (λ bytes r. subst (λ k. SaysBefore k bytes (calls s.history)) (sym h.0) (bad_read bytes left number (calls s.history) r line ended rest h.1 p)) s.read;
+      wrote = Appends-trans before between after (told s.history) [] s.wrote h.2;
+    },
+  )
   stopped_at line ended rest after NoMemory h p = (pairs, first_served after h)
   stopped_at line ended rest after ending h p = absurd h
 

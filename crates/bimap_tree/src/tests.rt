@@ -55,7 +55,10 @@ impl<R: Abort> Meter for Counter<'_, R> {
     ghost touches = { λ s. s.touches };
 
     fn compared(&mut self) {
-        self.comparisons = self.comparisons.checked_add(1).expect(self.rt, "few comparisons");
+        self.comparisons = self
+            .comparisons
+            .checked_add(1)
+            .expect(self.rt, "few comparisons");
     }
 
     fn touched(&mut self) {
@@ -64,7 +67,11 @@ impl<R: Abort> Meter for Counter<'_, R> {
 }
 
 fn at_zero<R: Abort>(rt: &R) -> Counter<'_, R> {
-    Counter { rt, comparisons: 0, touches: 0 }
+    Counter {
+        rt,
+        comparisons: 0,
+        touches: 0,
+    }
 }
 
 // The numbers 1, 2, .. up to a thousand, each at the place below it.
@@ -105,7 +112,11 @@ fn finds(rt: HostRuntime) -> Result<(), Fail> {
     let keys = Numbers { numbers: &numbers };
     for number in 0..1002u64 {
         let mut meter = at_zero(&rt);
-        let want = if number == 0 || number == 1001 { None } else { Some(number as usize - 1) };
+        let want = if number == 0 || number == 1001 {
+            None
+        } else {
+            Some(number as usize - 1)
+        };
         assert_eq!(rt; index.find(&keys, &number, &mut meter), want);
         assert!(rt; meter.comparisons <= 20);
         assert!(rt; meter.touches <= 20);
@@ -125,9 +136,18 @@ fn ranks(rt: HostRuntime) -> Result<(), Fail> {
     }
     let mut meter = at_zero(&rt);
     assert_eq!(rt; index.rank_from(&keys, Bound::Unbounded, &mut meter), 0);
-    assert_eq!(rt; index.rank_from(&keys, Bound::Included(&500), &mut meter), 499);
-    assert_eq!(rt; index.rank_from(&keys, Bound::Excluded(&500), &mut meter), 500);
-    assert_eq!(rt; index.rank_from(&keys, Bound::Included(&1001), &mut meter), 1000);
+    assert_eq!(rt;
+        index.rank_from(&keys, Bound::Included(&500), &mut meter),
+        499
+    );
+    assert_eq!(rt;
+        index.rank_from(&keys, Bound::Excluded(&500), &mut meter),
+        500
+    );
+    assert_eq!(rt;
+        index.rank_from(&keys, Bound::Included(&1001), &mut meter),
+        1000
+    );
     let mut buffer = [0usize; 16];
     assert_eq!(rt; index.places_from(500, &mut buffer, &mut meter), 16);
     assert_eq!(rt; (buffer[0], buffer[15]), (500, 515));
@@ -145,7 +165,10 @@ fn removes(rt: HostRuntime) -> Result<(), Fail> {
     for half in 0..500u64 {
         let mut meter = at_zero(&rt);
         let number = 2 * half + 2;
-        assert_eq!(rt; index.remove_key(&keys, &number, &mut meter), Some(number as usize - 1));
+        assert_eq!(rt;
+            index.remove_key(&keys, &number, &mut meter),
+            Some(number as usize - 1)
+        );
         assert!(rt; meter.comparisons <= 20);
     }
     let mut meter = at_zero(&rt);
@@ -157,7 +180,10 @@ fn removes(rt: HostRuntime) -> Result<(), Fail> {
         }
     }
     let mut route = Route::new();
-    if index.find_route(&keys, &2, &mut route, &mut meter).is_none() {
+    if index
+        .find_route(&keys, &2, &mut route, &mut meter)
+        .is_none()
+    {
         index.insert_at(&keys, &route, 1, &mut meter);
         assert_eq!(rt; index.find(&keys, &2, &mut meter), Some(1));
         index.remove(&keys, 1, &mut meter);

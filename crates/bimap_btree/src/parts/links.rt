@@ -26,7 +26,13 @@ impl<L: Ord, R: Ord> Parts<L, R> {
     }
 
     // Puts a pair in the place of one whose left is equal. The left index doesn't change.
-    pub(crate) fn replace_right<M: Meter>(&mut self, place: usize, left: L, right: R, meter: &mut M) -> (L, R)
+    pub(crate) fn replace_right<M: Meter>(
+        &mut self,
+        place: usize,
+        left: L,
+        right: R,
+        meter: &mut M,
+    ) -> (L, R)
         requires indexed { IsIndexed L.cmp R.cmp self.old }
         requires left { IsOnlyAt (left_at self.old.pairs) L.eq left place }
         requires right { IsAbsentElsewhere (right_at self.old.pairs) R.eq right place }
@@ -44,7 +50,13 @@ impl<L: Ord, R: Ord> Parts<L, R> {
     }
 
     // Puts a pair in the place of one whose right is equal. The right index doesn't change.
-    pub(crate) fn replace_left<M: Meter>(&mut self, place: usize, left: L, right: R, meter: &mut M) -> (L, R)
+    pub(crate) fn replace_left<M: Meter>(
+        &mut self,
+        place: usize,
+        left: L,
+        right: R,
+        meter: &mut M,
+    ) -> (L, R)
         requires indexed { IsIndexed L.cmp R.cmp self.old }
         requires left { IsAbsentElsewhere (left_at self.old.pairs) L.eq left place }
         requires right { IsOnlyAt (right_at self.old.pairs) R.eq right place }
@@ -100,8 +112,10 @@ impl<L: Ord, R: Ord> Parts<L, R> {
         ensures touches { M.touches meter.new ≤ M.touches meter.old + 128 * (most_height (pair_count self.old.pairs) + 1) }
     {
         let place = self.pairs.put(left, right);
-        self.left.insert_at(&LeftOf::new(&self.pairs), left_route, place, meter);
-        self.right.insert_at(&RightOf::new(&self.pairs), right_route, place, meter);
+        self.left
+            .insert_at(&LeftOf::new(&self.pairs), left_route, place, meter);
+        self.right
+            .insert_at(&RightOf::new(&self.pairs), right_route, place, meter);
         place
     }
 }

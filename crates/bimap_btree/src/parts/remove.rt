@@ -41,7 +41,10 @@ impl<L: Ord, R: Ord> Parts<L, R> {
         ensures comparisons { M.comparisons meter.new ≤ M.comparisons meter.old + 2 * most_height (pair_count self.old.pairs) }
         ensures touches { M.touches meter.new ≤ M.touches meter.old + 128 * (most_height (pair_count self.old.pairs) + 1) }
     {
-        match self.right.remove_key(&RightOf::new(&self.pairs), right, meter) {
+        match self
+            .right
+            .remove_key(&RightOf::new(&self.pairs), right, meter)
+        {
             None => None,
             Some(place) => {
                 self.left.remove(&LeftOf::new(&self.pairs), place, meter);

@@ -37,7 +37,7 @@ returns-clause-indexed g c =
     rw c.swap_in-old.ensures.now (IsIndexed-from g.L.Ord.cmp g.R.Ord.cmp _ (pair_count slots) (length slots) count (length-set slots c.args.place (Some (c.args.left, c.args.right)))
     (listing-added (left_at new) g.L.Ord.cmp c.remove.new.self c.insert.new.self c.args.place _ _ _ (c.remove.ensures.len ∙ c.requires.indexed.left.counted) c.insert.ensures.len c.insert.ensures.adds up c.insert.ensures.cells but)
     (listing-alike (right_at slots) g.R.Ord.cmp g.R.PartialEq.eq (side_of g.met.R.Ord.total g.met.R.Ord.matches_eq) (right_at new) c.args.self.now.right _ _ c.args.place c.requires.right.held c.args.right c.requires.right.here
-      (right_of new c.args.place (c.args.left, c.args.right) (same_pair slots c.args.place (Some (c.args.left, c.args.right)) inside)) c.requires.right.equal (other_right slots c.args.place (Some (c.args.left, c.args.right))) c.requires.indexed.right))
+    (right_of new c.args.place (c.args.left, c.args.right) (same_pair slots c.args.place (Some (c.args.left, c.args.right)) inside)) c.requires.right.equal (other_right slots c.args.place (Some (c.args.left, c.args.right))) c.requires.indexed.right))
 
 pub returns-clause-comparisons : goal.returns-clause-comparisons
 returns-clause-comparisons g c =

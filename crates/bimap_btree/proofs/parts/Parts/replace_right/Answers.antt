@@ -36,7 +36,7 @@ returns-clause-indexed g c =
     let count = rw c.swap_in-old.ensures.now at c.swap_in-old.ensures.count in
     rw c.swap_in-old.ensures.now (IsIndexed-from g.L.Ord.cmp g.R.Ord.cmp _ (pair_count slots) (length slots) count (length-set slots c.args.place (Some (c.args.left, c.args.right)))
     (listing-alike (left_at slots) g.L.Ord.cmp g.L.PartialEq.eq (side_of g.met.L.Ord.total g.met.L.Ord.matches_eq) (left_at new) c.args.self.now.left _ _ c.args.place c.requires.left.held c.args.left c.requires.left.here
-      (left_of new c.args.place (c.args.left, c.args.right) (same_pair slots c.args.place (Some (c.args.left, c.args.right)) inside)) c.requires.left.equal (other_left slots c.args.place (Some (c.args.left, c.args.right))) c.requires.indexed.left)
+    (left_of new c.args.place (c.args.left, c.args.right) (same_pair slots c.args.place (Some (c.args.left, c.args.right)) inside)) c.requires.left.equal (other_left slots c.args.place (Some (c.args.left, c.args.right))) c.requires.indexed.left)
     (listing-added (right_at new) g.R.Ord.cmp c.remove.new.self c.insert.new.self c.args.place _ _ _ (c.remove.ensures.len ∙ c.requires.indexed.right.counted) c.insert.ensures.len c.insert.ensures.adds up c.insert.ensures.cells but))
 
 pub returns-clause-comparisons : goal.returns-clause-comparisons
