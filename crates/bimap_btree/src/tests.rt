@@ -93,22 +93,12 @@ fn inserts_under_a_policy(rt: HostRuntime) {
     let keep = OnHeld::Refuse;
     let mut map = filled(rt.alloc(), &[('a', 1), ('b', 2)]);
     assert!(&rt; map.insert_with('a', 3, policy(over, keep)) == Ok(Overwritten::Left('a', 1)));
-    assert!(&rt;
-        map.insert_with('c', 2, policy(over, keep)) == Err(NotInsertedWith::RightHeld('c', 2))
-    );
-    assert!(&rt;
-        map.insert_with('a', 3, policy(over, keep)) == Err(NotInsertedWith::RightHeld('a', 3))
-    );
+    assert!(&rt; map.insert_with('c', 2, policy(over, keep)) == Err(NotInsertedWith::RightHeld('c', 2)));
+    assert!(&rt; map.insert_with('a', 3, policy(over, keep)) == Err(NotInsertedWith::RightHeld('a', 3)));
     assert!(&rt; map.insert_with('c', 2, policy(keep, over)) == Ok(Overwritten::Right('b', 2)));
-    assert!(&rt;
-        map.insert_with('a', 2, policy(keep, keep)) == Err(NotInsertedWith::LeftHeld('a', 2))
-    );
-    assert!(&rt;
-        map.insert_with('d', 2, policy(keep, keep)) == Err(NotInsertedWith::RightHeld('d', 2))
-    );
-    assert!(&rt;
-        map.insert_with('a', 2, policy(over, over)) == Ok(Overwritten::Both(('a', 3), ('c', 2)))
-    );
+    assert!(&rt; map.insert_with('a', 2, policy(keep, keep)) == Err(NotInsertedWith::LeftHeld('a', 2)));
+    assert!(&rt; map.insert_with('d', 2, policy(keep, keep)) == Err(NotInsertedWith::RightHeld('d', 2)));
+    assert!(&rt; map.insert_with('a', 2, policy(over, over)) == Ok(Overwritten::Both(('a', 3), ('c', 2))));
     assert!(&rt; map.insert_with('d', 4, policy(keep, keep)) == Ok(Overwritten::Neither));
     assert!(&rt; holds(&map, &[('a', 2), ('d', 4)]));
 }
@@ -184,22 +174,23 @@ fn undoes_at_a_full_room(rt: HostRuntime) {
 }
 
 // Equal by its name alone.
-#[derive(Clone, Copy, Debug, Drop, Eq, Ord, PartialEq, PartialOrd)]
+#[derive(Clone, Copy, Debug, Drop)]
+#[derive_where(Eq, Ord, PartialEq, PartialOrd)]
 struct Marked {
     name: char,
     #[derive_where(skip(EqHashOrd))]
     mark: u32,
 }
 
-fn marked(name: char, mark: u32) -> Marked {
+fn value_marked(name: char, mark: u32) -> Marked {
     Marked { name, mark }
 }
 
 #[test]
 fn equal_values_are_replaced(rt: HostRuntime) {
     let mut map: BiBTreeMap<Marked, u32> = BiBTreeMap::new(rt.alloc());
-    assert!(&rt; map.insert(marked('a', 1), 99) == Ok(Overwritten::Neither));
-    let Ok(Overwritten::Left(struck, right)) = map.insert(marked('a', 2), 100) else {
+    assert!(&rt; map.insert(value_marked('a', 1), 99) == Ok(Overwritten::Neither));
+    let Ok(Overwritten::Left(struck, right)) = map.insert(value_marked('a', 2), 100) else {
         return assert!(&rt; false);
     };
     assert!(&rt; struck.mark == 1 && right == 99);
@@ -210,20 +201,14 @@ fn equal_values_are_replaced(rt: HostRuntime) {
 #[test]
 fn equal_pairs_are_replaced(rt: HostRuntime) {
     let mut map: BiBTreeMap<Marked, Marked> = BiBTreeMap::new(rt.alloc());
-    assert!(&rt; map.insert(marked('a', 1), marked('x', 1)) == Ok(Overwritten::Neither));
-    let Ok(Overwritten::Pair(left, right)) = map.insert(marked('a', 2), marked('x', 2)) else {
+    assert!(&rt; map.insert(value_marked('a', 1), value_marked('x', 1)) == Ok(Overwritten::Neither));
+    let Ok(Overwritten::Pair(left, right)) = map.insert(value_marked('a', 2), value_marked('x', 2)) else {
         return assert!(&rt; false);
     };
     assert!(&rt; left.mark == 1 && right.mark == 1);
-    assert!(&rt;
-        map.get_by_left(&marked('a', 9))
-            .is_some_and(|found| found.mark == 2)
-    );
-    assert!(&rt;
-        map.get_by_right(&marked('x', 9))
-            .is_some_and(|found| found.mark == 2)
-    );
-    let Some((left, right)) = map.remove_by_left(&marked('a', 9)) else {
+    assert!(&rt; map.get_by_left(&value_marked('a', 9)).is_some_and(|found| found.mark == 2));
+    assert!(&rt; map.get_by_right(&value_marked('x', 9)).is_some_and(|found| found.mark == 2));
+    let Some((left, right)) = map.remove_by_left(&value_marked('a', 9)) else {
         return assert!(&rt; false);
     };
     assert!(&rt; left.mark == 2 && right.mark == 2);
@@ -232,11 +217,11 @@ fn equal_pairs_are_replaced(rt: HostRuntime) {
 #[test]
 fn undoes_to_the_exact_values(rt: HostRuntime) {
     let mut map: BiBTreeMap<Marked, u32> = BiBTreeMap::new(rt.alloc());
-    let _ = map.insert(marked('a', 1), 1);
-    let Ok(answer) = map.insert(marked('a', 2), 1) else {
+    let _ = map.insert(value_marked('a', 1), 1);
+    let Ok(answer) = map.insert(value_marked('a', 2), 1) else {
         return assert!(&rt; false);
     };
-    let Ok((left, right)) = map.undo_insert(&marked('a', 9), answer) else {
+    let Ok((left, right)) = map.undo_insert(&value_marked('a', 9), answer) else {
         return assert!(&rt; false);
     };
     assert!(&rt; left.mark == 2 && right == 1);
