@@ -1,5 +1,9 @@
 -- The end of the work.
 use Rattle.std.proofs.Common.{◌≡◌, ◌⊎◌, inl, inr, ℕ, List, [], ◌++◌, Option, sym, ap, subst, append-nil, ◌∙◌, append_assoc}
+use Rattle.std.specs.List.{AllPairs}
+use Rattle.std.specs.Ordering.{nat_cmp}
+use Rattle.std.proofs.lemmas.Cmp.{ranked}
+use Rattle.std.specs.declared.cmp.Ordering.TheVariants.{Less}
 use Rattle.std.specs.Io.KnownBytes.{Appends}
 use Rattle.std.proofs.KnownBytes.{Appends-trans}
 use Rattle.bimap_rows.specs.Lines.{Request, SaysInAll}
@@ -7,6 +11,10 @@ use Rattle.bimap_rows.specs.Serving.{IsServed, AscendsByLeft, told, tail, Stops,
 use Rattle.bimap_rows.specs.Steps.{IsFlushed}
 use Rattle.bimap_rows.specs.declared.serve.Ending.{Ending}
 use Rattle.bimap_rows.specs.declared.serve.Ending.TheVariants.{Clean, InputFailed, OutputFailed, BadLine, NoMemory}
+
+-- lefts in the order of characters ascend as numbers
+pub ascends : (pairs : List (ℕ × ℕ)) → AllPairs (λ p q. nat_cmp p.0 q.0 ≡ Less) pairs → AscendsByLeft pairs
+ascends pairs up = λ i j d earlier within. ranked _ _ Less (sym (up i j d earlier within))
 
 -- more was written
 wrote_more : (Say : List ℕ → List Request → Type 0) (input o p q : Option (List ℕ)) (pairs : List (ℕ × ℕ)) (end more : List ℕ) → IsServed Say input o p pairs end → Appends p q more → IsServed Say input o q pairs (end ++ more)
