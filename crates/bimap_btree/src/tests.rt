@@ -93,12 +93,22 @@ fn inserts_under_a_policy(rt: HostRuntime) {
     let keep = OnHeld::Refuse;
     let mut map = filled(rt.alloc(), &[('a', 1), ('b', 2)]);
     assert!(&rt; map.insert_with('a', 3, policy(over, keep)) == Ok(Overwritten::Left('a', 1)));
-    assert!(&rt; map.insert_with('c', 2, policy(over, keep)) == Err(NotInsertedWith::RightHeld('c', 2)));
-    assert!(&rt; map.insert_with('a', 3, policy(over, keep)) == Err(NotInsertedWith::RightHeld('a', 3)));
+    assert!(&rt;
+        map.insert_with('c', 2, policy(over, keep)) == Err(NotInsertedWith::RightHeld('c', 2))
+    );
+    assert!(&rt;
+        map.insert_with('a', 3, policy(over, keep)) == Err(NotInsertedWith::RightHeld('a', 3))
+    );
     assert!(&rt; map.insert_with('c', 2, policy(keep, over)) == Ok(Overwritten::Right('b', 2)));
-    assert!(&rt; map.insert_with('a', 2, policy(keep, keep)) == Err(NotInsertedWith::LeftHeld('a', 2)));
-    assert!(&rt; map.insert_with('d', 2, policy(keep, keep)) == Err(NotInsertedWith::RightHeld('d', 2)));
-    assert!(&rt; map.insert_with('a', 2, policy(over, over)) == Ok(Overwritten::Both(('a', 3), ('c', 2))));
+    assert!(&rt;
+        map.insert_with('a', 2, policy(keep, keep)) == Err(NotInsertedWith::LeftHeld('a', 2))
+    );
+    assert!(&rt;
+        map.insert_with('d', 2, policy(keep, keep)) == Err(NotInsertedWith::RightHeld('d', 2))
+    );
+    assert!(&rt;
+        map.insert_with('a', 2, policy(over, over)) == Ok(Overwritten::Both(('a', 3), ('c', 2)))
+    );
     assert!(&rt; map.insert_with('d', 4, policy(keep, keep)) == Ok(Overwritten::Neither));
     assert!(&rt; holds(&map, &[('a', 2), ('d', 4)]));
 }
@@ -201,13 +211,22 @@ fn equal_values_are_replaced(rt: HostRuntime) {
 #[test]
 fn equal_pairs_are_replaced(rt: HostRuntime) {
     let mut map: BiBTreeMap<Marked, Marked> = BiBTreeMap::new(rt.alloc());
-    assert!(&rt; map.insert(value_marked('a', 1), value_marked('x', 1)) == Ok(Overwritten::Neither));
-    let Ok(Overwritten::Pair(left, right)) = map.insert(value_marked('a', 2), value_marked('x', 2)) else {
+    assert!(&rt;
+        map.insert(value_marked('a', 1), value_marked('x', 1)) == Ok(Overwritten::Neither)
+    );
+    let Ok(Overwritten::Pair(left, right)) = map.insert(value_marked('a', 2), value_marked('x', 2))
+    else {
         return assert!(&rt; false);
     };
     assert!(&rt; left.mark == 1 && right.mark == 1);
-    assert!(&rt; map.get_by_left(&value_marked('a', 9)).is_some_and(|found| found.mark == 2));
-    assert!(&rt; map.get_by_right(&value_marked('x', 9)).is_some_and(|found| found.mark == 2));
+    assert!(&rt;
+        map.get_by_left(&value_marked('a', 9))
+            .is_some_and(|found| found.mark == 2)
+    );
+    assert!(&rt;
+        map.get_by_right(&value_marked('x', 9))
+            .is_some_and(|found| found.mark == 2)
+    );
     let Some((left, right)) = map.remove_by_left(&value_marked('a', 9)) else {
         return assert!(&rt; false);
     };
