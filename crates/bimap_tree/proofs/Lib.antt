@@ -18,3 +18,4 @@ pub mod Found
 pub mod Starts
 pub mod Whole
 pub mod Routes
+pub mod Thousand

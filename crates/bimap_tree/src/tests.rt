@@ -84,7 +84,7 @@ fn listed<R: Abort>(rt: &R, alloc: Global, numbers: &[u64]) -> Result<Ordered, F
     requires rising { (i : ℕ) → i < 1000 → slice_index numbers.now i ≡ i + 1 }
     ensures ascends { IfOk result (λ o. Ascends (slice_get numbers.now) nat_cmp o.places) }
     ensures len { IfOk result (λ o. length o.places ≡ 1000) }
-    ensures cells { IfOk result (λ o. length o.nodes ≡ 1000) }
+    ensures cells { IfOk result (λ o. 1000 ≤ length o.nodes) }
 {
     let keys = Numbers { numbers };
     let mut index = Ordered::new(alloc);
