@@ -1,6 +1,6 @@
 -- The numbers from 1 on, as keys.
 use Rattle.std.proofs.Common.{◌≡◌, ℕ, ◌+◌, ◌<◌, ◌≤◌, List, [], ◌∷◌, Option, Some, None, length, true, false, refl, sym, subst, ◌∙◌, ap, arith}
-use Rattle.std.specs.Prelude.{Result, Ok, Err, OnOk, is_some, IsSome, option_map, slice_get, slice_index}
+use Rattle.std.specs.Prelude.{Result, Ok, Err, OnOk, IfNone, is_some, IsSome, option_map, slice_get, slice_index}
 use Rattle.std.specs.Cmp.{nat_cmp_is}
 use Rattle.std.specs.Option.{ok_or}
 use Rattle.std.specs.Result.{result_ok}
@@ -10,6 +10,9 @@ use Rattle.std.specs.declared.cmp.Ordering.{Ordering}
 use Rattle.std.specs.declared.cmp.Ordering.TheVariants.{Less, Equal}
 use Rattle.std.proofs.lemmas.Option.{slice_get-get_or}
 use Rattle.bimap_base.specs.Keyed.{standing, Ascends}
+use Rattle.bimap_tree.specs.Index.{Index}
+use Rattle.bimap_tree.specs.Route.{IsRoute}
+use Rattle.bimap_tree.specs.declared.route.Route.{Route}
 
 -- the numbers of a list count from 1 on
 abbrev pub Counts : List ℕ → ℕ → Type 0
@@ -40,3 +43,8 @@ ascends_none key order (x ∷ xs) e = absurd (omega (arith, ap length e))
 pub was_ok : {T E F : Type 0} {P : Type 0} (r : Result T E) (o : Option T) (s : Result T F) (x : F) (y : T) → o ≡ result_ok r → s ≡ ok_or o x → s ≡ Ok y → OnOk r P → P
 was_ok (Ok t) o s x y a b d f = f
 was_ok (Err e) o s x y a b d f = absurd (let w : Err x ≡ Ok y = sym (b ∙ ap (λ z. ok_or z x) a) ∙ d in cc)
+
+-- a route for a key is one for an equal key
+pub route_for : (index : Index) (key : ℕ → Option ℕ) (route : Route) (found : Option ℕ) (number k : ℕ) → found ≡ None → number ≡ k → IfNone found (IsRoute index (λ q. standing key nat_cmp number q) route) → IsRoute index (λ q. standing key nat_cmp k q) route
+route_for index key route found number k none same h =
+    subst (λ x. IsRoute index (λ q. standing key nat_cmp x q) route) same (subst (λ o. IfNone o (IsRoute index (λ q. standing key nat_cmp number q) route)) none h)
