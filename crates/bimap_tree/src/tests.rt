@@ -56,7 +56,10 @@ impl<R: Abort> Meter for Counter<'_, R> {
     ghost touches = { λ s. s.touches };
 
     fn compared(&mut self) {
-        self.comparisons = self.comparisons.checked_add(1).expect(self.rt, "few comparisons");
+        self.comparisons = self
+            .comparisons
+            .checked_add(1)
+            .expect(self.rt, "few comparisons");
     }
 
     fn touched(&mut self) {
@@ -65,7 +68,11 @@ impl<R: Abort> Meter for Counter<'_, R> {
 }
 
 fn at_zero<R: Abort>(rt: &R) -> Counter<'_, R> {
-    Counter { rt, comparisons: 0, touches: 0 }
+    Counter {
+        rt,
+        comparisons: 0,
+        touches: 0,
+    }
 }
 
 // The numbers 1, 2, .. up to a thousand, each at the place below it.
@@ -106,7 +113,11 @@ fn finds(rt: HostRuntime) -> Result<(), Fail> {
     let keys = Numbers { numbers: &numbers };
     for number in 0..1002u64 {
         let mut meter = at_zero(&rt);
-        let want = if number == 0 || number == 1001 { None } else { Some(number as usize - 1) };
+        let want = if number == 0 || number == 1001 {
+            None
+        } else {
+            Some(number as usize - 1)
+        };
         assert_eq!(rt; index.find(&keys, &number, &mut meter), want);
         assert!(rt; meter.comparisons <= 20);
         assert!(rt; meter.touches <= 20);
@@ -129,7 +140,10 @@ fn places_by_rank(rt: HostRuntime) -> Result<(), Fail> {
     for rank in 0..1000usize {
         if rank == walked {
             let filled = index.places_from(rank, &mut buffer, &mut meter);
-            assert_eq!(rt; (filled, buffer[0]), (if rank < 992 { 16 } else { 8 }, rank));
+            assert_eq!(rt;
+                (filled, buffer[0]),
+                (if rank < 992 { 16 } else { 8 }, rank)
+            );
             walked = if rank < 992 { rank + 16 } else { 1000 };
         }
     }
@@ -144,9 +158,18 @@ fn starts(rt: HostRuntime) -> Result<(), Fail> {
     let keys = Numbers { numbers: &numbers };
     let mut meter = at_zero(&rt);
     assert_eq!(rt; index.rank_from(&keys, Bound::Unbounded, &mut meter), 0);
-    assert_eq!(rt; index.rank_from(&keys, Bound::Included(&500), &mut meter), 499);
-    assert_eq!(rt; index.rank_from(&keys, Bound::Excluded(&500), &mut meter), 500);
-    assert_eq!(rt; index.rank_from(&keys, Bound::Included(&1001), &mut meter), 1000);
+    assert_eq!(rt;
+        index.rank_from(&keys, Bound::Included(&500), &mut meter),
+        499
+    );
+    assert_eq!(rt;
+        index.rank_from(&keys, Bound::Excluded(&500), &mut meter),
+        500
+    );
+    assert_eq!(rt;
+        index.rank_from(&keys, Bound::Included(&1001), &mut meter),
+        1000
+    );
     Ok(())
 }
 

@@ -1,4 +1,4 @@
-use Rattle.std.proofs.Common.{◌≡◌, ℕ, ◌+◌, ◌<◌, ◌≤◌, List, length, ap, ◌∙◌, arith, inl, inr}
+use Rattle.std.proofs.Common.{length, ap, ◌∙◌, arith, inl, inr}
 use Rattle.bimap_tree.proofs.Thousand.{live, unequal, ascends_none, was_ok}
 use Rattle.bimap_tree.proofs.tests.listed.Goals as goal
 

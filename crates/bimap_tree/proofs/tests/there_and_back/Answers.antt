@@ -1,4 +1,4 @@
-use Rattle.std.proofs.Common.{◌≡◌, ◌∙◌, ℕ, ◌+◌, Some, sym, refl, inl, arith}
+use Rattle.std.proofs.Common.{◌≡◌, ◌∙◌, Some, sym, refl, inl, arith}
 use Rattle.bimap_tree.proofs.Removes.{no_child}
 use Rattle.bimap_tree.proofs.Thousand.{key_is, route_for}
 use Rattle.bimap_tree.proofs.tests.there_and_back.Goals as goal
