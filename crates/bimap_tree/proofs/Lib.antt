@@ -12,9 +12,10 @@ pub mod Rotate
 pub mod Ascending
 pub mod Paths
 pub mod Rises
-pub mod Routes
 pub mod Follow
 pub mod Removes
 pub mod Found
 pub mod Starts
 pub mod Whole
+pub mod Routes
+pub mod Thousand

