@@ -3,6 +3,8 @@ use crate::BiBTreeMap;
 use bimap_base::{Bijection, NotInserted, NotInsertedWith, OnHeld, Overwritten, Policy};
 use std::alloc::Global;
 
+mod counting;
+
 fn filled(alloc: Global, pairs: &[(char, u32)]) -> BiBTreeMap<char, u32> {
     let mut map = BiBTreeMap::new(alloc);
     for (left, right) in pairs {
