@@ -144,10 +144,15 @@ fn undoes_insertions(rt: HostRuntime) {
     let mut map = filled(rt.alloc(), &[('a', 1), ('b', 2)]);
     let answer = Overwritten::Both(('a', 1), ('b', 2));
     assert!(&rt; map.insert('a', 2) == Ok(answer));
+    assert!(&rt; map.can_undo_insert(&'a', &answer));
     assert!(&rt; map.undo_insert(&'a', answer) == Ok(('a', 2)));
     assert!(&rt; holds(&map, &[('a', 1), ('b', 2)]));
-    assert!(&rt; map.undo_insert(&'b', Overwritten::Neither) == Ok(('b', 2)));
-    assert!(&rt; map.undo_insert(&'a', Overwritten::Left('c', 1)) == Ok(('a', 1)));
+    let nothing = Overwritten::Neither;
+    assert!(&rt; map.can_undo_insert(&'b', &nothing));
+    assert!(&rt; map.undo_insert(&'b', nothing) == Ok(('b', 2)));
+    let other = Overwritten::Left('c', 1);
+    assert!(&rt; map.can_undo_insert(&'a', &other));
+    assert!(&rt; map.undo_insert(&'a', other) == Ok(('a', 1)));
     assert!(&rt; holds(&map, &[('c', 1)]));
 }
 
@@ -172,7 +177,8 @@ fn undoes_both_among(alloc: Global, further: u32) -> bool {
         let _ = map.insert(at, at);
     }
     let answer = Overwritten::Both((1000, 1001), (1001, 2000));
-    map.undo_insert(&1000, answer) == Ok((1000, 2000))
+    map.can_undo_insert(&1000, &answer)
+        && map.undo_insert(&1000, answer) == Ok((1000, 2000))
         && map.get_by_left(&1000) == Some(&1001)
         && map.get_by_left(&1001) == Some(&2000)
         && map.len() == further as usize + 2
@@ -242,7 +248,9 @@ fn undoes_to_the_exact_values(rt: HostRuntime) {
     let Ok(answer) = map.insert(value_marked('a', 2), 1) else {
         return assert!(&rt; false);
     };
-    let Ok((left, right)) = map.undo_insert(&value_marked('a', 9), answer) else {
+    let key = value_marked('a', 9);
+    assert!(&rt; map.can_undo_insert(&key, &answer));
+    let Ok((left, right)) = map.undo_insert(&key, answer) else {
         return assert!(&rt; false);
     };
     assert!(&rt; left.mark == 2 && right == 1);

@@ -62,12 +62,22 @@ fn counted_at(number: u32, compared: &Cell<u64>) -> Counted<'_> {
     Counted { number, compared }
 }
 
-fn is_found(map: &BiBTreeMap<Counted, Counted>, left: u32, right: u32, compared: &Cell<u64>, limit: u64) -> bool {
+fn is_found(
+    map: &BiBTreeMap<Counted, Counted>,
+    left: u32,
+    right: u32,
+    compared: &Cell<u64>,
+    limit: u64,
+) -> bool {
     compared.set(0);
-    let found = map.get_by_left(&counted_at(left, compared)).is_some_and(|r| r.number == right);
+    let found = map
+        .get_by_left(&counted_at(left, compared))
+        .is_some_and(|r| r.number == right);
     let by_left = compared.get();
     compared.set(0);
-    let back = map.get_by_right(&counted_at(right, compared)).is_some_and(|l| l.number == left);
+    let back = map
+        .get_by_right(&counted_at(right, compared))
+        .is_some_and(|l| l.number == left);
     found && back && by_left <= limit && compared.get() <= limit
 }
 
@@ -119,7 +129,10 @@ fn striking_two_compares_little(rt: HostRuntime) {
         let _ = map.insert(counted_at(i, &compared), counted_at(1001 - i, &compared));
     }
     compared.set(0);
-    let Ok(Overwritten::Both((a, b), (c, d))) = map.insert(counted_at(1, &compared), counted_at(1, &compared)) else {
+    let Ok(Overwritten::Both((a, b), (c, d))) = map.insert(
+        counted_at(1, &compared),
+        counted_at(1, &compared),
+    ) else {
         return assert!(&rt; false);
     };
     assert!(&rt; compared.get() <= 160);
