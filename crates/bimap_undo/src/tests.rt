@@ -1,11 +1,12 @@
-//! Rows of calls with the answers that they must give, over a bimap that is looked through one by one.
+//! Rows of calls with the answers that they must give, over the ordered bimap and one that is looked through one by one.
 mod famine;
 
 use crate::{CopyLeft, Operation, Undoable, there_and_back};
-use bimap::{Bijection, NoRoom};
+use bimap::{BiBTreeMap, Bijection, NoRoom};
 use bimap_plain::Plain;
 use famine::Famine;
 use std::alloc::{AllocError, Global};
+use std::process::Abort;
 use std::test::Fail;
 
 /// An operation, what it answers, the pairs then held and the number of changes then recorded.
@@ -80,40 +81,75 @@ fn first_wrong<B: Bijection<L, R> + Drop, L: CopyLeft + Copy + Drop, R: Eq + Cop
     None
 }
 
+fn back_to_marks<B: Bijection<L, R> + Drop, L: CopyLeft + Copy + Drop, R: Eq + Copy + Drop>(
+    rt: &impl Abort,
+    alloc: Global,
+    empty: B,
+    rows: &[Row<L, R>],
+) {
+    let mut undoable = Undoable::new(alloc, empty);
+    assert_eq!(rt; (undoable.mark(), undoable.held().len()), (0, 0));
+    assert_eq!(rt; first_wrong(&mut undoable, rows), None);
+    undoable.back_to(0);
+    assert_eq!(rt; (undoable.mark(), undoable.held().len()), (0, 0));
+}
+
 #[test]
 fn goes_back_to_marks(rt: HostRuntime) {
-    let bimap: Plain<char, i32> = Plain::new(rt.alloc());
-    let mut undoable = Undoable::new(rt.alloc(), bimap);
-    assert!(rt; shows(&undoable, &[], 0));
-    assert_eq!(rt; first_wrong(&mut undoable, &OF_INSERTIONS), None);
-    undoable.back_to(0);
-    assert!(rt; shows(&undoable, &[], 0));
+    let alloc = rt.alloc();
+    back_to_marks(&rt, alloc, Plain::new(alloc), &OF_INSERTIONS);
+    back_to_marks(&rt, alloc, BiBTreeMap::new(alloc), &OF_INSERTIONS);
+}
+
+fn without_the_record<B: Bijection<L, R> + Drop, L: CopyLeft + Copy + Drop, R: Eq + Copy + Drop>(
+    rt: &impl Abort,
+    alloc: Global,
+    empty: B,
+    rows: &[Row<L, R>],
+    (left, right): (L, R),
+) {
+    let mut undoable = Undoable::new(alloc, empty);
+    assert_eq!(rt; first_wrong(&mut undoable, rows), None);
+    let bimap = undoable.into_inner();
+    assert_eq!(rt; bimap.len(), 1);
+    assert!(rt; bimap.get_by_left(&left) == Some(&right));
+    assert!(rt; bimap.get_by_right(&right) == Some(&left));
 }
 
 #[test]
 fn gives_the_bimap_without_the_record(rt: HostRuntime) {
-    let bimap: Plain<char, i32> = Plain::new(rt.alloc());
-    let mut undoable = Undoable::new(rt.alloc(), bimap);
-    assert_eq!(rt; first_wrong(&mut undoable, &OF_INSERTIONS[..5]), None);
-    let bimap = undoable.into_inner();
-    assert_eq!(rt; bimap.len(), 1);
-    assert_eq!(rt; bimap.get_by_left(&'a'), Some(&2));
-    assert_eq!(rt; bimap.get_by_right(&2), Some(&'a'));
+    let alloc = rt.alloc();
+    let rows = &OF_INSERTIONS[..5];
+    without_the_record(&rt, alloc, Plain::new(alloc), rows, ('a', 2));
+    without_the_record(&rt, alloc, BiBTreeMap::new(alloc), rows, ('a', 2));
+}
+
+fn back_from_removals<B: Bijection<L, R> + Drop, L: CopyLeft + Copy + Drop, R: Eq + Copy + Drop>(
+    rt: &impl Abort,
+    alloc: Global,
+    empty: B,
+    pairs: &[(L, R)],
+    rows: &[Row<L, R>],
+) -> Result<(), Fail> {
+    let mut bimap = empty;
+    for &(left, right) in pairs {
+        bimap.insert(left, right).ok().ok_or("no memory")?;
+    }
+    let mut undoable = Undoable::new(alloc, bimap);
+    assert_eq!(rt; first_wrong(&mut undoable, rows), None);
+    let famine = Famine::begin(alloc, 0)?;
+    undoable.back_to(0);
+    drop(famine);
+    assert!(rt; shows(&undoable, pairs, 0));
+    Ok(())
 }
 
 #[test]
 fn takes_removals_back_without_memory(rt: HostRuntime) -> Result<(), Fail> {
-    let mut bimap: Plain<char, i32> = Plain::new(rt.alloc());
-    for (left, right) in [('a', 1), ('b', 2)] {
-        bimap.insert(left, right).ok().ok_or("no memory")?;
-    }
-    let mut undoable = Undoable::new(rt.alloc(), bimap);
-    assert_eq!(rt; first_wrong(&mut undoable, &OF_REMOVALS), None);
-    let famine = Famine::begin(rt.alloc(), 0)?;
-    undoable.back_to(0);
-    drop(famine);
-    assert!(rt; shows(&undoable, &[('a', 1), ('b', 2)], 0));
-    Ok(())
+    let alloc = rt.alloc();
+    let pairs = [('a', 1), ('b', 2)];
+    back_from_removals(&rt, alloc, Plain::new(alloc), &pairs, &OF_REMOVALS)?;
+    back_from_removals(&rt, alloc, BiBTreeMap::new(alloc), &pairs, &OF_REMOVALS)
 }
 
 /// Inserts a pair under a famine that eases, and answers how often it was refused, or `None` where a refusal changed
@@ -126,8 +162,8 @@ fn insert_in_famine<B: Bijection<L, R> + Drop, L: CopyLeft + Copy + Drop, R: Eq 
     held: &[(L, R)],
     mark: usize,
 ) -> Result<Option<u64>, AllocError> {
-    let mut famine = Famine::begin(alloc, 60)?;
-    for refusals in 0..60u64 {
+    let mut famine = Famine::begin(alloc, 100)?;
+    for refusals in 0..100u64 {
         match undoable.insert(left, right) {
             Ok(_) => return Ok(Some(refusals)),
             Err(refused) => {
@@ -141,17 +177,20 @@ fn insert_in_famine<B: Bijection<L, R> + Drop, L: CopyLeft + Copy + Drop, R: Eq 
     Ok(None)
 }
 
-#[test]
-fn a_refused_insertion_changes_nothing(rt: HostRuntime) -> Result<(), Fail> {
-    let bimap: Plain<char, i32> = Plain::new(rt.alloc());
-    let mut undoable = Undoable::new(rt.alloc(), bimap);
+fn refused_insertions<B: Bijection<L, R> + Drop, L: CopyLeft + Copy + Drop, R: Eq + Copy + Drop>(
+    rt: &impl Abort,
+    alloc: Global,
+    empty: B,
+    rows: &[Row<L, R>],
+) -> Result<(), Fail> {
+    let mut undoable = Undoable::new(alloc, empty);
     let mut refusals = 0u64;
-    let mut before: (&[(char, i32)], usize) = (&[], 0);
-    for (operation, _, held, mark) in OF_INSERTIONS {
+    let mut before: (&[(L, R)], usize) = (&[], 0);
+    for &(operation, _, held, mark) in rows {
         match operation {
             Operation::Insert(left, right) => {
                 let refused = insert_in_famine(
-                    rt.alloc(),
+                    alloc,
                     &mut undoable,
                     left,
                     right,
@@ -161,13 +200,13 @@ fn a_refused_insertion_changes_nothing(rt: HostRuntime) -> Result<(), Fail> {
                 refusals = refusals.saturating_add(refused.ok_or("a refusal changed something")?);
             }
             other => {
-                let famine = Famine::begin(rt.alloc(), 0)?;
+                let famine = Famine::begin(alloc, 0)?;
                 let answer = perform(&mut undoable, other);
                 drop(famine);
                 assert_eq!(rt; answer, Some(true));
             }
         }
-        assert!(rt; shows(&undoable, held, mark), "{operation:?}");
+        assert!(rt; shows(&undoable, held, mark));
         before = (held, mark);
     }
     assert!(rt; refusals > 1, "{refusals}");
@@ -175,15 +214,24 @@ fn a_refused_insertion_changes_nothing(rt: HostRuntime) -> Result<(), Fail> {
 }
 
 #[test]
-fn a_refused_copy_or_removal_changes_nothing(rt: HostRuntime) -> Result<(), Fail> {
+fn a_refused_insertion_changes_nothing(rt: HostRuntime) -> Result<(), Fail> {
     let alloc = rt.alloc();
-    let mut bimap: Plain<String, i32> = Plain::new(alloc);
+    refused_insertions(&rt, alloc, Plain::new(alloc), &OF_INSERTIONS)?;
+    refused_insertions(&rt, alloc, BiBTreeMap::new(alloc), &OF_INSERTIONS)
+}
+
+fn refused_copies_and_removals<B: Bijection<String, i32> + Drop>(
+    rt: &impl Abort,
+    alloc: Global,
+    empty: B,
+) -> Result<(), Fail> {
+    let mut bimap = empty;
+    let held = String::from_str(alloc, "a")?;
     bimap
         .insert(String::from_str(alloc, "a")?, 1)
         .ok()
         .ok_or("no memory")?;
     let mut undoable = Undoable::new(alloc, bimap);
-    let held = String::from_str(alloc, "a")?;
     let left = String::from_str(alloc, "b")?;
     let famine = Famine::begin(alloc, 0)?;
     let inserted = undoable.insert(left, 2);
@@ -198,6 +246,13 @@ fn a_refused_copy_or_removal_changes_nothing(rt: HostRuntime) -> Result<(), Fail
     assert_eq!(rt; undoable.remove_by_left(&held), Ok(true));
     assert_eq!(rt; (undoable.mark(), undoable.held().len()), (1, 0));
     Ok(())
+}
+
+#[test]
+fn a_refused_copy_or_removal_changes_nothing(rt: HostRuntime) -> Result<(), Fail> {
+    let alloc = rt.alloc();
+    refused_copies_and_removals(&rt, alloc, Plain::<String, i32>::new(alloc))?;
+    refused_copies_and_removals(&rt, alloc, BiBTreeMap::<String, i32>::new(alloc))
 }
 
 #[test]
@@ -217,6 +272,21 @@ fn copies_lefts(rt: HostRuntime) -> Result<(), Fail> {
 #[test]
 fn goes_there_and_back(rt: HostRuntime) -> Result<(), Fail> {
     let bimap: Plain<char, i32> = Plain::new(rt.alloc());
+    let mut undoable = Undoable::new(rt.alloc(), bimap);
+    undoable.insert('a', 1).ok().ok_or("no memory")?;
+    let mut operations = Vec::new(rt.alloc());
+    for (operation, ..) in OF_INSERTIONS {
+        operations.push(operation)?;
+    }
+    operations.push(Operation::BackTo(99))?;
+    there_and_back(&mut undoable, 0, operations);
+    assert!(rt; shows(&undoable, &[], 0));
+    Ok(())
+}
+
+#[test]
+fn goes_there_and_back_in_order(rt: HostRuntime) -> Result<(), Fail> {
+    let bimap: BiBTreeMap<char, i32> = BiBTreeMap::new(rt.alloc());
     let mut undoable = Undoable::new(rt.alloc(), bimap);
     undoable.insert('a', 1).ok().ok_or("no memory")?;
     let mut operations = Vec::new(rt.alloc());
