@@ -4,5 +4,7 @@ pub mod FreeList
 pub mod Members
 pub mod Packing
 pub mod Packs
+pub mod SameAscending
+pub mod SameSets
 pub mod Survivors
 pub mod Undoing

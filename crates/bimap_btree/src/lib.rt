@@ -3,6 +3,7 @@
 
 mod bijection;
 mod build;
+mod compare;
 mod count;
 mod insert;
 mod iter;
