@@ -5,6 +5,7 @@ pub mod Kept
 pub mod Undoing
 pub mod Holding
 pub mod Same
+pub mod Copies
 pub mod Extension
 pub mod Digits
 pub mod Slots
