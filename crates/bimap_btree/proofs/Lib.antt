@@ -6,12 +6,15 @@ pub mod Listings
 pub mod OneOut
 pub mod Parted
 pub mod Policies
+pub mod Ranges
 pub mod Ranks
 pub mod Results
 pub mod SameSets
 pub mod Sets
 pub mod Shown
+pub mod Sides
 pub mod Slots
 pub mod Undoings
 pub mod Undos
 mod Walks
+pub mod Windows

@@ -1,6 +1,7 @@
 //! A bimap whose sides are ordered: pairs in places of one store, found through a balanced tree of places for each side.
 #![tactic(auto)]
 
+mod batch;
 mod bijection;
 mod build;
 mod compare;
@@ -17,6 +18,7 @@ mod retain;
 #[cfg(test)]
 mod tests;
 mod undo;
+mod walk;
 
 pub use count::Count;
 pub use iter::Iter;
