@@ -1,4 +1,5 @@
 pub mod Apart
+pub mod Copying
 pub mod Digits
 pub mod Fits
 pub mod FreeList

@@ -6,6 +6,7 @@ pub mod Undoing
 pub mod Fitting
 pub mod Holding
 pub mod Same
+pub mod Copies
 pub mod Extension
 pub mod Digits
 pub mod Slots
