@@ -17,3 +17,6 @@ pub mod JsonTexts
 pub mod JsonObjects
 pub mod JsonDigits
 pub mod Types
+pub use Rattle.serde_json.specs.Data
+pub use Rattle.serde_json.specs.Find
+pub use Rattle.serde_json.specs.View
