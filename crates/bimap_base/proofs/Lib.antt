@@ -1,5 +1,6 @@
 pub mod Apart
 pub mod Digits
+pub mod Fits
 pub mod FreeList
 pub mod Members
 pub mod Packing

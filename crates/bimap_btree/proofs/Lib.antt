@@ -12,6 +12,5 @@ pub mod SameSets
 pub mod Sets
 pub mod Shown
 pub mod Slots
-pub mod Undoings
 pub mod Undos
 mod Walks

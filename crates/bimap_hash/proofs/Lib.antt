@@ -5,3 +5,4 @@ pub mod Inserted
 pub mod Removing
 pub mod Retaining
 pub mod Reserving
+pub mod Undoing
