@@ -8,6 +8,7 @@ pub use Rattle.bimap_base.specs.Undoing
 pub use Rattle.bimap_base.specs.Extension
 pub use Rattle.bimap_base.specs.Digits
 pub mod BTree
+pub mod Hash
 pub mod Test
 pub mod History
 pub mod Step
