@@ -6,3 +6,4 @@ pub mod Removing
 pub mod Retaining
 pub mod Reserving
 pub mod Undoing
+pub mod Walking

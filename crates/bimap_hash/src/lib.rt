@@ -5,11 +5,14 @@ mod bijection;
 mod build;
 mod capacity;
 mod insert;
+mod iter;
 mod look_up;
 mod map;
 mod remove;
 mod retain;
 mod undo;
+mod walk;
 mod write;
 
+pub use iter::{IntoIter, Iter, LeftValues, RightValues};
 pub use map::BiHashMap;
