@@ -8,9 +8,12 @@ use bimap_base::ExtendStopped;
 use std::alloc::Global;
 use std::hash::{BuildHasher, Hash};
 
-impl<L: Eq + Hash + Drop, R: Eq + Hash + Drop, LS: BuildHasher, RS: BuildHasher>
-    BiHashMap<L, R, LS, RS>
-{
+impl<L: Eq + Hash + Drop, R: Eq + Hash + Drop, LS: BuildHasher, RS: BuildHasher> BiHashMap<
+    L,
+    R,
+    LS,
+    RS,
+> {
     ghost use Rattle.bimap_hash.specs.Held.{holding};
 
     /// Inserts each item in order. A later one may strike earlier ones.
