@@ -16,7 +16,7 @@ use Rattle.bimap_base.specs.Keyed.{standing}
 use Rattle.bimap_base.specs.Slots.{pair_at}
 use Rattle.bimap_tree.specs.Start.{IsStart}
 use Rattle.bimap_btree.specs.PairsAt.{pairs_at}
-use Rattle.bimap_btree.specs.Ranges.{IsCut, IsSpan}
+use Rattle.bimap_btree.specs.Spans.{IsCut, IsSpan}
 
 module _ {K : Type 0} (key_at : ℕ → Option K) (order : K → K → Ordering) (total : IsTotalOrder order) where
   stands : (p : ℕ) (k bound : K) (o : Ordering) → key_at p ≡ Some k → order k bound ≡ o → standing key_at order bound p ≡ Some o
