@@ -78,9 +78,7 @@ impl<L: Drop, R: Drop> Iterator for IntoIter<L, R> {
             return None;
         }
         let rank = self.front;
-        let place = self
-            .ahead
-            .place(&self.index, rank, rank, &mut Count::new());
+        let place = self.ahead.place(&self.index, rank, rank, &mut Count::new());
         self.front += 1;
         Some(self.pairs.take(place))
     }

@@ -38,11 +38,7 @@ fn rank_of_end<K: Keys>(index: &Ordered, keys: &K, end: Bound<&K::Key>) -> usize
 }
 
 // The ranks whose keys lie in a range, by two searches.
-pub(crate) fn span_of<K: Keys, A: RangeBounds<K::Key>>(
-    index: &Ordered,
-    keys: &K,
-    range: &A,
-) -> Span
+pub(crate) fn span_of<K: Keys, A: RangeBounds<K::Key>>(index: &Ordered, keys: &K, range: &A) -> Span
     requires { Ascends (K.key_at keys.now) K.order index.now.places }
     ensures ordered { result.front ≤ result.back }
     ensures within { result.back ≤ length index.now.places }
