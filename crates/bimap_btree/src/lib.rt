@@ -4,7 +4,10 @@
 mod batch;
 mod bijection;
 mod build;
+mod compare;
+mod copy;
 mod count;
+mod debug;
 mod insert;
 mod iter;
 mod look_up;
