@@ -1,11 +1,10 @@
 -- A history that grows by one entry at its end.
-use Rattle.std.proofs.Common.{◌≡◌, ◌↔◌, ◌⊎◌, inl, inr, ℕ, ◌≤◌, Bool, true, false, Option, Some, None, List, [], ◌∷◌, ◌++◌, length, refl, sym, ap, ◌∙◌, subst, arith}
+use Rattle.std.proofs.Common.{◌≡◌, ◌↔◌, ◌⊎◌, inl, inr, ◌≤◌, Bool, true, false, Some, None, List, [], ◌∷◌, ◌++◌, length, refl, sym, ap, subst, arith}
 use Rattle.std.specs.Prelude.{Contains}
 use Rattle.std.specs.List.{zip}
 use Rattle.std.proofs.lemmas.List.Elements.{Contains-append_left, Contains-append_right}
-use Rattle.bimap_base.specs.Sets.{shares, NoneShares, SomeShares, HasLeft, LacksLeft, HasRight, LacksRight, IsApart, IsWithPut}
-use Rattle.bimap_base.specs.Answer.{IsAnswer, IsAllowed, IsOnlyStruck, AreBothStruck}
-use Rattle.bimap_base.specs.Survivors.{Survives}
+use Rattle.bimap_base.specs.Sets.{IsApart, IsWithPut}
+use Rattle.bimap_base.specs.Answer.{IsAnswer, IsOnlyStruck}
 use Rattle.bimap_base.specs.Holding.{Holding}
 use Rattle.bimap_base.specs.declared.overwritten.Overwritten.{Overwritten}
 use Rattle.bimap_base.specs.declared.overwritten.Overwritten.TheVariants.{Neither, Left, Right, Pair, Both}

@@ -1,19 +1,17 @@
 -- What was written of a bimap reads back as an equal one.
-use Rattle.std.proofs.Common.{◌≡◌, ◌↔◌, ◌⊎◌, inl, inr, ℕ, ◌||◌, ◌&&◌, Bool, true, false, List, [], ◌∷◌, ◌++◌, length, Option, Some, None, Result, Ok, Err, IfOk, IfErr, refl, sym, ap, subst, ◌∙◌, arith, true≢false}
+use Rattle.std.proofs.Common.{◌≡◌, inl, inr, ℕ, ◌||◌, ◌&&◌, Bool, true, false, List, [], ◌∷◌, ◌++◌, Option, Some, None, Result, Ok, Err, IfOk, IfErr, refl, sym, ap, subst, ◌∙◌, arith, true≢false}
 use Rattle.std.specs.Prelude.{Contains}
 use Rattle.std.specs.Cmp.{IsEquivalence}
 use Rattle.std.proofs.lemmas.List.Elements.{Contains-append_right}
 use Rattle.serde_json.specs.Data.{Data, Members}
-use Rattle.serde_json.specs.Find.{as_object}
 use Rattle.bimap_base.specs.Sets.{shares, IsApart}
 use Rattle.bimap_base.specs.Same.{pair_eq, IsSame}
 use Rattle.bimap_base.specs.Holding.{Holding}
-use Rattle.bimap_base.specs.Survivors.{Survives, IsPutToStay, AreSurvivors, PutsItself, TouchesSharing}
+use Rattle.bimap_base.specs.Survivors.{Survives, IsPutToStay, PutsItself, TouchesSharing}
 use Rattle.bimap_base.proofs.Members.{head_in, more_in, cases_in, none_in, AllPairs-head, AllPairs-tail}
-use Rattle.bimap.specs.JsonReading.{ReadsNothing, ReadsBack}
 use Rattle.bimap.specs.JsonObjects.{Entry, entries_of, Ascends, HasEntries, IsObjectOf, IsEntryOf, IsWrittenAs, EachReadsBack, ReadsAs, EachReadsAs, StopsAt, IsReadInto, ReadsObject}
 use Rattle.bimap.proofs.JsonEntries.{other_key, below_later}
-use Rattle.bimap.proofs.JsonWriting.{IsSplit, split_member, middle_in, or_left, same_key}
+use Rattle.bimap.proofs.JsonWriting.{IsSplit, split_member, middle_in}
 use Rattle.bimap.proofs.JsonCounts.{length-le_from_lefts}
 use Rattle.bimap.specs.declared.value.object.JsonFault.{JsonFault}
 use Rattle.bimap.specs.declared.value.object.JsonFault.TheVariants.{NotAnObject, BadKey, BadValue, Memory}

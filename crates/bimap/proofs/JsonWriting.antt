@@ -6,7 +6,6 @@ use Rattle.std.proofs.lemmas.List.Elements.{Contains-push_cases, Contains-append
 use denote.Ref.{Bor}
 use Rattle.serde_json.specs.Data.{Data, Members, put}
 use Rattle.bimap_base.specs.Sets.{shares, IsApart}
-use Rattle.bimap_base.specs.Survivors.{Survives, IsPutToStay}
 use Rattle.bimap_base.proofs.Members.{head_in, cases_in, none_in, AllPairs-head, AllPairs-tail}
 use Rattle.bimap_base.proofs.Survivors.{survivors_push}
 use Rattle.bimap.specs.JsonReading.{ReadsBack}

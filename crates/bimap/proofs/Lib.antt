@@ -8,7 +8,7 @@ pub mod JsonEntries
 pub mod JsonWriting
 pub mod JsonReading
 pub mod JsonCounts
+pub mod JsonWalks
 pub mod JsonRoundTrip
 pub use Rattle.bimap_base.proofs.Apart
-pub use Rattle.bimap_base.proofs.Members
 pub use Rattle.bimap_base.proofs.Undoing

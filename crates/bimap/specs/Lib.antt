@@ -8,6 +8,7 @@ pub use Rattle.bimap_base.specs.Undoing
 pub use Rattle.bimap_base.specs.Extension
 pub use Rattle.bimap_base.specs.Digits
 pub mod BTree
+pub mod Hash
 pub mod Test
 pub mod History
 pub mod Step
@@ -17,3 +18,6 @@ pub mod JsonTexts
 pub mod JsonObjects
 pub mod JsonDigits
 pub mod Types
+pub use Rattle.serde_json.specs.Data
+pub use Rattle.serde_json.specs.Find
+pub use Rattle.serde_json.specs.View

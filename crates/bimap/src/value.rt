@@ -1,10 +1,12 @@
 //! Bimaps as JSON objects and back. It doesn't know how a bimap keeps its pairs.
 mod digits;
 mod object;
+mod ordered;
 mod sides;
 mod signed;
 mod texts;
 mod unsigned;
 
 pub use object::{JsonFault, JsonObject, read_into, reread, write_walk};
+pub use serde_json::Value;
 pub use sides::{JsonKey, JsonValue, ReadFault};

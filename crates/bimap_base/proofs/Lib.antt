@@ -1,6 +1,7 @@
 pub mod Apart
 pub mod Copying
 pub mod Digits
+pub mod Fits
 pub mod FreeList
 pub mod Members
 pub mod Packing

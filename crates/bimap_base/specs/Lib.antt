@@ -3,6 +3,7 @@ pub mod Answer
 pub mod Survivors
 pub mod Kept
 pub mod Undoing
+pub mod Fitting
 pub mod Holding
 pub mod Same
 pub mod Copies

@@ -14,7 +14,6 @@ pub mod Sets
 pub mod Shown
 pub mod Sides
 pub mod Slots
-pub mod Undoings
 pub mod Undos
 mod Walks
 pub mod Windows

@@ -1,4 +1,3 @@
-pub mod Fitting
 pub mod Held
 pub mod Indexed
 pub mod PairsAt

@@ -66,6 +66,7 @@ impl<L: Eq + Hash, R: Eq + Hash, LS: BuildHasher, RS: BuildHasher> BiHashMap<L, 
         requires alone { IsAloneAt L.eq R.eq self.old.pairs place (left, right) }
         ensures was { pair_at self.old.pairs place ≡ Some result }
         ensures pairs { self.new.pairs ≡ slice_set self.old.pairs place (Some (left, right)) }
+        ensures count { pair_count self.new.pairs ≡ pair_count self.old.pairs }
         ensures left_builder { self.new.left_builder ≡ self.old.left_builder }
         ensures right_builder { self.new.right_builder ≡ self.old.right_builder }
     {

@@ -1,4 +1,4 @@
-use Rattle.std.proofs.Common.{rules, ◌≡◌, Bool, true, false, refl, sym, ap, ◌∙◌, subst, true≢false}
+use Rattle.std.proofs.Common.{rules, ◌≡◌, true, false, refl, true≢false}
 use Rattle.bimap.specs.Test.{Answers}
 use Rattle.bimap.proofs.Tested.{MayTest_by, IsKept-by, may_call, answers_as}
 use Rattle.bimap.proofs.Histories.{step_insert, step_put, step_insert_with, step_retain}

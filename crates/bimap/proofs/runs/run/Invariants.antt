@@ -1,4 +1,4 @@
-use Rattle.std.proofs.Common.{◌≡◌, length, Contains, vec_len, ◌++◌}
+use Rattle.std.proofs.Common.{◌≡◌, length, vec_len, ◌++◌}
 use Rattle.std.specs.List.{zip}
 use Rattle.std.specs.Vec.{vec_capacity}
 use Rattle.std.specs.Vec.Iter.{into_iter_items}

@@ -1,7 +1,7 @@
-use Rattle.std.proofs.Common.{ap, sym, subst, ◌∙◌, ◌++◌, ◌∷◌, [], Err, length, string_bytes, arith, List, ℕ}
+use Rattle.std.proofs.Common.{ap, sym, subst, Err, length, string_bytes, arith}
 use Rattle.serde_json.specs.View.{members_view, view}
 use Rattle.bimap.specs.JsonReading.{Reads, ReadsNothing}
-use Rattle.bimap.specs.JsonObjects.{Entry, entries_of}
+use Rattle.bimap.specs.JsonObjects.{entries_of}
 use Rattle.bimap.proofs.JsonEntries.{map_has}
 use Rattle.bimap.proofs.JsonReading.{IsReading, reading_first, reading_more, reading_stops, reading_done}
 use Rattle.bimap.proofs.value.object.read_into.Goals as goal

@@ -1,4 +1,3 @@
-use Rattle.std.proofs.Common.{◌≡◌, IfOk, IfErr}
 use Rattle.bimap.proofs.JsonRoundTrip.{reread}
 use Rattle.bimap.proofs.value.object.reread.Goals as goal
 

@@ -1,6 +1,6 @@
 use Rattle.std.proofs.Common.{◌≡◌, ◌↔◌, sym, ap, subst, ◌∙◌, Contains, []}
 use Rattle.serde_json.proofs.Views.{view-Object, members_view-insert_entry}
-use Rattle.serde_json.specs.Data.{put, object, Data}
+use Rattle.serde_json.specs.Data.{put}
 use Rattle.serde_json.specs.Find.{as_object}
 use Rattle.serde_json.specs.View.{members_view}
 use Rattle.bimap_base.proofs.Members.{none_in}

@@ -1,4 +1,4 @@
-use Rattle.std.proofs.Common.{◌≡◌, ◌↔◌, Contains}
+use Rattle.std.proofs.Common.{◌↔◌, Contains}
 use Rattle.serde_json.specs.View.{members_view}
 use Rattle.bimap.specs.JsonObjects.{Entry, entries_of, Ascends, IsLastEntryOf, EachReadsBack, shown_pairs}
 use Rattle.bimap.proofs.value.object.write_walk.Given as goal

@@ -1,48 +1,35 @@
--- Which answers can be taken back.
-use Rattle.std.proofs.Common.{◌≡◌, ◌⊎◌, inl, inr, ℕ, ◌<◌, Bool, true, false, ◌||◌, List, length, get_or, refl, sym, ap, ◌∙◌, subst, true≢false, arith}
+-- Which answers can be taken back, asked one value at a time.
+use Rattle.std.proofs.Common.{◌≡◌, ◌⊎◌, inl, inr, Bool, true, false, ◌||◌, List, refl, sym, ap, ◌∙◌, subst, true≢false}
 use Rattle.std.specs.Prelude.{Contains, MatchBool, not}
 use Rattle.std.specs.Cmp.{IsEquivalence}
-use Rattle.std.proofs.lemmas.Bool.{cases_lt}
-use Rattle.std.proofs.lemmas.List.{get_or_default}
+use Rattle.std.proofs.lemmas.Bool.{or_left, or_right}
 use Rattle.bimap_base.specs.Sets.{shares, IsApart, HasLeft}
 use Rattle.bimap_base.specs.Answer.{IsNamed}
+use Rattle.bimap_base.specs.Fitting.{Fits, FitsLeft, FitsRight}
 use Rattle.bimap_base.specs.Undoing.{IsUndoable, AreNamedApart}
 use Rattle.bimap_base.specs.declared.overwritten.Overwritten.{Overwritten}
-use Rattle.bimap_base.specs.declared.overwritten.Overwritten.TheVariants.{Neither, Left, Right, Pair, Both}
-use Rattle.bimap_btree.specs.Fitting.{Fits, FitsLeft, FitsRight}
-use Rattle.bimap_btree.proofs.Sets.{or_first, or_second, or_either}
+use Rattle.bimap_base.specs.declared.overwritten.Overwritten.TheVariants.{Both}
+use Rattle.bimap_base.proofs.Apart.{apart_unique}
+
+or_either : (a b : Bool) → (a || b) ≡ true → (a ≡ true) ⊎ (b ≡ true)
+or_either true b e = inl refl
+or_either false b e = inr e
 
 module _ {L R : Type 0} (same_left : L → L → Bool) (same_right : R → R → Bool) (lefts : IsEquivalence same_left) (rights : IsEquivalence same_right) where
-  pub shares_turned : (p q : L × R) → shares same_left same_right p q ≡ shares same_left same_right q p
-  shares_turned p q = ap (λ b. b || same_right p.1 q.1) (lefts.symm p.0 q.0) ∙ ap (λ b. same_left q.0 p.0 || b) (rights.symm p.1 q.1)
-
-  -- in a list of pairs that are apart, two that share a value are one
-  pub apart_unique : (xs : List (L × R)) (p q : L × R) → IsApart same_left same_right xs → Contains xs p → Contains xs q → shares same_left same_right p q ≡ true → p ≡ q
-  apart_unique xs p q apart m n e =
-      let first : get_or xs m.0 p ≡ p = m.2 in
-      let second : get_or xs n.0 p ≡ q = get_or_default xs n.0 p q n.1 ∙ n.2 in
-      elim (cases_lt m.0 n.0) [
-        | inl lower ↦
-            let differ = apart m.0 n.0 p lower n.1 in
-            absurd (true≢false (sym e ∙ sym (ap (λ z. shares same_left same_right z q) first ∙ refl) ∙ sym (ap (λ z. shares same_left same_right (get_or xs m.0 p) z) second) ∙ differ))
-        | inr other ↦ elim (cases_lt n.0 m.0) [
-          | inl higher ↦
-              let differ = apart n.0 m.0 p higher m.1 in
-              absurd (true≢false (sym e ∙ shares_turned p q ∙ sym (ap (λ z. shares same_left same_right z p) second) ∙ sym (ap (λ z. shares same_left same_right (get_or xs n.0 p) z) first) ∙ differ))
-          | inr same ↦ let at : m.0 ≡ n.0 = omega arith in sym first ∙ ap (λ i. get_or xs i p) at ∙ second
-        ]
-      ]
-
   tie : (a b c : L) → same_left a c ≡ true → same_left b c ≡ true → same_left a b ≡ true
   tie a b c e f = lefts.symm a b ∙ lefts.congr b c a f ∙ lefts.symm c a ∙ e
 
   module _ (xs : List (L × R)) (left : L) (apart : IsApart same_left same_right xs) where
+    one_of : (p q : L × R) → Contains xs p → Contains xs q → shares same_left same_right p q ≡ true → p ≡ q
+    one_of p q = apart_unique same_left same_right lefts rights xs p q apart
+
+    -- the left is held, and each pair of the answer fits beside the others
     pub undoable_by : (a : Overwritten L R) → HasLeft same_left (Contains xs) left → ((q : L × R) → IsNamed a q → Fits same_left same_right (Contains xs) left q) → AreNamedApart same_left same_right a → IsUndoable same_left same_right (Contains xs) left a
     undoable_by a h f t = record {
       pair = h.0;
       member = h.1;
       by_left = h.2;
-      alone = λ q s o m e. apart_unique xs s h.0 apart m h.1 (or_first (same_left s.0 h.0.0) (same_right s.1 h.0.1) (tie s.0 h.0.0 left (f q o s m e) h.2));
+      alone = λ q s o m e. one_of s h.0 m h.1 (or_left (same_left s.0 h.0.0) (same_right s.1 h.0.1) (tie s.0 h.0.0 left (f q o s m e) h.2));
       two = t;
     }
 
@@ -70,9 +57,9 @@ module _ {L R : Type 0} (same_left : L → L → Bool) (same_right : R → R →
     -- a right that another pair may have
     pub fits_right_by : (l : L) (r : R) (b : Bool) → ((w : R) × Contains xs (l, w) × (same_right w r ≡ true)) → b ≡ same_left l left → MatchBool b (FitsRight same_left same_right (Contains xs) left r) (FitsRight same_left same_right (Contains xs) left r → ⊥)
     fits_right_by l r true h e = λ s m f.
-        subst (λ (z : L × R). same_left z.0 left ≡ true) (sym (apart_unique xs s (l, h.0) apart m h.1 (or_second (same_left s.0 l) (same_right s.1 h.0) (rights.symm s.1 h.0 ∙ rights.congr h.0 r s.1 h.2 ∙ f)))) (sym e)
+        subst (λ (z : L × R). same_left z.0 left ≡ true) (sym (one_of s (l, h.0) m h.1 (or_right (same_left s.0 l) (same_right s.1 h.0) (rights.symm s.1 h.0 ∙ rights.congr h.0 r s.1 h.2 ∙ f)))) (sym e)
     fits_right_by l r false h e = λ f. true≢false (sym (f (l, h.0) h.1 (rights.symm r h.0 ∙ h.2)) ∙ sym e)
 
   pub fits_both : (S : L × R → Type 0) (left : L) (q : L × R) (b : Bool) → FitsLeft same_left S left q.0 → MatchBool b (FitsRight same_left same_right S left q.1) (FitsRight same_left same_right S left q.1 → ⊥) → MatchBool b (Fits same_left same_right S left q) (Fits same_left same_right S left q → ⊥)
   fits_both S left q true f g = λ s m e. elim (or_either (same_left q.0 s.0) (same_right q.1 s.1) e) [ inl k ↦ f s m k | inr k ↦ g s m k ]
-  fits_both S left q false f g = λ h. g (λ s m e. h s m (or_second (same_left q.0 s.0) (same_right q.1 s.1) e))
+  fits_both S left q false f g = λ h. g (λ s m e. h s m (or_right (same_left q.0 s.0) (same_right q.1 s.1) e))

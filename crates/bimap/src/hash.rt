@@ -1,0 +1,2 @@
+//! The hashed bimap.
+pub use bimap_hash::BiHashMap;
