@@ -81,7 +81,7 @@ fn is_equal_pair<L: PartialEq, R: PartialEq>(first: (&L, &R), second: (&L, &R)) 
 }
 
 // Whether the pairs of two walks are equal one by one, and as many.
-fn are_equal<L: Ord + Drop, R: Ord + Drop>(
+fn are_equal<L: PartialEq + Drop, R: PartialEq + Drop>(
     first: Iter<'_, L, R>,
     mut second: Iter<'_, L, R>,
 ) -> bool
@@ -131,10 +131,7 @@ fn order_of<L: Ord + Drop, R: Ord + Drop>(
 }
 
 // Hashes the pairs of a walk in turn.
-fn feed<L: Ord + Hash + Drop, R: Ord + Hash + Drop, H: Hasher>(
-    pairs: Iter<'_, L, R>,
-    state: &mut H,
-)
+fn feed<L: Hash + Drop, R: Hash + Drop, H: Hasher>(pairs: Iter<'_, L, R>, state: &mut H)
     ensures { state.new ≡ fold H.write state.old (flat_map (λ p. L.hash_input p.0 ++ R.hash_input p.1) pairs.entry) }
 {
     for (left, right) in pairs {

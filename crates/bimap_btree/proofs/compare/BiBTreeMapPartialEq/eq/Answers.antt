@@ -12,7 +12,7 @@ returns-clause-value g c =
     let b = c.args.other.now in
     let E = pair_eq g.L.PartialEq.eq g.R.PartialEq.eq in
     c.are_equal.ensures
-    ∙ (λ i. pointwise E (c.iter.ensures i) (c.iter-2.ensures i))
+    ∙ (λ i. pointwise E (c.iter.ensures.rest i) (c.iter-2.ensures.rest i))
     ∙ sym (same_is_pointwise g.L.Ord.cmp g.met.L.Ord.total g.L.PartialEq.eq g.R.PartialEq.eq g.met.L.Ord.matches_eq (holding a).pairs (holding b).pairs a.ascending b.ascending)
 
 pub returns-clause-same : goal.returns-clause-same
