@@ -2,7 +2,7 @@
 use Rattle.std.proofs.Common.{◌≡◌, ℕ, suc, ◌+◌, ◌-◌, ◌<◌, ◌≤◌, List, [], ◌∷◌, ◌++◌, length, map, take, drop, get_or, Option, None, Some, replicate, refl, sym, ap, subst, ◌∙◌, arith, length-append, append_assoc}
 use Rattle.std.specs.Prelude.{slice_set}
 use Rattle.std.proofs.lemmas.List.{append-nil, map-append, length-map, take-append-drop, take_more}
-use Rattle.std.proofs.Math.Seq.{set-append_seam, get_or-append_seam}
+use Rattle.std.proofs.Math.Seq.{set-append_seam}
 use Rattle.bimap_base.specs.Places.{pairs_in, packed}
 use Rattle.bimap_base.proofs.Packing.{pairs_in-append}
 use Rattle.bimap_chain.specs.Chains.{Numbers, number_at}
@@ -31,11 +31,7 @@ module _ (ns : List ℕ) (to : ℕ) (less : length ns < to) where
   split : packed ns to ≡ map Some ns ++ None ∷ replicate rest None
   split = let e : to - length ns ≡ suc (to - (length ns + 1)) = omega arith in ap (λ k. map Some ns ++ replicate k None) e
 
-  -- the first cell after those is free
-  pub first_free : number_at (packed ns to) (length ns) ≡ None
-  first_free = ap (λ z. number_at z (length ns)) split ∙ ap (λ k. number_at (map Some ns ++ None ∷ replicate rest None) k) (sym (length-map ns Some)) ∙ get_or-append_seam (map Some ns) None (replicate rest None) None
-
-  -- and one more number fills it
+  -- one more number fills the first free cell
   pub filled_more : (n : ℕ) → slice_set (packed ns to) (length ns) (Some n) ≡ packed (ns ++ n ∷ []) to
   filled_more n =
       ap (λ z. slice_set z (length ns) (Some n)) split ∙ ap (λ k. slice_set (map Some ns ++ None ∷ replicate rest None) k (Some n)) (sym (length-map ns Some)) ∙ set-append_seam (map Some ns) None (replicate rest None) (Some n)

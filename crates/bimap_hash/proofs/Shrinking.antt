@@ -5,7 +5,6 @@ use Rattle.std.proofs.lemmas.List.{length-map}
 use Rattle.bimap_base.specs.Places.{pairs_in, packed}
 use Rattle.bimap_base.specs.Slots.{pair_at, pair_count}
 use Rattle.bimap_base.proofs.Packing.{length-packed}
-use Rattle.bimap_chain.specs.Chains.{number_at}
 use Rattle.bimap_hash.specs.Numbered.{IsNumbered}
 use Rattle.bimap_hash.proofs.Places.{pairs_none, length-pairs_in}
 

@@ -1,4 +1,7 @@
 //! Many items at once, and walks.
+ghost use Rattle.std.specs.Iterator.{at_most};
+ghost use Rattle.std.specs.Prelude.{length};
+
 use super::{Zero, crowded, holds, plain, put_all};
 use crate::BiHashMap;
 use std::hash::BuildHasher;
@@ -24,6 +27,48 @@ fn later_items_strike_earlier_ones(rt: HostRuntime) {
             map.len() == 2 && map.get_by_left(&'b').is_none() && map.get_by_left(&'c') == Some(&2)
         })
     );
+}
+
+// Items with a hint that is true and of no use.
+#[derive(Drop)]
+struct Hinted<'a> {
+    items: &'a [(char, u32)],
+    is_bounded: bool,
+}
+
+impl Iterator for Hinted<'_> {
+    type Item = (char, u32);
+
+    ghost remaining = { λ s. at_most (length s.items.now) };
+
+    fn next(&mut self) -> Option<(char, u32)> {
+        let (first, rest) = self.items.split_first()?;
+        self.items = rest;
+        Some(*first)
+    }
+
+    fn size_hint(&self) -> (usize, Option<usize>) {
+        if self.is_bounded {
+            (0, Some(usize::MAX))
+        } else {
+            (0, None)
+        }
+    }
+}
+
+#[test]
+fn no_hint_is_trusted(rt: HostRuntime) {
+    let items: &[(char, u32)] = &[('a', 1), ('b', 2), ('c', 2)];
+    for is_bounded in [true, false] {
+        let made: Result<BiHashMap<char, u32>, _> = BiHashMap::from_iter(
+            rt.alloc(),
+            Hinted { items, is_bounded },
+        );
+        assert!(&rt; made.is_ok_and(|map| holds(&map, &[('a', 1), ('c', 2)])));
+        let mut map = plain(rt.alloc());
+        assert!(&rt; map.extend(Hinted { items, is_bounded }).is_ok());
+        assert!(&rt; holds(&map, &[('a', 1), ('c', 2)]));
+    }
 }
 
 fn extends<LS: BuildHasher, RS: BuildHasher>(map: &mut BiHashMap<char, u32, LS, RS>) -> bool {
