@@ -16,12 +16,9 @@ impl<L: Eq + Hash + Drop, R: Eq + Hash + Drop> BiHashMap<L, R> {
         ensures room { IfOk result (λ bimap. (holding bimap).room ≡ capacity) }
         ensures none { capacity ≡ 0 → IsOk result }
     {
-        BiHashMap::with_capacity_and_hashers(
-            alloc,
-            capacity,
-            BuildHasherDefault::new(),
-            BuildHasherDefault::new(),
-        )
+        let left_builder = BuildHasherDefault::new();
+        let right_builder = BuildHasherDefault::new();
+        BiHashMap::with_capacity_and_hashers(alloc, capacity, left_builder, right_builder)
     }
 }
 
