@@ -3,6 +3,8 @@ use crate::BiBTreeMap;
 use bimap_base::{Bijection, NotInserted, NotInsertedWith, OnHeld, Overwritten, Policy};
 use std::alloc::Global;
 
+mod built;
+mod compared;
 mod counting;
 
 fn filled(alloc: Global, pairs: &[(char, u32)]) -> BiBTreeMap<char, u32> {
