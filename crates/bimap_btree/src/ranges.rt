@@ -156,7 +156,9 @@ impl<'a, L, R> Clone for RightRange<'a, L, R> {
 
 #[tactic(auto, using(crate::proofs::Kept::indexed_from))]
 impl<L: Ord + Drop, R: Ord + Drop> BiBTreeMap<L, R> {
-    /// The pairs whose left lies in a range, by ascending left: two searches, then time in proportion to their number, and no memory.
+    /// The pairs whose left lies in a range, by ascending left.
+    ///
+    /// It takes two searches, then one descent for sixteen steps, and no memory.
     ///
     /// The start may not be after the end, and not both be excluded at equal values.
     pub fn left_range<A: RangeBounds<L>>(&self, range: A) -> LeftRange<'_, L, R>
@@ -168,7 +170,9 @@ impl<L: Ord + Drop, R: Ord + Drop> BiBTreeMap<L, R> {
         LeftRange::new(self.parts.walk_left_range(&range))
     }
 
-    /// The pairs whose right lies in a range, by ascending right: two searches, then time in proportion to their number, and no memory.
+    /// The pairs whose right lies in a range, by ascending right.
+    ///
+    /// It takes two searches, then one descent for sixteen steps, and no memory.
     ///
     /// The start may not be after the end, and not both be excluded at equal values.
     pub fn right_range<A: RangeBounds<R>>(&self, range: A) -> RightRange<'_, L, R>

@@ -160,7 +160,7 @@ impl<'a, L, R> Clone for RightValues<'a, L, R> {
 
 #[tactic(auto, using(crate::proofs::Kept::indexed_from))]
 impl<L: Ord + Drop, R: Ord + Drop> BiBTreeMap<L, R> {
-    /// The lefts, ascending. A whole walk takes time in proportion to the length, and no memory.
+    /// The lefts, ascending. One descent serves sixteen steps, and no memory is taken.
     pub fn left_values(&self) -> LeftValues<'_, L, R>
         ensures rest { result ≡ keys_of (holding self.now).pairs }
         ensures runs { ShowsInOrder (deref {X = L}) }
@@ -169,7 +169,7 @@ impl<L: Ord + Drop, R: Ord + Drop> BiBTreeMap<L, R> {
         LeftValues::new(self.parts.walk_left())
     }
 
-    /// The rights, ascending. A whole walk takes time in proportion to the length, and no memory.
+    /// The rights, ascending. One descent serves sixteen steps, and no memory is taken.
     pub fn right_values(&self) -> RightValues<'_, L, R>
         ensures rest { result ≡ values_of (by_right self.now) }
         ensures sorted { IsByRight R.cmp (holding self.now).pairs (by_right self.now) }
