@@ -3,7 +3,9 @@ use crate::BiBTreeMap;
 use bimap_base::{Bijection, NotInserted, NotInsertedWith, OnHeld, Overwritten, Policy};
 use std::alloc::Global;
 
+mod built;
 mod callers;
+mod compared;
 mod counting;
 mod famine;
 mod walks;

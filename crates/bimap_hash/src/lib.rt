@@ -4,6 +4,9 @@
 mod bijection;
 mod build;
 mod capacity;
+mod compare;
+mod copy;
+mod debug;
 mod insert;
 mod iter;
 mod look_up;
