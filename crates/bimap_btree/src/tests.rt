@@ -4,8 +4,11 @@ use bimap_base::{Bijection, NotInserted, NotInsertedWith, OnHeld, Overwritten, P
 use std::alloc::Global;
 
 mod built;
+mod callers;
 mod compared;
 mod counting;
+mod famine;
+mod walks;
 
 fn filled(alloc: Global, pairs: &[(char, u32)]) -> BiBTreeMap<char, u32> {
     let mut map = BiBTreeMap::new(alloc);

@@ -19,3 +19,6 @@ mod write;
 
 pub use iter::{IntoIter, Iter, LeftValues, RightValues};
 pub use map::BiHashMap;
+
+#[cfg(test)]
+mod tests;

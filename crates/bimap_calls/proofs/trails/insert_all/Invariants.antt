@@ -1,7 +1,7 @@
 use Rattle.std.proofs.Common.{◌≡◌, length}
 use Rattle.std.specs.Vec.{vec_capacity}
 use Rattle.bimap.specs.Trail.{Leads}
-use Rattle.bimap_user.proofs.insert_all.Given as goal
+use Rattle.bimap_calls.proofs.trails.insert_all.Given as goal
 
 abbrev pub invariant-loop-left : goal.invariant-loop-left
 invariant-loop-left g l = record {

@@ -1,7 +1,7 @@
 use Rattle.std.proofs.Common.{rules, ◌≡◌, subst, sym, arith, length}
 use Rattle.bimap.specs.Trail.{Leads}
 use Rattle.bimap.proofs.Trails.{leads_none, leads_push}
-use Rattle.bimap_user.proofs.insert_all.Goals as goal
+use Rattle.bimap_calls.proofs.trails.insert_all.Goals as goal
 
 pub loop-left-init : goal.loop-left-init
 loop-left-init g c = record {
