@@ -9,14 +9,14 @@ use Rattle.bimap_base.specs.Holding.{Holding}
 use Rattle.bimap_base.specs.declared.overwritten.Overwritten.{Overwritten}
 use Rattle.bimap_base.specs.declared.overwritten.Overwritten.TheVariants.{Neither, Left, Right, Pair, Both}
 use Rattle.bimap_base.specs.declared.policy.Policy.{Policy}
-use Rattle.bimap_base.proofs.Members.{head_in, more_in}
+use Rattle.bimap_base.proofs.Members.{head_in, more_in, none_in}
 use Rattle.bimap_base.proofs.Survivors.{split_append, split_push, not_split, Survives_none, Survives_append, Survives_along, survivors_push, put_touches}
 use Rattle.bimap.specs.declared.call.Call.{Call}
 use Rattle.bimap.specs.declared.call.Call.TheVariants.{Insert, InsertNoOverwrite, InsertWith, RemoveByLeft, RemoveByRight, ContainsLeft, ContainsRight, Retain, Clear}
 use Rattle.bimap.specs.declared.call.Reply.{Reply}
 use Rattle.bimap.specs.declared.call.Reply.TheVariants.{Inserted, NoRoom, Put, Occupied, LeftHeld, RightHeld, Removed, Holds, Done}
 use Rattle.bimap.specs.Test.{IsHandedIn}
-use Rattle.bimap.specs.History.{Entry, Puts, Touches, IsNoRoom, IsSurvivor, IsRight, IsLegal, IsOutOfRoom, NeedsRoom, IsHistory}
+use Rattle.bimap.specs.History.{Entry, Puts, Touches, IsNoRoom, IsSurvivor, IsRight, IsLegal, IsOutOfRoom, NeedsRoom, IsHistory, IsStanding, IsWholeHistory}
 use Rattle.bimap.specs.Step.{MayRetain, IsStep}
 
 module _ {L R : Type 0} (same_left : L → L → Bool) (same_right : R → R → Bool) (S T : L × R → Type 0) (to : (p : L × R) → S p → T p) (from : (p : L × R) → T p → S p) where
@@ -138,6 +138,18 @@ module _ {L R K : Type 0} (same_left : L → L → Bool) (same_right : R → R �
       needs_room = only (λ before f. IsNoRoom f → IsOutOfRoom same_left same_right Test (Contains old.pairs) before old.room)
           (λ n. record { pairs = old.pairs; apart = apart; survivors = unchanged; full = full n });
       not_lower = not_lower;
+    }
+
+  -- a history that begins with no pair
+  module _ (old new : Holding L R) (h : List (Entry L R K)) (none : old.pairs ≡ []) (led : IsHistory same_left same_right Test old h new) where
+    standing : (before : List (Entry L R K)) (p : L × R) → IsSurvivor same_left same_right Test (Contains old.pairs) before p → IsStanding same_left same_right Test before p
+    standing before p (inl s) = none_in p (subst (λ (ps : List (L × R)). Contains ps p) none s.0)
+    standing before p (inr s) = s
+
+    pub IsWholeHistory_from : IsWholeHistory same_left same_right Test h new
+    IsWholeHistory_from = record {
+      legal = λ before e later q. IsRight_along same_left same_right (IsSurvivor same_left same_right Test (Contains old.pairs) before) (IsStanding same_left same_right Test before) (standing before) (λ p s. inr s) e (led.legal before e later q);
+      held = λ p. (λ m. standing h p ((led.survivors p).0 m), λ s. (led.survivors p).1 (inr s));
     }
 
 module _ {L R K : Type 0} where

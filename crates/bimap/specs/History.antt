@@ -2,7 +2,7 @@
 use Rattle.std.specs.Prelude.{◌≡◌, ◌↔◌, ℕ, ◌≤◌, Bool, true, false, Some, None, List, ◌∷◌, ◌++◌, length, Contains}
 use Rattle.bimap_base.specs.Sets.{shares, NoneShares, SomeShares, HasLeft, LacksLeft, HasRight, LacksRight, IsApart}
 use Rattle.bimap_base.specs.Answer.{IsAnswer, IsAllowed}
-use Rattle.bimap_base.specs.Survivors.{Survives}
+use Rattle.bimap_base.specs.Survivors.{Survives, IsPutToStay}
 use Rattle.bimap_base.specs.Holding.{Holding}
 use Rattle.bimap_base.specs.declared.policy.OnHeld.TheVariants.{Refuse}
 use Rattle.bimap.specs.declared.call.Call.{Call}
@@ -93,3 +93,13 @@ module _ {L R K : Type 0} (same_left : L → L → Bool) (same_right : R → R �
     pub survivors : (p : L × R) → Contains new.pairs p ↔ IsSurvivor (Contains old.pairs) history p
     pub needs_room : NeedsRoom (Contains old.pairs) old.room history
     pub not_lower : old.room ≤ new.room
+
+  -- p is the pair of a successful insertion of the history, and no later call touches it
+  abbrev pub IsStanding : List (Entry L R K) → L × R → Type 0
+  IsStanding history p = IsPutToStay Puts Touches history p
+
+  -- what began with no pair: each reply is right for the pairs that stand before it, and those that stand in the end are held
+  pub record IsWholeHistory (history : List (Entry L R K)) (new : Holding L R) : Type 0 where
+    pub legal : (before : List (Entry L R K)) (entry : Entry L R K) (later : List (Entry L R K)) →
+        history ≡ before ++ entry ∷ later → IsRight same_left same_right (IsStanding before) entry
+    pub held : (p : L × R) → Contains new.pairs p ↔ IsStanding history p

@@ -3,11 +3,14 @@ pub use Rattle.bimap_base.specs.Answer
 pub use Rattle.bimap_base.specs.Holding
 pub use Rattle.bimap_base.specs.Kept
 pub use Rattle.bimap_base.specs.Same
+pub use Rattle.bimap_base.specs.Copies
 pub use Rattle.bimap_base.specs.Survivors
 pub use Rattle.bimap_base.specs.Undoing
 pub use Rattle.bimap_base.specs.Extension
 pub use Rattle.bimap_base.specs.Digits
+pub use Rattle.bimap_hash.specs.Capacity
 pub mod BTree
+pub mod Hash
 pub mod Test
 pub mod History
 pub mod Step

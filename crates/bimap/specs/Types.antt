@@ -4,3 +4,9 @@ pub use Rattle.bimap_base.specs.declared.overwritten.Overwritten.TheVariants.{Ne
 pub use Rattle.bimap_base.specs.declared.policy.OnHeld.{OnHeld}
 pub use Rattle.bimap_base.specs.declared.policy.OnHeld.TheVariants.{Overwrite, Refuse}
 pub use Rattle.bimap_base.specs.declared.policy.Policy.{Policy}
+pub use Rattle.bimap_base.specs.declared.refusal.NoMemory.{NoMemory}
+pub use Rattle.bimap_base.specs.declared.refusal.NoRoom.{NoRoom}
+pub use Rattle.bimap_base.specs.declared.refusal.NotInserted.{NotInserted}
+pub use Rattle.bimap_base.specs.declared.refusal.NotInsertedWith.{NotInsertedWith}
+pub use Rattle.bimap_base.specs.declared.refusal.ExtendStopped.{ExtendStopped}
+pub use Rattle.bimap_base.specs.declared.refusal.UndoStopped.{UndoStopped}

@@ -3,6 +3,7 @@
 
 pub mod btree;
 mod call;
+pub mod hash;
 mod runs;
 mod undone;
 pub mod value;
@@ -12,6 +13,10 @@ pub use bimap_base::{
     Policy, UndoStopped,
 };
 pub use bimap_btree::BiBTreeMap;
+pub use bimap_hash::BiHashMap;
 pub use call::{Call, Reply, RunRefused};
 pub use runs::run;
 pub use undone::{UndoRunStopped, undo_run};
+
+/// The bimap for where no order is wanted.
+pub type BiMap<L, R> = BiHashMap<L, R>;

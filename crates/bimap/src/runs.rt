@@ -1,8 +1,8 @@
 //! A list of calls, performed in order on any bimap. It doesn't know how a bimap keeps its pairs.
-ghost use Rattle.std.specs.Prelude.{◌≡◌, ◌≤◌, length, Contains, IfOk, IfErr, OnErr, vec_len};
+ghost use Rattle.std.specs.Prelude.{◌≡◌, ◌≤◌, [], length, Contains, IfOk, IfErr, OnErr, vec_len};
 ghost use Rattle.std.specs.List.{zip};
 ghost use Rattle.bimap.specs.Test.{Answers, IsDecided, IsTestOf};
-ghost use Rattle.bimap.specs.History.{IsNoRoom, IsRight, IsHistory};
+ghost use Rattle.bimap.specs.History.{IsNoRoom, IsRight, IsHistory, IsWholeHistory};
 ghost use Rattle.bimap.specs.Step.{MayRetain, IsStep};
 
 use crate::call::{Call, Reply, RunRefused};
@@ -71,6 +71,7 @@ pub fn run<L: Eq + Drop, R: Eq + Drop, K: Drop, B: Bijection<L, R>, F: Fn(&K, &L
     requires { IsTestOf F.Fn test (B.holding bimap.old).pairs calls.items }
     ensures one_each { IfOk result (λ replies. vec_len replies ≡ vec_len calls) }
     ensures history { IfOk result (λ replies. IsHistory L.eq R.eq (Answers F.Fn test) (B.holding bimap.old) (zip calls.items replies.items) (B.holding bimap.new)) }
+    ensures from_empty { IfOk result (λ replies. (B.holding bimap.old).pairs ≡ [] → IsWholeHistory L.eq R.eq (Answers F.Fn test) (zip calls.items replies.items) (B.holding bimap.new)) }
     ensures handed_back { IfErr result (λ e. e.calls.items ≡ calls.items) }
     ensures unchanged { OnErr result (B.holding bimap.new ≡ B.holding bimap.old) }
 {

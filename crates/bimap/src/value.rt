@@ -1,5 +1,6 @@
 //! Bimaps as JSON objects and back. It doesn't know how a bimap keeps its pairs.
 mod digits;
+mod hashed;
 mod object;
 mod ordered;
 mod sides;
@@ -7,6 +8,7 @@ mod signed;
 mod texts;
 mod unsigned;
 
+pub use hashed::{from_value_with_hashers, hash_to_value};
 pub use object::{JsonFault, JsonObject, read_into, reread, write_walk};
 pub use serde_json::Value;
 pub use sides::{JsonKey, JsonValue, ReadFault};

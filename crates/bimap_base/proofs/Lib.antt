@@ -1,8 +1,13 @@
 pub mod Apart
+pub mod Copying
 pub mod Digits
+pub mod Fits
 pub mod FreeList
+pub mod Meeting
 pub mod Members
 pub mod Packing
 pub mod Packs
+pub mod SameAscending
+pub mod SameSets
 pub mod Survivors
 pub mod Undoing

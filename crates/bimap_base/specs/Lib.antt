@@ -3,8 +3,10 @@ pub mod Answer
 pub mod Survivors
 pub mod Kept
 pub mod Undoing
+pub mod Fitting
 pub mod Holding
 pub mod Same
+pub mod Copies
 pub mod Extension
 pub mod Digits
 pub mod Slots

@@ -65,6 +65,11 @@ impl<L, R> Pairs<L, R> {
         }
     }
 
+    /// The allocator.
+    pub fn allocator(&self) -> Global {
+        *self.slots.allocator()
+    }
+
     /// The number of places.
     pub fn places(&self) -> usize
         ensures { result ≡ length self.now }

@@ -11,7 +11,9 @@ pub mod Results
 pub mod SameSets
 pub mod Sets
 pub mod Shown
+pub mod Sides
 pub mod Slots
-pub mod Undoings
+pub mod Spans
 pub mod Undos
 mod Walks
+pub mod Windows

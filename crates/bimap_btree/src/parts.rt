@@ -16,6 +16,7 @@ mod remove;
 mod retain;
 mod room;
 mod undo;
+mod walks;
 
 #[derive(Drop)]
 pub(crate) struct Parts<L, R> {

@@ -11,7 +11,7 @@ use bimap_base::{Overwritten, UndoStopped};
 #[tactic(auto, using(crate::proofs::Kept::indexed_from))]
 impl<L: Ord + Drop, R: Ord + Drop> BiBTreeMap<L, R> {
     ghost use Rattle.bimap_btree.specs.Held.{holding};
-    ghost use Rattle.bimap_btree.specs.Fitting.{FitsLeft, FitsRight, Fits};
+    ghost use Rattle.bimap_base.specs.Fitting.{FitsLeft, FitsRight, Fits};
 
     /// Takes out the pair of a left and answers it, and holds the pairs of the answer instead.
     ///

@@ -5,3 +5,6 @@ pub mod Inserted
 pub mod Removing
 pub mod Retaining
 pub mod Reserving
+pub mod Undoing
+pub mod Walking
+pub mod Shrinking

@@ -3,7 +3,7 @@ use Rattle.std.specs.Vec.Iter.{into_iter_items}
 use Rattle.std.specs.List.{zip}
 use Rattle.std.proofs.lemmas.List.{append-nil}
 use Rattle.bimap.specs.Test.{Answers, IsDecided}
-use Rattle.bimap.proofs.Histories.{IsHistory_none, IsHistory_one, IsHistory_append, MayRetain_next, handed_from, zip_push}
+use Rattle.bimap.proofs.Histories.{IsHistory_none, IsHistory_one, IsHistory_append, MayRetain_next, handed_from, zip_push, IsWholeHistory_from}
 use Rattle.bimap.proofs.Trails.{empty_from_length}
 use Rattle.bimap.proofs.runs.run.Goals as goal
 
@@ -46,3 +46,6 @@ returns-clause-one_each g c = let e = ap length (taken_all g c) in omega (arith,
 
 pub returns-clause-history : goal.returns-clause-history
 returns-clause-history g c = rw (taken_all g c) c.loop-call.invariant.history
+
+pub returns-clause-from_empty : goal.returns-clause-from_empty
+returns-clause-from_empty g c = λ none. IsWholeHistory_from g.L.PartialEq.eq g.R.PartialEq.eq (Answers g.F.Fn c.args.test) (g.B.Bijection.holding c.args.bimap.now) (g.B.Bijection.holding c.loop-call.bimap) (zip c.args.calls.items c.loop-call.replies.items) none (returns-clause-history g c)

@@ -1,7 +1,7 @@
 use Rattle.std.proofs.Common.{refl}
 use Rattle.bimap_base.specs.declared.overwritten.Overwritten.TheVariants.{Neither, Left, Right, Pair}
 use Rattle.bimap_btree.specs.Held.{holding}
-use Rattle.bimap_btree.proofs.Undoings.{undoable_by, one_pair, two_pairs}
+use Rattle.bimap_base.proofs.Fits.{undoable_by, one_pair, two_pairs}
 use Rattle.bimap_btree.proofs.map.BiBTreeMap.can_undo_insert.Goals as goal
 
 pub returns-in-Neither : goal.returns-in-Neither

@@ -1,6 +1,6 @@
 use Rattle.std.specs.Prelude.{Contains}
 use Rattle.bimap_btree.specs.Held.{holding}
-use Rattle.bimap_btree.proofs.Undoings.{fits_both}
+use Rattle.bimap_base.proofs.Fits.{fits_both}
 use Rattle.bimap_btree.proofs.map.BiBTreeMap.fits_beside.Goals as goal
 
 pub returns : goal.returns

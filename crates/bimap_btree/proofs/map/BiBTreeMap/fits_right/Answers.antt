@@ -1,5 +1,5 @@
 use Rattle.bimap_btree.specs.Held.{holding}
-use Rattle.bimap_btree.proofs.Undoings.{fits_right_by}
+use Rattle.bimap_base.proofs.Fits.{fits_right_by}
 use Rattle.bimap_btree.proofs.map.BiBTreeMap.fits_right.Goals as goal
 
 pub returns-in-Some : goal.returns-in-Some

@@ -1,0 +1,7 @@
+//! Rows of calls with what they must answer, each over the ordered bimap, the hashed one, and a hashed one whose keys all have one hash number.
+mod examples;
+mod insertions;
+mod items;
+mod runs;
+mod undo_runs;
+mod undone;

@@ -1,0 +1,165 @@
+//! Lists of calls with the replies that they must give.
+use crate::{crowded, shows};
+use bimap::{BiBTreeMap, BiHashMap, Bijection, Call, OnHeld, Overwritten, Policy, Reply, run};
+use bimap_plain::Plain;
+use std::alloc::Global;
+use std::process::Abort;
+use std::test::Fail;
+
+/// The replies of the calls. `Retain` keeps the pairs whose right is at least its key.
+fn replies_of<B: Bijection<char, u32>>(
+    alloc: Global,
+    bimap: &mut B,
+    calls: Vec<Call<char, u32, u32>>,
+) -> Option<Vec<Reply<char, u32>>> {
+    run(
+        alloc,
+        bimap,
+        calls,
+        |least: &u32, _: &char, right: &u32| *right >= *least,
+    )
+    .ok()
+}
+
+fn each_call<B: Bijection<char, u32> + Drop>(
+    rt: &impl Abort,
+    alloc: Global,
+    mut bimap: B,
+) -> Result<(), Fail> {
+    let calls = vec![in alloc;
+        Call::Insert('a', 1),
+        Call::Insert('b', 2),
+        Call::Retain(2),
+        Call::InsertNoOverwrite('a', 2),
+        Call::ContainsLeft('a'),
+        Call::RemoveByRight(2),
+        Call::Clear,
+    ]?;
+    let wanted = vec![in alloc;
+        Reply::Inserted(Overwritten::Neither),
+        Reply::Inserted(Overwritten::Neither),
+        Reply::Done,
+        Reply::Occupied('a', 2),
+        Reply::Holds(false),
+        Reply::Removed(Some(('b', 2))),
+        Reply::Done,
+    ]?;
+    assert!(rt; replies_of(alloc, &mut bimap, calls) == Some(wanted));
+    assert!(rt; shows(&bimap, &[]));
+    let none = Vec::new(alloc);
+    assert!(rt; replies_of(alloc, &mut bimap, none) == Some(Vec::new(alloc)));
+    Ok(())
+}
+
+#[test]
+fn each_call_replies(rt: HostRuntime) -> Result<(), Fail> {
+    let alloc = rt.alloc();
+    each_call(&rt, alloc, BiBTreeMap::<char, u32>::new(alloc))?;
+    each_call(&rt, alloc, BiHashMap::<char, u32>::new(alloc))?;
+    each_call(&rt, alloc, crowded::<char, u32>(alloc))
+}
+
+fn another_left<B: Bijection<char, u32> + Drop>(
+    rt: &impl Abort,
+    alloc: Global,
+    mut bimap: B,
+) -> Result<(), Fail> {
+    bimap.insert('a', 1).ok().ok_or("no memory")?;
+    let calls = vec![in alloc;
+        Call::InsertNoOverwrite('a', 1),
+        Call::Insert('b', 1),
+        Call::RemoveByLeft('a'),
+        Call::ContainsRight(1),
+        Call::Retain(0u32),
+    ]?;
+    let replies = run(alloc, &mut bimap, calls, |_: &u32, _: &char, _: &u32| true);
+    let wanted = vec![in alloc;
+        Reply::Occupied('a', 1),
+        Reply::Inserted(Overwritten::Right('a', 1)),
+        Reply::Removed(None),
+        Reply::Holds(true),
+        Reply::Done,
+    ]?;
+    assert!(rt; replies.ok() == Some(wanted));
+    assert!(rt; shows(&bimap, &[('b', 1)]));
+    Ok(())
+}
+
+#[test]
+fn a_pair_gives_its_right_to_another_left(rt: HostRuntime) -> Result<(), Fail> {
+    let alloc = rt.alloc();
+    another_left(&rt, alloc, BiBTreeMap::<char, u32>::new(alloc))?;
+    another_left(&rt, alloc, BiHashMap::<char, u32>::new(alloc))?;
+    another_left(&rt, alloc, crowded::<char, u32>(alloc))
+}
+
+fn policy(left: OnHeld, right: OnHeld) -> Policy {
+    Policy { left, right }
+}
+
+fn each_policy<B: Bijection<char, u32> + Drop>(
+    rt: &impl Abort,
+    alloc: Global,
+    mut bimap: B,
+) -> Result<(), Fail> {
+    let (over, keep) = (OnHeld::Overwrite, OnHeld::Refuse);
+    let calls = vec![in alloc;
+        Call::InsertWith('a', 1, policy(keep, keep)),
+        Call::Insert('b', 2),
+        Call::InsertWith('a', 3, policy(over, keep)),
+        Call::InsertWith('c', 2, policy(over, keep)),
+        Call::InsertWith('a', 3, policy(over, keep)),
+        Call::InsertWith('c', 2, policy(keep, over)),
+        Call::InsertWith('a', 2, policy(keep, keep)),
+        Call::InsertWith('d', 2, policy(keep, keep)),
+        Call::InsertWith('a', 2, policy(over, over)),
+        Call::InsertWith('d', 4, policy(keep, keep)),
+    ]?;
+    let wanted = vec![in alloc;
+        Reply::Inserted(Overwritten::Neither),
+        Reply::Inserted(Overwritten::Neither),
+        Reply::Inserted(Overwritten::Left('a', 1)),
+        Reply::RightHeld('c', 2),
+        Reply::RightHeld('a', 3),
+        Reply::Inserted(Overwritten::Right('b', 2)),
+        Reply::LeftHeld('a', 2),
+        Reply::RightHeld('d', 2),
+        Reply::Inserted(Overwritten::Both(('a', 3), ('c', 2))),
+        Reply::Inserted(Overwritten::Neither),
+    ]?;
+    assert!(rt; replies_of(alloc, &mut bimap, calls) == Some(wanted));
+    assert!(rt; shows(&bimap, &[('a', 2), ('d', 4)]));
+    Ok(())
+}
+
+#[test]
+fn policies_in_a_run(rt: HostRuntime) -> Result<(), Fail> {
+    let alloc = rt.alloc();
+    each_policy(&rt, alloc, BiBTreeMap::<char, u32>::new(alloc))?;
+    each_policy(&rt, alloc, BiHashMap::<char, u32>::new(alloc))?;
+    each_policy(&rt, alloc, crowded::<char, u32>(alloc))
+}
+
+// Where no place can be added, each insertion that strikes nothing is refused, and the run goes on.
+#[test]
+fn a_run_without_room(rt: HostRuntime) -> Result<(), Fail> {
+    let alloc = rt.alloc();
+    let mut bimap = Plain::with_room(alloc, 1).ok().ok_or("no memory")?;
+    let calls = vec![in alloc;
+        Call::Insert('a', 1),
+        Call::Insert('b', 2),
+        Call::InsertNoOverwrite('b', 2),
+        Call::InsertWith('b', 2, policy(OnHeld::Refuse, OnHeld::Refuse)),
+        Call::Insert('b', 1),
+    ]?;
+    let wanted = vec![in alloc;
+        Reply::Inserted(Overwritten::Neither),
+        Reply::NoRoom('b', 2),
+        Reply::NoRoom('b', 2),
+        Reply::NoRoom('b', 2),
+        Reply::Inserted(Overwritten::Right('a', 1)),
+    ]?;
+    assert!(rt; replies_of(alloc, &mut bimap, calls) == Some(wanted));
+    assert!(rt; shows(&bimap, &[('b', 1)]));
+    Ok(())
+}
