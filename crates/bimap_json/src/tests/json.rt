@@ -2,7 +2,7 @@
 use crate::tests::famine::Famine;
 use crate::tests::shown::shows;
 use bimap::value::{JsonFault, JsonKey, JsonObject, JsonValue, reread};
-use bimap::{BiBTreeMap, Bijection, NoMemory};
+use bimap::{BiBTreeMap, BiHashMap, Bijection, NoMemory};
 use serde_json::Value;
 use std::alloc::{AllocError, Global};
 use std::process::Abort;
@@ -70,6 +70,7 @@ fn three_pairs<B: JsonObject<char, u8> + Drop>(rt: &impl Abort, alloc: Global) {
 #[test]
 fn what_is_written_reads_back(rt: HostRuntime) {
     three_pairs::<BiBTreeMap<char, u8>>(&rt, rt.alloc());
+    three_pairs::<BiHashMap<char, u8>>(&rt, rt.alloc());
 }
 
 // Entries are taken in ascending byte order of their keys, and each is put in as `insert` does.
@@ -92,6 +93,7 @@ fn entries_in_order<B: JsonObject<char, u8> + Drop>(rt: &impl Abort, alloc: Glob
 #[test]
 fn a_later_entry_strikes_earlier_ones(rt: HostRuntime) {
     entries_in_order::<BiBTreeMap<char, u8>>(&rt, rt.alloc());
+    entries_in_order::<BiHashMap<char, u8>>(&rt, rt.alloc());
 }
 
 fn faulty_entries<B: JsonObject<char, u8> + Drop>(rt: &impl Abort, alloc: Global) {
@@ -125,6 +127,7 @@ fn faulty_entries<B: JsonObject<char, u8> + Drop>(rt: &impl Abort, alloc: Global
 #[test]
 fn the_first_faulty_entry_is_named(rt: HostRuntime) {
     faulty_entries::<BiBTreeMap<char, u8>>(&rt, rt.alloc());
+    faulty_entries::<BiHashMap<char, u8>>(&rt, rt.alloc());
 }
 
 /// Writes a bimap under a famine that eases, and answers the text and how often it was refused, or `None` where a
@@ -199,5 +202,6 @@ fn refused_in_turn<B: JsonObject<String, char> + Drop>(
 
 #[test]
 fn refused_memory_changes_nothing(rt: HostRuntime) -> Result<(), Fail> {
-    refused_in_turn::<BiBTreeMap<String, char>>(&rt, rt.alloc())
+    refused_in_turn::<BiBTreeMap<String, char>>(&rt, rt.alloc())?;
+    refused_in_turn::<BiHashMap<String, char>>(&rt, rt.alloc())
 }

@@ -2,7 +2,7 @@
 use crate::Seat;
 use crate::tests::json::{read, written};
 use bimap::value::{JsonFault, JsonKey, JsonObject, JsonValue};
-use bimap::{BiBTreeMap, Bijection};
+use bimap::{BiBTreeMap, BiHashMap, Bijection};
 use std::alloc::Global;
 use std::process::Abort;
 use std::test::Fail;
@@ -88,6 +88,7 @@ fn small_numbers<B: JsonObject<u8, u8> + Drop>(rt: &impl Abort, alloc: Global) {
 #[test]
 fn numbers_of_eight_bits(rt: HostRuntime) {
     small_numbers::<BiBTreeMap<u8, u8>>(&rt, rt.alloc());
+    small_numbers::<BiHashMap<u8, u8>>(&rt, rt.alloc());
 }
 
 fn wide_numbers<B: JsonObject<u32, u32> + Drop, C: JsonObject<u64, u64> + Drop>(
@@ -111,6 +112,7 @@ fn wide_numbers<B: JsonObject<u32, u32> + Drop, C: JsonObject<u64, u64> + Drop>(
 #[test]
 fn unsigned_numbers(rt: HostRuntime) {
     wide_numbers::<BiBTreeMap<u32, u32>, BiBTreeMap<u64, u64>>(&rt, rt.alloc());
+    wide_numbers::<BiHashMap<u32, u32>, BiHashMap<u64, u64>>(&rt, rt.alloc());
 }
 
 fn signs<B: JsonObject<i32, i32> + Drop, C: JsonObject<i64, i64> + Drop>(
@@ -162,6 +164,7 @@ fn signs<B: JsonObject<i32, i32> + Drop, C: JsonObject<i64, i64> + Drop>(
 #[test]
 fn signed_numbers(rt: HostRuntime) {
     signs::<BiBTreeMap<i32, i32>, BiBTreeMap<i64, i64>>(&rt, rt.alloc());
+    signs::<BiHashMap<i32, i32>, BiHashMap<i64, i64>>(&rt, rt.alloc());
 }
 
 fn characters<B: JsonObject<char, char> + Drop>(rt: &impl Abort, alloc: Global) {
@@ -179,6 +182,7 @@ fn characters<B: JsonObject<char, char> + Drop>(rt: &impl Abort, alloc: Global) 
 #[test]
 fn single_characters(rt: HostRuntime) {
     characters::<BiBTreeMap<char, char>>(&rt, rt.alloc());
+    characters::<BiHashMap<char, char>>(&rt, rt.alloc());
 }
 
 fn words<B: JsonObject<String, String> + Drop>(rt: &impl Abort, alloc: Global) -> Result<(), Fail> {
@@ -206,7 +210,9 @@ fn an_empty_word<B: JsonObject<String, u8> + Drop>(rt: &impl Abort, alloc: Globa
 #[test]
 fn texts(rt: HostRuntime) -> Result<(), Fail> {
     an_empty_word::<BiBTreeMap<String, u8>>(&rt, rt.alloc());
-    words::<BiBTreeMap<String, String>>(&rt, rt.alloc())
+    an_empty_word::<BiHashMap<String, u8>>(&rt, rt.alloc());
+    words::<BiBTreeMap<String, String>>(&rt, rt.alloc())?;
+    words::<BiHashMap<String, String>>(&rt, rt.alloc())
 }
 
 fn unlike_sides<B: JsonObject<u32, i64> + Drop>(rt: &impl Abort, alloc: Global) {
@@ -216,6 +222,7 @@ fn unlike_sides<B: JsonObject<u32, i64> + Drop>(rt: &impl Abort, alloc: Global) 
 #[test]
 fn sides_of_two_types(rt: HostRuntime) {
     unlike_sides::<BiBTreeMap<u32, i64>>(&rt, rt.alloc());
+    unlike_sides::<BiHashMap<u32, i64>>(&rt, rt.alloc());
 }
 
 fn seats<B: JsonObject<Seat, Seat> + Drop>(rt: &impl Abort, alloc: Global) {
@@ -231,4 +238,5 @@ fn seats<B: JsonObject<Seat, Seat> + Drop>(rt: &impl Abort, alloc: Global) {
 #[test]
 fn a_side_of_ones_own(rt: HostRuntime) {
     seats::<BiBTreeMap<Seat, Seat>>(&rt, rt.alloc());
+    seats::<BiHashMap<Seat, Seat>>(&rt, rt.alloc());
 }
