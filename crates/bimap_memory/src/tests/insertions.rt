@@ -1,8 +1,12 @@
 //! Each growth of an insertion refused.
-use super::{FIVE, holds};
+use super::FIVE;
+use super::subject::Subject;
 use crate::Famine;
-use bimap::btree::BiBTreeMap;
-use bimap::{Bijection, NoRoom, NotInserted, NotInsertedWith, OnHeld, Overwritten, Policy};
+use bimap::{
+    BiBTreeMap, BiHashMap, Bijection, NoRoom, NotInserted, NotInsertedWith, OnHeld, Overwritten,
+    Policy,
+};
+use bimap_calls::{Crowded, shows};
 use std::alloc::{AllocError, Global};
 use std::test::Fail;
 
@@ -30,7 +34,7 @@ fn put<B: Bijection<u32, u32>>(bimap: &mut B, call: u32, left: u32, right: u32) 
 
 // Inserts the pair at `at` under a famine that eases, and answers how often it was refused, or `None` where an answer
 // was wrong or a refusal changed something.
-fn put_in_famine<B: Bijection<u32, u32>>(
+fn put_in_famine<B: Subject<u32, u32>>(
     alloc: Global,
     bimap: &mut B,
     call: u32,
@@ -40,11 +44,12 @@ fn put_in_famine<B: Bijection<u32, u32>>(
         return Ok(None);
     };
     let before = FIVE.get(..at).unwrap_or(&[]);
+    let places = bimap.places();
     let mut famine = Famine::begin(alloc, 60)?;
     for refusals in 0..60u64 {
         match put(bimap, call, *left, *right) {
             Some(true) => return Ok(Some(refusals)),
-            Some(false) if holds(bimap, before) => {}
+            Some(false) if shows(bimap, before) && bimap.places() == places => {}
             _ => return Ok(None),
         }
         famine.ease()?;
@@ -53,26 +58,26 @@ fn put_in_famine<B: Bijection<u32, u32>>(
 }
 
 // How many refusals the five insertions met.
-fn refusals<B: Bijection<u32, u32>>(
-    alloc: Global,
-    bimap: &mut B,
-    call: u32,
-) -> Result<Option<u64>, AllocError> {
+fn refusals<B: Subject<u32, u32>>(alloc: Global, call: u32) -> Result<Option<u64>, AllocError> {
+    let mut bimap = B::empty(alloc);
     let mut all = 0u64;
     for at in 0..5usize {
-        match put_in_famine(alloc, bimap, call, at)? {
+        match put_in_famine(alloc, &mut bimap, call, at)? {
             Some(met) => all = all.saturating_add(met),
             None => return Ok(None),
         }
     }
-    Ok(holds(bimap, &FIVE).then_some(all))
+    Ok(shows(&bimap, &FIVE).then_some(all))
 }
 
 #[test]
 fn a_refused_insertion_changes_nothing(rt: HostRuntime) -> Result<(), Fail> {
     for call in 0..3u32 {
-        let mut ordered: BiBTreeMap<u32, u32> = BiBTreeMap::new(rt.alloc());
-        let met = refusals(rt.alloc(), &mut ordered, call)?;
+        let met = refusals::<BiBTreeMap<u32, u32>>(rt.alloc(), call)?;
+        assert!(rt; met.is_some_and(|met| met >= 6), "{call}: {met:?}");
+        let met = refusals::<BiHashMap<u32, u32>>(rt.alloc(), call)?;
+        assert!(rt; met.is_some_and(|met| met >= 6), "{call}: {met:?}");
+        let met = refusals::<Crowded<u32, u32>>(rt.alloc(), call)?;
         assert!(rt; met.is_some_and(|met| met >= 6), "{call}: {met:?}");
     }
     Ok(())

@@ -1,50 +1,63 @@
 //! Calls that take no memory, with every request refused.
-use super::holds;
+use super::subject::Subject;
 use crate::Famine;
-use bimap::btree::BiBTreeMap;
-use bimap::{Bijection, NotInserted, Overwritten};
+use bimap::{BiBTreeMap, BiHashMap, Bijection, NotInserted, Overwritten};
+use bimap_calls::{Crowded, shows};
+use std::alloc::Global;
+use std::process::Abort;
 use std::test::Fail;
 
 // Insertions that strike something, refusals, a removal, and insertions within the room of two pairs.
-fn all_succeed<B: Bijection<u32, u32>>(bimap: &mut B) -> bool {
-    bimap.insert(1, 3) == Ok(Overwritten::Left(1, 1))
-        && bimap.insert(3, 2) == Ok(Overwritten::Right(2, 2))
-        && bimap.insert(1, 2) == Ok(Overwritten::Both((1, 3), (3, 2)))
-        && bimap.insert(1, 2) == Ok(Overwritten::Pair(1, 2))
-        && bimap.insert_no_overwrite(1, 9) == Err(NotInserted::Occupied(1, 9))
-        && bimap.remove_by_left(&1) == Some((1, 2))
-        && bimap.insert(4, 4) == Ok(Overwritten::Neither)
-        && bimap.insert(5, 5) == Ok(Overwritten::Neither)
+fn all_succeed<B: Bijection<char, u32>>(bimap: &mut B) -> bool {
+    bimap.insert('a', 3) == Ok(Overwritten::Left('a', 1))
+        && bimap.insert('c', 2) == Ok(Overwritten::Right('b', 2))
+        && bimap.insert('a', 2) == Ok(Overwritten::Both(('a', 3), ('c', 2)))
+        && bimap.insert('a', 2) == Ok(Overwritten::Pair('a', 2))
+        && bimap.insert_no_overwrite('a', 9) == Err(NotInserted::Occupied('a', 9))
+        && bimap.remove_by_left(&'a') == Some(('a', 2))
+        && bimap.insert('d', 4) == Ok(Overwritten::Neither)
+        && bimap.insert('e', 5) == Ok(Overwritten::Neither)
 }
 
-// The undoing of an insertion over two pairs, and a stateful `retain` and `clear`.
-fn all_undone<B: Bijection<u32, u32>>(bimap: &mut B) -> bool {
-    let answer = Overwritten::Both((4, 4), (5, 5));
-    bimap.insert(4, 5) == Ok(answer)
-        && bimap.can_undo_insert(&4, &answer)
-        && bimap.undo_insert(&4, answer) == Ok((4, 5))
+// The undoing of an insertion over two pairs.
+fn all_undone<B: Bijection<char, u32>>(bimap: &mut B) -> bool {
+    let answer = Overwritten::Both(('d', 4), ('e', 5));
+    bimap.insert('d', 5) == Ok(answer)
+        && bimap.can_undo_insert(&'d', &answer)
+        && bimap.undo_insert(&'d', answer) == Ok(('d', 5))
+}
+
+fn never_refused<B: Subject<char, u32>>(rt: &impl Abort, alloc: Global) -> Result<(), Fail> {
+    let mut bimap = B::empty(alloc);
+    bimap.add(&[('a', 1), ('b', 2)]).ok().ok_or("no memory")?;
+    let famine = Famine::begin(alloc, 0)?;
+    let inserted = all_succeed(&mut bimap);
+    let undone = all_undone(&mut bimap);
+    drop(famine);
+    assert!(rt; inserted && undone);
+    assert!(rt; shows(&bimap, &[('d', 4), ('e', 5)]));
+    Ok(())
 }
 
 #[test]
 fn what_has_a_place_is_never_refused(rt: HostRuntime) -> Result<(), Fail> {
-    let mut ordered: BiBTreeMap<u32, u32> = BiBTreeMap::new(rt.alloc());
-    let _ = ordered.insert(1, 1);
-    let _ = ordered.insert(2, 2);
-    let famine = Famine::begin(rt.alloc(), 0)?;
-    let inserted = all_succeed(&mut ordered);
-    let undone = all_undone(&mut ordered);
+    never_refused::<BiBTreeMap<char, u32>>(&rt, rt.alloc())?;
+    never_refused::<BiHashMap<char, u32>>(&rt, rt.alloc())?;
+    never_refused::<Crowded<char, u32>>(&rt, rt.alloc())
+}
+
+fn made_of_nothing<B: Subject<char, u32>>(rt: &impl Abort, alloc: Global) -> Result<(), Fail> {
+    let famine = Famine::begin(alloc, 0)?;
+    let bimap = B::empty(alloc);
+    let empty = shows(&bimap, &[]);
     drop(famine);
-    assert!(rt; inserted && undone);
-    assert!(rt; holds(&ordered, &[(4, 4), (5, 5)]));
+    assert!(rt; empty);
     Ok(())
 }
 
 #[test]
 fn an_empty_bimap_takes_no_memory(rt: HostRuntime) -> Result<(), Fail> {
-    let famine = Famine::begin(rt.alloc(), 0)?;
-    let ordered: BiBTreeMap<u32, u32> = BiBTreeMap::new(rt.alloc());
-    let empty = holds(&ordered, &[]);
-    drop(famine);
-    assert!(rt; empty);
-    Ok(())
+    made_of_nothing::<BiBTreeMap<char, u32>>(&rt, rt.alloc())?;
+    made_of_nothing::<BiHashMap<char, u32>>(&rt, rt.alloc())?;
+    made_of_nothing::<Crowded<char, u32>>(&rt, rt.alloc())
 }
