@@ -89,10 +89,10 @@ module _ {L R : Type 0} (same_left : L → L → Bool) (same_right : R → R →
         } in
         apart_more same_left same_right q qs
         (λ y there.
-            let s = source_of (IsPairClone is_clone_left is_clone_right) ps qs zip.1 y there in
-            let first = equal_clone (p ∷ ps) equal p q (head_in p ps) zip.0 in
-            let second = equal_clone (p ∷ ps) equal s.0 y (more_in p ps s.0 s.1) s.2 in
-            sym (shares_along p q s.0 y first second) ∙ apart_head same_left same_right p ps apart s.0 s.1)
+        let s = source_of (IsPairClone is_clone_left is_clone_right) ps qs zip.1 y there in
+        let first = equal_clone (p ∷ ps) equal p q (head_in p ps) zip.0 in
+        let second = equal_clone (p ∷ ps) equal s.0 y (more_in p ps s.0 s.1) s.2 in
+        sym (shares_along p q s.0 y first second) ∙ apart_head same_left same_right p ps apart s.0 s.1)
         (apart_clones ps qs later zip.1 (apart_tail same_left same_right p ps apart))
 
     -- one more clone is put in, which shares no value with the others
@@ -138,7 +138,10 @@ module _ {L R : Type 0} (same_left : L → L → Bool) (same_right : R → R →
           clones = so_far.clones;
           one_for_each = zip;
           held = so_far.held;
-          equal = (omega (arith, long, more, fewer), λ p there.
-              let s = image_of (IsPairClone is_clone_left is_clone_right) old so_far.clones zip p there in
-              (s.0, (so_far.held s.0).0 s.1, equal_clone old equal p s.0 there s.2));
+          equal = (
+            omega (arith, long, more, fewer),
+            λ p there.
+                let s = image_of (IsPairClone is_clone_left is_clone_right) old so_far.clones zip p there in
+                (s.0, (so_far.held s.0).0 s.1, equal_clone old equal p s.0 there s.2),
+          );
         }

@@ -3,6 +3,7 @@ pub mod Copying
 pub mod Digits
 pub mod Fits
 pub mod FreeList
+pub mod Meeting
 pub mod Members
 pub mod Packing
 pub mod Packs

@@ -43,6 +43,9 @@ module _ {P : Type 0} where
   read_filled (x ∷ xs) n zero = refl
   read_filled (x ∷ xs) n (suc k) = read_filled xs n k
 
+  pub length-packed : (pairs : List P) (to : ℕ) → length pairs ≤ to → length (packed pairs to) ≡ to
+  length-packed pairs to fits = omega (arith, fits, length-append (map Some pairs) (replicate (to - length pairs) None), length-map pairs Some, length-replicate {A = Option P} (to - length pairs) None)
+
   pub all_packed : (slots : List (Option P)) (pairs : List P) (to : ℕ) → length pairs ≤ to → length slots ≡ to → ((k : ℕ) → get_or slots k None ≡ get_or (map Some pairs) k None) → slots ≡ packed pairs to
   all_packed slots pairs to fits long h =
       same_read slots (packed pairs to) (omega (arith, length-append (map Some pairs) (replicate (to - length pairs) None), length-map pairs Some, length-replicate {A = Option P} (to - length pairs) None))

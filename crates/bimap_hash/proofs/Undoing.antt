@@ -1,5 +1,5 @@
 -- What an undoing leaves, from the place of the pair that is taken out.
-use Rattle.std.proofs.Common.{◌≡◌, ◌≢◌, ◌↔◌, ◌⊎◌, ℕ, ◌<◌, ◌≤◌, Bool, true, false, List, length, Option, Some, None, refl, sym, ap, subst, ◌∙◌, inl, inr, arith, true≢false}
+use Rattle.std.proofs.Common.{◌≡◌, ◌≢◌, ◌↔◌, ◌⊎◌, ℕ, ◌<◌, ◌≤◌, Bool, false, List, length, Option, Some, None, refl, sym, ap, subst, ◌∙◌, inl, inr, arith, true≢false}
 use Rattle.std.specs.Prelude.{Contains, Ok, Err, slice_set}
 use Rattle.std.specs.Cmp.{IsEquivalence}
 use Rattle.std.proofs.lemmas.Bool.{cases_eq, false_from_ne_true}
@@ -102,9 +102,9 @@ module _ {L R : Type 0} (same_left : L → L → Bool) (same_right : R → R →
     pub alone_named : (answer : Overwritten L R) → IsUndoable same_left same_right (Contains (pairs_in slots)) left answer → (q : L × R) → IsNamed answer q → IsAloneAt same_left same_right slots place q
     alone_named answer u q named other s away i =
         false_from_ne_true (shares same_left same_right s q) (λ e.
-          let same : s ≡ u.pair = u.alone q s named (held_at slots other s i) (shares_symm same_left same_right equal_left equal_right q s ∙ e) in
-          let off : Some place ≡ Some other → ⊥ = λ f. away (let g : place ≡ other = cc in sym g) in
-          true≢false (sym (ap (λ (z : L × R). same_left z.0 left) same ∙ u.by_left) ∙ there.elsewhere other s off i)
+        let same : s ≡ u.pair = u.alone q s named (held_at slots other s i) (shares_symm same_left same_right equal_left equal_right q s ∙ e) in
+        let off : Some place ≡ Some other → ⊥ = λ f. away (let g : place ≡ other = cc in sym g) in
+        true≢false (sym (ap (λ (z : L × R). same_left z.0 left) same ∙ u.by_left) ∙ there.elsewhere other s off i)
         )
 
     module _ (p : L × R) (was : pair_at slots place ≡ Some p) (answer : Overwritten L R) (slots' : List (Option (L × R))) (held : (q : L × R) → Contains (pairs_in slots') q ↔ (IsNamed answer q ⊎ Contains (pairs_in (slice_set slots place None)) q)) where
@@ -140,10 +140,10 @@ module _ {L R : Type 0} (same_left : L → L → Bool) (same_right : R → R →
         let long : length slots' ≡ length slots = ap length now ∙ length-set slots place (Some new) in
         let inside = live_within slots place p was in
         undoing_by p was answer slots' (λ q.
-          let h = held_set slots place inside new q in (
-            λ c. elim (h.0 (subst (λ z. Contains (pairs_in z) q) now c)) [ inl e ↦ inl ((named q).1 e) | inr d ↦ inr d ],
-            λ m. subst (λ z. Contains (pairs_in z) q) (sym now) (h.1 (elim m [ inl n ↦ inl ((named q).0 n) | inr d ↦ inr d ])),
-          )) (omega (arith, long)) (λ _. long) (λ _. long)
+        let h = held_set slots place inside new q in (
+          λ c. elim (h.0 (subst (λ z. Contains (pairs_in z) q) now c)) [ inl e ↦ inl ((named q).1 e) | inr d ↦ inr d ],
+          λ m. subst (λ z. Contains (pairs_in z) q) (sym now) (h.1 (elim m [ inl n ↦ inl ((named q).0 n) | inr d ↦ inr d ])),
+        )) (omega (arith, long)) (λ _. long) (λ _. long)
 
     -- two pairs are put in, the first at the place
     pub undone_both : (p first second : L × R) (grown slots' : List (Option (L × R))) (other : ℕ) → pair_at grown place ≡ Some p → ((q : ℕ) → pair_at grown q ≡ pair_at slots q) → length slots ≤ length grown → (pair_count slots < length slots → grown ≡ slots)
@@ -155,10 +155,10 @@ module _ {L R : Type 0} (same_left : L → L → Bool) (same_right : R → R →
         let long : length slots' ≡ length grown = ap length now ∙ length-set (slice_set grown place (Some first)) other (Some second) ∙ length-set grown place (Some first) in
         let same = same_taken slots grown place inside longer kept in
         undoing_by p before (Both first second) slots' (λ q.
-          let h = held_both grown place other first second (live_within grown place p was) within free q in (
-            λ c. elim (h.0 (subst (λ z. Contains (pairs_in z) q) now c)) [ inl n ↦ inl n | inr d ↦ inr (subst (λ z. Contains z q) same d) ],
-            λ m. subst (λ z. Contains (pairs_in z) q) (sym now) (h.1 (elim m [ inl n ↦ inl n | inr d ↦ inr (subst (λ z. Contains z q) (sym same) d) ])),
-          )) (omega (arith, long)) (λ h. long ∙ ap length (had h)) (λ n. absurd (n tt))
+        let h = held_both grown place other first second (live_within grown place p was) within free q in (
+          λ c. elim (h.0 (subst (λ z. Contains (pairs_in z) q) now c)) [ inl n ↦ inl n | inr d ↦ inr (subst (λ z. Contains z q) same d) ],
+          λ m. subst (λ z. Contains (pairs_in z) q) (sym now) (h.1 (elim m [ inl n ↦ inl n | inr d ↦ inr (subst (λ z. Contains z q) (sym same) d) ])),
+        )) (omega (arith, long)) (λ h. long ∙ ap length (had h)) (λ n. absurd (n tt))
 
 module _ {L R : Type 0} (same_left : L → L → Bool) (same_right : R → R → Bool) where
   -- there was no memory

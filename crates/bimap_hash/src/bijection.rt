@@ -11,8 +11,7 @@ use bimap_base::{
 use std::hash::{BuildHasher, Hash};
 
 impl<L: Eq + Hash + Drop, R: Eq + Hash + Drop, LS: BuildHasher, RS: BuildHasher> Bijection<L, R>
-    for BiHashMap<L, R, LS, RS>
-{
+    for BiHashMap<L, R, LS, RS> {
     ghost holding = { holding };
 
     ghost apart = { λ b. b.apart };

@@ -8,9 +8,12 @@ use bimap_base::ExtendStopped;
 use std::alloc::Global;
 use std::hash::{BuildHasher, Hash};
 
-impl<L: Eq + Hash + Drop, R: Eq + Hash + Drop, LS: BuildHasher, RS: BuildHasher>
-    BiHashMap<L, R, LS, RS>
-{
+impl<L: Eq + Hash + Drop, R: Eq + Hash + Drop, LS: BuildHasher, RS: BuildHasher> BiHashMap<
+    L,
+    R,
+    LS,
+    RS,
+> {
     ghost use Rattle.bimap_hash.specs.Held.{holding};
 
     /// Inserts each item in order. A later one may strike earlier ones.
@@ -44,10 +47,8 @@ impl<L: Eq + Hash + Drop, R: Eq + Hash + Drop, LS: BuildHasher, RS: BuildHasher>
         ensures extended { IfOk result (λ bimap. IsExtension L.eq R.eq (I.into_iter_gives items) I.IntoIter.next_gives (record { pairs = []; room = 0 }) (holding bimap)) }
         ensures stopped { IfErr result (λ e. (taken : List (L × R)) × IsRefusedNext L.eq R.eq (I.into_iter_gives items) I.IntoIter.next_gives (Contains []) taken e) }
     {
-        bimap_base::from_iter(
-            BiHashMap::with_hashers(alloc, left_builder, right_builder),
-            items,
-        )
+        let empty = BiHashMap::with_hashers(alloc, left_builder, right_builder);
+        bimap_base::from_iter(empty, items)
     }
 
     /// A bimap of the items with builders of their types' defaults, each item inserted in order. A later one may strike

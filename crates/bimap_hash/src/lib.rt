@@ -4,6 +4,9 @@
 mod bijection;
 mod build;
 mod capacity;
+mod compare;
+mod copy;
+mod debug;
 mod insert;
 mod iter;
 mod look_up;
@@ -16,3 +19,6 @@ mod write;
 
 pub use iter::{IntoIter, Iter, LeftValues, RightValues};
 pub use map::BiHashMap;
+
+#[cfg(test)]
+mod tests;

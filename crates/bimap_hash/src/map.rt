@@ -11,6 +11,8 @@ use std::alloc::Global;
 use std::hash::{BuildHasher, BuildHasherDefault, FoldHasher, Hash};
 
 /// Pairs, each found by its left and by its right. No two of them share a value.
+///
+/// The default builders have a fixed seed: hand in a `RandomState` for a side whose values strangers choose.
 #[derive(Drop)]
 pub struct BiHashMap<
     L: Eq + Hash,

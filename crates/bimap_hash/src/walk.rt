@@ -35,8 +35,7 @@ impl<L: Eq + Hash, R: Eq + Hash, LS: BuildHasher, RS: BuildHasher> BiHashMap<L, 
 }
 
 impl<'a, L: Eq + Hash, R: Eq + Hash, LS: BuildHasher, RS: BuildHasher> IntoIterator
-    for &'a BiHashMap<L, R, LS, RS>
-{
+    for &'a BiHashMap<L, R, LS, RS> {
     type Item = (&'a L, &'a R);
 
     type IntoIter = Iter<'a, L, R>;
@@ -48,9 +47,12 @@ impl<'a, L: Eq + Hash, R: Eq + Hash, LS: BuildHasher, RS: BuildHasher> IntoItera
     }
 }
 
-impl<L: Eq + Hash + Drop, R: Eq + Hash + Drop, LS: BuildHasher + Drop, RS: BuildHasher + Drop>
-    IntoIterator for BiHashMap<L, R, LS, RS>
-{
+impl<
+    L: Eq + Hash + Drop,
+    R: Eq + Hash + Drop,
+    LS: BuildHasher + Drop,
+    RS: BuildHasher + Drop,
+> IntoIterator for BiHashMap<L, R, LS, RS> {
     type Item = (L, R);
 
     type IntoIter = IntoIter<L, R>;

@@ -1,5 +1,6 @@
 //! Writes at one place: the store and what changes of the indexes, together. It decides nothing.
 ghost use Rattle.std.specs.Prelude.{◌≡◌, ◌<◌, ◌≤◌, ◌≢◌, ◌+◌, true, false, max, length, Some, None, IsSomeAnd, IsOk, OnOk, OnErr, slice_set};
+ghost use Rattle.bimap_base.specs.Places.{pairs_in};
 ghost use Rattle.bimap_base.specs.Slots.{pair_at, IsLive, pair_count};
 ghost use Rattle.bimap_hash.specs.Numbered.{number_by, IsAloneAt};
 
@@ -118,5 +119,24 @@ impl<L: Eq + Hash, R: Eq + Hash, LS: BuildHasher, RS: BuildHasher> BiHashMap<L, 
         self.left.grow_to(to)?;
         self.right.grow_to(to)?;
         self.pairs.grow(to)
+    }
+
+    // Makes exactly so many places, and moves the pairs to the first of them. The indexes and the store are made anew
+    // before anything changes, so a refusal changes nothing.
+    pub(crate) fn pack(&mut self, to: usize) -> Result<(), NoMemory>
+    where
+        L: Drop,
+        R: Drop,
+        requires { pair_count self.old.pairs ≤ to }
+        ensures ok { OnOk result (length self.new.pairs ≡ to) }
+        ensures pairs { pairs_in self.new.pairs ≡ pairs_in self.old.pairs }
+        ensures err { OnErr result (self.new.pairs ≡ self.old.pairs) }
+    {
+        let left = self.left.packed(to)?;
+        let right = self.right.packed(to)?;
+        self.pairs.pack(to)?;
+        self.left = left;
+        self.right = right;
+        Ok(())
     }
 }

@@ -5,11 +5,13 @@ ghost use Rattle.std.specs.Cmp.{partial_order_from_own_ties};
 ghost use Rattle.std.specs.Cmp.Rules.{comparing};
 ghost use Rattle.std.specs.Ordering.{nat_cmp, on, as_partial_cmp};
 
-use crate::BiBTreeMap;
+use super::famine::Famine;
+use crate::{BiBTreeMap, Iter};
 use bimap_base::Overwritten;
 use std::alloc::Global;
 use std::cell::Cell;
 use std::cmp::Ordering;
+use std::test::Fail;
 
 // A number whose comparisons are counted.
 #[derive(Drop)]
@@ -138,4 +140,33 @@ fn striking_two_compares_little(rt: HostRuntime) {
     assert!(&rt; compared.get() <= 160);
     assert!(&rt; a.number == 1 && b.number == 1000 && c.number == 1000 && d.number == 1);
     assert!(&rt; map.len() == 999);
+}
+
+// The pairs of i and 1001 - i, from both ends in turn.
+fn meets_in_the_middle(mut walk: Iter<'_, Counted, Counted>) -> bool {
+    for turn in 0u32..500 {
+        let first = walk.next().is_some_and(|(left, right)| left.number == turn + 1
+            && right.number == 1000 - turn);
+        let last = walk.next_back().is_some_and(|(left, right)| left.number == 1000 - turn
+            && right.number == turn + 1);
+        if !first || !last || walk.len() != 998 - 2 * turn as usize {
+            return false;
+        }
+    }
+    walk.next().is_none() && walk.next_back().is_none()
+}
+
+#[test]
+fn a_walk_compares_nothing_and_takes_no_memory(rt: HostRuntime) -> Result<(), Fail> {
+    let compared = Cell::new(0u64);
+    let mut map: BiBTreeMap<Counted, Counted> = BiBTreeMap::new(rt.alloc());
+    for i in 1u32..1001 {
+        let _ = map.insert(counted_at(i, &compared), counted_at(1001 - i, &compared));
+    }
+    compared.set(0);
+    let famine = Famine::begin(rt.alloc(), 0)?;
+    let met = meets_in_the_middle(map.iter());
+    drop(famine);
+    assert!(&rt; met && compared.get() == 0);
+    Ok(())
 }

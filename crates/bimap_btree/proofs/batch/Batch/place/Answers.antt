@@ -1,4 +1,4 @@
-use Rattle.std.proofs.Common.{◌≡◌, ◌-◌, ◌+◌, sym, ap, ◌∙◌, arith, slice_get}
+use Rattle.std.proofs.Common.{◌≡◌, ◌-◌, ◌+◌, ap, ◌∙◌, arith, slice_get}
 use Rattle.bimap_btree.proofs.Windows.{filled}
 use Rattle.bimap_btree.proofs.batch.Batch.place.Goals as goal
 

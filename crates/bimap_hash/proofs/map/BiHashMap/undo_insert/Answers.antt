@@ -1,4 +1,4 @@
-use Rattle.std.proofs.Common.{◌≡◌, ◌∙◌, sym, refl, inl, inr, true≢false}
+use Rattle.std.proofs.Common.{◌∙◌, sym, refl, inl, inr, true≢false}
 use Rattle.bimap_base.specs.declared.overwritten.Overwritten.TheVariants.{Left, Right, Pair, Both}
 use Rattle.bimap_hash.proofs.Places.{left_lacking}
 use Rattle.bimap_hash.proofs.Inserted.{on_err}

@@ -1,5 +1,5 @@
 -- A range of keys, as a window of ranks.
-use Rattle.std.proofs.Common.{◌≡◌, ◌⊎◌, ℕ, zero, suc, ◌+◌, ◌-◌, ◌<◌, ◌≤◌, Bool, true, false, not, ◌&&◌, List, [], ◌∷◌, length, take, drop, slice_get, Option, None, Some, refl, sym, ap, ◌∙◌, inl, inr, arith}
+use Rattle.std.proofs.Common.{◌≡◌, ◌⊎◌, ℕ, zero, suc, ◌+◌, ◌-◌, ◌≤◌, Bool, true, false, List, [], ◌∷◌, length, take, drop, slice_get, Option, None, Some, refl, sym, ap, ◌∙◌, inl, inr, arith}
 use Rattle.std.specs.Prelude.{max}
 use Rattle.std.specs.List.{between, cons_option, filter}
 use Rattle.std.specs.Option.{option_map}
@@ -16,7 +16,7 @@ use Rattle.bimap_base.specs.Keyed.{standing}
 use Rattle.bimap_base.specs.Slots.{pair_at}
 use Rattle.bimap_tree.specs.Start.{IsStart}
 use Rattle.bimap_btree.specs.PairsAt.{pairs_at}
-use Rattle.bimap_btree.specs.Ranges.{IsCut, IsSpan}
+use Rattle.bimap_btree.specs.Spans.{IsCut, IsSpan}
 
 module _ {K : Type 0} (key_at : ℕ → Option K) (order : K → K → Ordering) (total : IsTotalOrder order) where
   stands : (p : ℕ) (k bound : K) (o : Ordering) → key_at p ≡ Some k → order k bound ≡ o → standing key_at order bound p ≡ Some o

@@ -1,0 +1,41 @@
+-- Numbers moved, in the order of their places, to the first of new cells.
+use Rattle.std.proofs.Common.{◌≡◌, ℕ, suc, ◌+◌, ◌-◌, ◌<◌, ◌≤◌, List, [], ◌∷◌, ◌++◌, length, map, take, drop, get_or, Option, None, Some, replicate, refl, sym, ap, subst, ◌∙◌, arith, length-append, append_assoc}
+use Rattle.std.specs.Prelude.{slice_set}
+use Rattle.std.proofs.lemmas.List.{append-nil, map-append, length-map, take-append-drop, take_more}
+use Rattle.std.proofs.Math.Seq.{set-append_seam}
+use Rattle.bimap_base.specs.Places.{pairs_in, packed}
+use Rattle.bimap_base.proofs.Packing.{pairs_in-append}
+use Rattle.bimap_chain.specs.Chains.{Numbers, number_at}
+
+module _ (numbers : Numbers) (place : ℕ) (inside : place < length numbers) where
+  one_more : (o : Option ℕ) → number_at numbers place ≡ o → pairs_in (take (place + 1) numbers) ≡ pairs_in (take place numbers) ++ pairs_in (o ∷ [])
+  one_more o is = ap pairs_in (take_more numbers place None inside) ∙ pairs_in-append (take place numbers) (get_or numbers place None ∷ []) ∙ ap (λ z. pairs_in (take place numbers) ++ pairs_in (z ∷ [])) is
+
+  -- one more place was seen, which is listed
+  pub more_seen : (n : ℕ) → number_at numbers place ≡ Some n → pairs_in (take (place + 1) numbers) ≡ pairs_in (take place numbers) ++ n ∷ []
+  more_seen n is = one_more (Some n) is
+
+  -- one more place was seen, which is not
+  pub none_seen : number_at numbers place ≡ None → pairs_in (take (place + 1) numbers) ≡ pairs_in (take place numbers)
+  none_seen is = one_more None is ∙ append-nil (pairs_in (take place numbers))
+
+  -- a listed place is still counted
+  pub room_left : (to n : ℕ) → number_at numbers place ≡ Some n → length (pairs_in numbers) ≤ to → length (pairs_in (take place numbers)) < to
+  room_left to n is fits =
+      omega (arith, fits, ap (λ z. length (pairs_in z)) (take-append-drop (place + 1) numbers), ap length (pairs_in-append (take (place + 1) numbers) (drop (place + 1) numbers)), length-append (pairs_in (take (place + 1) numbers)) (pairs_in (drop (place + 1) numbers)), ap length (more_seen n is), length-append (pairs_in (take place numbers)) (n ∷ []))
+
+module _ (ns : List ℕ) (to : ℕ) (less : length ns < to) where
+  abbrev rest : ℕ
+  rest = to - (length ns + 1)
+
+  split : packed ns to ≡ map Some ns ++ None ∷ replicate rest None
+  split = let e : to - length ns ≡ suc (to - (length ns + 1)) = omega arith in ap (λ k. map Some ns ++ replicate k None) e
+
+  -- one more number fills the first free cell
+  pub filled_more : (n : ℕ) → slice_set (packed ns to) (length ns) (Some n) ≡ packed (ns ++ n ∷ []) to
+  filled_more n =
+      ap (λ z. slice_set z (length ns) (Some n)) split ∙ ap (λ k. slice_set (map Some ns ++ None ∷ replicate rest None) k (Some n)) (sym (length-map ns Some)) ∙ set-append_seam (map Some ns) None (replicate rest None) (Some n)
+      ∙ sym (append_assoc (map Some ns) (Some n ∷ []) (replicate rest None)) ∙ ap (λ z. z ++ replicate rest None) (sym (map-append Some ns (n ∷ []))) ∙ ap (λ k. map Some (ns ++ n ∷ []) ++ replicate k None) by
+    where
+      by : rest ≡ to - length (ns ++ n ∷ [])
+      by = omega (arith, length-append ns (n ∷ []))
