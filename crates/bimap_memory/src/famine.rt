@@ -1,0 +1,51 @@
+//! A time in which the process gets only so many more bytes of memory. It knows nothing of what is tested.
+use std::alloc::{AllocError, Global};
+
+/// The blocks that are held back. To drop it ends the famine.
+#[derive(Drop)]
+pub struct Famine {
+    alloc: Global,
+    held: Vec<Vec<u8>>,
+    rooms: Vec<Vec<u8>>,
+}
+
+impl Famine {
+    /// Takes all the memory that the process can get, but keeps `steps` rooms of falling size.
+    pub fn begin(alloc: Global, steps: usize) -> Result<Famine, AllocError> {
+        let held = Vec::with_capacity(alloc, 1 << 17)?;
+        let mut rooms = Vec::with_capacity(alloc, steps)?;
+        let mut bytes = steps.saturating_mul(16).saturating_add(4064);
+        for _ in 0..steps {
+            rooms.push(Vec::with_capacity(alloc, bytes)?)?;
+            bytes = bytes.saturating_sub(16);
+        }
+        let mut famine = Famine { alloc, held, rooms };
+        famine.gather(1 << 46)?;
+        Ok(famine)
+    }
+
+    /// Takes all blocks of up to `size` bytes that there are.
+    pub fn gather(&mut self, size: usize) -> Result<(), AllocError> {
+        let mut size = size;
+        for _ in 0..120000u32 {
+            match Vec::with_capacity(self.alloc, size) {
+                Ok(block) => self.held.push(block)?,
+                Err(_) if size > 1024 => size /= 2,
+                Err(_) if size > 16 => size -= 16,
+                Err(_) => break,
+            }
+        }
+        Ok(())
+    }
+
+    /// Gives the process 16 bytes more than the last time, in one block, or nothing more at the end.
+    pub fn ease(&mut self) -> Result<bool, AllocError> {
+        self.gather(1 << 17)?;
+        let Some(room) = self.rooms.pop() else {
+            return Ok(false);
+        };
+        drop(room);
+        self.held.push(Vec::with_capacity(self.alloc, 4000)?)?;
+        Ok(true)
+    }
+}
