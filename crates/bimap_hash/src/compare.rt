@@ -10,8 +10,7 @@ use std::hash::{BuildHasher, Hash};
 /// Two bimaps are equal where they hold as many pairs, and each pair of one has a pair in the other that is equal on
 /// both sides. The builders need not be equal. One look-up for each pair, and no memory.
 impl<L: Eq + Hash, R: Eq + Hash, LS: BuildHasher, RS: BuildHasher> PartialEq
-    for BiHashMap<L, R, LS, RS>
-{
+    for BiHashMap<L, R, LS, RS> {
     ghost eq = { λ a b. same L.eq R.eq (holding a).pairs (holding b).pairs };
 
     ghost laws = { same_per L.eq R.eq L.PartialEq.laws R.PartialEq.laws (λ b. (holding b).pairs) (λ b. b.apart) };

@@ -12,8 +12,7 @@ impl<
     R: Eq + Hash + Clone + Drop,
     LS: BuildHasher + Clone + Drop,
     RS: BuildHasher + Clone + Drop,
-> BiHashMap<L, R, LS, RS>
-{
+> BiHashMap<L, R, LS, RS> {
     ghost use Rattle.bimap_hash.specs.Held.{holding};
 
     /// A bimap of the clones of the pairs, which equals this one, with clones of both builders. Each clone of a value has

@@ -9,8 +9,7 @@ impl<
     R: Eq + Hash + fmt::Debug + Drop,
     LS: BuildHasher,
     RS: BuildHasher,
-> fmt::Debug for BiHashMap<L, R, LS, RS>
-{
+> fmt::Debug for BiHashMap<L, R, LS, RS> {
     fn fmt<W: fmt::Write>(&self, f: &mut fmt::Formatter<W>) -> fmt::Result {
         f.write_str("{")?;
         let mut is_first = true;
