@@ -9,6 +9,7 @@ mod counting;
 mod histories;
 mod marked;
 mod walks;
+mod whole;
 
 // A hasher that forgets all that it is given, so that all keys have one number.
 #[derive(Clone, Copy)]
