@@ -3,6 +3,5 @@ mod examples;
 mod insertions;
 mod items;
 mod runs;
-mod tour;
 mod undo_runs;
 mod undone;

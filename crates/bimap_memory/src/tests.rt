@@ -1,6 +1,4 @@
 //! What stands after each refusal of memory, for each bimap.
-mod capacities;
-mod copies;
 mod index;
 mod insertions;
 mod items;
