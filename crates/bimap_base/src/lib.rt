@@ -22,6 +22,3 @@ pub use pairs::Pairs;
 pub use policy::{OnHeld, Policy};
 pub use refusal::{ExtendStopped, NoMemory, NoRoom, NotInserted, NotInsertedWith, UndoStopped};
 pub use spread::{LeftSpread, RightSpread, Spread};
-
-#[cfg(test)]
-mod tests;

@@ -18,8 +18,6 @@ mod ranges;
 mod remove;
 mod retain;
 mod span;
-#[cfg(test)]
-mod tests;
 mod undo;
 mod values;
 mod walk;

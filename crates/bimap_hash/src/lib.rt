@@ -19,6 +19,3 @@ mod write;
 
 pub use iter::{IntoIter, Iter, LeftValues, RightValues};
 pub use map::BiHashMap;
-
-#[cfg(test)]
-mod tests;

@@ -1,5 +1,4 @@
 //! Bimaps in JSON, over each bimap.
-mod famine;
 mod json;
 mod json_hashed;
 mod json_types;

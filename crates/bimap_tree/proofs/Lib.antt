@@ -18,4 +18,3 @@ pub mod Found
 pub mod Starts
 pub mod Whole
 pub mod Routes
-pub mod Thousand

@@ -12,6 +12,3 @@ mod walk;
 
 pub use ordered::Ordered;
 pub use route::Route;
-
-#[cfg(test)]
-mod tests;

@@ -9,6 +9,3 @@ mod undoable;
 pub use copy_left::CopyLeft;
 pub use operations::{Operation, there_and_back};
 pub use undoable::Undoable;
-
-#[cfg(test)]
-mod tests;

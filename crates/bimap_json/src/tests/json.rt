@@ -1,8 +1,8 @@
 //! JSON texts with the bimaps that they read as, and bimaps with the texts that they are written as.
-use crate::tests::famine::Famine;
 use crate::tests::shown::shows;
 use bimap::value::{JsonFault, JsonKey, JsonObject, JsonValue, reread};
 use bimap::{BiBTreeMap, BiHashMap, Bijection, NoMemory};
+use bimap_famine::Famine;
 use serde_json::Value;
 use std::alloc::{AllocError, Global};
 use std::process::Abort;

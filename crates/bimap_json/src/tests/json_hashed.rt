@@ -1,8 +1,8 @@
 //! The hashed bimap in JSON under builders of one's own.
-use crate::tests::famine::Famine;
 use crate::tests::shown::shows;
 use bimap::value::{JsonFault, from_value_with_hashers, hash_to_value};
 use bimap::{BiHashMap, Overwritten};
+use bimap_famine::Famine;
 use serde_json::Value;
 use std::alloc::Global;
 use std::hash::{BuildHasher, Hasher};

@@ -1,9 +1,9 @@
 //! The hashed bimap's room where memory is refused.
 use super::FIVE;
-use crate::Famine;
 use bimap::hash::BiHashMap;
 use bimap::{NoMemory, NoRoom, Overwritten};
 use bimap_calls::shows;
+use bimap_famine::Famine;
 use std::alloc::{AllocError, Global};
 use std::test::Fail;
 

@@ -1,10 +1,10 @@
 //! Each request of a copy refused.
 use super::FIVE;
-use crate::Famine;
 use bimap::NoMemory;
 use bimap::btree::BiBTreeMap;
 use bimap::hash::BiHashMap;
 use bimap_calls::shows;
+use bimap_famine::Famine;
 use std::test::Fail;
 
 fn ordered_copy(map: &BiBTreeMap<u32, u32>) -> Result<BiBTreeMap<u32, u32>, NoMemory> {

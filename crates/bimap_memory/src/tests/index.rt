@@ -1,6 +1,6 @@
 //! The ordered index asks for no more memory than the cells that it stands on.
-use crate::Famine;
 use bimap_base::Cells;
+use bimap_famine::Famine;
 use bimap_tree::Ordered;
 use std::alloc::{AllocError, Global};
 use std::test::Fail;

@@ -1,12 +1,12 @@
 //! Each growth of an insertion refused.
 use super::FIVE;
 use super::subject::Subject;
-use crate::Famine;
 use bimap::{
     BiBTreeMap, BiHashMap, Bijection, NoRoom, NotInserted, NotInsertedWith, OnHeld, Overwritten,
     Policy,
 };
 use bimap_calls::{Crowded, shows};
+use bimap_famine::Famine;
 use std::alloc::{AllocError, Global};
 use std::test::Fail;
 

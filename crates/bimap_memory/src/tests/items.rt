@@ -1,9 +1,9 @@
 //! Each growth of `extend` and of `from_iter` refused.
 use super::FIVE;
 use super::subject::Subject;
-use crate::Famine;
 use bimap::{BiBTreeMap, BiHashMap, ExtendStopped};
 use bimap_calls::{Crowded, shows};
+use bimap_famine::Famine;
 use std::alloc::{AllocError, Global};
 use std::process::Abort;
 use std::test::Fail;

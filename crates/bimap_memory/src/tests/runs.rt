@@ -1,8 +1,8 @@
 //! Runs under a famine that eases: each request for memory is refused in turn.
 use super::subject::Subject;
-use crate::Famine;
 use bimap::{BiBTreeMap, BiHashMap, Call, Overwritten, Reply, RunRefused, run};
 use bimap_calls::{Crowded, shows};
+use bimap_famine::Famine;
 use std::alloc::{AllocError, Global};
 use std::process::Abort;
 use std::test::Fail;

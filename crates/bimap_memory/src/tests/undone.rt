@@ -1,8 +1,8 @@
 //! Insertions that are undone where memory is refused.
 use super::subject::Subject;
-use crate::Famine;
 use bimap::{BiBTreeMap, BiHashMap, Overwritten, UndoStopped, undo_run};
 use bimap_calls::{Crowded, insert_all, shows};
+use bimap_famine::Famine;
 use std::alloc::Global;
 use std::process::Abort;
 use std::test::Fail;

@@ -1,8 +1,8 @@
 //! Calls that take no memory, with every request refused.
 use super::subject::Subject;
-use crate::Famine;
 use bimap::{BiBTreeMap, BiHashMap, Bijection, NotInserted, Overwritten};
 use bimap_calls::{Crowded, shows};
+use bimap_famine::Famine;
 use std::alloc::Global;
 use std::process::Abort;
 use std::test::Fail;

@@ -1,0 +1,72 @@
+//! What a caller writes with walks, with what it then knows.
+ghost use Rattle.std.specs.Prelude.{◌≡◌, IfOk, map, reverse};
+ghost use Rattle.std.specs.Map.{keys_of, values_of};
+ghost use Rattle.bimap_btree.specs.Held.{holding};
+ghost use Rattle.bimap_btree.specs.Sides.{by_right};
+
+use super::filled;
+use bimap_btree::BiBTreeMap;
+use std::alloc::{AllocError, Global};
+use std::test::Fail;
+
+fn rights_by_loop(alloc: Global, bimap: &BiBTreeMap<char, u32>) -> Result<Vec<u32>, AllocError>
+    ensures { IfOk result (λ v. v.items ≡ values_of (holding bimap.now).pairs) }
+{
+    let mut rights = Vec::new(alloc);
+    for (_, right) in bimap {
+        rights.push(*right)?;
+    }
+    Ok(rights)
+}
+
+fn rights_by_chain(alloc: Global, bimap: &BiBTreeMap<char, u32>) -> Result<Vec<u32>, AllocError>
+    ensures { IfOk result (λ v. v.items ≡ map (λ p. p.1) (holding bimap.now).pairs) }
+{
+    bimap.iter().map(|(_, right)| *right).collect(alloc)
+}
+
+fn sorted_rights(alloc: Global, bimap: &BiBTreeMap<char, u32>) -> Result<Vec<u32>, AllocError>
+    ensures { IfOk result (λ v. v.items ≡ values_of (by_right bimap.now)) }
+{
+    bimap.right_values().copied().collect(alloc)
+}
+
+fn lefts_back(alloc: Global, bimap: &BiBTreeMap<char, u32>) -> Result<Vec<char>, AllocError>
+    ensures { IfOk result (λ v. v.items ≡ reverse (keys_of (holding bimap.now).pairs)) }
+{
+    bimap.left_values().rev().copied().collect(alloc)
+}
+
+fn taken(alloc: Global, bimap: BiBTreeMap<char, u32>) -> Result<Vec<(char, u32)>, AllocError>
+    ensures { IfOk result (λ v. v.items ≡ (holding bimap).pairs) }
+{
+    bimap.into_iter().collect(alloc)
+}
+
+fn taken_by_loop(
+    alloc: Global,
+    bimap: BiBTreeMap<char, u32>,
+) -> Result<Vec<(char, u32)>, AllocError>
+    ensures { IfOk result (λ v. v.items ≡ (holding bimap).pairs) }
+{
+    let mut pairs = Vec::new(alloc);
+    for pair in bimap {
+        pairs.push(pair)?;
+    }
+    Ok(pairs)
+}
+
+#[test]
+fn callers_know_what_they_walked(rt: HostRuntime) -> Result<(), Fail> {
+    let pairs = [('a', 3), ('b', 1), ('c', 2)];
+    let map = filled(rt.alloc(), &pairs);
+    assert!(&rt; rights_by_loop(rt.alloc(), &map)?.as_slice() == [3, 1, 2].as_slice());
+    assert!(&rt; rights_by_chain(rt.alloc(), &map)?.as_slice() == [3, 1, 2].as_slice());
+    assert!(&rt; sorted_rights(rt.alloc(), &map)?.as_slice() == [1, 2, 3].as_slice());
+    assert!(&rt; lefts_back(rt.alloc(), &map)?.as_slice() == ['c', 'b', 'a'].as_slice());
+    assert!(&rt; taken(rt.alloc(), map)?.as_slice() == pairs.as_slice());
+    assert!(&rt;
+        taken_by_loop(rt.alloc(), filled(rt.alloc(), &pairs))?.as_slice() == pairs.as_slice()
+    );
+    Ok(())
+}

@@ -1,0 +1,172 @@
+//! Comparisons of the plain calls, seen by keys that count them.
+ghost use Rattle.std.specs.Prelude.{◌==◌};
+ghost use Rattle.std.proofs.Common.{rules};
+ghost use Rattle.std.specs.Cmp.{partial_order_from_own_ties};
+ghost use Rattle.std.specs.Cmp.Rules.{comparing};
+ghost use Rattle.std.specs.Ordering.{nat_cmp, on, as_partial_cmp};
+
+use bimap_base::Overwritten;
+use bimap_btree::{BiBTreeMap, Iter};
+use bimap_famine::Famine;
+use std::alloc::Global;
+use std::cell::Cell;
+use std::cmp::Ordering;
+use std::test::Fail;
+
+// A number whose comparisons are counted.
+#[derive(Drop)]
+struct Counted<'a> {
+    number: u32,
+    compared: &'a Cell<u64>,
+}
+
+impl PartialEq for Counted<'_> {
+    ghost eq = { λ x y. x.number == y.number };
+
+    ghost laws = { Prim.search (comparing, rules) };
+
+    fn eq(&self, other: &Self) -> bool {
+        self.compared.set(self.compared.get().wrapping_add(1));
+        self.number == other.number
+    }
+}
+
+impl Eq for Counted<'_> {
+    ghost laws = { Prim.search (comparing, rules) };
+}
+
+impl PartialOrd for Counted<'_> {
+    ghost partial_cmp = { as_partial_cmp (on (λ x. x.number) nat_cmp) };
+
+    ghost laws = { partial_order_from_own_ties (Prim.search (comparing, rules)) (Prim.search (comparing, rules)) };
+
+    fn partial_cmp(&self, other: &Self) -> Option<Ordering> {
+        Some(self.cmp(other))
+    }
+}
+
+impl Ord for Counted<'_> {
+    ghost cmp = { on (λ x. x.number) nat_cmp };
+
+    ghost total = { Prim.search (comparing, rules) };
+
+    ghost matches_partial_cmp = { Prim.search (comparing, rules) };
+
+    ghost matches_eq = { Prim.search (comparing, rules) };
+
+    fn cmp(&self, other: &Self) -> Ordering {
+        self.compared.set(self.compared.get().wrapping_add(1));
+        self.number.cmp(&other.number)
+    }
+}
+
+fn counted_at(number: u32, compared: &Cell<u64>) -> Counted<'_> {
+    Counted { number, compared }
+}
+
+fn is_found(
+    map: &BiBTreeMap<Counted, Counted>,
+    left: u32,
+    right: u32,
+    compared: &Cell<u64>,
+    limit: u64,
+) -> bool {
+    compared.set(0);
+    let found = map
+        .get_by_left(&counted_at(left, compared))
+        .is_some_and(|r| r.number == right);
+    let by_left = compared.get();
+    compared.set(0);
+    let back = map
+        .get_by_right(&counted_at(right, compared))
+        .is_some_and(|l| l.number == left);
+    found && back && by_left <= limit && compared.get() <= limit
+}
+
+// Inserts the pairs of i and 1001 - i, from the first or from the last, looks each up, and removes those of even i.
+fn stays_low(alloc: Global, compared: &Cell<u64>, ascending: bool) -> bool {
+    let mut map: BiBTreeMap<Counted, Counted> = BiBTreeMap::new(alloc);
+    let none = counted_at(1, compared);
+    compared.set(0);
+    if map.get_by_left(&none).is_some() || compared.get() != 0 {
+        return false;
+    }
+    for at in 0u32..1000 {
+        let i = if ascending { at + 1 } else { 1000 - at };
+        let _ = map.insert(counted_at(i, compared), counted_at(1001 - i, compared));
+    }
+    for i in 1u32..1001 {
+        if !is_found(&map, i, 1001 - i, compared, 20) {
+            return false;
+        }
+    }
+    for half in 1u32..501 {
+        compared.set(0);
+        let removed = map.remove_by_left(&counted_at(2 * half, compared));
+        if removed.is_none() || compared.get() > 40 {
+            return false;
+        }
+    }
+    for half in 0u32..500 {
+        let i = 2 * half + 1;
+        if !is_found(&map, i, 1001 - i, compared, 18) {
+            return false;
+        }
+    }
+    map.len() == 500
+}
+
+#[test]
+fn look_ups_compare_little(rt: HostRuntime) {
+    let compared = Cell::new(0u64);
+    assert!(&rt; stays_low(rt.alloc(), &compared, true));
+    assert!(&rt; stays_low(rt.alloc(), &compared, false));
+}
+
+#[test]
+fn striking_two_compares_little(rt: HostRuntime) {
+    let compared = Cell::new(0u64);
+    let mut map: BiBTreeMap<Counted, Counted> = BiBTreeMap::new(rt.alloc());
+    for i in 1u32..1001 {
+        let _ = map.insert(counted_at(i, &compared), counted_at(1001 - i, &compared));
+    }
+    compared.set(0);
+    let Ok(Overwritten::Both((a, b), (c, d))) = map.insert(
+        counted_at(1, &compared),
+        counted_at(1, &compared),
+    ) else {
+        return assert!(&rt; false);
+    };
+    assert!(&rt; compared.get() <= 160);
+    assert!(&rt; a.number == 1 && b.number == 1000 && c.number == 1000 && d.number == 1);
+    assert!(&rt; map.len() == 999);
+}
+
+// The pairs of i and 1001 - i, from both ends in turn.
+fn meets_in_the_middle(mut walk: Iter<'_, Counted, Counted>) -> bool {
+    for turn in 0u32..500 {
+        let first = walk.next().is_some_and(|(left, right)| left.number == turn + 1
+            && right.number == 1000 - turn);
+        let last = walk.next_back().is_some_and(|(left, right)| left.number == 1000 - turn
+            && right.number == turn + 1);
+        if !first || !last || walk.len() != 998 - 2 * turn as usize {
+            return false;
+        }
+    }
+    walk.next().is_none() && walk.next_back().is_none()
+}
+
+#[test]
+fn a_walk_compares_nothing_and_takes_no_memory(rt: HostRuntime) -> Result<(), Fail> {
+    let compared = Cell::new(0u64);
+    let mut map: BiBTreeMap<Counted, Counted> = BiBTreeMap::new(rt.alloc());
+    for i in 1u32..1001 {
+        let _ = map.insert(counted_at(i, &compared), counted_at(1001 - i, &compared));
+    }
+    compared.set(0);
+    let famine = Famine::begin(rt.alloc(), 0)?;
+    let met = meets_in_the_middle(map.iter());
+    drop(famine);
+    assert!(&rt; met && compared.get() == 0);
+    Ok(())
+}

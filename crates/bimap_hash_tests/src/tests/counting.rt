@@ -1,0 +1,73 @@
+//! Equality tests of the look-ups, seen by keys that count them.
+ghost use Rattle.std.proofs.Common.{rules};
+ghost use Rattle.std.specs.Cmp.Rules.{comparing, hashing};
+ghost use Rattle.std.specs.Hash as fed;
+ghost use Rattle.std.specs.Prelude.{◌==◌};
+
+use bimap_hash::BiHashMap;
+use std::alloc::Global;
+use std::cell::Cell;
+use std::hash::{Hash, Hasher};
+
+// A number whose equality tests are counted.
+#[derive(Drop)]
+struct Counted<'a> {
+    number: u32,
+    tests: &'a Cell<u64>,
+}
+
+impl PartialEq for Counted<'_> {
+    ghost eq = { λ x y. x.number == y.number };
+
+    ghost laws = { Prim.search (comparing, rules) };
+
+    fn eq(&self, other: &Self) -> bool {
+        self.tests.set(self.tests.get().wrapping_add(1));
+        self.number == other.number
+    }
+}
+
+impl Eq for Counted<'_> {
+    ghost laws = { Prim.search (comparing, rules) };
+}
+
+impl Hash for Counted<'_> {
+    ghost hash_input = { λ x. fed.u32 x.number };
+
+    ghost respects_eq = { Prim.search (hashing, rules) };
+
+    fn hash<H: Hasher>(&self, state: &mut H) {
+        self.number.hash(state);
+    }
+}
+
+fn counted_at(number: u32, tests: &Cell<u64>) -> Counted<'_> {
+    Counted { number, tests }
+}
+
+// How many equality tests the look-ups of a thousand pairs make from both sides, or `None` where one is not found.
+fn tests_of_all(alloc: Global, tests: &Cell<u64>) -> Option<u64> {
+    let mut map: BiHashMap<Counted, Counted> = BiHashMap::new(alloc);
+    for i in 1u32..1001 {
+        let _ = map.insert(counted_at(i, tests), counted_at(1001 - i, tests));
+    }
+    tests.set(0);
+    for i in 1u32..1001 {
+        let right = map
+            .get_by_left(&counted_at(i, tests))
+            .map(|found| found.number);
+        let left = map
+            .get_by_right(&counted_at(i, tests))
+            .map(|found| found.number);
+        if right != Some(1001 - i) || left != Some(1001 - i) {
+            return None;
+        }
+    }
+    Some(tests.get())
+}
+
+#[test]
+fn look_ups_test_few_keys(rt: HostRuntime) {
+    let tests = Cell::new(0u64);
+    assert!(&rt; tests_of_all(rt.alloc(), &tests).is_some_and(|made| made <= 20000));
+}

@@ -1,0 +1,3 @@
+//! What no clause says of the store and of the index.
+mod index;
+mod store;

@@ -1,0 +1,5 @@
+//! Tests of marks, over each bimap.
+#![tactic(auto)]
+
+#[cfg(test)]
+mod tests;

@@ -1,0 +1,299 @@
+//! Rows of calls with the answers that they must give, over the ordered bimap and one that is looked through one by one.
+
+use bimap::{BiBTreeMap, Bijection, NoRoom};
+use bimap_famine::Famine;
+use bimap_plain::Plain;
+use bimap_undo::{CopyLeft, Operation, Undoable, there_and_back};
+use std::alloc::{AllocError, Global};
+use std::process::Abort;
+use std::test::Fail;
+
+/// An operation, what it answers, the pairs then held and the number of changes then recorded.
+type Row<L, R> = (Operation<L, R>, bool, &'static [(L, R)], usize);
+
+/// On an empty bimap.
+const OF_INSERTIONS: [Row<char, i32>; 9] = [
+    (Operation::Insert('a', 1), false, &[('a', 1)], 1),
+    (Operation::Insert('a', 2), true, &[('a', 2)], 2),
+    (Operation::Insert('b', 2), true, &[('b', 2)], 3),
+    (Operation::Insert('b', 2), true, &[('b', 2)], 4),
+    (Operation::BackTo(2), true, &[('a', 2)], 2),
+    (Operation::Insert('c', 3), false, &[('a', 2), ('c', 3)], 3),
+    (Operation::Insert('a', 3), true, &[('a', 3)], 4),
+    (Operation::BackTo(3), true, &[('a', 2), ('c', 3)], 3),
+    (Operation::BackTo(3), true, &[('a', 2), ('c', 3)], 3),
+];
+
+/// On a bimap of ('a', 1) and ('b', 2).
+const OF_REMOVALS: [Row<char, i32>; 5] = [
+    (Operation::RemoveByLeft('a'), true, &[('b', 2)], 1),
+    (Operation::Insert('a', 2), true, &[('a', 2)], 2),
+    (Operation::RemoveByRight(9), false, &[('a', 2)], 2),
+    (Operation::RemoveByLeft('b'), false, &[('a', 2)], 2),
+    (Operation::RemoveByRight(2), true, &[], 3),
+];
+
+/// Whether these pairs alone are held, as seen from both sides, and this many changes are recorded.
+fn shows<B: Bijection<L, R> + Drop, L: CopyLeft + Copy + Drop, R: Eq + Copy + Drop>(
+    undoable: &Undoable<B, L, R>,
+    pairs: &[(L, R)],
+    mark: usize,
+) -> bool {
+    let bimap = undoable.held();
+    for (left, right) in pairs {
+        if bimap.get_by_left(left) != Some(right) || bimap.get_by_right(right) != Some(left) {
+            return false;
+        }
+    }
+    undoable.mark() == mark && bimap.len() == pairs.len()
+}
+
+/// Performs an operation. `None` is a refusal.
+fn perform<B: Bijection<L, R> + Drop, L: CopyLeft + Copy + Drop, R: Eq + Copy + Drop>(
+    undoable: &mut Undoable<B, L, R>,
+    operation: Operation<L, R>,
+) -> Option<bool> {
+    match operation {
+        Operation::Insert(left, right) => undoable.insert(left, right).ok(),
+        Operation::RemoveByLeft(left) => undoable.remove_by_left(&left).ok(),
+        Operation::RemoveByRight(right) => undoable.remove_by_right(&right).ok(),
+        Operation::BackTo(mark) => {
+            if undoable.mark() < mark {
+                return None;
+            }
+            undoable.back_to(mark);
+            Some(true)
+        }
+    }
+}
+
+/// The first row that gave something else.
+fn first_wrong<B: Bijection<L, R> + Drop, L: CopyLeft + Copy + Drop, R: Eq + Copy + Drop>(
+    undoable: &mut Undoable<B, L, R>,
+    rows: &[Row<L, R>],
+) -> Option<usize> {
+    for (at, &(operation, answer, held, mark)) in rows.iter().enumerate() {
+        if perform(undoable, operation) != Some(answer) || !shows(undoable, held, mark) {
+            return Some(at);
+        }
+    }
+    None
+}
+
+fn back_to_marks<B: Bijection<L, R> + Drop, L: CopyLeft + Copy + Drop, R: Eq + Copy + Drop>(
+    rt: &impl Abort,
+    alloc: Global,
+    empty: B,
+    rows: &[Row<L, R>],
+) {
+    let mut undoable = Undoable::new(alloc, empty);
+    assert_eq!(rt; (undoable.mark(), undoable.held().len()), (0, 0));
+    assert_eq!(rt; first_wrong(&mut undoable, rows), None);
+    undoable.back_to(0);
+    assert_eq!(rt; (undoable.mark(), undoable.held().len()), (0, 0));
+}
+
+#[test]
+fn goes_back_to_marks(rt: HostRuntime) {
+    let alloc = rt.alloc();
+    back_to_marks(&rt, alloc, Plain::new(alloc), &OF_INSERTIONS);
+    back_to_marks(&rt, alloc, BiBTreeMap::new(alloc), &OF_INSERTIONS);
+}
+
+fn without_the_record<B: Bijection<L, R> + Drop, L: CopyLeft + Copy + Drop, R: Eq + Copy + Drop>(
+    rt: &impl Abort,
+    alloc: Global,
+    empty: B,
+    rows: &[Row<L, R>],
+    (left, right): (L, R),
+) {
+    let mut undoable = Undoable::new(alloc, empty);
+    assert_eq!(rt; first_wrong(&mut undoable, rows), None);
+    let bimap = undoable.into_inner();
+    assert_eq!(rt; bimap.len(), 1);
+    assert!(rt; bimap.get_by_left(&left) == Some(&right));
+    assert!(rt; bimap.get_by_right(&right) == Some(&left));
+}
+
+#[test]
+fn gives_the_bimap_without_the_record(rt: HostRuntime) {
+    let alloc = rt.alloc();
+    let rows = &OF_INSERTIONS[..5];
+    without_the_record(&rt, alloc, Plain::new(alloc), rows, ('a', 2));
+    without_the_record(&rt, alloc, BiBTreeMap::new(alloc), rows, ('a', 2));
+}
+
+fn back_from_removals<B: Bijection<L, R> + Drop, L: CopyLeft + Copy + Drop, R: Eq + Copy + Drop>(
+    rt: &impl Abort,
+    alloc: Global,
+    empty: B,
+    pairs: &[(L, R)],
+    rows: &[Row<L, R>],
+) -> Result<(), Fail> {
+    let mut bimap = empty;
+    for &(left, right) in pairs {
+        bimap.insert(left, right).ok().ok_or("no memory")?;
+    }
+    let mut undoable = Undoable::new(alloc, bimap);
+    assert_eq!(rt; first_wrong(&mut undoable, rows), None);
+    let famine = Famine::begin(alloc, 0)?;
+    undoable.back_to(0);
+    drop(famine);
+    assert!(rt; shows(&undoable, pairs, 0));
+    Ok(())
+}
+
+#[test]
+fn takes_removals_back_without_memory(rt: HostRuntime) -> Result<(), Fail> {
+    let alloc = rt.alloc();
+    let pairs = [('a', 1), ('b', 2)];
+    back_from_removals(&rt, alloc, Plain::new(alloc), &pairs, &OF_REMOVALS)?;
+    back_from_removals(&rt, alloc, BiBTreeMap::new(alloc), &pairs, &OF_REMOVALS)
+}
+
+/// Inserts a pair under a famine that eases, and answers how often it was refused, or `None` where a refusal changed
+/// something or handed another pair back.
+fn insert_in_famine<B: Bijection<L, R> + Drop, L: CopyLeft + Copy + Drop, R: Eq + Copy + Drop>(
+    alloc: Global,
+    undoable: &mut Undoable<B, L, R>,
+    left: L,
+    right: R,
+    held: &[(L, R)],
+    mark: usize,
+) -> Result<Option<u64>, AllocError> {
+    let mut famine = Famine::begin(alloc, 100)?;
+    for refusals in 0..100u64 {
+        match undoable.insert(left, right) {
+            Ok(_) => return Ok(Some(refusals)),
+            Err(refused) => {
+                if refused != (NoRoom { left, right }) || !shows(undoable, held, mark) {
+                    return Ok(None);
+                }
+            }
+        }
+        famine.ease()?;
+    }
+    Ok(None)
+}
+
+fn refused_insertions<B: Bijection<L, R> + Drop, L: CopyLeft + Copy + Drop, R: Eq + Copy + Drop>(
+    rt: &impl Abort,
+    alloc: Global,
+    empty: B,
+    rows: &[Row<L, R>],
+) -> Result<(), Fail> {
+    let mut undoable = Undoable::new(alloc, empty);
+    let mut refusals = 0u64;
+    let mut before: (&[(L, R)], usize) = (&[], 0);
+    for &(operation, _, held, mark) in rows {
+        match operation {
+            Operation::Insert(left, right) => {
+                let refused = insert_in_famine(
+                    alloc,
+                    &mut undoable,
+                    left,
+                    right,
+                    before.0,
+                    before.1,
+                )?;
+                refusals = refusals.saturating_add(refused.ok_or("a refusal changed something")?);
+            }
+            other => {
+                let famine = Famine::begin(alloc, 0)?;
+                let answer = perform(&mut undoable, other);
+                drop(famine);
+                assert_eq!(rt; answer, Some(true));
+            }
+        }
+        assert!(rt; shows(&undoable, held, mark));
+        before = (held, mark);
+    }
+    assert!(rt; refusals > 1, "{refusals}");
+    Ok(())
+}
+
+#[test]
+fn a_refused_insertion_changes_nothing(rt: HostRuntime) -> Result<(), Fail> {
+    let alloc = rt.alloc();
+    refused_insertions(&rt, alloc, Plain::new(alloc), &OF_INSERTIONS)?;
+    refused_insertions(&rt, alloc, BiBTreeMap::new(alloc), &OF_INSERTIONS)
+}
+
+fn refused_copies_and_removals<B: Bijection<String, i32> + Drop>(
+    rt: &impl Abort,
+    alloc: Global,
+    empty: B,
+) -> Result<(), Fail> {
+    let mut bimap = empty;
+    let held = String::from_str(alloc, "a")?;
+    bimap
+        .insert(String::from_str(alloc, "a")?, 1)
+        .ok()
+        .ok_or("no memory")?;
+    let mut undoable = Undoable::new(alloc, bimap);
+    let left = String::from_str(alloc, "b")?;
+    let famine = Famine::begin(alloc, 0)?;
+    let inserted = undoable.insert(left, 2);
+    let by_left = undoable.remove_by_left(&held);
+    let by_right = undoable.remove_by_right(&1);
+    let absent = undoable.remove_by_right(&2);
+    drop(famine);
+    assert_eq!(rt; inserted.err().map(|refused| refused.right), Some(2));
+    assert!(rt; by_left.is_err() && by_right.is_err());
+    assert_eq!(rt; absent, Ok(false));
+    assert_eq!(rt; (undoable.mark(), undoable.held().len()), (0, 1));
+    assert_eq!(rt; undoable.remove_by_left(&held), Ok(true));
+    assert_eq!(rt; (undoable.mark(), undoable.held().len()), (1, 0));
+    Ok(())
+}
+
+#[test]
+fn a_refused_copy_or_removal_changes_nothing(rt: HostRuntime) -> Result<(), Fail> {
+    let alloc = rt.alloc();
+    refused_copies_and_removals(&rt, alloc, Plain::<String, i32>::new(alloc))?;
+    refused_copies_and_removals(&rt, alloc, BiBTreeMap::<String, i32>::new(alloc))
+}
+
+#[test]
+fn copies_lefts(rt: HostRuntime) -> Result<(), Fail> {
+    let alloc = rt.alloc();
+    assert_eq!(rt; 'é'.copy_left(alloc), Ok('é'));
+    assert_eq!(rt; 200u8.copy_left(alloc), Ok(200));
+    assert_eq!(rt; 4_000_000_000u32.copy_left(alloc), Ok(4_000_000_000));
+    assert_eq!(rt; u64::MAX.copy_left(alloc), Ok(u64::MAX));
+    assert_eq!(rt; i32::MIN.copy_left(alloc), Ok(i32::MIN));
+    assert_eq!(rt; i64::MIN.copy_left(alloc), Ok(i64::MIN));
+    let copy = String::from_str(alloc, "left")?.copy_left(alloc);
+    assert_eq!(rt; copy.ok().ok_or("no memory")?.as_str(), "left");
+    Ok(())
+}
+
+#[test]
+fn goes_there_and_back(rt: HostRuntime) -> Result<(), Fail> {
+    let bimap: Plain<char, i32> = Plain::new(rt.alloc());
+    let mut undoable = Undoable::new(rt.alloc(), bimap);
+    undoable.insert('a', 1).ok().ok_or("no memory")?;
+    let mut operations = Vec::new(rt.alloc());
+    for (operation, ..) in OF_INSERTIONS {
+        operations.push(operation)?;
+    }
+    operations.push(Operation::BackTo(99))?;
+    there_and_back(&mut undoable, 0, operations);
+    assert!(rt; shows(&undoable, &[], 0));
+    Ok(())
+}
+
+#[test]
+fn goes_there_and_back_in_order(rt: HostRuntime) -> Result<(), Fail> {
+    let bimap: BiBTreeMap<char, i32> = BiBTreeMap::new(rt.alloc());
+    let mut undoable = Undoable::new(rt.alloc(), bimap);
+    undoable.insert('a', 1).ok().ok_or("no memory")?;
+    let mut operations = Vec::new(rt.alloc());
+    for (operation, ..) in OF_INSERTIONS {
+        operations.push(operation)?;
+    }
+    operations.push(Operation::BackTo(99))?;
+    there_and_back(&mut undoable, 0, operations);
+    assert!(rt; shows(&undoable, &[], 0));
+    Ok(())
+}
