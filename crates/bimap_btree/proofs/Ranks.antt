@@ -11,16 +11,6 @@ use Rattle.bimap_btree.specs.Indexed.{IsIndexed}
 use Rattle.bimap_btree.proofs.Slots.{pair_of_live}
 use Rattle.bimap_btree.proofs.Shown.{length-shown, read-pairs_at, live_listed}
 
-module _ {L R : Type 0} (cmpl : L → L → Ordering) (cmpr : R → R → Ordering) (parts : Parts L R) (kept : IsIndexed cmpl cmpr parts) where
-  pub pair_at_rank : (i : ℕ) → i < length (pairs_at parts.pairs parts.left.places) → (pair : L × R) × (pair_at parts.pairs (get_or parts.left.places i 0) ≡ Some pair) × (drop i (pairs_at parts.pairs parts.left.places) ≡ pair ∷ drop (i + 1) (pairs_at parts.pairs parts.left.places))
-  pair_at_rank i inside =
-      let shown = pairs_at parts.pairs parts.left.places in
-      let long = length-shown cmpl cmpr parts kept in
-      let live = live_listed cmpl cmpr parts kept in
-      let within : i < length parts.left.places = omega (arith, long, inside) in
-      let d = pair_of_live parts.pairs (get_or parts.left.places i 0) (live i within) in
-      (get_or shown i d.0, read-pairs_at parts.pairs parts.left.places live i d.0 within, drop_more shown i d.0 inside)
-
 -- the first of a window
 pub between_first : {X : Type 0} (xs : List X) (i j : ℕ) (x : X) → drop i xs ≡ x ∷ drop (i + 1) xs → i < j → between i j xs ≡ x ∷ between (i + 1) j xs
 between_first {X} xs i j x e l = ap (take (j - i)) e ∙ step (j - i) (j - (i + 1)) (drop (i + 1) xs) (omega (arith, l))

@@ -131,8 +131,5 @@ module _ {P : Type 0} (slots new : List (Option P)) (places : List ℕ) where
 pub whole_window : {P : Type 0} (slots : List (Option P)) (places : List ℕ) (n : ℕ) → n ≡ length places → ((i : ℕ) → i < length places → IsLive slots (get_or places i 0)) → IsWindow slots places 0 n
 whole_window slots places n e live = record { ordered = omega arith; within = omega (arith, e); live = λ i l m. live i (omega (arith, m, e)) }
 
-pub some_window : {P : Type 0} (slots : List (Option P)) (places : List ℕ) (front back : ℕ) → front ≤ back → back ≤ length places → ((i : ℕ) → i < length places → IsLive slots (get_or places i 0)) → IsWindow slots places front back
-some_window slots places front back l m live = record { ordered = l; within = m; live = λ i n o. live i (omega (arith, m, o)) }
-
 pub between_all : {X : Type 0} (xs : List X) (n : ℕ) → n ≡ length xs → between 0 n xs ≡ xs
 between_all xs n e = let same : n - 0 ≡ n = omega arith in ap (λ k. take k xs) same ∙ take_all n xs (omega (arith, e))

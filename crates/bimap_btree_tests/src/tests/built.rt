@@ -1,13 +1,13 @@
 //! Bimaps made of items and of bimaps: what is held then, whatever the iterator says of its length.
 ghost use Rattle.std.specs.Iterator.{YieldsFirst, item_count};
 
-use super::holds;
-use bimap_base::{ExtendStopped, NoMemory, NotInserted, Overwritten};
+use super::{
+    Seats, has_left, has_right, holds, left_of, put, refuses, right_of, without_left, without_right,
+};
+use bimap_base::{ExtendStopped, NoMemory, Overwritten};
 use bimap_btree::BiBTreeMap;
 use std::alloc::Global;
 use std::test::Fail;
-
-pub(super) type Seats = BiBTreeMap<char, u32>;
 
 pub(super) fn made(
     alloc: Global,
@@ -21,7 +21,9 @@ pub(super) fn copied(map: &Seats) -> Result<Seats, NoMemory> {
 }
 
 /// Items, the pairs that are held once they are put into the empty bimap.
-const BUILT: [(&[(char, u32)], &[(char, u32)]); 6] = [
+type Row = (&'static [(char, u32)], &'static [(char, u32)]);
+
+const BUILT: [Row; 6] = [
     (&[], &[]),
     (&[('a', 1)], &[('a', 1)]),
     (&[('a', 1), ('b', 1), ('b', 2)], &[('b', 2)]),
@@ -33,12 +35,19 @@ const BUILT: [(&[(char, u32)], &[(char, u32)]); 6] = [
     (&[('b', 2), ('a', 1)], &[('a', 1), ('b', 2)]),
 ];
 
+// The number of the first row that does not hold.
+fn first_wrong(alloc: Global, rows: &[Row]) -> Result<Option<usize>, Fail> {
+    for (number, (items, held)) in rows.iter().enumerate() {
+        if !holds(&made(alloc, items)?, held) {
+            return Ok(Some(number));
+        }
+    }
+    Ok(None)
+}
+
 #[test]
 fn builds_from_items(rt: HostRuntime) -> Result<(), Fail> {
-    for (items, held) in BUILT {
-        let map = made(rt.alloc(), items)?;
-        assert!(&rt; holds(&map, held), "{items:?}");
-    }
+    assert_eq!(&rt; first_wrong(rt.alloc(), &BUILT)?, None);
     Ok(())
 }
 
@@ -78,48 +87,87 @@ impl<'a> Iterator for Hinted<'a> {
     }
 }
 
+// The bimap of such items, made of them and extended by them.
+fn made_hinted(alloc: Global, items: Hinted<'_>) -> Result<Seats, ExtendStopped<char, u32>> {
+    BiBTreeMap::from_iter(alloc, items)
+}
+
+fn extended_hinted(alloc: Global, items: Hinted<'_>) -> Result<Seats, ExtendStopped<char, u32>> {
+    let mut map = BiBTreeMap::new(alloc);
+    map.extend(items)?;
+    Ok(map)
+}
+
+fn has_moved(map: &Seats) -> bool {
+    holds(map, &[('a', 1), ('c', 2)])
+        && map.get_by_left(&'b').is_none()
+        && map.get_by_left(&'c') == Some(&2)
+}
+
 #[test]
 fn trusts_no_hint(rt: HostRuntime) -> Result<(), Fail> {
     let items: &[(char, u32)] = &[('a', 1), ('b', 2), ('c', 2)];
     for is_bounded in [true, false] {
-        let map = BiBTreeMap::from_iter(rt.alloc(), Hinted { items, is_bounded })?;
-        assert!(&rt; holds(&map, &[('a', 1), ('c', 2)]));
-        assert!(&rt; map.get_by_left(&'b').is_none() && map.get_by_left(&'c') == Some(&2));
-        let mut empty = BiBTreeMap::new(rt.alloc());
-        empty.extend(Hinted { items, is_bounded })?;
-        assert!(&rt; holds(&empty, &[('a', 1), ('c', 2)]));
+        assert!(&rt; has_moved(&made_hinted(rt.alloc(), Hinted { items, is_bounded })?));
+        assert!(&rt; has_moved(&extended_hinted(rt.alloc(), Hinted { items, is_bounded })?));
     }
     Ok(())
+}
+
+fn is_equal(first: &Seats, second: &Seats) -> bool {
+    first == second
 }
 
 #[test]
 fn copies_stand_alone(rt: HostRuntime) -> Result<(), Fail> {
     let mut map = made(rt.alloc(), &[('a', 1), ('b', 2)])?;
     let mut copy = copied(&map).map_err(|_| "no memory")?;
-    assert!(&rt; copy == map);
-    assert!(&rt; map.insert('b', 5) == Ok(Overwritten::Left('b', 2)));
-    assert!(&rt; copy.insert('a', 12) == Ok(Overwritten::Left('a', 1)));
-    assert!(&rt; copy.remove_by_left(&'a') == Some(('a', 12)));
-    assert!(&rt; map.remove_by_right(&2).is_none());
+    assert!(&rt; is_equal(&copy, &map));
+    assert!(&rt; put(&mut map, 'b', 5) == Some(Overwritten::Left('b', 2)));
+    assert!(&rt; put(&mut copy, 'a', 12) == Some(Overwritten::Left('a', 1)));
+    assert!(&rt; without_left(&mut copy, 'a') == Some(('a', 12)));
+    assert!(&rt; without_right(&mut map, 2).is_none());
     assert!(&rt; holds(&map, &[('a', 1), ('b', 5)]));
     assert!(&rt; holds(&copy, &[('b', 2)]));
-    let empty: Seats = BiBTreeMap::new(rt.alloc());
-    assert!(&rt; holds(&copied(&empty).map_err(|_| "no memory")?, &[]));
     Ok(())
+}
+
+#[test]
+fn a_copy_of_nothing_holds_nothing(rt: HostRuntime) {
+    let empty: Seats = BiBTreeMap::new(rt.alloc());
+    assert!(&rt; copied(&empty).is_ok_and(|copy| holds(&copy, &[])));
+}
+
+// Whether the pair is held alone, seen by each look-up.
+fn is_alone(map: &Seats) -> bool {
+    map.len() == 1
+        && !map.is_empty()
+        && right_of(map, 'a') == Some(1)
+        && left_of(map, 1) == Some('a')
+        && has_left(map, 'a')
+        && has_right(map, 1)
+}
+
+fn lacks_others(map: &Seats) -> bool {
+    right_of(map, 'b').is_none()
+        && left_of(map, 2).is_none()
+        && !has_left(map, 'b')
+        && !has_right(map, 2)
+}
+
+fn is_cleared(map: &mut Seats) -> bool {
+    map.clear();
+    map.len() == 0 && map.is_empty()
 }
 
 #[test]
 fn clears_and_looks_up(rt: HostRuntime) -> Result<(), Fail> {
     let mut map = made(rt.alloc(), &[('a', 1)])?;
-    assert!(&rt; map.len() == 1 && !map.is_empty());
-    assert!(&rt; map.get_by_left(&'a') == Some(&1) && map.get_by_right(&1) == Some(&'a'));
-    assert!(&rt; map.contains_left(&'a') && map.contains_right(&1));
-    assert!(&rt; map.get_by_left(&'b').is_none() && map.get_by_right(&2).is_none());
-    assert!(&rt; !map.contains_left(&'b') && !map.contains_right(&2));
-    assert!(&rt; map.insert_no_overwrite('a', 2) == Err(NotInserted::Occupied('a', 2)));
-    assert!(&rt; map.insert_no_overwrite('b', 1) == Err(NotInserted::Occupied('b', 1)));
-    map.clear();
-    assert!(&rt; map.len() == 0 && map.is_empty());
+    assert!(&rt; is_alone(&map));
+    assert!(&rt; lacks_others(&map));
+    assert!(&rt; refuses(&mut map, 'a', 2));
+    assert!(&rt; refuses(&mut map, 'b', 1));
+    assert!(&rt; is_cleared(&mut map));
     assert!(&rt; map.insert_no_overwrite('a', 1) == Ok(()));
     let empty: Seats = BiBTreeMap::new(rt.alloc());
     assert!(&rt; empty.is_empty());

@@ -7,7 +7,6 @@ ghost use Rattle.bimap_btree.specs.Sides.{by_right};
 use super::filled;
 use bimap_btree::BiBTreeMap;
 use std::alloc::{AllocError, Global};
-use std::test::Fail;
 
 fn rights_by_loop(alloc: Global, bimap: &BiBTreeMap<char, u32>) -> Result<Vec<u32>, AllocError>
     ensures { IfOk result (λ v. v.items ≡ values_of (holding bimap.now).pairs) }
@@ -56,17 +55,32 @@ fn taken_by_loop(
     Ok(pairs)
 }
 
+// Whether these are the items, and there was memory.
+fn are<T: PartialEq + Drop>(list: Result<Vec<T>, AllocError>, items: &[T]) -> bool {
+    match list {
+        Ok(list) => list.as_slice() == items,
+        Err(_) => false,
+    }
+}
+
+const PAIRS: [(char, u32); 3] = [('a', 3), ('b', 1), ('c', 2)];
+
 #[test]
-fn callers_know_what_they_walked(rt: HostRuntime) -> Result<(), Fail> {
-    let pairs = [('a', 3), ('b', 1), ('c', 2)];
-    let map = filled(rt.alloc(), &pairs);
-    assert!(&rt; rights_by_loop(rt.alloc(), &map)?.as_slice() == [3, 1, 2].as_slice());
-    assert!(&rt; rights_by_chain(rt.alloc(), &map)?.as_slice() == [3, 1, 2].as_slice());
-    assert!(&rt; sorted_rights(rt.alloc(), &map)?.as_slice() == [1, 2, 3].as_slice());
-    assert!(&rt; lefts_back(rt.alloc(), &map)?.as_slice() == ['c', 'b', 'a'].as_slice());
-    assert!(&rt; taken(rt.alloc(), map)?.as_slice() == pairs.as_slice());
+fn callers_know_what_they_walked(rt: HostRuntime) {
+    let map = filled(rt.alloc(), &PAIRS);
+    assert!(&rt; are(rights_by_loop(rt.alloc(), &map), &[3, 1, 2]));
+    assert!(&rt; are(rights_by_chain(rt.alloc(), &map), &[3, 1, 2]));
+    assert!(&rt; are(sorted_rights(rt.alloc(), &map), &[1, 2, 3]));
+    assert!(&rt; are(lefts_back(rt.alloc(), &map), &['c', 'b', 'a']));
+}
+
+#[test]
+fn callers_know_what_they_took(rt: HostRuntime) {
+    assert!(&rt; are(taken(rt.alloc(), filled(rt.alloc(), &PAIRS)), &PAIRS));
     assert!(&rt;
-        taken_by_loop(rt.alloc(), filled(rt.alloc(), &pairs))?.as_slice() == pairs.as_slice()
+        are(
+            taken_by_loop(rt.alloc(), filled(rt.alloc(), &PAIRS)),
+            &PAIRS
+        )
     );
-    Ok(())
 }

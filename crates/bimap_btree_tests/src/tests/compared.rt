@@ -3,7 +3,8 @@ ghost use Rattle.std.specs.Prelude.{◌≡◌, nat_eq};
 ghost use Rattle.bimap_base.specs.Same.{same};
 ghost use Rattle.bimap_btree.specs.Held.{holding};
 
-use super::built::{Seats, made};
+use super::Seats;
+use super::built::made;
 use bimap_btree::BiBTreeMap;
 use std::alloc::Global;
 use std::cmp::Ordering;
@@ -71,18 +72,31 @@ fn orders_by_left_and_then_by_right(rt: HostRuntime) -> Result<(), Fail> {
 }
 
 /// Items, and the text of their bimap.
-const PRINTED: [(&[(char, u32)], &str); 3] = [
+type Text = (&'static [(char, u32)], &'static str);
+
+const PRINTED: [Text; 3] = [
     (&[], "{}"),
     (&[('a', 1)], "{'a' <> 1}"),
     (&[('b', 2), ('a', 1)], "{'a' <> 1, 'b' <> 2}"),
 ];
 
+fn prints(alloc: Global, map: &Seats, text: &str) -> Result<bool, Fail> {
+    Ok(format!(in alloc; "{map:?}")?.as_str() == text)
+}
+
+// The number of the first row whose text is another.
+fn first_misprint(alloc: Global, rows: &[Text]) -> Result<Option<usize>, Fail> {
+    for (number, (items, text)) in rows.iter().enumerate() {
+        if !prints(alloc, &made(alloc, items)?, text)? {
+            return Ok(Some(number));
+        }
+    }
+    Ok(None)
+}
+
 #[test]
 fn prints_its_pairs(rt: HostRuntime) -> Result<(), Fail> {
-    for (items, text) in PRINTED {
-        let map = made(rt.alloc(), items)?;
-        assert_eq!(&rt; format!(in rt.alloc(); "{map:?}")?.as_str(), text);
-    }
+    assert_eq!(&rt; first_misprint(rt.alloc(), &PRINTED)?, None);
     Ok(())
 }
 
@@ -109,27 +123,44 @@ const THREE: &[(u32, char)] = &[(0, '0'), (0, '1'), (1, '0')];
 // The third item strikes both others, and is the pair of `ONE`.
 const TURNED: &[(u32, char)] = &[(1, '0'), (0, '1'), (0, '0')];
 
+// How many different bimaps there are of so many lists of items.
+fn members(alloc: Global, lists: &[&[(u32, char)]]) -> Result<usize, Fail> {
+    let mut all = Vec::new(alloc);
+    for items in lists {
+        all.push(digits(alloc, items)?).map_err(|_| "no memory")?;
+    }
+    count_of(alloc, all)
+}
+
 #[test]
 fn equal_bimaps_are_one_member_of_a_set(rt: HostRuntime) -> Result<(), Fail> {
-    let mut all = Vec::new(rt.alloc());
-    for items in [&[], ONE, THREE, TURNED, THREE] {
-        all.push(digits(rt.alloc(), items)?)
-            .map_err(|_| "no memory")?;
-    }
-    assert_eq!(&rt; count_of(rt.alloc(), all)?, 3);
+    let lists = [&[], ONE, THREE, TURNED, THREE];
+    assert_eq!(&rt; members(rt.alloc(), &lists)?, 3);
     Ok(())
 }
 
-fn is_same(first: &Digits, second: &Digits) -> bool {
-    first == second
+// Whether two lists of items make equal bimaps.
+fn are_alike(alloc: Global, items: &[(u32, char)], others: &[(u32, char)]) -> Result<bool, Fail> {
+    let first = digits(alloc, items)?;
+    let second = digits(alloc, others)?;
+    Ok(first == second)
 }
 
 #[test]
 fn equality_forgets_what_was_struck(rt: HostRuntime) -> Result<(), Fail> {
+    assert!(&rt; are_alike(rt.alloc(), TURNED, ONE)?);
+    assert!(&rt; !are_alike(rt.alloc(), THREE, ONE)?);
+    Ok(())
+}
+
+fn right_of(map: &Digits, left: u32) -> Option<char> {
+    map.get_by_left(&left).copied()
+}
+
+#[test]
+fn what_was_struck_is_gone(rt: HostRuntime) -> Result<(), Fail> {
     let three = digits(rt.alloc(), THREE)?;
     assert!(&rt; three.len() == 2);
-    assert!(&rt; three.get_by_left(&0) == Some(&'1') && three.get_by_left(&1) == Some(&'0'));
-    assert!(&rt; is_same(&digits(rt.alloc(), TURNED)?, &digits(rt.alloc(), ONE)?));
-    assert!(&rt; !is_same(&three, &digits(rt.alloc(), ONE)?));
+    assert!(&rt; right_of(&three, 0) == Some('1') && right_of(&three, 1) == Some('0'));
     Ok(())
 }

@@ -64,13 +64,9 @@ fn counted_at(number: u32, compared: &Cell<u64>) -> Counted<'_> {
     Counted { number, compared }
 }
 
-fn is_found(
-    map: &BiBTreeMap<Counted, Counted>,
-    left: u32,
-    right: u32,
-    compared: &Cell<u64>,
-    limit: u64,
-) -> bool {
+type Numbers<'a> = BiBTreeMap<Counted<'a>, Counted<'a>>;
+
+fn is_found(map: &Numbers<'_>, left: u32, right: u32, compared: &Cell<u64>, limit: u64) -> bool {
     compared.set(0);
     let found = map
         .get_by_left(&counted_at(left, compared))
@@ -83,23 +79,43 @@ fn is_found(
     found && back && by_left <= limit && compared.get() <= limit
 }
 
-// Inserts the pairs of i and 1001 - i, from the first or from the last, looks each up, and removes those of even i.
-fn stays_low(alloc: Global, compared: &Cell<u64>, ascending: bool) -> bool {
-    let mut map: BiBTreeMap<Counted, Counted> = BiBTreeMap::new(alloc);
-    let none = counted_at(1, compared);
-    compared.set(0);
-    if map.get_by_left(&none).is_some() || compared.get() != 0 {
-        return false;
-    }
+// The bimap of the pairs of i and 1001 - i, put in from the first or from the last on.
+fn crossed(alloc: Global, compared: &Cell<u64>, ascending: bool) -> Numbers<'_> {
+    let mut map: Numbers<'_> = BiBTreeMap::new(alloc);
     for at in 0u32..1000 {
         let i = if ascending { at + 1 } else { 1000 - at };
         let _ = map.insert(counted_at(i, compared), counted_at(1001 - i, compared));
     }
+    map
+}
+
+fn compares_nothing_in_the_empty_bimap(alloc: Global, compared: &Cell<u64>) -> bool {
+    let map: Numbers<'_> = BiBTreeMap::new(alloc);
+    let key = counted_at(1, compared);
+    compared.set(0);
+    map.get_by_left(&key).is_none() && compared.get() == 0
+}
+
+fn all_are_found(map: &Numbers<'_>, compared: &Cell<u64>) -> bool {
     for i in 1u32..1001 {
-        if !is_found(&map, i, 1001 - i, compared, 20) {
+        if !is_found(map, i, 1001 - i, compared, 20) {
             return false;
         }
     }
+    true
+}
+
+fn odd_ones_are_found(map: &Numbers<'_>, compared: &Cell<u64>) -> bool {
+    for half in 0u32..500 {
+        let i = 2 * half + 1;
+        if !is_found(map, i, 1001 - i, compared, 18) {
+            return false;
+        }
+    }
+    true
+}
+
+fn even_ones_are_removed<'a>(map: &mut Numbers<'a>, compared: &'a Cell<u64>) -> bool {
     for half in 1u32..501 {
         compared.set(0);
         let removed = map.remove_by_left(&counted_at(2 * half, compared));
@@ -107,13 +123,17 @@ fn stays_low(alloc: Global, compared: &Cell<u64>, ascending: bool) -> bool {
             return false;
         }
     }
-    for half in 0u32..500 {
-        let i = 2 * half + 1;
-        if !is_found(&map, i, 1001 - i, compared, 18) {
-            return false;
-        }
-    }
-    map.len() == 500
+    true
+}
+
+// Puts the pairs in, looks each up, and removes those of even i.
+fn stays_low(alloc: Global, compared: &Cell<u64>, ascending: bool) -> bool {
+    let mut map = crossed(alloc, compared, ascending);
+    compares_nothing_in_the_empty_bimap(alloc, compared)
+        && all_are_found(&map, compared)
+        && even_ones_are_removed(&mut map, compared)
+        && odd_ones_are_found(&map, compared)
+        && map.len() == 500
 }
 
 #[test]
@@ -123,18 +143,21 @@ fn look_ups_compare_little(rt: HostRuntime) {
     assert!(&rt; stays_low(rt.alloc(), &compared, false));
 }
 
+fn inserted<'a>(
+    map: &mut Numbers<'a>,
+    left: Counted<'a>,
+    right: Counted<'a>,
+) -> Option<Overwritten<Counted<'a>, Counted<'a>>> {
+    map.insert(left, right).ok()
+}
+
 #[test]
 fn striking_two_compares_little(rt: HostRuntime) {
     let compared = Cell::new(0u64);
-    let mut map: BiBTreeMap<Counted, Counted> = BiBTreeMap::new(rt.alloc());
-    for i in 1u32..1001 {
-        let _ = map.insert(counted_at(i, &compared), counted_at(1001 - i, &compared));
-    }
+    let mut map = crossed(rt.alloc(), &compared, true);
+    let (left, right) = (counted_at(1, &compared), counted_at(1, &compared));
     compared.set(0);
-    let Ok(Overwritten::Both((a, b), (c, d))) = map.insert(
-        counted_at(1, &compared),
-        counted_at(1, &compared),
-    ) else {
+    let Some(Overwritten::Both((a, b), (c, d))) = inserted(&mut map, left, right) else {
         return assert!(&rt; false);
     };
     assert!(&rt; compared.get() <= 160);
@@ -159,10 +182,7 @@ fn meets_in_the_middle(mut walk: Iter<'_, Counted, Counted>) -> bool {
 #[test]
 fn a_walk_compares_nothing_and_takes_no_memory(rt: HostRuntime) -> Result<(), Fail> {
     let compared = Cell::new(0u64);
-    let mut map: BiBTreeMap<Counted, Counted> = BiBTreeMap::new(rt.alloc());
-    for i in 1u32..1001 {
-        let _ = map.insert(counted_at(i, &compared), counted_at(1001 - i, &compared));
-    }
+    let map = crossed(rt.alloc(), &compared, true);
     compared.set(0);
     let famine = Famine::begin(rt.alloc(), 0)?;
     let met = meets_in_the_middle(map.iter());
