@@ -2,7 +2,7 @@
 use super::{Zero, crowded, holds, put_all};
 use bimap_base::{NoMemory, Overwritten};
 use bimap_hash::BiHashMap;
-use std::alloc::Global;
+use std::alloc::{AllocError, Global};
 use std::test::Fail;
 
 type Crowded = BiHashMap<char, u32, Zero, Zero>;
@@ -64,32 +64,44 @@ fn copied(map: &Crowded) -> Result<Crowded, NoMemory> {
     map.clone()
 }
 
+// Whether each of two equal bimaps goes on without the other.
+fn go_apart(map: &mut Crowded, copy: &mut Crowded) -> bool {
+    map.insert('b', 5) == Ok(Overwritten::Left('b', 2))
+        && copy.insert('a', 12) == Ok(Overwritten::Left('a', 1))
+        && copy.remove_by_left(&'a') == Some(('a', 12))
+        && map.remove_by_right(&2).is_none()
+        && holds(map, &[('a', 1), ('b', 5)])
+        && holds(copy, &[('b', 2)])
+}
+
 #[test]
 fn copies_stand_alone(rt: HostRuntime) -> Result<(), Fail> {
     let mut map = made(rt.alloc(), &[('a', 1), ('b', 2)]);
-    let mut copy = copied(&map).map_err(|_| "no memory")?;
+    let mut copy = copied(&map)?;
     assert!(&rt; is_same(&copy, &map) && copy.capacity() >= map.capacity());
-    assert!(&rt; map.insert('b', 5) == Ok(Overwritten::Left('b', 2)));
-    assert!(&rt; copy.insert('a', 12) == Ok(Overwritten::Left('a', 1)));
-    assert!(&rt; copy.remove_by_left(&'a') == Some(('a', 12)));
-    assert!(&rt; map.remove_by_right(&2).is_none());
-    assert!(&rt; holds(&map, &[('a', 1), ('b', 5)]));
-    assert!(&rt; holds(&copy, &[('b', 2)]));
-    let empty = copied(&crowded(rt.alloc())).map_err(|_| "no memory")?;
-    assert!(&rt; holds(&empty, &[]));
+    assert!(&rt; go_apart(&mut map, &mut copy));
+    assert!(&rt; holds(&copied(&crowded(rt.alloc()))?, &[]));
     Ok(())
+}
+
+fn printed(alloc: Global, map: &Crowded) -> Result<String, AllocError> {
+    format!(in alloc; "{map:?}")
+}
+
+fn is_one_of(text: &str, texts: &[&str]) -> bool {
+    texts.contains(&text)
 }
 
 #[test]
 fn prints_its_pairs(rt: HostRuntime) -> Result<(), Fail> {
-    let empty = crowded(rt.alloc());
-    assert_eq!(&rt; format!(in rt.alloc(); "{empty:?}")?.as_str(), "{}");
-    let one = made(rt.alloc(), &[('a', 1)]);
-    assert_eq!(&rt; format!(in rt.alloc(); "{one:?}")?.as_str(), "{'a' <> 1}");
-    let two = made(rt.alloc(), &[('a', 1), ('b', 2)]);
-    let text = format!(in rt.alloc(); "{two:?}")?;
-    let is_either = text.as_str() == "{'a' <> 1, 'b' <> 2}"
-        || text.as_str() == "{'b' <> 2, 'a' <> 1}";
-    assert!(&rt; is_either, "{text}");
+    let alloc = rt.alloc();
+    assert_eq!(&rt; printed(alloc, &crowded(alloc))?.as_str(), "{}");
+    assert_eq!(&rt;
+        printed(alloc, &made(alloc, &[('a', 1)]))?.as_str(),
+        "{'a' <> 1}"
+    );
+    let text = printed(alloc, &made(alloc, &[('a', 1), ('b', 2)]))?;
+    let orders = ["{'a' <> 1, 'b' <> 2}", "{'b' <> 2, 'a' <> 1}"];
+    assert!(&rt; is_one_of(text.as_str(), &orders), "{text}");
     Ok(())
 }
