@@ -7,7 +7,6 @@ use bimap_base::ExtendStopped;
 use bimap_hash::BiHashMap;
 use std::alloc::{AllocError, Global};
 use std::hash::BuildHasher;
-use std::test::Fail;
 
 fn is_built<LS: BuildHasher, RS: BuildHasher>(
     made: Result<BiHashMap<char, u32, LS, RS>, ExtendStopped<char, u32>>,
@@ -111,47 +110,52 @@ fn an_extension_strikes_too(rt: HostRuntime) {
     assert!(&rt; extends(&mut crowded(rt.alloc())));
 }
 
-fn sorted_pairs<LS: BuildHasher, RS: BuildHasher>(
+// Whether a walk gives these, in any order.
+fn gives_pairs<LS: BuildHasher, RS: BuildHasher>(
     alloc: Global,
     map: &BiHashMap<char, u32, LS, RS>,
-) -> Result<Vec<(char, u32)>, AllocError> {
+    sorted: &[(char, u32)],
+) -> Result<bool, AllocError> {
     let mut pairs = map
         .iter()
         .map(|(l, r)| (*l, *r))
         .collect::<Vec<(char, u32)>>(alloc)?;
     pairs.sort_unstable();
-    Ok(pairs)
+    Ok(pairs.as_slice() == sorted)
 }
 
-fn sorted_lefts<LS: BuildHasher, RS: BuildHasher>(
+fn gives_lefts<LS: BuildHasher, RS: BuildHasher>(
     alloc: Global,
     map: &BiHashMap<char, u32, LS, RS>,
-) -> Result<Vec<char>, AllocError> {
+    sorted: &[char],
+) -> Result<bool, AllocError> {
     let mut lefts = map.left_values().copied().collect::<Vec<char>>(alloc)?;
     lefts.sort_unstable();
-    Ok(lefts)
+    Ok(lefts.as_slice() == sorted)
 }
 
-fn sorted_rights<LS: BuildHasher, RS: BuildHasher>(
+fn gives_rights<LS: BuildHasher, RS: BuildHasher>(
     alloc: Global,
     map: &BiHashMap<char, u32, LS, RS>,
-) -> Result<Vec<u32>, AllocError> {
+    sorted: &[u32],
+) -> Result<bool, AllocError> {
     let mut rights = map.right_values().copied().collect::<Vec<u32>>(alloc)?;
     rights.sort_unstable();
-    Ok(rights)
+    Ok(rights.as_slice() == sorted)
 }
 
-fn sorted_owned<LS: BuildHasher, RS: BuildHasher>(
+fn gives_owned<LS: BuildHasher, RS: BuildHasher>(
     alloc: Global,
     map: BiHashMap<char, u32, LS, RS>,
-) -> Result<Vec<(char, u32)>, AllocError>
+    sorted: &[(char, u32)],
+) -> Result<bool, AllocError>
 where
     LS: Drop,
     RS: Drop,
 {
     let mut owned = map.into_iter().collect::<Vec<(char, u32)>>(alloc)?;
     owned.sort_unstable();
-    Ok(owned)
+    Ok(owned.as_slice() == sorted)
 }
 
 fn put_three<LS: BuildHasher, RS: BuildHasher>(map: &mut BiHashMap<char, u32, LS, RS>) {
@@ -162,21 +166,14 @@ fn put_three<LS: BuildHasher, RS: BuildHasher>(map: &mut BiHashMap<char, u32, LS
 const HELD: [(char, u32); 3] = [('a', 3), ('b', 2), ('c', 1)];
 
 #[test]
-fn walks_give_each_pair_once(rt: HostRuntime) -> Result<(), Fail> {
+fn walks_give_each_pair_once(rt: HostRuntime) {
     let mut map = plain(rt.alloc());
     put_three(&mut map);
     assert!(&rt; map.iter().size_hint() == (3, Some(3)));
-    assert_eq!(rt; sorted_pairs(rt.alloc(), &map)?.as_slice(), HELD.as_slice());
-    assert_eq!(rt;
-        sorted_lefts(rt.alloc(), &map)?.as_slice(),
-        ['a', 'b', 'c'].as_slice()
-    );
-    assert_eq!(rt;
-        sorted_rights(rt.alloc(), &map)?.as_slice(),
-        [1, 2, 3].as_slice()
-    );
-    assert_eq!(rt; sorted_owned(rt.alloc(), map)?.as_slice(), HELD.as_slice());
-    Ok(())
+    assert!(&rt; gives_pairs(rt.alloc(), &map, &HELD) == Ok(true));
+    assert!(&rt; gives_lefts(rt.alloc(), &map, &['a', 'b', 'c']) == Ok(true));
+    assert!(&rt; gives_rights(rt.alloc(), &map, &[1, 2, 3]) == Ok(true));
+    assert!(&rt; gives_owned(rt.alloc(), map, &HELD) == Ok(true));
 }
 
 fn walks_to_the_end<LS: BuildHasher, RS: BuildHasher>(
@@ -210,12 +207,11 @@ where
 }
 
 #[test]
-fn a_walk_ends_for_good(rt: HostRuntime) -> Result<(), Fail> {
+fn a_walk_ends_for_good(rt: HostRuntime) {
     let mut map = plain(rt.alloc());
     put_all(&mut map, &THREE);
-    assert!(&rt; walks_to_the_end(&map)?);
-    assert!(&rt; walks_either_side(&map)?);
+    assert!(&rt; walks_to_the_end(&map) == Ok(true));
+    assert!(&rt; walks_either_side(&map) == Ok(true));
     assert!(&rt; holds(&map, &THREE));
     assert!(&rt; is_walked_by_value(map));
-    Ok(())
 }
