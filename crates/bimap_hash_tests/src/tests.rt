@@ -37,6 +37,8 @@ impl BuildHasher for Zero {
     }
 }
 
+const THREE: [(char, u32); 3] = [('a', 1), ('b', 2), ('c', 3)];
+
 fn plain(alloc: Global) -> BiHashMap<char, u32> {
     BiHashMap::new(alloc)
 }

@@ -7,7 +7,7 @@ ghost use Rattle.std.specs.Prelude.{◌==◌};
 use bimap_hash::BiHashMap;
 use std::alloc::Global;
 use std::cell::Cell;
-use std::hash::{Hash, Hasher};
+use std::hash::{BuildHasher, Hash, Hasher};
 
 // A number whose equality tests are counted.
 #[derive(Drop)]
@@ -45,25 +45,46 @@ fn counted_at(number: u32, tests: &Cell<u64>) -> Counted<'_> {
     Counted { number, tests }
 }
 
-// How many equality tests the look-ups of a thousand pairs make from both sides, or `None` where one is not found.
-fn tests_of_all(alloc: Global, tests: &Cell<u64>) -> Option<u64> {
-    let mut map: BiHashMap<Counted, Counted> = BiHashMap::new(alloc);
+// Inserts a thousand pairs, each of two numbers with the sum 1001.
+fn fill<'a, LS: BuildHasher, RS: BuildHasher>(
+    map: &mut BiHashMap<Counted<'a>, Counted<'a>, LS, RS>,
+    tests: &'a Cell<u64>,
+) {
     for i in 1u32..1001 {
         let _ = map.insert(counted_at(i, tests), counted_at(1001 - i, tests));
     }
-    tests.set(0);
+}
+
+fn is_number(found: Option<&Counted>, number: u32) -> bool {
+    found.is_some_and(|found| found.number == number)
+}
+
+// Whether each of the thousand pairs is found from both sides.
+fn finds_all<'a, LS: BuildHasher, RS: BuildHasher>(
+    map: &BiHashMap<Counted<'a>, Counted<'a>, LS, RS>,
+    tests: &'a Cell<u64>,
+) -> bool {
     for i in 1u32..1001 {
-        let right = map
-            .get_by_left(&counted_at(i, tests))
-            .map(|found| found.number);
-        let left = map
-            .get_by_right(&counted_at(i, tests))
-            .map(|found| found.number);
-        if right != Some(1001 - i) || left != Some(1001 - i) {
-            return None;
+        let key = counted_at(i, tests);
+        if !is_number(map.get_by_left(&key), 1001 - i)
+            || !is_number(map.get_by_right(&key), 1001 - i)
+        {
+            return false;
         }
     }
-    Some(tests.get())
+    true
+}
+
+// How many equality tests the look-ups of a thousand pairs make from both sides, or `None` where one is not found.
+fn tests_of_all(alloc: Global, tests: &Cell<u64>) -> Option<u64> {
+    let mut map: BiHashMap<Counted, Counted> = BiHashMap::new(alloc);
+    fill(&mut map, tests);
+    tests.set(0);
+    if finds_all(&map, tests) {
+        Some(tests.get())
+    } else {
+        None
+    }
 }
 
 #[test]

@@ -2,31 +2,50 @@
 ghost use Rattle.std.specs.Iterator.{at_most};
 ghost use Rattle.std.specs.Prelude.{length};
 
-use super::{Zero, crowded, holds, plain, put_all};
+use super::{THREE, Zero, crowded, holds, plain, put_all};
+use bimap_base::ExtendStopped;
 use bimap_hash::BiHashMap;
+use std::alloc::{AllocError, Global};
 use std::hash::BuildHasher;
-use std::test::Fail;
+
+fn is_built<LS: BuildHasher, RS: BuildHasher>(
+    made: Result<BiHashMap<char, u32, LS, RS>, ExtendStopped<char, u32>>,
+    held: &[(char, u32)],
+) -> bool
+where
+    LS: Drop,
+    RS: Drop,
+{
+    made.is_ok_and(|map| holds(&map, held))
+}
+
+const ITEMS: [(char, u32); 6] = [('a', 1), ('b', 2), ('c', 3), ('b', 2), ('a', 4), ('b', 3)];
 
 #[test]
 fn later_items_strike_earlier_ones(rt: HostRuntime) {
     let alloc = rt.alloc();
-    let made = BiHashMap::from_iter(alloc, [('a', 1), ('b', 1), ('b', 2)]);
-    let made: Result<BiHashMap<char, u32>, _> = made;
-    assert!(&rt; made.is_ok_and(|map| holds(&map, &[('b', 2)])));
-    let items = [('a', 1), ('b', 2), ('c', 3), ('b', 2), ('a', 4), ('b', 3)];
-    let made: Result<BiHashMap<char, u32>, _> = BiHashMap::from_iter(alloc, items);
-    assert!(&rt; made.is_ok_and(|map| holds(&map, &[('a', 4), ('b', 3)])));
-    let made = BiHashMap::from_iter_with_hashers(alloc, Zero, Zero, items);
-    assert!(&rt; made.is_ok_and(|map| holds(&map, &[('a', 4), ('b', 3)])));
     let made: Result<BiHashMap<char, u32>, _> = BiHashMap::from_iter(
         alloc,
+        [('a', 1), ('b', 1), ('b', 2)],
+    );
+    assert!(&rt; is_built(made, &[('b', 2)]));
+    let made: Result<BiHashMap<char, u32>, _> = BiHashMap::from_iter(alloc, ITEMS);
+    assert!(&rt; is_built(made, &[('a', 4), ('b', 3)]));
+    let made = BiHashMap::from_iter_with_hashers(alloc, Zero, Zero, ITEMS);
+    assert!(&rt; is_built(made, &[('a', 4), ('b', 3)]));
+}
+
+fn lacks_the_second<LS: BuildHasher, RS: BuildHasher>(map: &BiHashMap<char, u32, LS, RS>) -> bool {
+    map.len() == 2 && map.get_by_left(&'b').is_none() && map.get_by_left(&'c') == Some(&2)
+}
+
+#[test]
+fn a_later_right_strikes_an_earlier_left(rt: HostRuntime) {
+    let made: Result<BiHashMap<char, u32>, _> = BiHashMap::from_iter(
+        rt.alloc(),
         [('a', 1), ('b', 2), ('c', 2)],
     );
-    assert!(&rt;
-        made.is_ok_and(|map| {
-            map.len() == 2 && map.get_by_left(&'b').is_none() && map.get_by_left(&'c') == Some(&2)
-        })
-    );
+    assert!(&rt; made.is_ok_and(|map| lacks_the_second(&map)));
 }
 
 // Items with a hint that is true and of no use.
@@ -56,18 +75,26 @@ impl Iterator for Hinted<'_> {
     }
 }
 
+const HINTED: [(char, u32); 3] = [('a', 1), ('b', 2), ('c', 2)];
+
+fn extends_by_hinted<LS: BuildHasher, RS: BuildHasher>(
+    map: &mut BiHashMap<char, u32, LS, RS>,
+    items: &[(char, u32)],
+    is_bounded: bool,
+) -> bool {
+    map.extend(Hinted { items, is_bounded }).is_ok() && holds(map, &[('a', 1), ('c', 2)])
+}
+
 #[test]
 fn no_hint_is_trusted(rt: HostRuntime) {
-    let items: &[(char, u32)] = &[('a', 1), ('b', 2), ('c', 2)];
     for is_bounded in [true, false] {
+        let items = HINTED.as_slice();
         let made: Result<BiHashMap<char, u32>, _> = BiHashMap::from_iter(
             rt.alloc(),
             Hinted { items, is_bounded },
         );
-        assert!(&rt; made.is_ok_and(|map| holds(&map, &[('a', 1), ('c', 2)])));
-        let mut map = plain(rt.alloc());
-        assert!(&rt; map.extend(Hinted { items, is_bounded }).is_ok());
-        assert!(&rt; holds(&map, &[('a', 1), ('c', 2)]));
+        assert!(&rt; is_built(made, &[('a', 1), ('c', 2)]));
+        assert!(&rt; extends_by_hinted(&mut plain(rt.alloc()), items, is_bounded));
     }
 }
 
@@ -83,47 +110,108 @@ fn an_extension_strikes_too(rt: HostRuntime) {
     assert!(&rt; extends(&mut crowded(rt.alloc())));
 }
 
-#[test]
-fn walks_give_each_pair_once(rt: HostRuntime) -> Result<(), Fail> {
-    let mut map = plain(rt.alloc());
-    put_all(&mut map, &[('x', 9), ('a', 3), ('b', 2), ('c', 1)]);
-    let _ = map.remove_by_left(&'x');
-    assert!(&rt; map.iter().size_hint() == (3, Some(3)));
+// Whether a walk gives these, in any order.
+fn gives_pairs<LS: BuildHasher, RS: BuildHasher>(
+    alloc: Global,
+    map: &BiHashMap<char, u32, LS, RS>,
+    sorted: &[(char, u32)],
+) -> Result<bool, AllocError> {
     let mut pairs = map
         .iter()
         .map(|(l, r)| (*l, *r))
-        .collect::<Vec<(char, u32)>>(rt.alloc())?;
+        .collect::<Vec<(char, u32)>>(alloc)?;
     pairs.sort_unstable();
-    assert_eq!(rt; pairs.as_slice(), [('a', 3), ('b', 2), ('c', 1)].as_slice());
-    let mut lefts = map.left_values().copied().collect::<Vec<char>>(rt.alloc())?;
+    Ok(pairs.as_slice() == sorted)
+}
+
+fn gives_lefts<LS: BuildHasher, RS: BuildHasher>(
+    alloc: Global,
+    map: &BiHashMap<char, u32, LS, RS>,
+    sorted: &[char],
+) -> Result<bool, AllocError> {
+    let mut lefts = map.left_values().copied().collect::<Vec<char>>(alloc)?;
     lefts.sort_unstable();
-    assert_eq!(rt; lefts.as_slice(), ['a', 'b', 'c'].as_slice());
-    let mut rights = map.right_values().copied().collect::<Vec<u32>>(rt.alloc())?;
+    Ok(lefts.as_slice() == sorted)
+}
+
+fn gives_rights<LS: BuildHasher, RS: BuildHasher>(
+    alloc: Global,
+    map: &BiHashMap<char, u32, LS, RS>,
+    sorted: &[u32],
+) -> Result<bool, AllocError> {
+    let mut rights = map.right_values().copied().collect::<Vec<u32>>(alloc)?;
     rights.sort_unstable();
-    assert_eq!(rt; rights.as_slice(), [1, 2, 3].as_slice());
-    let mut owned = map.into_iter().collect::<Vec<(char, u32)>>(rt.alloc())?;
+    Ok(rights.as_slice() == sorted)
+}
+
+fn gives_owned<LS: BuildHasher, RS: BuildHasher>(
+    alloc: Global,
+    map: BiHashMap<char, u32, LS, RS>,
+    sorted: &[(char, u32)],
+) -> Result<bool, AllocError>
+where
+    LS: Drop,
+    RS: Drop,
+{
+    let mut owned = map.into_iter().collect::<Vec<(char, u32)>>(alloc)?;
     owned.sort_unstable();
-    assert_eq!(rt; owned.as_slice(), [('a', 3), ('b', 2), ('c', 1)].as_slice());
-    Ok(())
+    Ok(owned.as_slice() == sorted)
+}
+
+fn put_three<LS: BuildHasher, RS: BuildHasher>(map: &mut BiHashMap<char, u32, LS, RS>) {
+    put_all(map, &[('x', 9), ('a', 3), ('b', 2), ('c', 1)]);
+    let _ = map.remove_by_left(&'x');
+}
+
+const HELD: [(char, u32); 3] = [('a', 3), ('b', 2), ('c', 1)];
+
+#[test]
+fn walks_give_each_pair_once(rt: HostRuntime) {
+    let mut map = plain(rt.alloc());
+    put_three(&mut map);
+    assert!(&rt; map.iter().size_hint() == (3, Some(3)));
+    assert!(&rt; gives_pairs(rt.alloc(), &map, &HELD) == Ok(true));
+    assert!(&rt; gives_lefts(rt.alloc(), &map, &['a', 'b', 'c']) == Ok(true));
+    assert!(&rt; gives_rights(rt.alloc(), &map, &[1, 2, 3]) == Ok(true));
+    assert!(&rt; gives_owned(rt.alloc(), map, &HELD) == Ok(true));
+}
+
+fn walks_to_the_end<LS: BuildHasher, RS: BuildHasher>(
+    map: &BiHashMap<char, u32, LS, RS>,
+) -> Result<bool, AllocError> {
+    let mut walk = map.iter();
+    let begins = walk.len() == 3 && walk.next().is_some() && walk.len() == 2;
+    let mut copy = walk.clone()?;
+    let goes_on = copy.next().is_some() && copy.next().is_some() && copy.next().is_none();
+    let stays = copy.next().is_none() && copy.len() == 0 && copy.size_hint() == (0, Some(0));
+    Ok(begins && goes_on && stays && walk.len() == 2)
+}
+
+fn walks_either_side<LS: BuildHasher, RS: BuildHasher>(
+    map: &BiHashMap<char, u32, LS, RS>,
+) -> Result<bool, AllocError> {
+    let mut lefts = map.left_values();
+    let mut rights = map.right_values();
+    let by_left = lefts.len() == 3 && lefts.next().is_some() && lefts.clone()?.len() == 2;
+    let by_right = rights.len() == 3 && rights.next().is_some() && rights.clone()?.len() == 2;
+    Ok(by_left && by_right)
+}
+
+fn is_walked_by_value<LS: BuildHasher, RS: BuildHasher>(map: BiHashMap<char, u32, LS, RS>) -> bool
+where
+    LS: Drop,
+    RS: Drop,
+{
+    let mut owned = map.into_iter();
+    owned.len() == 3 && owned.next().is_some() && owned.size_hint() == (2, Some(2))
 }
 
 #[test]
-fn a_walk_ends_for_good(rt: HostRuntime) -> Result<(), Fail> {
+fn a_walk_ends_for_good(rt: HostRuntime) {
     let mut map = plain(rt.alloc());
-    put_all(&mut map, &[('a', 1), ('b', 2), ('c', 3)]);
-    let mut walk = map.iter();
-    assert!(&rt; walk.len() == 3 && walk.next().is_some() && walk.len() == 2);
-    let mut copy = walk.clone()?;
-    assert!(&rt; copy.next().is_some() && copy.next().is_some() && copy.next().is_none());
-    assert!(&rt; copy.next().is_none() && copy.len() == 0 && copy.size_hint() == (0, Some(0)));
-    assert!(&rt; walk.len() == 2);
-    drop(walk);
-    let mut lefts = map.left_values();
-    let mut rights = map.right_values();
-    assert!(&rt; lefts.len() == 3 && lefts.next().is_some() && lefts.clone()?.len() == 2);
-    assert!(&rt; rights.len() == 3 && rights.next().is_some() && rights.clone()?.len() == 2);
-    assert!(&rt; holds(&map, &[('a', 1), ('b', 2), ('c', 3)]));
-    let mut owned = map.into_iter();
-    assert!(&rt; owned.len() == 3 && owned.next().is_some() && owned.size_hint() == (2, Some(2)));
-    Ok(())
+    put_all(&mut map, &THREE);
+    assert!(&rt; walks_to_the_end(&map) == Ok(true));
+    assert!(&rt; walks_either_side(&map) == Ok(true));
+    assert!(&rt; holds(&map, &THREE));
+    assert!(&rt; is_walked_by_value(map));
 }
