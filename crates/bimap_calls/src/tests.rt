@@ -3,5 +3,6 @@ mod examples;
 mod insertions;
 mod items;
 mod runs;
+mod tour;
 mod undo_runs;
 mod undone;

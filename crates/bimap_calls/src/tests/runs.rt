@@ -7,7 +7,7 @@ use std::process::Abort;
 use std::test::Fail;
 
 /// The replies of the calls. `Retain` keeps the pairs whose right is at least its key.
-fn replies_of<B: Bijection<char, u32>>(
+pub(super) fn replies_of<B: Bijection<char, u32>>(
     alloc: Global,
     bimap: &mut B,
     calls: Vec<Call<char, u32, u32>>,
