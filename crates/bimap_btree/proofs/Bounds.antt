@@ -1,5 +1,5 @@
 -- How the bound on a tree's height goes with its length.
-use Rattle.std.proofs.Common.{◌≡◌, ℕ, zero, suc, ◌+◌, ◌*◌, ◌^◌, ◌<◌, ◌≤◌, refl, sym, ap, arith}
+use Rattle.std.proofs.Common.{◌≡◌, ℕ, zero, suc, ◌+◌, ◌^◌, ◌<◌, ◌≤◌, arith}
 use Rattle.bimap_base.specs.Digits.{bits, most_height}
 use Rattle.bimap_base.proofs.Digits.{bits-enough, bits-least}
 

@@ -1,7 +1,6 @@
 -- Pairs that are tested one after another.
-use Rattle.std.proofs.Common.{◌≡◌, ◌↔◌, ◌⊎◌, inl, inr, ℕ, suc, zero, ◌+◌, ◌<◌, ◌≤◌, Bool, true, false, cond, List, [], ◌∷◌, ◌++◌, length, take, drop, get_or, refl, sym, ap, ◌∙◌, subst, arith, true≢false, length-append, append_assoc}
-use Rattle.std.specs.Prelude.{Contains}
-use denote.Param.Members.{Mut, Called}
+use Rattle.std.proofs.Common.{◌≡◌, ℕ, suc, zero, ◌+◌, ◌<◌, ◌≤◌, Bool, true, false, List, [], ◌∷◌, ◌++◌, length, take, drop, get_or, refl, sym, ap, ◌∙◌, subst, arith, length-append, append_assoc}
+use denote.Param.Members.{Mut}
 use denote.Ref.{Bor}
 use Rattle.bimap_base.specs.Kept.{TestedAt, TestsInTurn, answered_true, IsKeptInTurn}
 

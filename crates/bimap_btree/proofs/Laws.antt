@@ -1,19 +1,18 @@
 -- What the ghost fields of a bimap say of the pairs it holds.
-use Rattle.std.proofs.Common.{◌≡◌, ◌⊎◌, ℕ, ◌<◌, ◌≤◌, Bool, true, false, ◌||◌, List, length, refl, sym, ap, ◌∙◌, arith, Contains, get_or, is_some}
+use Rattle.std.proofs.Common.{◌≡◌, ◌≤◌, Bool, length, sym, ap, ◌∙◌, arith, Contains, get_or, is_some}
 use Rattle.std.specs.List.{AllPairs}
-use Rattle.std.specs.Cmp.{IsTotalOrder, Equal-is}
-use Rattle.std.specs.Option.{option_map}
+use Rattle.std.specs.Cmp.{IsTotalOrder}
 use Rattle.std.specs.Ordering.{eq_by_cmp}
 use Rattle.std.specs.declared.cmp.Ordering.{Ordering}
 use Rattle.std.specs.declared.cmp.Ordering.TheVariants.{Less, Equal}
 use Rattle.std.proofs.lemmas.Cmp.{tied_itself}
 use Rattle.std.proofs.lemmas.List.{get_or_default}
 use Rattle.std.proofs.lemmas.List.Sums.{count_by-le-length}
-use Rattle.bimap_base.specs.Sets.{shares, IsApart}
+use Rattle.bimap_base.specs.Sets.{IsApart}
 use Rattle.bimap_base.specs.Slots.{pair_at, left_at, right_at}
 use Rattle.bimap_btree.specs.declared.parts.Parts.{Parts}
 use Rattle.bimap_btree.specs.PairsAt.{pairs_at}
-use Rattle.bimap_btree.specs.Indexed.{Has, IsIndexed}
+use Rattle.bimap_btree.specs.Indexed.{IsIndexed}
 use Rattle.bimap_btree.proofs.Kept.{indexed_from}
 use Rattle.bimap_btree.proofs.Listings.{side_of, one_place, equal_to, not_true}
 use Rattle.bimap_btree.proofs.Sets.{or_neither}

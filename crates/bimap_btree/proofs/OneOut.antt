@@ -1,16 +1,16 @@
 -- An ascending list from which one was taken out.
-use Rattle.std.proofs.Common.{◌≡◌, ◌⊎◌, ◌↔◌, ℕ, zero, suc, ◌+◌, ◌<◌, List, [], ◌∷◌, ◌++◌, length, take, drop, get_or, set, Option, Some, None, is_some, refl, sym, ap, subst, ◌∙◌, inl, inr, arith, Contains}
+use Rattle.std.proofs.Common.{◌≡◌, ◌↔◌, ℕ, zero, suc, ◌<◌, List, [], ◌∷◌, ◌++◌, length, take, drop, get_or, set, Some, None, is_some, refl, sym, ap, subst, ◌∙◌, inl, inr, arith, Contains}
 use Rattle.std.specs.List.{AllPairs}
 use Rattle.std.specs.Cmp.{IsTotalOrder}
 use Rattle.std.specs.Ordering.{ordering_reverse}
 use Rattle.std.specs.declared.cmp.Ordering.{Ordering}
-use Rattle.std.specs.declared.cmp.Ordering.TheVariants.{Less, Equal, Greater}
+use Rattle.std.specs.declared.cmp.Ordering.TheVariants.{Less, Greater}
 use Rattle.std.proofs.lemmas.Cmp.{tied_itself}
 use Rattle.std.proofs.lemmas.List.{get_or_default}
 use Rattle.bimap_base.specs.Slots.{pair_at, left_at}
 use Rattle.bimap_btree.specs.declared.parts.Parts.{Parts}
 use Rattle.bimap_btree.specs.PairsAt.{pairs_at}
-use Rattle.bimap_btree.specs.Indexed.{Has, HasElsewhere, IsIndexed}
+use Rattle.bimap_btree.specs.Indexed.{Has, IsIndexed}
 use Rattle.bimap_btree.proofs.Listings.{IsSide, one_place}
 use Rattle.bimap_btree.proofs.Shown.{Contains-cons, Contains-cons_cases, shown, ascends-shown}
 use Rattle.bimap_btree.proofs.Slots.{left_of, left_from_live, live_within}

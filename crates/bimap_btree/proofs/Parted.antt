@@ -1,5 +1,5 @@
 -- Both indexes at once.
-use Rattle.std.proofs.Common.{◌≡◌, ℕ, List, length, refl, sym, ap, subst, ◌∙◌}
+use Rattle.std.proofs.Common.{◌≡◌, ℕ, length, sym, subst}
 use Rattle.std.specs.declared.cmp.Ordering.{Ordering}
 use Rattle.bimap_base.specs.Slots.{left_at, right_at, pair_count}
 use Rattle.bimap_btree.specs.declared.parts.Parts.{Parts}

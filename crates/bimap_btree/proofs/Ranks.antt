@@ -1,6 +1,5 @@
 -- The pair at a rank.
-use Rattle.std.proofs.Common.{◌≡◌, ℕ, suc, ◌+◌, ◌-◌, ◌<◌, List, ◌∷◌, length, take, drop, get_or, slice_get, Option, Some, IsSome, refl, ap, subst, ◌∙◌, arith}
-use Rattle.std.proofs.lemmas.List.{drop_more}
+use Rattle.std.proofs.Common.{◌≡◌, ℕ, suc, ◌+◌, ◌-◌, ◌<◌, List, ◌∷◌, length, take, drop, get_or, slice_get, Some, refl, ap, subst, ◌∙◌, arith}
 use Rattle.std.proofs.lemmas.Option.{get_or_from_slice_get}
 use Rattle.std.specs.List.{between}
 use Rattle.std.specs.declared.cmp.Ordering.{Ordering}
@@ -8,7 +7,6 @@ use Rattle.bimap_base.specs.Slots.{pair_at, IsLive}
 use Rattle.bimap_btree.specs.declared.parts.Parts.{Parts}
 use Rattle.bimap_btree.specs.PairsAt.{pairs_at}
 use Rattle.bimap_btree.specs.Indexed.{IsIndexed}
-use Rattle.bimap_btree.proofs.Slots.{pair_of_live}
 use Rattle.bimap_btree.proofs.Shown.{length-shown, read-pairs_at, live_listed}
 
 -- the first of a window

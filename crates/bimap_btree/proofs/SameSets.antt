@@ -1,11 +1,10 @@
 -- What is said of a set is said of one with the same members.
-use Rattle.std.proofs.Common.{◌≡◌, ◌⊎◌, ◌↔◌, Bool, true, false, inl, inr}
-use Rattle.bimap_base.specs.Sets.{IsSameSet, shares, NoneShares, SomeShares, IsWithPut, HasLeft, LacksLeft, HasRight, LacksRight, IsWithoutLeft, IsWithoutRight}
+use Rattle.std.proofs.Common.{Bool, inl, inr}
+use Rattle.bimap_base.specs.Sets.{IsSameSet, NoneShares, SomeShares, IsWithPut, HasLeft, LacksLeft, HasRight, LacksRight, IsWithoutLeft, IsWithoutRight}
 use Rattle.bimap_base.specs.Answer.{IsAnswer, IsOnlyStruck, IsAllowed, IsRefusalUnder}
 use Rattle.bimap_base.specs.Undoing.{IsUndoable, IsUndone}
 use Rattle.bimap_base.specs.declared.overwritten.Overwritten.{Overwritten}
 use Rattle.bimap_base.specs.declared.overwritten.Overwritten.TheVariants.{Neither, Left, Right, Pair, Both}
-use Rattle.bimap_base.specs.declared.policy.OnHeld.TheVariants.{Refuse}
 use Rattle.bimap_base.specs.declared.policy.Policy.{Policy}
 use Rattle.bimap_base.specs.declared.refusal.NotInsertedWith.{NotInsertedWith}
 use Rattle.bimap_base.specs.declared.refusal.NotInsertedWith.TheVariants.{LeftHeld, RightHeld, Memory}

@@ -1,15 +1,15 @@
 -- The pairs that the places have, as a set.
-use Rattle.std.proofs.Common.{◌≡◌, ◌⊎◌, ◌↔◌, ℕ, ◌+◌, ◌<◌, Bool, true, false, ◌||◌, List, length, set, Option, Some, None, is_some, IsSome, refl, sym, ap, subst, ◌∙◌, inl, inr, arith, true≢false, Contains}
+use Rattle.std.proofs.Common.{◌≡◌, ◌⊎◌, ℕ, ◌<◌, Bool, true, false, ◌||◌, List, length, set, Option, Some, None, refl, sym, ap, ◌∙◌, inl, inr, arith, true≢false}
 use Rattle.std.specs.Option.{option_map}
 use Rattle.std.proofs.lemmas.Bool.{cases_eq}
 use Rattle.std.proofs.lemmas.List.{length-set}
 use Rattle.bimap_base.specs.Slots.{pair_at, left_at, right_at}
 use Rattle.bimap_base.specs.Sets.{shares, IsWithPut, HasLeft, LacksLeft, HasRight, LacksRight, NoneShares, SomeShares, IsWithoutLeft, IsWithoutRight}
 use Rattle.bimap_base.specs.Answer.{IsAnswer, IsOnlyStruck}
-use Rattle.bimap_base.specs.declared.overwritten.Overwritten.TheVariants.{Neither, Left, Right, Pair, Both}
+use Rattle.bimap_base.specs.declared.overwritten.Overwritten.TheVariants.{Left, Right, Pair, Both}
 use Rattle.bimap_btree.specs.Indexed.{Has, IsAlone, IsOnlyAt, IsAbsent, IsAbsentElsewhere}
 use Rattle.bimap_btree.proofs.Listings.{not_true, absent-elsewhere}
-use Rattle.bimap_btree.proofs.Slots.{other_pair, same_pair, left_of, right_of, pair_with_left, pair_with_right, live_within}
+use Rattle.bimap_btree.proofs.Slots.{other_pair, same_pair, left_of, right_of, pair_with_left, pair_with_right}
 
 pub or_either : (a b : Bool) → (a || b) ≡ true → (a ≡ true) ⊎ (b ≡ true)
 or_either true b e = inl refl

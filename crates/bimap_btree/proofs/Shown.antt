@@ -1,10 +1,10 @@
 -- The pairs at the listed places, as a list and as a set.
-use Rattle.std.proofs.Common.{◌≡◌, ◌⊎◌, ◌↔◌, ℕ, zero, suc, ◌+◌, ◌<◌, ◌≤◌, Bool, true, false, List, [], ◌∷◌, length, get_or, Option, Some, None, is_some, IsSome, refl, sym, ap, subst, ◌∙◌, inl, inr, arith, true≢false, Contains}
-use Rattle.std.specs.List.{filter_map, AllPairs}
+use Rattle.std.proofs.Common.{◌≡◌, ◌⊎◌, ℕ, zero, suc, ◌<◌, List, [], ◌∷◌, length, get_or, Option, Some, None, is_some, IsSome, refl, sym, ap, ◌∙◌, inl, inr, arith, true≢false, Contains}
+use Rattle.std.specs.List.{AllPairs}
 use Rattle.std.specs.Option.{option_map}
 use Rattle.std.specs.declared.cmp.Ordering.{Ordering}
 use Rattle.std.specs.declared.cmp.Ordering.TheVariants.{Less}
-use Rattle.bimap_base.specs.Slots.{pair_at, left_at, IsLive, pair_count}
+use Rattle.bimap_base.specs.Slots.{pair_at, pair_count}
 use Rattle.bimap_base.specs.Holding.{Holding}
 use Rattle.bimap_base.specs.Sets.{IsSameSet}
 use Rattle.bimap_btree.specs.PairsAt.{pairs_at}

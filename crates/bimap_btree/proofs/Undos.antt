@@ -1,5 +1,5 @@
 -- An insertion that is taken back, by places.
-use Rattle.std.proofs.Common.{◌≡◌, ◌⊎◌, ◌↔◌, ℕ, ◌+◌, ◌<◌, Bool, true, false, List, length, set, Option, Some, None, is_some, IsSome, refl, sym, ap, subst, ◌∙◌, inl, inr, arith, true≢false}
+use Rattle.std.proofs.Common.{◌≡◌, ◌⊎◌, ◌↔◌, ℕ, ◌+◌, ◌<◌, Bool, false, List, length, set, Option, Some, None, sym, ap, ◌∙◌, inl, inr, arith, true≢false}
 use Rattle.std.proofs.lemmas.Bool.{cases_eq}
 use Rattle.bimap_base.specs.Slots.{pair_at, left_at, right_at}
 use Rattle.bimap_base.specs.Sets.{shares}

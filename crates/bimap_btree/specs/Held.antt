@@ -1,5 +1,5 @@
 -- What a contract sees of an ordered bimap.
-use Rattle.std.specs.Prelude.{List, length}
+use Rattle.std.specs.Prelude.{length}
 use Rattle.bimap_base.specs.Holding.{Holding}
 use Rattle.bimap_btree.specs.PairsAt.{pairs_at}
 use Rattle.bimap_btree.specs.declared.map.BiBTreeMap.{BiBTreeMap}

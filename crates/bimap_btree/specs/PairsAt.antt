@@ -1,5 +1,5 @@
 -- The pairs at listed places.
-use Rattle.std.specs.Prelude.{ℕ, List, Option, length}
+use Rattle.std.specs.Prelude.{ℕ, List, Option}
 use Rattle.std.specs.List.{filter_map}
 use Rattle.bimap_base.specs.Slots.{pair_at}
 

@@ -1,4 +1,4 @@
-use Rattle.std.proofs.Common.{subst, ◌∷◌}
+use Rattle.std.proofs.Common.{subst}
 use Rattle.bimap_base.proofs.Copying.{IsCopiedUpTo, copied_more, copied_all}
 use Rattle.bimap_btree.specs.Held.{holding}
 use Rattle.bimap_btree.proofs.map.BiBTreeMap.clone.Goals as goal

@@ -1,4 +1,4 @@
-use Rattle.std.proofs.Common.{◌≡◌, Bool, true, false, List, Option, Some, None, is_some, sym, subst, Contains}
+use Rattle.std.proofs.Common.{◌≡◌, Bool, true, List, Option, Some, None, is_some, Contains}
 use Rattle.std.specs.Prelude.{MatchBool, IfSome, IfNone}
 use Rattle.std.specs.Borrow.{Bor}
 use Rattle.bimap_base.specs.Sets.{HasRight, LacksRight}

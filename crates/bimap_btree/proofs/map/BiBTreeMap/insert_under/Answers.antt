@@ -1,11 +1,11 @@
-use Rattle.std.proofs.Common.{◌≡◌, ap, ◌∙◌, List, Contains, length}
+use Rattle.std.proofs.Common.{◌≡◌, ◌∙◌, Contains, length}
 use Rattle.std.proofs.lemmas.Grind.{merely}
 use Rattle.bimap_base.specs.Slots.{pair_count}
 use Rattle.bimap_btree.specs.Indexed.{Has}
 use Rattle.bimap_btree.specs.PairsAt.{pairs_at}
 use Rattle.bimap_btree.proofs.Kept.{indexed_from}
 use Rattle.bimap_btree.proofs.Laws.{apart_from, ascending_from, fits_from}
-use Rattle.bimap_btree.proofs.Results.{IfOk-then, IfErr-then, OnOk-then, OnErr-then, OnErr-both}
+use Rattle.bimap_btree.proofs.Results.{IfOk-then, IfErr-then, OnOk-then, OnErr-both}
 use Rattle.bimap_btree.proofs.SameSets.{IsAllowed-same, IsAnswer-same, IsRefusalUnder-same, IsWithPut-same, SomeShares-back}
 use Rattle.bimap_btree.proofs.Shown.{shown, counted-shown, same_holding}
 use Rattle.bimap_btree.proofs.map.BiBTreeMap.insert_under.Goals as goal

@@ -1,4 +1,4 @@
-use Rattle.std.proofs.Common.{◌≡◌, Contains, length}
+use Rattle.std.proofs.Common.{Contains}
 use Rattle.std.proofs.lemmas.Grind.{merely}
 use Rattle.bimap_btree.specs.Indexed.{Has}
 use Rattle.bimap_btree.specs.PairsAt.{pairs_at}

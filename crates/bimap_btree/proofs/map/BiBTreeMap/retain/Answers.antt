@@ -1,5 +1,4 @@
 use Rattle.std.proofs.lemmas.Grind.{merely}
-use Rattle.bimap_btree.proofs.Kept.{indexed_from}
 use Rattle.bimap_btree.proofs.Laws.{apart_from, ascending_from, fits_from}
 use Rattle.bimap_btree.proofs.map.BiBTreeMap.retain.Goals as goal
 

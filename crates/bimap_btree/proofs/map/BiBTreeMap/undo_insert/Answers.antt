@@ -1,6 +1,5 @@
-use Rattle.std.proofs.Common.{◌≡◌, ◌∙◌, Contains, length}
+use Rattle.std.proofs.Common.{◌∙◌, Contains}
 use Rattle.std.proofs.lemmas.Grind.{merely}
-use Rattle.bimap_base.specs.Undoing.{IsUndoable}
 use Rattle.bimap_btree.specs.Indexed.{Has}
 use Rattle.bimap_btree.specs.PairsAt.{pairs_at}
 use Rattle.bimap_btree.proofs.Kept.{indexed_from}

@@ -1,4 +1,3 @@
-use Rattle.std.proofs.Common.{Some, ap, ◌∙◌, sym, is_some}
 use Rattle.bimap_base.specs.Slots.{right_at}
 use Rattle.bimap_btree.proofs.Listings.{side_of, IsOnlyAt-found}
 use Rattle.bimap_btree.proofs.Slots.{right_from_live}

@@ -1,9 +1,8 @@
-use Rattle.std.proofs.Common.{◌≡◌, ◌≤◌, ap, is_some, sym, None, Some, set, arith}
-use Rattle.bimap_base.specs.Slots.{left_at, right_at, pair_count}
-use Rattle.bimap_base.specs.Digits.{bits}
+use Rattle.std.proofs.Common.{ap, is_some, None, set, arith}
+use Rattle.bimap_base.specs.Slots.{left_at, pair_count}
 use Rattle.bimap_btree.proofs.Bounds.{bits-up}
 use Rattle.bimap_btree.proofs.Sets.{put_after, share_left, share_right, alone_from, elsewhere_after, elsewhere_from_only, only_after}
-use Rattle.bimap_btree.proofs.Slots.{live_within, live_from_left, live_from_right, other_left, other_right}
+use Rattle.bimap_btree.proofs.Slots.{live_within, live_from_left, live_from_right}
 use Rattle.bimap_btree.proofs.parts.Parts.insert_over_both.Goals as goal
 
 pub replace_right-first-requires-clause-left : goal.replace_right-first-requires-clause-left

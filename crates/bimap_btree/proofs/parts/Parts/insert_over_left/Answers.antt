@@ -1,6 +1,6 @@
 use Rattle.std.proofs.Common.{ap, is_some}
 use Rattle.bimap_btree.proofs.Sets.{put_at, alone_left, share_left}
-use Rattle.bimap_btree.proofs.Slots.{live_within, live_from_left, live_from_right}
+use Rattle.bimap_btree.proofs.Slots.{live_within, live_from_left}
 use Rattle.bimap_btree.proofs.parts.Parts.insert_over_left.Goals as goal
 
 pub returns-clause-put : goal.returns-clause-put

@@ -1,4 +1,4 @@
-use Rattle.std.proofs.Common.{◌≡◌, Some, None, length, set, ap, refl, sym}
+use Rattle.std.proofs.Common.{Some, length, set, ap, refl, sym}
 use Rattle.std.specs.Prelude.{option_map}
 use Rattle.std.proofs.lemmas.List.{length-set}
 use Rattle.bimap_base.specs.Slots.{left_at, right_at, pair_count}

@@ -1,9 +1,8 @@
-use Rattle.std.proofs.Common.{◌≡◌, ◌+◌, None, length, set, ap, is_some, refl, arith}
+use Rattle.std.proofs.Common.{◌≡◌, None, length, set, ap, is_some, refl, arith}
 use Rattle.std.specs.Prelude.{option_map}
 use Rattle.std.proofs.lemmas.List.{length-set}
 use Rattle.bimap_base.specs.Slots.{left_at, right_at, pair_count}
 use Rattle.bimap_btree.specs.Indexed.{Has}
-use Rattle.bimap_btree.proofs.Bounds.{bits-up}
 use Rattle.bimap_btree.proofs.Listings.{side_of, IsOnlyAt-found, IsAbsent-found, listing-but, listing-taken}
 use Rattle.bimap_btree.proofs.Parted.{IsIndexed-from}
 use Rattle.bimap_btree.proofs.Sets.{left_equal, lacks_left, without_left, without_left_none}

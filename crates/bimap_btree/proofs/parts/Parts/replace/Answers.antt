@@ -1,4 +1,4 @@
-use Rattle.std.proofs.Common.{◌≡◌, Some, length, set, refl, ◌∙◌}
+use Rattle.std.proofs.Common.{Some, length, set, refl, ◌∙◌}
 use Rattle.std.proofs.lemmas.List.{length-set}
 use Rattle.bimap_base.specs.Slots.{left_at, right_at, pair_count}
 use Rattle.bimap_btree.proofs.Listings.{side_of, listing-but, listing-added, listing-unequal, absent_written}

@@ -1,6 +1,6 @@
-use Rattle.std.proofs.Common.{◌≡◌, Some, length, set, refl, ap, ◌∙◌, is_some, arith}
+use Rattle.std.proofs.Common.{Some, length, set, refl, ap, ◌∙◌, is_some, arith}
 use Rattle.std.proofs.lemmas.List.{length-set}
-use Rattle.bimap_base.specs.Slots.{left_at, right_at, pair_count, pair_at}
+use Rattle.bimap_base.specs.Slots.{left_at, right_at, pair_count}
 use Rattle.bimap_btree.proofs.Bounds.{height-fewer}
 use Rattle.bimap_btree.proofs.Listings.{side_of, listing-alike, listing-but, listing-added, listing-unequal, absent_written}
 use Rattle.bimap_btree.proofs.Parted.{IsIndexed-from}

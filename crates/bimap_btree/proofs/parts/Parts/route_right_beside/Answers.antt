@@ -1,6 +1,5 @@
-use Rattle.std.proofs.Common.{arith, ◌≤◌, ap}
+use Rattle.std.proofs.Common.{arith, ap}
 use Rattle.bimap_base.specs.Slots.{pair_count}
-use Rattle.bimap_base.specs.Digits.{bits}
 use Rattle.bimap_btree.proofs.Bounds.{bits-some}
 use Rattle.bimap_btree.proofs.Slots.{count_of_live}
 use Rattle.bimap_btree.proofs.parts.Parts.route_right_beside.Goals as goal

@@ -1,4 +1,4 @@
-use Rattle.std.proofs.Common.{◌≡◌, ◌⊎◌, inl, inr, Some, None, is_some, set, ap, sym, ◌∙◌, refl}
+use Rattle.std.proofs.Common.{inl, inr, Some, None, is_some, set, ap, sym, ◌∙◌, refl}
 use Rattle.bimap_base.specs.declared.overwritten.Overwritten.TheVariants.{Neither, Left, Right, Pair, Both}
 use Rattle.bimap_btree.specs.Indexed.{Has}
 use Rattle.bimap_btree.proofs.Slots.{live_within}
