@@ -19,6 +19,15 @@ fn filled(alloc: Global, pairs: &[(char, u32)]) -> Seats {
     map
 }
 
+// A call each: what goes through them is proved without their contracts.
+fn right_of(map: &Seats, left: char) -> Option<u32> {
+    map.get_by_left(&left).copied()
+}
+
+fn left_of(map: &Seats, right: u32) -> Option<char> {
+    map.get_by_right(&right).copied()
+}
+
 fn holds(map: &Seats, pairs: &[(char, u32)]) -> bool {
     let mut walk = map.iter();
     for (left, right) in pairs {
@@ -30,7 +39,7 @@ fn holds(map: &Seats, pairs: &[(char, u32)]) -> bool {
             }
             None => return false,
         }
-        if map.get_by_left(left) != Some(right) || map.get_by_right(right) != Some(left) {
+        if right_of(map, *left) != Some(*right) || left_of(map, *right) != Some(*left) {
             return false;
         }
     }
@@ -46,7 +55,6 @@ fn answers(map: &mut Seats, table: &[((char, u32), Overwritten<char, u32>)]) -> 
     true
 }
 
-// The calls alone: a test that goes through them is proved without their contracts.
 fn put(map: &mut Seats, left: char, right: u32) -> Option<Overwritten<char, u32>> {
     map.insert(left, right).ok()
 }
@@ -57,14 +65,6 @@ fn without_left(map: &mut Seats, left: char) -> Option<(char, u32)> {
 
 fn without_right(map: &mut Seats, right: u32) -> Option<(char, u32)> {
     map.remove_by_right(&right)
-}
-
-fn right_of(map: &Seats, left: char) -> Option<u32> {
-    map.get_by_left(&left).copied()
-}
-
-fn left_of(map: &Seats, right: u32) -> Option<char> {
-    map.get_by_right(&right).copied()
 }
 
 fn has_left(map: &Seats, left: char) -> bool {

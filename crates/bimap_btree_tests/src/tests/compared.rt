@@ -50,15 +50,19 @@ fn stands_so(first: &Seats, second: &Seats, answer: Ordering) -> bool {
         && are_equal(first, second) == (answer == Ordering::Equal)
 }
 
+// The same from either side, and whether the first stands to itself as equal.
+fn stand_so(first: &Seats, second: &Seats, answer: Ordering) -> bool {
+    stands_so(first, second, answer)
+        && stands_so(second, first, answer.reverse())
+        && stands_so(first, first, Ordering::Equal)
+}
+
 // The number of the first row that does not hold.
 fn first_wrong(alloc: Global, rows: &[Row]) -> Result<Option<usize>, Fail> {
     for (number, (items, others, answer)) in rows.iter().enumerate() {
         let first = made(alloc, items)?;
         let second = made(alloc, others)?;
-        if !stands_so(&first, &second, *answer)
-            || !stands_so(&second, &first, answer.reverse())
-            || !stands_so(&first, &first, Ordering::Equal)
-        {
+        if !stand_so(&first, &second, *answer) {
             return Ok(Some(number));
         }
     }
@@ -139,11 +143,13 @@ fn equal_bimaps_are_one_member_of_a_set(rt: HostRuntime) -> Result<(), Fail> {
     Ok(())
 }
 
+fn is_same(first: &Digits, second: &Digits) -> bool {
+    first == second
+}
+
 // Whether two lists of items make equal bimaps.
 fn are_alike(alloc: Global, items: &[(u32, char)], others: &[(u32, char)]) -> Result<bool, Fail> {
-    let first = digits(alloc, items)?;
-    let second = digits(alloc, others)?;
-    Ok(first == second)
+    Ok(is_same(&digits(alloc, items)?, &digits(alloc, others)?))
 }
 
 #[test]
