@@ -51,6 +51,7 @@ pub struct RightOf<'a, L, R> {
 }
 
 impl<'a, L, R> LeftOf<'a, L, R> {
+    /// The lefts of this store. It takes no memory.
     pub fn new(pairs: &'a Pairs<L, R>) -> Self
         ensures { result.pairs.now ≡ pairs.now }
     {
@@ -59,6 +60,7 @@ impl<'a, L, R> LeftOf<'a, L, R> {
 }
 
 impl<'a, L, R> RightOf<'a, L, R> {
+    /// The rights of this store. It takes no memory.
     pub fn new(pairs: &'a Pairs<L, R>) -> Self
         ensures { result.pairs.now ≡ pairs.now }
     {

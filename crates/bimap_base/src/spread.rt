@@ -58,6 +58,7 @@ pub struct RightSpread<'a, L, R, S> {
 }
 
 impl<'a, L, R, S> LeftSpread<'a, L, R, S> {
+    /// The lefts of this store, numbered by this builder. It takes no memory.
     pub fn new(pairs: &'a Pairs<L, R>, builder: &'a S) -> Self
         ensures pairs { result.pairs.now ≡ pairs.now }
         ensures builder { result.builder.now ≡ builder.now }
@@ -67,6 +68,7 @@ impl<'a, L, R, S> LeftSpread<'a, L, R, S> {
 }
 
 impl<'a, L, R, S> RightSpread<'a, L, R, S> {
+    /// The rights of this store, numbered by this builder. It takes no memory.
     pub fn new(pairs: &'a Pairs<L, R>, builder: &'a S) -> Self
         ensures pairs { result.pairs.now ≡ pairs.now }
         ensures builder { result.builder.now ≡ builder.now }

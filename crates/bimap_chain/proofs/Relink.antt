@@ -1,7 +1,6 @@
 -- One place is listed, or taken out, and one link or head is written: the chains stand again.
-use Rattle.std.proofs.Common.{◌≡◌, ◌≢◌, ℕ, zero, suc, ◌+◌, ◌%◌, ◌<◌, ◌≤◌, Bool, true, false, List, [], ◌∷◌, length, Option, None, Some, refl, sym, ◌∙◌, ap, subst, arith, ◌⊎◌, inl, inr, add-one, get_or, eq-eqb, eqb-true, length-set, get_or-set_same, get_or-set_other}
+use Rattle.std.proofs.Common.{◌≡◌, ◌≢◌, ℕ, zero, suc, ◌+◌, ◌%◌, ◌<◌, ◌≤◌, true, false, List, [], ◌∷◌, length, Option, None, Some, refl, sym, ◌∙◌, ap, subst, arith, ◌⊎◌, inl, inr, eq-eqb, length-set, get_or-set_same, get_or-set_other}
 use Rattle.std.specs.Prelude.{◌^◌, slice_index_or, slice_set, IfSome}
-use Rattle.std.specs.Option.{MatchOption}
 use Rattle.bimap_chain.specs.Chains.{Numbers, number_at, is_of, last_below, NoneWithin, IsThreaded, IsListed, GoesOver, Links, link_or_head}
 use Rattle.bimap_chain.proofs.Below.{found, last_here, last_lower, same_last, skipped, same_above}
 use Rattle.bimap_chain.proofs.Walk.{leads, of_bucket}

@@ -1,5 +1,5 @@
 -- Places listed under numbers, and the chains that thread them.
-use Rattle.std.specs.Prelude.{◌≡◌, ℕ, zero, suc, ◌+◌, ◌%◌, ◌<◌, ◌≤◌, ◌^◌, Bool, true, false, List, length, Option, None, Some, slice_index_or, ◌==◌, if◌then◌else◌, IsSomeAnd, IsTrue, slice_set}
+use Rattle.std.specs.Prelude.{◌≡◌, ℕ, zero, suc, ◌+◌, ◌%◌, ◌<◌, ◌≤◌, Bool, true, false, List, length, Option, None, Some, slice_index_or, ◌==◌, if◌then◌else◌, IsSomeAnd, IsTrue, slice_set}
 use Rattle.std.specs.Option.{MatchOption}
 
 -- by place the number under which it is listed, or `None` where it is not

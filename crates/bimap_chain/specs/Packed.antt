@@ -1,5 +1,5 @@
 -- How the cells of a hashed index are kept. No public clause cites this module.
-use Rattle.std.specs.Prelude.{◌≡◌, ℕ, zero, suc, ◌*◌, ◌^◌, ◌<◌, ◌≤◌, List, map, length, Option, None, Some, ◌==◌, if◌then◌else◌, slice_index_or}
+use Rattle.std.specs.Prelude.{ℕ, ◌^◌, ◌<◌, ◌≤◌, List, map, length, Option, None, Some, ◌==◌, if◌then◌else◌}
 use Rattle.std.specs.Int.{IsPowerOfTwo}
 use Rattle.bimap_base.specs.Packed.{link_of}
 use Rattle.bimap_chain.specs.declared.threads.Cell.{Cell}

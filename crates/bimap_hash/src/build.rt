@@ -19,7 +19,7 @@ impl<L: Eq + Hash + Drop, R: Eq + Hash + Drop, LS: BuildHasher, RS: BuildHasher>
     /// Inserts each item in order. A later one may strike earlier ones.
     ///
     /// Nothing is reserved by a size hint. An `Err` hands the refused item back: those before it stay, and no more are
-    /// asked for.
+    /// asked for. Time is that of an insertion for each item, expected constant where the hashes spread.
     pub fn extend<I: IntoIterator<Item = (L, R)>>(
         &mut self,
         items: I,
@@ -33,7 +33,8 @@ impl<L: Eq + Hash + Drop, R: Eq + Hash + Drop, LS: BuildHasher, RS: BuildHasher>
 
     /// A bimap of the items with these builders, each item inserted in order. A later one may strike earlier ones.
     ///
-    /// Nothing is reserved by a size hint. An `Err` hands the refused item back, and there is no bimap.
+    /// Nothing is reserved by a size hint. An `Err` hands the refused item back, and there is no bimap. Time is that of
+    /// `extend`.
     pub fn from_iter_with_hashers<I: IntoIterator<Item = (L, R)>>(
         alloc: Global,
         left_builder: LS,
@@ -54,7 +55,8 @@ impl<L: Eq + Hash + Drop, R: Eq + Hash + Drop, LS: BuildHasher, RS: BuildHasher>
     /// A bimap of the items with builders of their types' defaults, each item inserted in order. A later one may strike
     /// earlier ones.
     ///
-    /// Nothing is reserved by a size hint. An `Err` hands the refused item back, and there is no bimap.
+    /// Nothing is reserved by a size hint. An `Err` hands the refused item back, and there is no bimap. Time is that of
+    /// `extend`.
     pub fn from_iter<I: IntoIterator<Item = (L, R)>>(
         alloc: Global,
         items: I,

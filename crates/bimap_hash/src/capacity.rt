@@ -10,7 +10,8 @@ use std::hash::{BuildHasher, BuildHasherDefault, Hash};
 impl<L: Eq + Hash + Drop, R: Eq + Hash + Drop> BiHashMap<L, R> {
     ghost use Rattle.bimap_hash.specs.Held.{holding};
 
-    /// The empty bimap of exactly this capacity. A refusal makes nothing.
+    /// The empty bimap of exactly this capacity, in time in proportion to it. At 0 it takes no memory. A refusal makes
+    /// nothing.
     pub fn with_capacity(alloc: Global, capacity: usize) -> Result<Self, NoMemory>
         ensures pairs { IfOk result (λ bimap. (holding bimap).pairs ≡ []) }
         ensures room { IfOk result (λ bimap. (holding bimap).room ≡ capacity) }
@@ -25,7 +26,8 @@ impl<L: Eq + Hash + Drop, R: Eq + Hash + Drop> BiHashMap<L, R> {
 impl<L: Eq + Hash, R: Eq + Hash, LS: BuildHasher, RS: BuildHasher> BiHashMap<L, R, LS, RS> {
     ghost use Rattle.bimap_hash.specs.Held.{holding};
 
-    /// The empty bimap of exactly this capacity, and with these builders. A refusal makes nothing.
+    /// The empty bimap of exactly this capacity, and with these builders, in time in proportion to it. At 0 it takes no
+    /// memory. A refusal makes nothing.
     pub fn with_capacity_and_hashers(
         alloc: Global,
         capacity: usize,
@@ -49,7 +51,8 @@ impl<L: Eq + Hash, R: Eq + Hash, LS: BuildHasher, RS: BuildHasher> BiHashMap<L, 
     }
 
     /// Makes the capacity at least the length plus `more`, exactly. Where it is so already, nothing changes and no memory
-    /// is taken. A refusal changes nothing.
+    /// is taken. A refusal changes nothing, but an index may keep the cells that it got. Time is in proportion to the new
+    /// capacity.
     pub fn reserve(&mut self, more: usize) -> Result<(), NoMemory>
         ensures { IsReservation (holding self.old) more result (holding self.new) }
     {

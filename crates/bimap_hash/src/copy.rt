@@ -19,7 +19,7 @@ impl<
     /// to equal it.
     ///
     /// Memory for the whole capacity is taken at once, beside what the clones take. Where some is refused, there is no
-    /// copy.
+    /// copy. Time is in proportion to the capacity where the hashes spread, at worst to the square of the length.
     pub fn clone(&self) -> Result<Self, NoMemory>
         requires { AreClonesEqual L.is_clone R.is_clone L.eq R.eq (holding self.now).pairs }
         ensures pairs { IfOk result (λ copy. IsCopy L.is_clone R.is_clone L.eq R.eq (holding self.now).pairs (holding copy).pairs) }

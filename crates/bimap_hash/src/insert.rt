@@ -50,8 +50,11 @@ impl<L: Eq + Hash, R: Eq + Hash, LS: BuildHasher, RS: BuildHasher> BiHashMap<L, 
         }
     }
 
-    /// Inserts a pair where the policy lets it overwrite what it shares a value with. A refusal changes nothing. It
-    /// takes memory only where it strikes nothing and no place is free.
+    /// Inserts a pair where the policy lets it overwrite what it shares a value with.
+    ///
+    /// It takes memory only where it strikes none and as many pairs are held as there is room for: the room doubles
+    /// then. An `Err` hands the pair back, and nothing has changed. Expected constant time where the hashes spread, at
+    /// worst the length; an insertion that makes room takes time in proportion to it.
     pub fn insert_with(
         &mut self,
         left: L,
@@ -98,7 +101,10 @@ impl<L: Eq + Hash, R: Eq + Hash, LS: BuildHasher, RS: BuildHasher> BiHashMap<L, 
         }
     }
 
-    /// Inserts a pair, and answers the pairs that it strikes out. Where it strikes any, it takes no memory.
+    /// Inserts a pair, and answers the pairs that it strikes out, in the time of `insert_with`.
+    ///
+    /// It takes memory only where it strikes none and as many pairs are held as there is room for. An `Err` hands the
+    /// pair back, and nothing has changed.
     pub fn insert(&mut self, left: L, right: R) -> Result<Overwritten<L, R>, NoRoom<L, R>>
         ensures { IsInsertion L.eq R.eq (holding self.old) (left, right) result (holding self.new) }
     {
@@ -113,7 +119,10 @@ impl<L: Eq + Hash, R: Eq + Hash, LS: BuildHasher, RS: BuildHasher> BiHashMap<L, 
         }
     }
 
-    /// Inserts a pair of which neither value is held. A refusal changes nothing.
+    /// Inserts a pair of which neither value is held, in the time of `insert_with`.
+    ///
+    /// It takes memory only where as many pairs are held as there is room for. An `Err` hands the pair back, and nothing
+    /// has changed.
     pub fn insert_no_overwrite(&mut self, left: L, right: R) -> Result<(), NotInserted<L, R>>
     where
         L: Drop,

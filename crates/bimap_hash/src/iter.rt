@@ -56,7 +56,7 @@ impl<'a, L, R> Iter<'a, L, R> {
         }
     }
 
-    /// How many pairs are left.
+    /// How many pairs are left, in constant time.
     pub fn len(&self) -> usize
         ensures { result ≡ length self.now }
     {
@@ -86,8 +86,8 @@ impl<'a, L, R> Iterator for Iter<'a, L, R> {
         ensures upper { IfSome result.1 (UpTo (at_most (length self.now))) }
         ensures exact { result ≡ (length self.now, Some (length self.now)) }
     {
-        let len = self.len();
-        (len, Some(len))
+        let pairs = self.len();
+        (pairs, Some(pairs))
     }
 }
 
@@ -127,7 +127,7 @@ impl<'a, L, R> LeftValues<'a, L, R> {
         LeftValues { pairs }
     }
 
-    /// How many are left.
+    /// How many lefts are left, in constant time.
     pub fn len(&self) -> usize
         ensures { result ≡ length self.now }
     {
@@ -152,8 +152,8 @@ impl<'a, L, R> Iterator for LeftValues<'a, L, R> {
         ensures upper { IfSome result.1 (UpTo (at_most (length self.now))) }
         ensures exact { result ≡ (length self.now, Some (length self.now)) }
     {
-        let len = self.len();
-        (len, Some(len))
+        let lefts = self.len();
+        (lefts, Some(lefts))
     }
 }
 
@@ -191,7 +191,7 @@ impl<'a, L, R> RightValues<'a, L, R> {
         RightValues { pairs }
     }
 
-    /// How many are left.
+    /// How many rights are left, in constant time.
     pub fn len(&self) -> usize
         ensures { result ≡ length self.now }
     {
@@ -216,8 +216,8 @@ impl<'a, L, R> Iterator for RightValues<'a, L, R> {
         ensures upper { IfSome result.1 (UpTo (at_most (length self.now))) }
         ensures exact { result ≡ (length self.now, Some (length self.now)) }
     {
-        let len = self.len();
-        (len, Some(len))
+        let rights = self.len();
+        (rights, Some(rights))
     }
 }
 
@@ -264,7 +264,7 @@ impl<L, R> IntoIter<L, R> {
         }
     }
 
-    /// How many pairs are left.
+    /// How many pairs are left, in constant time.
     pub fn len(&self) -> usize
         ensures { result ≡ length self.now }
     {
@@ -294,7 +294,7 @@ impl<L: Drop, R: Drop> Iterator for IntoIter<L, R> {
         ensures upper { IfSome result.1 (UpTo (at_most (length self.now))) }
         ensures exact { result ≡ (length self.now, Some (length self.now)) }
     {
-        let len = self.len();
-        (len, Some(len))
+        let owned = self.len();
+        (owned, Some(owned))
     }
 }

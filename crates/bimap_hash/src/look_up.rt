@@ -12,21 +12,21 @@ use std::hash::{BuildHasher, Hash};
 impl<L: Eq + Hash, R: Eq + Hash, LS: BuildHasher, RS: BuildHasher> BiHashMap<L, R, LS, RS> {
     ghost use Rattle.bimap_hash.specs.Held.{holding};
 
-    /// The number of pairs.
+    /// The number of pairs, in constant time.
     pub fn len(&self) -> usize
         ensures { result ≡ length (holding self.now).pairs }
     {
         self.pairs.len()
     }
 
-    /// Whether no pair is held.
+    /// Whether no pair is held, in constant time.
     pub fn is_empty(&self) -> bool
         ensures { result ≡ length (holding self.now).pairs == 0 }
     {
         self.len() == 0
     }
 
-    /// The number of places for pairs.
+    /// The number of places for pairs, in constant time.
     pub fn capacity(&self) -> usize
         ensures { result ≡ (holding self.now).room }
     {
@@ -66,6 +66,8 @@ impl<L: Eq + Hash, R: Eq + Hash, LS: BuildHasher, RS: BuildHasher> BiHashMap<L, 
     }
 
     /// The partner of a left, or `None` where it is not held.
+    ///
+    /// Expected constant time where the hashes spread, at worst the length.
     pub fn get_by_left(&self, left: &L) -> Option<&R>
         ensures { IsFoundByLeft L.eq (holding self.now) left.now result }
     {
@@ -79,6 +81,8 @@ impl<L: Eq + Hash, R: Eq + Hash, LS: BuildHasher, RS: BuildHasher> BiHashMap<L, 
     }
 
     /// The partner of a right, or `None` where it is not held.
+    ///
+    /// Expected constant time where the hashes spread, at worst the length.
     pub fn get_by_right(&self, right: &R) -> Option<&L>
         ensures { IsFoundByRight R.eq (holding self.now) right.now result }
     {
@@ -91,14 +95,14 @@ impl<L: Eq + Hash, R: Eq + Hash, LS: BuildHasher, RS: BuildHasher> BiHashMap<L, 
         }
     }
 
-    /// Whether the left is held.
+    /// Whether the left is held, in the time of `get_by_left`.
     pub fn contains_left(&self, left: &L) -> bool
         ensures { MatchBool result (HasLeft L.eq (Contains (holding self.now).pairs) left.now) (LacksLeft L.eq (Contains (holding self.now).pairs) left.now) }
     {
         self.get_by_left(left).is_some()
     }
 
-    /// Whether the right is held.
+    /// Whether the right is held, in the time of `get_by_right`.
     pub fn contains_right(&self, right: &R) -> bool
         ensures { MatchBool result (HasRight R.eq (Contains (holding self.now).pairs) right.now) (LacksRight R.eq (Contains (holding self.now).pairs) right.now) }
     {

@@ -39,7 +39,7 @@ pub struct BiHashMap<
 impl<L: Eq + Hash, R: Eq + Hash> BiHashMap<L, R> {
     ghost use Rattle.bimap_hash.specs.Held.{holding};
 
-    /// The empty bimap, without places. It takes no memory.
+    /// The empty bimap, without places. It takes no memory, and constant time.
     pub fn new(alloc: Global) -> Self
         ensures pairs { (holding result).pairs ≡ [] }
         ensures room { (holding result).room ≡ 0 }
@@ -51,7 +51,7 @@ impl<L: Eq + Hash, R: Eq + Hash> BiHashMap<L, R> {
 impl<L: Eq + Hash, R: Eq + Hash, LS: BuildHasher, RS: BuildHasher> BiHashMap<L, R, LS, RS> {
     ghost use Rattle.bimap_hash.specs.Held.{holding};
 
-    /// The empty bimap, without places, and with these builders. It takes no memory.
+    /// The empty bimap, without places, and with these builders. It takes no memory, and constant time.
     pub fn with_hashers(alloc: Global, left_builder: LS, right_builder: RS) -> Self
         ensures pairs { (holding result).pairs ≡ [] }
         ensures room { (holding result).room ≡ 0 }

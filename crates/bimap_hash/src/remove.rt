@@ -9,7 +9,9 @@ use std::hash::{BuildHasher, Hash};
 impl<L: Eq + Hash, R: Eq + Hash, LS: BuildHasher, RS: BuildHasher> BiHashMap<L, R, LS, RS> {
     ghost use Rattle.bimap_hash.specs.Held.{holding};
 
-    /// Takes out the pair of a left, or answers `None` where it is not held.
+    /// Takes out the pair of a left, or answers `None` where it is not held. The room stays.
+    ///
+    /// Expected constant time where the hashes spread, at worst the length.
     pub fn remove_by_left(&mut self, left: &L) -> Option<(L, R)>
         ensures { IsRemovalByLeft L.eq (holding self.old) left.now result (holding self.new) }
     {
@@ -19,7 +21,9 @@ impl<L: Eq + Hash, R: Eq + Hash, LS: BuildHasher, RS: BuildHasher> BiHashMap<L, 
         }
     }
 
-    /// Takes out the pair of a right, or answers `None` where it is not held.
+    /// Takes out the pair of a right, or answers `None` where it is not held. The room stays.
+    ///
+    /// Expected constant time where the hashes spread, at worst the length.
     pub fn remove_by_right(&mut self, right: &R) -> Option<(L, R)>
         ensures { IsRemovalByRight R.eq (holding self.old) right.now result (holding self.new) }
     {
@@ -29,7 +33,7 @@ impl<L: Eq + Hash, R: Eq + Hash, LS: BuildHasher, RS: BuildHasher> BiHashMap<L, 
         }
     }
 
-    /// Drops all pairs. The places stay.
+    /// Drops all pairs. The room stays. It takes no memory, and time in proportion to the capacity.
     pub fn clear(&mut self)
     where
         L: Drop,

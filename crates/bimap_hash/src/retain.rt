@@ -23,7 +23,9 @@ impl<L: Eq + Hash, R: Eq + Hash, LS: BuildHasher, RS: BuildHasher> BiHashMap<L, 
     }
 
     /// Calls the closure once on each pair, in the order of the places, and takes out those on which it answers false.
-    /// It takes no memory.
+    ///
+    /// It takes no memory, and the room stays. Time is in proportion to the capacity where the hashes spread, and at worst
+    /// the length more for each pair that is taken out.
     pub fn retain<F: FnMut(&L, &R) -> bool>(&mut self, mut f: F)
     where
         L: Drop,

@@ -16,8 +16,8 @@ impl<L: Eq + Hash, R: Eq + Hash, LS: BuildHasher, RS: BuildHasher> BiHashMap<L, 
 
     /// Takes out the pair of a left and answers it, and holds the pairs of the answer instead.
     ///
-    /// Only where the answer is `Both` and no place is free does it take memory. An `Err` hands the answer back, and
-    /// nothing has changed.
+    /// Only where the answer is `Both` and as many pairs are held as there is room for does it take memory. An `Err`
+    /// hands the answer back, and nothing has changed. Time is that of an insertion.
     pub fn undo_insert(
         &mut self,
         left: &L,
@@ -76,6 +76,8 @@ impl<L: Eq + Hash, R: Eq + Hash, LS: BuildHasher, RS: BuildHasher> BiHashMap<L, 
     }
 
     /// Whether the insertion that gave this answer for this left may be undone.
+    ///
+    /// It takes no memory. Expected constant time where the hashes spread, at worst the length.
     pub fn can_undo_insert(&self, left: &L, answer: &Overwritten<L, R>) -> bool
         ensures { MatchBool result (IsUndoable L.eq R.eq (Contains (holding self.now).pairs) left.now answer.now) (IsUndoable L.eq R.eq (Contains (holding self.now).pairs) left.now answer.now → ⊥) }
     {

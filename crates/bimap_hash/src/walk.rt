@@ -43,7 +43,7 @@ impl<'a, L: Eq + Hash, R: Eq + Hash, LS: BuildHasher, RS: BuildHasher> IntoItera
     ghost into_iter_gives = { λ m r. (r ≡ (holding m.now).pairs) × ShowsInOrder (deref_pair {K = L} {X = R}) };
 
     fn into_iter(self) -> Iter<'a, L, R> {
-        self.iter()
+        BiHashMap::iter(self)
     }
 }
 

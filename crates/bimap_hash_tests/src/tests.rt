@@ -1,5 +1,5 @@
 //! What no clause says: worked histories, under several builders. The histories are the same for each.
-use bimap_base::Overwritten;
+use bimap_base::{Bijection, Overwritten};
 use bimap_hash::BiHashMap;
 use std::alloc::Global;
 use std::hash::{BuildHasher, Hasher};
@@ -67,17 +67,14 @@ fn holds<LS: BuildHasher, RS: BuildHasher>(
     map.len() == pairs.len() && walked == pairs.len()
 }
 
-fn put_all<LS: BuildHasher, RS: BuildHasher>(
-    map: &mut BiHashMap<char, u32, LS, RS>,
-    pairs: &[(char, u32)],
-) {
+fn put_all<B: Bijection<char, u32>>(map: &mut B, pairs: &[(char, u32)]) {
     for (left, right) in pairs {
         let _ = map.insert(*left, *right);
     }
 }
 
-fn answers<LS: BuildHasher, RS: BuildHasher>(
-    map: &mut BiHashMap<char, u32, LS, RS>,
+fn answers<B: Bijection<char, u32>>(
+    map: &mut B,
     table: &[((char, u32), Overwritten<char, u32>)],
 ) -> bool {
     for ((left, right), answer) in table {

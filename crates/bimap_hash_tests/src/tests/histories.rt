@@ -133,16 +133,20 @@ const OFFERS: [Offer; 10] = [
     (('d', 4), KEEP, Ok(Overwritten::Neither), 2),
 ];
 
-fn obeys_policies<LS: BuildHasher, RS: BuildHasher>(
-    map: &mut BiHashMap<char, u32, LS, RS>,
-    table: &[Offer],
-) -> bool {
+fn obeys<B: Bijection<char, u32>>(map: &mut B, table: &[Offer]) -> bool {
     for ((left, right), policy, answer, length) in table {
         if map.insert_with(*left, *right, *policy) != *answer || map.len() != *length {
             return false;
         }
     }
-    holds(map, &[('a', 2), ('d', 4)])
+    true
+}
+
+fn obeys_policies<LS: BuildHasher, RS: BuildHasher>(
+    map: &mut BiHashMap<char, u32, LS, RS>,
+    table: &[Offer],
+) -> bool {
+    obeys(map, table) && holds(map, &[('a', 2), ('d', 4)])
 }
 
 #[test]
@@ -151,7 +155,7 @@ fn inserts_under_a_policy(rt: HostRuntime) {
     assert!(&rt; obeys_policies(&mut crowded(rt.alloc()), &OFFERS));
 }
 
-fn removes_once<LS: BuildHasher, RS: BuildHasher>(map: &mut BiHashMap<char, u32, LS, RS>) -> bool {
+fn removes_once<B: Bijection<char, u32>>(map: &mut B) -> bool {
     map.remove_by_right(&2) == Some(('b', 2))
         && map.remove_by_right(&2).is_none()
         && map.remove_by_left(&'c') == Some(('c', 3))
@@ -187,7 +191,7 @@ fn removes_from_both_sides(rt: HostRuntime) {
 }
 
 // Retains the pair of the first call alone, and answers how many calls there were.
-fn retain_first<LS: BuildHasher, RS: BuildHasher>(map: &mut BiHashMap<char, u32, LS, RS>) -> u32 {
+fn retain_first<B: Bijection<char, u32>>(map: &mut B) -> u32 {
     let calls = Cell::new(0u32);
     map.retain(|_, _| {
         calls.set(calls.get().wrapping_add(1));
@@ -293,10 +297,7 @@ const UNDOINGS: [Undoing; 8] = [
     ('a', Overwritten::Left('c', 1), false),
 ];
 
-fn tells<LS: BuildHasher, RS: BuildHasher>(
-    map: &BiHashMap<char, u32, LS, RS>,
-    table: &[Undoing],
-) -> bool {
+fn tells<B: Bijection<char, u32>>(map: &B, table: &[Undoing]) -> bool {
     for (left, answer, is_undoable) in table {
         if map.can_undo_insert(left, answer) != *is_undoable {
             return false;
@@ -349,7 +350,10 @@ fn renames<B: Bijection<char, u32>>(bimap: &mut B) -> bool {
         && bimap.contains_right(&1)
         && bimap.get_by_left(&'c') == Some(&2)
         && bimap.get_by_right(&2) == Some(&'c')
-        && bimap.remove_by_left(&'a') == Some(('a', 1))
+}
+
+fn takes_back<B: Bijection<char, u32>>(bimap: &mut B) -> bool {
+    bimap.remove_by_left(&'a') == Some(('a', 1))
         && bimap.can_undo_insert(&'c', &Overwritten::Right('b', 2))
         && bimap.undo_insert(&'c', Overwritten::Right('b', 2)) == Ok(('c', 2))
         && bimap.remove_by_right(&2) == Some(('b', 2))
@@ -358,5 +362,7 @@ fn renames<B: Bijection<char, u32>>(bimap: &mut B) -> bool {
 
 #[test]
 fn is_a_bijection(rt: HostRuntime) {
-    assert!(&rt; renames(&mut plain(rt.alloc())));
+    let mut map = plain(rt.alloc());
+    assert!(&rt; renames(&mut map));
+    assert!(&rt; takes_back(&mut map));
 }

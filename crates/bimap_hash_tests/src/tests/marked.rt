@@ -1,7 +1,6 @@
 //! Equal values that carry other data.
-use bimap_base::Overwritten;
+use bimap_base::{Bijection, Overwritten};
 use bimap_hash::BiHashMap;
-use std::hash::BuildHasher;
 
 // Equal by its name alone.
 #[derive(Clone, Copy, Debug, Drop)]
@@ -20,9 +19,7 @@ fn has_mark(found: Option<&Marked>, mark: u32) -> bool {
     found.is_some_and(|found| found.mark == mark)
 }
 
-fn replaces_a_value<LS: BuildHasher, RS: BuildHasher>(
-    map: &mut BiHashMap<Marked, u32, LS, RS>,
-) -> bool {
+fn replaces_a_value<B: Bijection<Marked, u32>>(map: &mut B) -> bool {
     if map.insert(value_marked('a', 1), 99) != Ok(Overwritten::Neither) {
         return false;
     }
@@ -38,9 +35,7 @@ fn equal_values_are_replaced(rt: HostRuntime) {
     assert!(&rt; replaces_a_value(&mut map));
 }
 
-fn holds_the_second<LS: BuildHasher, RS: BuildHasher>(
-    map: &mut BiHashMap<Marked, Marked, LS, RS>,
-) -> bool {
+fn holds_the_second<B: Bijection<Marked, Marked>>(map: &mut B) -> bool {
     if !has_mark(map.get_by_left(&value_marked('a', 9)), 2)
         || !has_mark(map.get_by_right(&value_marked('x', 9)), 2)
     {
@@ -52,9 +47,7 @@ fn holds_the_second<LS: BuildHasher, RS: BuildHasher>(
     left.mark == 2 && right.mark == 2
 }
 
-fn replaces_a_pair<LS: BuildHasher, RS: BuildHasher>(
-    map: &mut BiHashMap<Marked, Marked, LS, RS>,
-) -> bool {
+fn replaces_a_pair<B: Bijection<Marked, Marked>>(map: &mut B) -> bool {
     if map.insert(value_marked('a', 1), value_marked('x', 1)) != Ok(Overwritten::Neither) {
         return false;
     }
@@ -71,9 +64,7 @@ fn equal_pairs_are_replaced(rt: HostRuntime) {
     assert!(&rt; replaces_a_pair(&mut map));
 }
 
-fn undoes_to_the_first<LS: BuildHasher, RS: BuildHasher>(
-    map: &mut BiHashMap<Marked, u32, LS, RS>,
-) -> bool {
+fn undoes_to_the_first<B: Bijection<Marked, u32>>(map: &mut B) -> bool {
     let _ = map.insert(value_marked('a', 1), 1);
     let Ok(answer) = map.insert(value_marked('a', 2), 1) else {
         return false;

@@ -4,7 +4,7 @@ ghost use Rattle.std.specs.Prelude.{length};
 
 use super::{THREE, Zero, crowded, holds, plain, put_all};
 use bimap_base::ExtendStopped;
-use bimap_hash::BiHashMap;
+use bimap_hash::{BiHashMap, Iter};
 use std::alloc::{AllocError, Global};
 use std::hash::BuildHasher;
 
@@ -176,15 +176,21 @@ fn walks_give_each_pair_once(rt: HostRuntime) {
     assert!(&rt; gives_owned(rt.alloc(), map, &HELD) == Ok(true));
 }
 
+fn ends_for_good(mut walk: Iter<'_, char, u32>) -> bool {
+    walk.next().is_some()
+        && walk.next().is_some()
+        && walk.next().is_none()
+        && walk.next().is_none()
+        && walk.len() == 0
+        && walk.size_hint() == (0, Some(0))
+}
+
 fn walks_to_the_end<LS: BuildHasher, RS: BuildHasher>(
     map: &BiHashMap<char, u32, LS, RS>,
 ) -> Result<bool, AllocError> {
     let mut walk = map.iter();
     let begins = walk.len() == 3 && walk.next().is_some() && walk.len() == 2;
-    let mut copy = walk.clone()?;
-    let goes_on = copy.next().is_some() && copy.next().is_some() && copy.next().is_none();
-    let stays = copy.next().is_none() && copy.len() == 0 && copy.size_hint() == (0, Some(0));
-    Ok(begins && goes_on && stays && walk.len() == 2)
+    Ok(begins && ends_for_good(walk.clone()?) && walk.len() == 2)
 }
 
 fn walks_either_side<LS: BuildHasher, RS: BuildHasher>(

@@ -1,4 +1,4 @@
-use Rattle.std.proofs.Common.{◌≡◌, arith}
+use Rattle.std.proofs.Common.{arith}
 use Rattle.bimap_chain.proofs.threads.heads_for.Goals as goal
 
 pub returns-then-cells-heads-clause-sized : goal.returns-then-cells-heads-clause-sized

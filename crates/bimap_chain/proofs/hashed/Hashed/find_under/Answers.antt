@@ -1,4 +1,4 @@
-use Rattle.std.proofs.Common.{◌≡◌, ℕ, ◌<◌, ◌∙◌, ◌%◌, Bool, length, arith, sym, None, Some, ap, subst}
+use Rattle.std.proofs.Common.{◌∙◌, Bool, length, arith, sym, ap, subst}
 use Rattle.std.specs.Prelude.{IsTrue}
 use Rattle.bimap_chain.specs.Chains.{number_at, Matches, AreNumbered}
 use Rattle.bimap_chain.specs.Packed.{numbers_of, links_of, heads_of}

@@ -1,4 +1,4 @@
-use Rattle.std.proofs.Common.{◌≡◌, ◌<◌, ◌≤◌, ◌∙◌, ◌+◌, suc, length, arith, sym, refl, subst, ap, None, Some, map}
+use Rattle.std.proofs.Common.{◌≡◌, ◌<◌, ◌∙◌, suc, length, arith, sym, subst, ap, Some, map}
 use Rattle.std.proofs.lemmas.List.{length-map}
 use Rattle.bimap_base.specs.Packed.{link_of}
 use Rattle.bimap_chain.specs.Chains.{number_at, IsThreaded, Links}

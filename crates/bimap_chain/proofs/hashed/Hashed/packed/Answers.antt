@@ -1,4 +1,4 @@
-use Rattle.std.proofs.Common.{◌≡◌, ◌<◌, ◌+◌, ◌∷◌, ◌++◌, ◌∙◌, [], length, take, ap, sym, arith, Some, None, length-append}
+use Rattle.std.proofs.Common.{◌<◌, ◌∷◌, ◌∙◌, [], length, take, ap, sym, arith, Some, length-append}
 use Rattle.std.specs.Prelude.{slice_set}
 use Rattle.bimap_base.specs.Places.{pairs_in, packed}
 use Rattle.bimap_base.proofs.Packing.{length-packed}

@@ -1,7 +1,7 @@
-use Rattle.std.proofs.Common.{◌≡◌, ◌<◌, ◌≤◌, ◌∙◌, ◌+◌, suc, length, arith, sym, refl, subst, ap, None, Some, map}
+use Rattle.std.proofs.Common.{◌≡◌, ◌∙◌, length, arith, sym, subst, ap, map}
 use Rattle.std.proofs.lemmas.List.{length-map}
 use Rattle.bimap_base.specs.Packed.{link_of}
-use Rattle.bimap_chain.specs.Chains.{number_at, IsThreaded, Links}
+use Rattle.bimap_chain.specs.Chains.{IsThreaded, Links}
 use Rattle.bimap_chain.specs.Packed.{number_in, numbers_of, links_of, heads_of}
 use Rattle.bimap_chain.proofs.Sized.{as_sized}
 use Rattle.bimap_chain.proofs.Relink.{few, over_listed, listed_within, unlisted}

@@ -1,4 +1,4 @@
-use Rattle.std.proofs.Common.{◌≡◌, ◌<◌, ◌∙◌, ◌%◌, length, arith, ap, sym}
+use Rattle.std.proofs.Common.{◌∙◌, ◌%◌, length, arith, ap, sym}
 use Rattle.std.proofs.lemmas.List.{length-map}
 use Rattle.bimap_base.specs.Packed.{link_of}
 use Rattle.bimap_chain.proofs.Kept.{masked}

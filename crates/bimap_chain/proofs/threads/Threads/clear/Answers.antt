@@ -1,4 +1,4 @@
-use Rattle.std.proofs.Common.{◌≡◌, ◌∙◌, ap, sym, replicate, map, None, length, arith}
+use Rattle.std.proofs.Common.{◌∙◌, ap, replicate, map, None, arith}
 use Rattle.std.proofs.lemmas.List.{length-map}
 use Rattle.bimap_chain.specs.Packed.{number_in}
 use Rattle.bimap_chain.proofs.Kept.{map-replicated}

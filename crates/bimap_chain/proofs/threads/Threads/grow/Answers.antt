@@ -1,4 +1,4 @@
-use Rattle.std.proofs.Common.{◌≡◌, ◌≤◌, ◌∙◌, ◌++◌, replicate, length, take, ap, sym, refl, arith, None, ◌-◌}
+use Rattle.std.proofs.Common.{◌∙◌, length, ap, refl, arith}
 use Rattle.std.proofs.lemmas.List.{length-map}
 use Rattle.bimap_chain.specs.Packed.{number_in}
 use Rattle.bimap_chain.proofs.Kept.{extended}

@@ -1,5 +1,5 @@
-use Rattle.std.proofs.Common.{◌≡◌, ◌<◌, length, arith, sym, None, Some}
-use Rattle.bimap_chain.proofs.Walk.{came_to, stepped, started, ended_none, ended_some}
+use Rattle.std.proofs.Common.{arith}
+use Rattle.bimap_chain.proofs.Walk.{came_to, stepped, ended_none, ended_some}
 use Rattle.bimap_chain.proofs.threads.Threads.over.Goals as goal
 
 pub next-at-requires : goal.next-at-requires

@@ -1,10 +1,8 @@
-use Rattle.std.proofs.Common.{◌≡◌, ◌<◌, ◌∙◌, ℕ, length, ap, sym, refl, subst, arith}
+use Rattle.std.proofs.Common.{◌∙◌, ap, refl, arith}
 use Rattle.std.specs.Prelude.{slice_set}
-use Rattle.std.specs.Prelude.{IfSome}
 use Rattle.std.proofs.lemmas.List.{map-set, length-map}
 use Rattle.bimap_base.specs.Packed.{link_of}
-use Rattle.bimap_chain.specs.Chains.{IsListed, Links}
-use Rattle.bimap_chain.specs.Packed.{number_in, next_in, numbers_of, links_of, heads_of}
+use Rattle.bimap_chain.specs.Packed.{number_in, links_of, heads_of}
 use Rattle.bimap_chain.proofs.Kept.{relinked_cell, link_written}
 use Rattle.bimap_chain.proofs.threads.Threads.set_link.Goals as goal
 

@@ -1,9 +1,8 @@
-use Rattle.std.proofs.Common.{◌≡◌, ◌<◌, ◌≤◌, ◌∙◌, ◌+◌, length, ap, sym, refl, subst, arith, add-one, None, Some, map}
+use Rattle.std.proofs.Common.{◌≡◌, ◌<◌, ◌∙◌, ◌+◌, length, ap, sym, refl, subst, arith, add-one, None, Some, map}
 use Rattle.std.specs.Prelude.{slice_index_or, slice_set}
-use Rattle.std.proofs.lemmas.List.{length-map, length-replicate}
+use Rattle.std.proofs.lemmas.List.{length-map}
 use Rattle.bimap_base.specs.Packed.{link_of}
-use Rattle.bimap_chain.specs.Packed.{number_in, next_in, numbers_of, links_of, heads_of, IsSized}
-use Rattle.bimap_chain.specs.declared.threads.Threads.{Threads}
+use Rattle.bimap_chain.specs.Packed.{number_in, next_in, numbers_of, links_of, heads_of}
 use Rattle.bimap_chain.proofs.Kept.{empty, set_same}
 use Rattle.bimap_chain.proofs.Sized.{as_sized}
 use Rattle.bimap_chain.proofs.Relink.{few}

@@ -1,4 +1,3 @@
-use Rattle.std.proofs.Common.{◌≡◌, ◌∙◌, ap}
 use Rattle.std.proofs.lemmas.List.{map-set}
 use Rattle.bimap_chain.specs.Packed.{number_in, next_in}
 use Rattle.bimap_chain.proofs.threads.Threads.unlist.Goals as goal

@@ -1,4 +1,4 @@
-use Rattle.std.proofs.Common.{refl, sym, ◌∙◌, subst, ◌∷◌}
+use Rattle.std.proofs.Common.{refl, sym, ◌∙◌, subst}
 use Rattle.std.proofs.lemmas.Bool.{false≢true}
 use Rattle.bimap_base.proofs.Meeting.{IsMetUpTo, met_more, met_all, unmet, unlike_long}
 use Rattle.bimap_hash.specs.Held.{holding}

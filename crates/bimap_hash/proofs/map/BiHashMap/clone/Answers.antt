@@ -1,4 +1,4 @@
-use Rattle.std.proofs.Common.{arith, subst, sym, ◌∙◌, ◌∷◌}
+use Rattle.std.proofs.Common.{arith, subst, sym, ◌∙◌}
 use Rattle.bimap_base.proofs.Copying.{IsCopiedUpTo, copied_none, copied_more, copied_all}
 use Rattle.bimap_hash.specs.Held.{holding}
 use Rattle.bimap_hash.proofs.map.BiHashMap.clone.Goals as goal
