@@ -1,6 +1,8 @@
-//! Rows of calls with the answers that they must give, over the ordered bimap and one that is looked through one by one.
+//! Rows of calls with the answers that they must give, over the ordered bimap, the hashed one, a hashed one whose keys all
+//! have one hash number, and one that is looked through one by one.
 
-use bimap::{BiBTreeMap, Bijection, NoRoom};
+use bimap::{BiBTreeMap, BiHashMap, Bijection, NoRoom};
+use bimap_calls::{crowded, shows};
 use bimap_famine::Famine;
 use bimap_plain::Plain;
 use bimap_undo::{CopyLeft, Operation, Undoable, there_and_back};
@@ -34,18 +36,12 @@ const OF_REMOVALS: [Row<char, i32>; 5] = [
 ];
 
 /// Whether these pairs alone are held, as seen from both sides, and this many changes are recorded.
-fn shows<B: Bijection<L, R> + Drop, L: CopyLeft + Copy + Drop, R: Eq + Copy + Drop>(
+fn stands<B: Bijection<L, R> + Drop, L: CopyLeft + Copy + Drop, R: Eq + Copy + Drop>(
     undoable: &Undoable<B, L, R>,
     pairs: &[(L, R)],
     mark: usize,
 ) -> bool {
-    let bimap = undoable.held();
-    for (left, right) in pairs {
-        if bimap.get_by_left(left) != Some(right) || bimap.get_by_right(right) != Some(left) {
-            return false;
-        }
-    }
-    undoable.mark() == mark && bimap.len() == pairs.len()
+    undoable.mark() == mark && shows(undoable.held(), pairs)
 }
 
 /// Performs an operation. `None` is a refusal.
@@ -73,7 +69,7 @@ fn first_wrong<B: Bijection<L, R> + Drop, L: CopyLeft + Copy + Drop, R: Eq + Cop
     rows: &[Row<L, R>],
 ) -> Option<usize> {
     for (at, &(operation, answer, held, mark)) in rows.iter().enumerate() {
-        if perform(undoable, operation) != Some(answer) || !shows(undoable, held, mark) {
+        if perform(undoable, operation) != Some(answer) || !stands(undoable, held, mark) {
             return Some(at);
         }
     }
@@ -98,6 +94,9 @@ fn goes_back_to_marks(rt: HostRuntime) {
     let alloc = rt.alloc();
     back_to_marks(&rt, alloc, Plain::new(alloc), &OF_INSERTIONS);
     back_to_marks(&rt, alloc, BiBTreeMap::new(alloc), &OF_INSERTIONS);
+    let hashed: BiHashMap<char, i32> = BiHashMap::new(alloc);
+    back_to_marks(&rt, alloc, hashed, &OF_INSERTIONS);
+    back_to_marks(&rt, alloc, crowded::<char, i32>(alloc), &OF_INSERTIONS);
 }
 
 fn without_the_record<B: Bijection<L, R> + Drop, L: CopyLeft + Copy + Drop, R: Eq + Copy + Drop>(
@@ -105,22 +104,22 @@ fn without_the_record<B: Bijection<L, R> + Drop, L: CopyLeft + Copy + Drop, R: E
     alloc: Global,
     empty: B,
     rows: &[Row<L, R>],
-    (left, right): (L, R),
+    held: &[(L, R)],
 ) {
     let mut undoable = Undoable::new(alloc, empty);
     assert_eq!(rt; first_wrong(&mut undoable, rows), None);
-    let bimap = undoable.into_inner();
-    assert_eq!(rt; bimap.len(), 1);
-    assert!(rt; bimap.get_by_left(&left) == Some(&right));
-    assert!(rt; bimap.get_by_right(&right) == Some(&left));
+    assert!(rt; shows(&undoable.into_inner(), held));
 }
 
 #[test]
 fn gives_the_bimap_without_the_record(rt: HostRuntime) {
     let alloc = rt.alloc();
     let rows = &OF_INSERTIONS[..5];
-    without_the_record(&rt, alloc, Plain::new(alloc), rows, ('a', 2));
-    without_the_record(&rt, alloc, BiBTreeMap::new(alloc), rows, ('a', 2));
+    without_the_record(&rt, alloc, Plain::new(alloc), rows, &[('a', 2)]);
+    without_the_record(&rt, alloc, BiBTreeMap::new(alloc), rows, &[('a', 2)]);
+    let hashed: BiHashMap<char, i32> = BiHashMap::new(alloc);
+    without_the_record(&rt, alloc, hashed, rows, &[('a', 2)]);
+    without_the_record(&rt, alloc, crowded::<char, i32>(alloc), rows, &[('a', 2)]);
 }
 
 fn back_from_removals<B: Bijection<L, R> + Drop, L: CopyLeft + Copy + Drop, R: Eq + Copy + Drop>(
@@ -139,7 +138,7 @@ fn back_from_removals<B: Bijection<L, R> + Drop, L: CopyLeft + Copy + Drop, R: E
     let famine = Famine::begin(alloc, 0)?;
     undoable.back_to(0);
     drop(famine);
-    assert!(rt; shows(&undoable, pairs, 0));
+    assert!(rt; stands(&undoable, pairs, 0));
     Ok(())
 }
 
@@ -148,7 +147,11 @@ fn takes_removals_back_without_memory(rt: HostRuntime) -> Result<(), Fail> {
     let alloc = rt.alloc();
     let pairs = [('a', 1), ('b', 2)];
     back_from_removals(&rt, alloc, Plain::new(alloc), &pairs, &OF_REMOVALS)?;
-    back_from_removals(&rt, alloc, BiBTreeMap::new(alloc), &pairs, &OF_REMOVALS)
+    back_from_removals(&rt, alloc, BiBTreeMap::new(alloc), &pairs, &OF_REMOVALS)?;
+    let hashed: BiHashMap<char, i32> = BiHashMap::new(alloc);
+    back_from_removals(&rt, alloc, hashed, &pairs, &OF_REMOVALS)?;
+    let crowded = crowded::<char, i32>(alloc);
+    back_from_removals(&rt, alloc, crowded, &pairs, &OF_REMOVALS)
 }
 
 /// Inserts a pair under a famine that eases, and answers how often it was refused, or `None` where a refusal changed
@@ -166,7 +169,7 @@ fn insert_in_famine<B: Bijection<L, R> + Drop, L: CopyLeft + Copy + Drop, R: Eq 
         match undoable.insert(left, right) {
             Ok(_) => return Ok(Some(refusals)),
             Err(refused) => {
-                if refused != (NoRoom { left, right }) || !shows(undoable, held, mark) {
+                if refused != (NoRoom { left, right }) || !stands(undoable, held, mark) {
                     return Ok(None);
                 }
             }
@@ -205,7 +208,7 @@ fn refused_insertions<B: Bijection<L, R> + Drop, L: CopyLeft + Copy + Drop, R: E
                 assert_eq!(rt; answer, Some(true));
             }
         }
-        assert!(rt; shows(&undoable, held, mark));
+        assert!(rt; stands(&undoable, held, mark));
         before = (held, mark);
     }
     assert!(rt; refusals > 1, "{refusals}");
@@ -216,7 +219,10 @@ fn refused_insertions<B: Bijection<L, R> + Drop, L: CopyLeft + Copy + Drop, R: E
 fn a_refused_insertion_changes_nothing(rt: HostRuntime) -> Result<(), Fail> {
     let alloc = rt.alloc();
     refused_insertions(&rt, alloc, Plain::new(alloc), &OF_INSERTIONS)?;
-    refused_insertions(&rt, alloc, BiBTreeMap::new(alloc), &OF_INSERTIONS)
+    refused_insertions(&rt, alloc, BiBTreeMap::new(alloc), &OF_INSERTIONS)?;
+    let hashed: BiHashMap<char, i32> = BiHashMap::new(alloc);
+    refused_insertions(&rt, alloc, hashed, &OF_INSERTIONS)?;
+    refused_insertions(&rt, alloc, crowded::<char, i32>(alloc), &OF_INSERTIONS)
 }
 
 fn refused_copies_and_removals<B: Bijection<String, i32> + Drop>(
@@ -251,7 +257,9 @@ fn refused_copies_and_removals<B: Bijection<String, i32> + Drop>(
 fn a_refused_copy_or_removal_changes_nothing(rt: HostRuntime) -> Result<(), Fail> {
     let alloc = rt.alloc();
     refused_copies_and_removals(&rt, alloc, Plain::<String, i32>::new(alloc))?;
-    refused_copies_and_removals(&rt, alloc, BiBTreeMap::<String, i32>::new(alloc))
+    refused_copies_and_removals(&rt, alloc, BiBTreeMap::<String, i32>::new(alloc))?;
+    refused_copies_and_removals(&rt, alloc, BiHashMap::<String, i32>::new(alloc))?;
+    refused_copies_and_removals(&rt, alloc, crowded::<String, i32>(alloc))
 }
 
 #[test]
@@ -268,32 +276,32 @@ fn copies_lefts(rt: HostRuntime) -> Result<(), Fail> {
     Ok(())
 }
 
-#[test]
-fn goes_there_and_back(rt: HostRuntime) -> Result<(), Fail> {
-    let bimap: Plain<char, i32> = Plain::new(rt.alloc());
-    let mut undoable = Undoable::new(rt.alloc(), bimap);
-    undoable.insert('a', 1).ok().ok_or("no memory")?;
-    let mut operations = Vec::new(rt.alloc());
-    for (operation, ..) in OF_INSERTIONS {
+fn there_and_again<B: Bijection<L, R> + Drop, L: CopyLeft + Copy + Drop, R: Eq + Copy + Drop>(
+    rt: &impl Abort,
+    alloc: Global,
+    empty: B,
+    (left, right): (L, R),
+    rows: &[Row<L, R>],
+) -> Result<(), Fail> {
+    let mut undoable = Undoable::new(alloc, empty);
+    undoable.insert(left, right).ok().ok_or("no memory")?;
+    let mut operations = Vec::new(alloc);
+    for &(operation, ..) in rows {
         operations.push(operation)?;
     }
     operations.push(Operation::BackTo(99))?;
     there_and_back(&mut undoable, 0, operations);
-    assert!(rt; shows(&undoable, &[], 0));
+    assert_eq!(rt; (undoable.mark(), undoable.held().len()), (0, 0));
     Ok(())
 }
 
 #[test]
-fn goes_there_and_back_in_order(rt: HostRuntime) -> Result<(), Fail> {
-    let bimap: BiBTreeMap<char, i32> = BiBTreeMap::new(rt.alloc());
-    let mut undoable = Undoable::new(rt.alloc(), bimap);
-    undoable.insert('a', 1).ok().ok_or("no memory")?;
-    let mut operations = Vec::new(rt.alloc());
-    for (operation, ..) in OF_INSERTIONS {
-        operations.push(operation)?;
-    }
-    operations.push(Operation::BackTo(99))?;
-    there_and_back(&mut undoable, 0, operations);
-    assert!(rt; shows(&undoable, &[], 0));
-    Ok(())
+fn goes_there_and_back(rt: HostRuntime) -> Result<(), Fail> {
+    let alloc = rt.alloc();
+    there_and_again(&rt, alloc, Plain::new(alloc), ('a', 1), &OF_INSERTIONS)?;
+    there_and_again(&rt, alloc, BiBTreeMap::new(alloc), ('a', 1), &OF_INSERTIONS)?;
+    let hashed: BiHashMap<char, i32> = BiHashMap::new(alloc);
+    there_and_again(&rt, alloc, hashed, ('a', 1), &OF_INSERTIONS)?;
+    let crowded = crowded::<char, i32>(alloc);
+    there_and_again(&rt, alloc, crowded, ('a', 1), &OF_INSERTIONS)
 }
