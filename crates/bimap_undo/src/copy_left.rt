@@ -1,5 +1,5 @@
 //! Copies of lefts, of which the record of an insertion holds one.
-ghost use Rattle.std.specs.Prelude.{◌≡◌, true, IfOk};
+ghost use Rattle.std.specs.Prelude.{◌≡◌, true, IsOk, IfOk};
 
 use bimap::NoMemory;
 use std::alloc::Global;
@@ -13,8 +13,12 @@ pub trait CopyLeft: Eq + Sized {
 
 impl CopyLeft for char {
     /// Takes no memory.
-    fn copy_left(&self, _alloc: Global) -> Result<char, NoMemory> {
-        Ok(*self)
+    fn copy_left(&self, _alloc: Global) -> Result<char, NoMemory>
+        ensures copy { IfOk result (λ copy. copy ≡ self.now) }
+        ensures takes_no_memory { IsOk result }
+    {
+        let copy: char = *self;
+        Ok(copy)
     }
 }
 
@@ -30,35 +34,55 @@ impl CopyLeft for String {
 
 impl CopyLeft for u8 {
     /// Takes no memory.
-    fn copy_left(&self, _alloc: Global) -> Result<u8, NoMemory> {
-        Ok(*self)
+    fn copy_left(&self, _alloc: Global) -> Result<u8, NoMemory>
+        ensures copy { IfOk result (λ copy. copy ≡ self.now) }
+        ensures takes_no_memory { IsOk result }
+    {
+        let copy: u8 = *self;
+        Ok(copy)
     }
 }
 
 impl CopyLeft for u32 {
     /// Takes no memory.
-    fn copy_left(&self, _alloc: Global) -> Result<u32, NoMemory> {
-        Ok(*self)
+    fn copy_left(&self, _alloc: Global) -> Result<u32, NoMemory>
+        ensures copy { IfOk result (λ copy. copy ≡ self.now) }
+        ensures takes_no_memory { IsOk result }
+    {
+        let copy: u32 = *self;
+        Ok(copy)
     }
 }
 
 impl CopyLeft for u64 {
     /// Takes no memory.
-    fn copy_left(&self, _alloc: Global) -> Result<u64, NoMemory> {
-        Ok(*self)
+    fn copy_left(&self, _alloc: Global) -> Result<u64, NoMemory>
+        ensures copy { IfOk result (λ copy. copy ≡ self.now) }
+        ensures takes_no_memory { IsOk result }
+    {
+        let copy: u64 = *self;
+        Ok(copy)
     }
 }
 
 impl CopyLeft for i32 {
     /// Takes no memory.
-    fn copy_left(&self, _alloc: Global) -> Result<i32, NoMemory> {
-        Ok(*self)
+    fn copy_left(&self, _alloc: Global) -> Result<i32, NoMemory>
+        ensures copy { IfOk result (λ copy. copy ≡ self.now) }
+        ensures takes_no_memory { IsOk result }
+    {
+        let copy: i32 = *self;
+        Ok(copy)
     }
 }
 
 impl CopyLeft for i64 {
     /// Takes no memory.
-    fn copy_left(&self, _alloc: Global) -> Result<i64, NoMemory> {
-        Ok(*self)
+    fn copy_left(&self, _alloc: Global) -> Result<i64, NoMemory>
+        ensures copy { IfOk result (λ copy. copy ≡ self.now) }
+        ensures takes_no_memory { IsOk result }
+    {
+        let copy: i64 = *self;
+        Ok(copy)
     }
 }

@@ -1,5 +1,5 @@
 //! What a bimap shows from both sides after a run that began with no pair.
-ghost use Rattle.std.specs.Prelude.{◌≡◌, [], IfOk};
+ghost use Rattle.std.specs.Prelude.{◌≡◌, [], IfOk, IfErr};
 ghost use Rattle.std.specs.List.{zip};
 ghost use Rattle.bimap.specs.Test.{Answers, IsTestOf};
 ghost use Rattle.bimap.specs.BTree.{holding};
@@ -38,7 +38,8 @@ pub fn run_and_look<
 ) -> Result<Shown<'a, L, R>, RunRefused<L, R, K>>
     requires empty { (B.holding bimap.old).pairs ≡ [] }
     requires tested { IsTestOf F.Fn test (B.holding bimap.old).pairs calls.items }
-    ensures { IfOk result (λ shown. IsShown L.eq R.eq (Answers F.Fn test) (zip calls.items shown.replies.items) left.now right.now shown.of_left shown.of_right) }
+    ensures shown { IfOk result (λ shown. IsShown L.eq R.eq (Answers F.Fn test) (zip calls.items shown.replies.items) left.now right.now shown.of_left shown.of_right) }
+    ensures handed_back { IfErr result (λ refused. refused.calls.items ≡ calls.items) }
 {
     let replies = run(alloc, bimap, calls, test)?;
     let of_left = bimap.get_by_left(left);
@@ -71,7 +72,8 @@ pub fn run_and_look_ordered<
 ) -> Result<Shown<'a, L, R>, RunRefused<L, R, K>>
     requires empty { (holding bimap.old).pairs ≡ [] }
     requires tested { IsTestOf F.Fn test (holding bimap.old).pairs calls.items }
-    ensures { IfOk result (λ shown. IsCounted L.eq R.eq (Answers F.Fn test) (zip calls.items shown.replies.items) left.now right.now shown.of_left shown.of_right (M.comparisons of_left.old) (M.comparisons of_left.new) (M.comparisons of_right.old) (M.comparisons of_right.new)) }
+    ensures shown { IfOk result (λ shown. IsCounted L.eq R.eq (Answers F.Fn test) (zip calls.items shown.replies.items) left.now right.now shown.of_left shown.of_right (M.comparisons of_left.old) (M.comparisons of_left.new) (M.comparisons of_right.old) (M.comparisons of_right.new)) }
+    ensures handed_back { IfErr result (λ refused. refused.calls.items ≡ calls.items) }
 {
     let replies = run(alloc, bimap, calls, test)?;
     Ok(Shown {
@@ -101,7 +103,8 @@ pub fn run_and_look_hashed<
 ) -> Result<Shown<'a, L, R>, RunRefused<L, R, K>>
     requires empty { (hash_holding bimap.old).pairs ≡ [] }
     requires tested { IsTestOf F.Fn test (hash_holding bimap.old).pairs calls.items }
-    ensures { IfOk result (λ shown. IsShown L.eq R.eq (Answers F.Fn test) (zip calls.items shown.replies.items) left.now right.now shown.of_left shown.of_right) }
+    ensures shown { IfOk result (λ shown. IsShown L.eq R.eq (Answers F.Fn test) (zip calls.items shown.replies.items) left.now right.now shown.of_left shown.of_right) }
+    ensures handed_back { IfErr result (λ refused. refused.calls.items ≡ calls.items) }
 {
     let replies = run(alloc, bimap, calls, test)?;
     Ok(Shown {

@@ -29,16 +29,12 @@ fn finds_from_both_sides(rt: HostRuntime) -> Result<(), Fail> {
 #[test]
 fn refuses_what_is_kept(rt: HostRuntime) -> Result<(), Fail> {
     let mut seats = seats(&rt, rt.alloc())?;
-    assert!(&rt;
-        seats.insert_no_overwrite('d', 9) == Err(NotInserted::Occupied('d', 9))
-    );
+    assert!(&rt; seats.insert_no_overwrite('d', 9) == Err(NotInserted::Occupied('d', 9)));
     let keep_right = Policy {
         left: OnHeld::Overwrite,
         right: OnHeld::Refuse,
     };
-    assert!(&rt;
-        seats.insert_with('e', 2, keep_right) == Err(NotInsertedWith::RightHeld('e', 2))
-    );
+    assert!(&rt; seats.insert_with('e', 2, keep_right) == Err(NotInsertedWith::RightHeld('e', 2)));
     Ok(())
 }
 
