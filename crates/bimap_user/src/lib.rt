@@ -5,4 +5,4 @@ mod ledger;
 mod looks;
 
 pub use ledger::{seat_guest, seat_in_free_place, seats_taken};
-pub use looks::{Shown, keep_from, run_and_look, run_and_look_hashed, run_and_look_ordered};
+pub use looks::{Shown, run_and_look, run_and_look_hashed, run_and_look_ordered};

@@ -8,7 +8,7 @@ ghost use Rattle.bimap_user.specs.Shown.{IsShown, IsCounted};
 
 use bimap::btree::Meter;
 use bimap::{BiBTreeMap, BiHashMap, Bijection, Call, Reply, RunRefused, run};
-use std::alloc::{AllocError, Global};
+use std::alloc::Global;
 use std::hash::{BuildHasher, Hash};
 
 /// The replies of a run, and what the bimap then shows from both sides.
@@ -112,25 +112,4 @@ pub fn run_and_look_hashed<
         of_left: bimap.get_by_left(left),
         of_right: bimap.get_by_right(right),
     })
-}
-
-/// Keeps the pairs whose right is at least `least`, and answers how many calls were performed.
-pub fn keep_from<L: Eq + Drop, B: Bijection<L, u32>>(
-    alloc: Global,
-    bimap: &mut B,
-    least: u32,
-) -> Result<usize, AllocError>
-    ensures { IfOk result (λ count. count ≡ 1) }
-{
-    let mut calls = Vec::with_capacity(alloc, 1)?;
-    calls.push_reserved(Call::Retain(least));
-    match run(
-        alloc,
-        bimap,
-        calls,
-        |least: &u32, _: &L, right: &u32| *right >= *least,
-    ) {
-        Ok(replies) => Ok(replies.len()),
-        Err(_) => Err(AllocError),
-    }
 }
