@@ -6,6 +6,7 @@ mod insertions;
 mod items;
 mod runs;
 mod subject;
+mod undo_runs;
 mod undone;
 mod within;
 
