@@ -7,7 +7,6 @@ use bimap_calls::{crowded, insert_all, shows};
 use bimap_famine::Famine;
 use std::alloc::Global;
 use std::hash::BuildHasher;
-use std::process::Abort;
 use std::test::Fail;
 
 /// Insertions, the entries that are left where the undoing of two pairs finds no place, and the pairs that are then held.
@@ -47,64 +46,68 @@ const ROWS: [Row<'static, char, u32>; 4] = [
     },
 ];
 
-// With every request for memory refused, the undoing of the insertions stops as the row says. With memory it then goes on to
-// the first pairs.
-fn stops<L: Copy + Eq + Drop, R: Copy + Eq + Drop, B: Bijection<L, R> + Drop>(
-    rt: &impl Abort,
+// Undoes the insertions under a famine that eases, and answers how often they stopped, or `None` where one left something
+// else than the row says.
+fn refusals<L: Copy + Eq + Drop, R: Copy + Eq + Drop, B: Bijection<L, R> + Drop>(
     alloc: Global,
     bimap: &mut B,
     entries: Vec<(L, Overwritten<L, R>)>,
     pairs: &[(L, R)],
     row: &Row<'_, L, R>,
-) -> Result<(), Fail>
+) -> Result<Option<u64>, Fail>
     requires { (first : List (L × R)) × Leads L.eq R.eq first entries.items (B.holding bimap.old).pairs }
 {
-    let famine = Famine::begin(alloc, 0)?;
-    let undone = undo_run(bimap, entries);
-    drop(famine);
-    let Err(stopped) = undone else {
-        assert!(rt; false, "there is a place");
-        return Ok(());
-    };
-    assert!(rt; stopped.rest.as_slice() == row.rest);
-    assert!(rt; shows(bimap, row.held));
-    assert!(rt; undo_run(bimap, stopped.rest).is_ok());
-    assert!(rt; shows(bimap, pairs));
-    Ok(())
+    let mut entries = entries;
+    let mut famine = Famine::begin(alloc, 60)?;
+    for refusals in 0..60u64 {
+        match undo_run(bimap, entries) {
+            Ok(()) => return Ok(shows(bimap, pairs).then_some(refusals)),
+            Err(stopped) => {
+                if stopped.rest.as_slice() != row.rest || !shows(bimap, row.held) {
+                    return Ok(None);
+                }
+                entries = stopped.rest;
+            }
+        }
+        famine.ease()?;
+    }
+    Ok(None)
+}
+
+// The undoing of two pairs wants three growths.
+fn is_refused_in_turn(met: Option<u64>) -> bool {
+    met.is_some_and(|met| met >= 3)
 }
 
 // A copy has no free place.
-fn ordered_stops(rt: &impl Abort, alloc: Global, row: &Row<'_, char, u32>) -> Result<(), Fail> {
+fn is_right_ordered(alloc: Global, row: &Row<'_, char, u32>) -> Result<bool, Fail> {
     let mut bimap: BiBTreeMap<char, u32> = BiBTreeMap::new(alloc);
     bimap.extend(PAIRS)?;
     let entries = insert_all(alloc, &mut bimap, row.insertions)?;
     let mut packed = bimap.clone()?;
-    stops(rt, alloc, &mut packed, entries, &PAIRS, row)
+    let met = refusals(alloc, &mut packed, entries, &PAIRS, row)?;
+    Ok(is_refused_in_turn(met))
 }
 
-fn hashed_stops<LS: BuildHasher + Drop, RS: BuildHasher + Drop>(
-    rt: &impl Abort,
+fn is_right_hashed<LS: BuildHasher + Drop, RS: BuildHasher + Drop>(
     alloc: Global,
     mut bimap: BiHashMap<char, u32, LS, RS>,
     row: &Row<'_, char, u32>,
-) -> Result<(), Fail> {
+) -> Result<bool, Fail> {
     bimap.extend(PAIRS)?;
     let entries = insert_all(alloc, &mut bimap, row.insertions)?;
     bimap.shrink_to_fit()?;
-    stops(rt, alloc, &mut bimap, entries, &PAIRS, row)
+    let met = refusals(alloc, &mut bimap, entries, &PAIRS, row)?;
+    Ok(is_refused_in_turn(met))
 }
 
 #[test]
 fn a_stopped_run_leaves_what_is_not_undone(rt: HostRuntime) -> Result<(), Fail> {
+    let alloc = rt.alloc();
     for row in ROWS.iter() {
-        ordered_stops(&rt, rt.alloc(), row)?;
-        hashed_stops(
-            &rt,
-            rt.alloc(),
-            BiHashMap::<char, u32>::new(rt.alloc()),
-            row,
-        )?;
-        hashed_stops(&rt, rt.alloc(), crowded::<char, u32>(rt.alloc()), row)?;
+        assert!(&rt; is_right_ordered(alloc, row)?);
+        assert!(&rt; is_right_hashed(alloc, BiHashMap::<char, u32>::new(alloc), row)?);
+        assert!(&rt; is_right_hashed(alloc, crowded::<char, u32>(alloc), row)?);
     }
     Ok(())
 }
