@@ -1,5 +1,5 @@
 //! Copies of lefts, of which the record of an insertion holds one.
-ghost use Rattle.std.specs.Prelude.{◌≡◌, true, IsOk, IfOk};
+ghost use Rattle.std.specs.Prelude.{◌≡◌, true, Ok, IfOk};
 
 use bimap::NoMemory;
 use std::alloc::Global;
@@ -12,10 +12,9 @@ pub trait CopyLeft: Eq + Sized {
 }
 
 impl CopyLeft for char {
-    /// Takes no memory.
+    /// Takes no memory, and is never refused.
     fn copy_left(&self, _alloc: Global) -> Result<char, NoMemory>
-        ensures copy { IfOk result (λ copy. copy ≡ self.now) }
-        ensures takes_no_memory { IsOk result }
+        ensures { result ≡ Ok self.now }
     {
         let copy: char = *self;
         Ok(copy)
@@ -33,10 +32,9 @@ impl CopyLeft for String {
 }
 
 impl CopyLeft for u8 {
-    /// Takes no memory.
+    /// Takes no memory, and is never refused.
     fn copy_left(&self, _alloc: Global) -> Result<u8, NoMemory>
-        ensures copy { IfOk result (λ copy. copy ≡ self.now) }
-        ensures takes_no_memory { IsOk result }
+        ensures { result ≡ Ok self.now }
     {
         let copy: u8 = *self;
         Ok(copy)
@@ -44,10 +42,9 @@ impl CopyLeft for u8 {
 }
 
 impl CopyLeft for u32 {
-    /// Takes no memory.
+    /// Takes no memory, and is never refused.
     fn copy_left(&self, _alloc: Global) -> Result<u32, NoMemory>
-        ensures copy { IfOk result (λ copy. copy ≡ self.now) }
-        ensures takes_no_memory { IsOk result }
+        ensures { result ≡ Ok self.now }
     {
         let copy: u32 = *self;
         Ok(copy)
@@ -55,10 +52,9 @@ impl CopyLeft for u32 {
 }
 
 impl CopyLeft for u64 {
-    /// Takes no memory.
+    /// Takes no memory, and is never refused.
     fn copy_left(&self, _alloc: Global) -> Result<u64, NoMemory>
-        ensures copy { IfOk result (λ copy. copy ≡ self.now) }
-        ensures takes_no_memory { IsOk result }
+        ensures { result ≡ Ok self.now }
     {
         let copy: u64 = *self;
         Ok(copy)
@@ -66,10 +62,9 @@ impl CopyLeft for u64 {
 }
 
 impl CopyLeft for i32 {
-    /// Takes no memory.
+    /// Takes no memory, and is never refused.
     fn copy_left(&self, _alloc: Global) -> Result<i32, NoMemory>
-        ensures copy { IfOk result (λ copy. copy ≡ self.now) }
-        ensures takes_no_memory { IsOk result }
+        ensures { result ≡ Ok self.now }
     {
         let copy: i32 = *self;
         Ok(copy)
@@ -77,10 +72,9 @@ impl CopyLeft for i32 {
 }
 
 impl CopyLeft for i64 {
-    /// Takes no memory.
+    /// Takes no memory, and is never refused.
     fn copy_left(&self, _alloc: Global) -> Result<i64, NoMemory>
-        ensures copy { IfOk result (λ copy. copy ≡ self.now) }
-        ensures takes_no_memory { IsOk result }
+        ensures { result ≡ Ok self.now }
     {
         let copy: i64 = *self;
         Ok(copy)
