@@ -7,7 +7,7 @@ use Rattle.std.specs.declared.cmp.Ordering.TheVariants.{Less}
 use Rattle.std.specs.Io.KnownBytes.{Appends}
 use Rattle.std.proofs.KnownBytes.{Appends-trans}
 use Rattle.bimap_rows.specs.Lines.{Request, SaysInAll}
-use Rattle.bimap_rows.specs.Serving.{IsServed, AscendsByLeft, told, tail, Stops, Ends}
+use Rattle.bimap_rows.specs.Serving.{IsServed, IsReadOut, AscendsByLeft, told, tail, Stops, Ends}
 use Rattle.bimap_rows.specs.Steps.{IsFlushed}
 use Rattle.bimap_rows.specs.declared.serve.Ending.{Ending}
 use Rattle.bimap_rows.specs.declared.serve.Ending.TheVariants.{Clean, InputFailed, OutputFailed, BadLine, NoMemory}
@@ -25,11 +25,11 @@ nothing_more : (Say : List ℕ → List Request → Type 0) (input o p q : Optio
 nothing_more Say input o p q pairs end s a = subst (IsServed Say input o q pairs) (append-nil end) (wrote_more Say input o p q pairs end [] s a)
 
 -- the lines ended early, and the output was flushed
-pub ends_stopped : (ending result : Ending) (input o p q : Option (List ℕ)) → Stops ending input o p → IsFlushed ending result p q → Ends result input o q
-ends_stopped ending result input o p q s (inl e) = subst (λ k. Ends k input o q) (sym e) tt
-ends_stopped ending result input o p q s (inr h) = subst (λ k. Ends k input o q) (sym h.0) (by ending s)
+pub ends_stopped : (ending result : Ending) (input left o p q : Option (List ℕ)) → Stops ending input o p → IsFlushed ending result p q → Ends result input left o q
+ends_stopped ending result input left o p q s (inl e) = subst (λ k. Ends k input left o q) (sym e) tt
+ends_stopped ending result input left o p q s (inr h) = subst (λ k. Ends k input left o q) (sym h.0) (by ending s)
   where
-    by : (k : Ending) → Stops k input o p → Ends k input o q
+    by : (k : Ending) → Stops k input o p → Ends k input left o q
     by Clean t = absurd t
     by OutputFailed t = tt
     by InputFailed t = (t.0, nothing_more _ input o p q t.0 [] t.1 h.1)
@@ -37,7 +37,7 @@ ends_stopped ending result input o p q s (inr h) = subst (λ k. Ends k input o q
     by NoMemory t = (t.0, nothing_more _ input o p q t.0 [] t.1 h.1)
 
 -- all lines were served, and what is held was written
-pub ends_clean : (result : Ending) (input o p q r : Option (List ℕ)) (pairs : List (ℕ × ℕ)) → AscendsByLeft pairs → IsServed SaysInAll input o p pairs [] → Appends p q (tail pairs) → IsFlushed Clean result q r → Ends result input o r
-ends_clean result input o p q r pairs up s a (inl e) = subst (λ k. Ends k input o r) (sym e) tt
-ends_clean result input o p q r pairs up s a (inr h) =
-    subst (λ k. Ends k input o r) (sym h.0) (pairs, up, nothing_more SaysInAll input o q r pairs (tail pairs) (wrote_more SaysInAll input o p q pairs [] (tail pairs) s a) h.1)
+pub ends_clean : (result : Ending) (input left o p q r : Option (List ℕ)) (pairs : List (ℕ × ℕ)) → AscendsByLeft pairs → IsServed SaysInAll input o p pairs [] → IsReadOut input left → Appends p q (tail pairs) → IsFlushed Clean result q r → Ends result input left o r
+ends_clean result input left o p q r pairs up s end a (inl e) = subst (λ k. Ends k input left o r) (sym e) tt
+ends_clean result input left o p q r pairs up s end a (inr h) =
+    subst (λ k. Ends k input left o r) (sym h.0) (pairs, up, nothing_more SaysInAll input o q r pairs (tail pairs) (wrote_more SaysInAll input o p q pairs [] (tail pairs) s a) h.1, end)

@@ -20,9 +20,10 @@ record Cut (bytes : List ℕ) : Type 0 where
 record Whole (bytes : List ℕ) : Type 0 where
   pub clean : NoFeed bytes
   pub taken : take_through 10 bytes ≡ bytes
+  pub left : drop_through 10 bytes ≡ []
 
 cut_at_feed : (bytes : List ℕ) → Cut bytes ⊎ Whole bytes
-cut_at_feed [] = inr (record { clean = tt; taken = refl })
+cut_at_feed [] = inr (record { clean = tt; taken = refl; left = refl })
 cut_at_feed (x ∷ xs) = by (eqb x 10) refl (cut_at_feed xs)
   where
     by : (b : Bool) → eqb x 10 ≡ b → Cut xs ⊎ Whole xs → Cut (x ∷ xs) ⊎ Whole (x ∷ xs)
@@ -30,7 +31,7 @@ cut_at_feed (x ∷ xs) = by (eqb x 10) refl (cut_at_feed xs)
         let feed : x ≡ 10 = eqb-true x 10 e in
         inl (record { line = []; rest = xs; is = ap (λ y. y ∷ xs) feed; clean = tt; taken = ap (λ b. cond b (x ∷ []) (x ∷ take_through 10 xs)) e ∙ ap (λ y. y ∷ []) feed; left = ap (λ b. cond b xs (drop_through 10 xs)) e })
     by false e (inl c) = inl (record { line = x ∷ c.line; rest = c.rest; is = ap (λ l. x ∷ l) c.is; clean = (eqb-false x 10 e, c.clean); taken = ap (λ b. cond b (x ∷ []) (x ∷ take_through 10 xs)) e ∙ ap (λ l. x ∷ l) c.taken; left = ap (λ b. cond b xs (drop_through 10 xs)) e ∙ c.left })
-    by false e (inr w) = inr (record { clean = (eqb-false x 10 e, w.clean); taken = ap (λ b. cond b (x ∷ []) (x ∷ take_through 10 xs)) e ∙ ap (λ l. x ∷ l) w.taken })
+    by false e (inr w) = inr (record { clean = (eqb-false x 10 e, w.clean); taken = ap (λ b. cond b (x ∷ []) (x ∷ take_through 10 xs)) e ∙ ap (λ l. x ∷ l) w.taken; left = ap (λ b. cond b xs (drop_through 10 xs)) e ∙ w.left })
 
 last_clean : (bytes : List ℕ) (n : ℕ) → NoFeed bytes → n + 1 ≡ length bytes → get_or bytes n 0 ≢ 10
 last_clean [] n h l = absurd (omega (arith, l))
@@ -50,14 +51,14 @@ full_line bytes items n left e m feed l = by (cut_at_feed bytes)
         let is : items ≡ bytes = e ∙ w.taken in
         absurd (last_clean bytes n w.clean (m ∙ ap length is) (ap (λ ys. get_or ys n 0) (sym is) ∙ feed))
 
-last_line : (bytes items : List ℕ) (left : Option (List ℕ)) → items ≡ take_through 10 bytes → ((n : ℕ) → n + 1 ≡ length items → get_or items n 0 ≢ 10) → IsNextLine bytes items false left
-last_line bytes items left e other = by (cut_at_feed bytes)
+last_line : (bytes items : List ℕ) (left : Option (List ℕ)) → items ≡ take_through 10 bytes → ((n : ℕ) → n + 1 ≡ length items → get_or items n 0 ≢ 10) → left ≡ Some (drop_through 10 bytes) → IsNextLine bytes items false left
+last_line bytes items left e other l = by (cut_at_feed bytes)
   where
     by : Cut bytes ⊎ Whole bytes → IsNextLine bytes items false left
     by (inl c) =
         let is : items ≡ c.line ++ 10 ∷ [] = e ∙ c.taken in
         absurd (other (length c.line) (sym (length_push c.line 10) ∙ ap length (sym is)) (ap (λ ys. get_or ys (length c.line) 0) is ∙ get_or_push c.line 10 0 (length c.line) refl))
-    by (inr w) = let is : items ≡ bytes = e ∙ w.taken in (sym is, subst NoFeed (sym is) w.clean)
+    by (inr w) = let is : items ≡ bytes = e ∙ w.taken in (sym is, subst NoFeed (sym is) w.clean, l ∙ ap Some w.left)
 
 both_some : {X : Type 0} (o : Option X) (P Q R : X → Type 0) → ((x : X) → P x → Q x → R x) → IfSome o P → IfSome o Q → IfSome o R
 both_some None P Q R f p q = tt
@@ -73,7 +74,7 @@ module _ (o left : Option (List ℕ)) (was items : List ℕ) (empty : was ≡ []
   -- it is none, or no byte was read
   pub known_last : ((n : ℕ) → n + 1 ≡ length items → get_or items n 0 ≢ 10) → IfSome o (λ xs. IsNextLine xs items false left)
   known_last other = both_some o (λ xs. items ≡ was ++ take_through 10 xs) (λ xs. left ≡ Some (drop_through 10 xs)) (λ xs. IsNextLine xs items false left)
-      (λ xs e r. last_line xs items left (e ∙ ap (λ w. w ++ take_through 10 xs) empty) other) bytes rest
+      (λ xs e r. last_line xs items left (e ∙ ap (λ w. w ++ take_through 10 xs) empty) other r) bytes rest
 
 pub no_bytes : (items : List ℕ) (n : ℕ) → n ≡ length items → n ≡ 0 → (k : ℕ) → k + 1 ≡ length items → get_or items k 0 ≢ 10
 no_bytes items n e z k l = absurd (omega (arith, e, z, l))

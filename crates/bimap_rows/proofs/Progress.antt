@@ -5,7 +5,7 @@ use Rattle.std.specs.Io.KnownBytes.{Appends}
 use Rattle.std.proofs.KnownBytes.{Appends-trans}
 use Rattle.std.proofs.lemmas.List.{length_push}
 use Rattle.bimap_rows.specs.Lines.{Request, NoFeed, AreLinesThen, Says, SaysCall, IsBad, text_of, SaysAtFirst, SaysInAll, SaysBefore, reply_line}
-use Rattle.bimap_rows.specs.Serving.{Answered, LeadsTo, calls, told, IsServed, Stops}
+use Rattle.bimap_rows.specs.Serving.{Answered, LeadsTo, calls, told, IsServed, IsReadOut, Stops}
 use Rattle.bimap_rows.specs.Steps.{IsNextLine, TakesLine, StopsAtLine}
 use Rattle.bimap_rows.specs.declared.serve.Ending.{Ending}
 use Rattle.bimap_rows.specs.declared.serve.Ending.TheVariants.{Clean, InputFailed, OutputFailed, BadLine, NoMemory}
@@ -102,7 +102,11 @@ module _ (input left : Option (List ℕ)) (number : ℕ) (before between : Optio
       let t = took line after new h in
       record { history = t.history; leads = t.leads; read = weaker input _ _ (λ bytes r. next_read bytes left number (calls s.history) r line (calls t.history) rest t.adds p) s.read; wrote = t.wrote }
 
-  -- after the last line
+  -- after the last line no byte is left
+  pub all_read : (line : List ℕ) (rest : Option (List ℕ)) → IfSome left (λ b. IsNextLine b line false rest) → IsReadOut input rest
+  all_read line rest p = weaker input _ _ (λ bytes r. (here bytes left number (calls s.history) r line (λ b. IsNextLine b line false rest) p).2) s.read
+
+  -- and all is served
   pub all_served : (line : List ℕ) (rest after : Option (List ℕ)) (new : List (ℕ × ℕ)) → TakesLine line pairs new between after → IfSome left (λ b. IsNextLine b line false rest) → IsServed SaysInAll input before after new []
   all_served line rest after new h p =
       let t = took line after new h in

@@ -1,5 +1,5 @@
 -- What the program does: the history that its lines lead to, what it writes, and its five endings.
-use Rattle.std.specs.Prelude.{◌≡◌, ◌↔◌, ℕ, ◌<◌, List, [], ◌∷◌, ◌++◌, length, map, flat_map, Bool, Option, IfSome, Contains, codes, decimal, nat_eq}
+use Rattle.std.specs.Prelude.{◌≡◌, ◌↔◌, ℕ, ◌<◌, List, [], ◌∷◌, ◌++◌, length, map, flat_map, Bool, Option, Some, IfSome, Contains, codes, decimal, nat_eq}
 use Rattle.std.specs.List.{AllPairs}
 use Rattle.std.specs.Char.{encode_utf8}
 use Rattle.std.specs.Io.KnownBytes.{Appends}
@@ -50,6 +50,10 @@ pub record IsServed (Say : List ℕ → List Request → Type 0) (input before a
   pub says : IfSome input (λ bytes. Say bytes (calls history))
   pub wrote : Appends before after (told history ++ end)
 
+-- where the bytes of the reader were known, none of them is left
+abbrev pub IsReadOut : Option (List ℕ) → Option (List ℕ) → Type 0
+IsReadOut input left = IfSome input (λ bytes. left ≡ Some [])
+
 -- how the work ends where not all lines are served
 abbrev pub Stops : Ending → Option (List ℕ) → Option (List ℕ) → Option (List ℕ) → Type 0
 Stops Clean input before after = ⊥
@@ -58,10 +62,11 @@ Stops OutputFailed input before after = Unit {0}
 Stops (BadLine number) input before after = (pairs : List (ℕ × ℕ)) × IsServed (SaysBefore number) input before after pairs []
 Stops NoMemory input before after = (pairs : List (ℕ × ℕ)) × IsServed SaysAtFirst input before after pairs []
 
--- how the work ends
-abbrev pub Ends : Ending → Option (List ℕ) → Option (List ℕ) → Option (List ℕ) → Type 0
-Ends Clean input before after = (pairs : List (ℕ × ℕ)) × AscendsByLeft pairs × IsServed SaysInAll input before after pairs (tail pairs)
-Ends ending input before after = Stops ending input before after
+-- how the work ends, by the bytes of the reader before and after, and those of the writer
+abbrev pub Ends : Ending → Option (List ℕ) → Option (List ℕ) → Option (List ℕ) → Option (List ℕ) → Type 0
+Ends Clean input left before after =
+    (pairs : List (ℕ × ℕ)) × AscendsByLeft pairs × IsServed SaysInAll input before after pairs (tail pairs) × IsReadOut input left
+Ends ending input left before after = Stops ending input before after
 
 -- the status with which the program ends
 abbrev pub status_of : Ending → ℕ

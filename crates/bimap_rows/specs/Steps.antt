@@ -11,7 +11,7 @@ use Rattle.bimap_rows.specs.declared.serve.Ending.TheVariants.{Clean, InputFaile
 -- the line that the bytes begin with, whether a line feed ends it, and what is left then
 abbrev pub IsNextLine : List ℕ → List ℕ → Bool → Option (List ℕ) → Type 0
 IsNextLine bytes line true left = (rest : List ℕ) × (bytes ≡ line ++ 10 ∷ rest) × NoFeed line × (left ≡ Some rest)
-IsNextLine bytes line false left = (bytes ≡ line) × NoFeed line
+IsNextLine bytes line false left = (bytes ≡ line) × NoFeed line × (left ≡ Some [])
 
 -- what a text was read as
 abbrev pub IsRead : List ℕ → Line → Type 0

@@ -3,7 +3,7 @@ ghost use Rattle.std.specs.Prelude.{◌≡◌, ◌≢◌, ◌⊎◌, ℕ, [], �
 ghost use Rattle.std.specs.IoError.{error_kind};
 ghost use Rattle.std.specs.Io.KnownBytes.{Appends};
 ghost use Rattle.bimap_rows.specs.Lines.{SaysInAll};
-ghost use Rattle.bimap_rows.specs.Serving.{LeadsTo, IsServed, Stops, Ends};
+ghost use Rattle.bimap_rows.specs.Serving.{LeadsTo, IsServed, IsReadOut, Stops, Ends};
 ghost use Rattle.bimap_rows.specs.Steps.{TakesLine, StopsAtLine, IsFlushed};
 
 use crate::held::{Held, write_held};
@@ -106,6 +106,7 @@ fn serve_lines<B: Bijection<char, u32>, I: BufRead, W: Write>(
     output: &mut W,
 ) -> Result<(), Ending>
     requires { (B.holding held.old).pairs ≡ [] }
+    ensures end { OnOk result (IsReadOut (I.remaining input.old) (I.remaining input.new)) }
     ensures ok { OnOk result (IsServed SaysInAll (I.remaining input.old) (W.contents output.old) (W.contents output.new) (B.holding held.new).pairs []) }
     ensures err { IfErr result (λ ending. Stops ending (I.remaining input.old) (W.contents output.old) (W.contents output.new)) }
 {
@@ -144,7 +145,7 @@ fn finish<W: Write>(output: &mut W, ending: Ending) -> Ending
 /// lines before have been written then, and what is held has not. It flushes the output before it ends, unless the
 /// output has failed. Each line takes memory for its own bytes, and what its call takes.
 pub fn serve<I: BufRead, W: Write>(alloc: Global, input: &mut I, output: &mut W) -> Ending
-    ensures { Ends result (I.remaining input.old) (W.contents output.old) (W.contents output.new) }
+    ensures { Ends result (I.remaining input.old) (I.remaining input.new) (W.contents output.old) (W.contents output.new) }
 {
     let mut held = Held::new(alloc);
     match serve_lines(alloc, &mut held, input, output) {

@@ -7,5 +7,5 @@ returns-in-Ok-write_held g c =
     let w = g.W.Write.contents in
     let held = c.serve_lines.new.held in
     let pairs = (holding held).pairs in
-    ends_clean c.finish.result (g.I.Read.remaining c.args.input.now) (w c.args.output.now) (w c.serve_lines.new.output) (w c.write_held.new.output) (w c.finish.new.output)
-    pairs (ascends pairs held.ascending) c.in-Ok.ensures.ok c.in-Ok-write_held.ensures c.finish.ensures
+    ends_clean c.finish.result (g.I.Read.remaining c.args.input.now) (g.I.Read.remaining c.serve_lines.new.input) (w c.args.output.now) (w c.serve_lines.new.output) (w c.write_held.new.output) (w c.finish.new.output)
+    pairs (ascends pairs held.ascending) c.in-Ok.ensures.ok c.in-Ok.ensures.end c.in-Ok-write_held.ensures c.finish.ensures

@@ -1,7 +1,7 @@
 use Rattle.std.proofs.Common.{◌≡◌, ap, subst, sym, ◌∙◌, ◌+◌, IfSome, true, false}
 use Rattle.std.proofs.KnownBytes.{Appends-nil}
 use Rattle.bimap_rows.specs.Steps.{IsNextLine, TakesLine, StopsAtLine}
-use Rattle.bimap_rows.proofs.Progress.{none_served, next_served, all_served, stopped_at}
+use Rattle.bimap_rows.proofs.Progress.{none_served, next_served, all_read, all_served, stopped_at}
 use Rattle.bimap_rows.proofs.serve.serve_lines.Goals as goal
 
 pub loop-number-init : goal.loop-number-init
@@ -32,6 +32,16 @@ returns-then-not-ended-clause-ok g c =
     let new = (h c.take_line.new.held).pairs in
     all_served (r c.args.input.now) (r l.input) l.number (w c.args.output.now) (w l.output) (h l.held).pairs l.invariant items left q new
     (subst (λ t. TakesLine t (h l.held).pairs new (w l.output) q) c.as_slice.ensures.value c.in-Ok-take_line.ensures.ok)
+    (subst (λ b. IfSome (r l.input) (λ bytes. IsNextLine bytes items b left)) c.if-not-ended.true c.in-Ok.ensures)
+
+pub returns-then-not-ended-clause-end : goal.returns-then-not-ended-clause-end
+returns-then-not-ended-clause-end g c =
+    let r = g.I.Read.remaining in
+    let w = g.W.Write.contents in
+    let l = c.loop-number in
+    let items = c.read_line.new.line.items in
+    let left = r c.read_line.new.input in
+    all_read (r c.args.input.now) (r l.input) l.number (w c.args.output.now) (w l.output) (g.B.Bijection.holding l.held).pairs l.invariant items left
     (subst (λ b. IfSome (r l.input) (λ bytes. IsNextLine bytes items b left)) c.if-not-ended.true c.in-Ok.ensures)
 
 pub loop-number-preserved : goal.loop-number-preserved
