@@ -1,0 +1,5 @@
+//! Tests that run the callers of `bimap_user` over both bimaps, and the counted calls with a meter that can be read.
+#![tactic(auto)]
+
+#[cfg(test)]
+mod tests;

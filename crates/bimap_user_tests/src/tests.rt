@@ -1,0 +1,5 @@
+//! The callers, each over every bimap that it takes.
+mod ledger;
+mod looks;
+mod meter;
+mod metered;

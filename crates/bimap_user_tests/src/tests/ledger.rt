@@ -1,0 +1,53 @@
+//! Guests and seats, over every bimap.
+use bimap::{BiBTreeMap, BiHashMap, Bijection, NotInsertedWith, Overwritten};
+use bimap_user::{seat_guest, seat_in_free_place, seats_taken};
+use std::process::Abort;
+
+// Whether these guests alone have these seats.
+fn shows<B: Bijection<char, u32>>(ledger: &B, seated: &[(char, u32)]) -> bool {
+    for (guest, seat) in seated {
+        if ledger.get_by_left(guest) != Some(seat) || ledger.get_by_right(seat) != Some(guest) {
+            return false;
+        }
+    }
+    seats_taken(ledger) == seated.len()
+}
+
+// Seats guests in an empty ledger, and refuses those who would take a seat from another.
+fn each_keeps_a_seat<B: Bijection<char, u32>>(rt: &impl Abort, ledger: &mut B) {
+    assert!(rt; shows(ledger, &[]));
+    assert!(rt; seat_guest(ledger, 'a', 1) == Ok(Overwritten::Neither));
+    assert!(rt; seat_guest(ledger, 'b', 2) == Ok(Overwritten::Neither));
+    assert!(rt; seat_guest(ledger, 'a', 3) == Ok(Overwritten::Left('a', 1)));
+    assert!(rt; seat_guest(ledger, 'c', 2) == Err(NotInsertedWith::RightHeld('c', 2)));
+    assert!(rt; seat_guest(ledger, 'a', 2) == Err(NotInsertedWith::RightHeld('a', 2)));
+    assert!(rt; seat_guest(ledger, 'b', 2) == Err(NotInsertedWith::RightHeld('b', 2)));
+    assert!(rt; seat_guest(ledger, 'c', 1) == Ok(Overwritten::Neither));
+    assert!(rt; shows(ledger, &[('a', 3), ('b', 2), ('c', 1)]));
+}
+
+// Seats guests where two places are known to be free, or one.
+fn each_free_place_is_given<B: Bijection<char, u32>>(rt: &impl Abort, ledger: &mut B) {
+    assert!(rt; seat_guest(ledger, 'a', 1) == Ok(Overwritten::Neither));
+    assert!(rt; seat_guest(ledger, 'b', 2) == Ok(Overwritten::Neither));
+    let taken = seats_taken(ledger);
+    assert!(rt; taken == 2);
+    ledger.clear();
+    assert!(rt; seat_in_free_place(ledger, 'd', 4) == Overwritten::Neither);
+    let taken = seats_taken(ledger);
+    assert!(rt; taken == 1);
+    assert!(rt; seat_in_free_place(ledger, 'e', 4) == Overwritten::Right('d', 4));
+    assert!(rt; shows(ledger, &[('e', 4)]));
+}
+
+fn seats_all<B: Bijection<char, u32>>(rt: &impl Abort, ledger: &mut B) {
+    each_keeps_a_seat(rt, ledger);
+    ledger.clear();
+    each_free_place_is_given(rt, ledger);
+}
+
+#[test]
+fn guests_are_seated(rt: HostRuntime) {
+    seats_all(&rt, &mut BiBTreeMap::<char, u32>::new(rt.alloc()));
+    seats_all(&rt, &mut BiHashMap::<char, u32>::new(rt.alloc()));
+}
