@@ -80,15 +80,15 @@ impl<'a, L: Ord, R> Keys for LeftOf<'a, L, R> {
     fn compare<M: Meter>(&self, place: usize, key: &L, meter: &mut M) -> Ordering {
         meter.compared();
         let pairs = self.pairs;
-        let (left, _) = pairs.at(place).unwrap();
+        let (left, _) = pairs.held(place);
         left.cmp(key)
     }
 
     fn compare_places<M: Meter>(&self, a: usize, b: usize, meter: &mut M) -> Ordering {
         meter.compared();
         let pairs = self.pairs;
-        let (first, _) = pairs.at(a).unwrap();
-        let (second, _) = pairs.at(b).unwrap();
+        let (first, _) = pairs.held(a);
+        let (second, _) = pairs.held(b);
         first.cmp(second)
     }
 }
@@ -105,15 +105,15 @@ impl<'a, L, R: Ord> Keys for RightOf<'a, L, R> {
     fn compare<M: Meter>(&self, place: usize, key: &R, meter: &mut M) -> Ordering {
         meter.compared();
         let pairs = self.pairs;
-        let (_, right) = pairs.at(place).unwrap();
+        let (_, right) = pairs.held(place);
         right.cmp(key)
     }
 
     fn compare_places<M: Meter>(&self, a: usize, b: usize, meter: &mut M) -> Ordering {
         meter.compared();
         let pairs = self.pairs;
-        let (_, first) = pairs.at(a).unwrap();
-        let (_, second) = pairs.at(b).unwrap();
+        let (_, first) = pairs.held(a);
+        let (_, second) = pairs.held(b);
         first.cmp(second)
     }
 }

@@ -95,6 +95,17 @@ impl<L, R> Pairs<L, R> {
         }
     }
 
+    /// The pair at a place that has one, in constant time.
+    pub fn held(&self, place: usize) -> (&L, &R)
+        requires { IsLive self.now place }
+        ensures { pair_at self.now place ≡ Some (result.0.now, result.1.now) }
+    {
+        match &self.slots[place] {
+            Slot::Held(left, right) => (left, right),
+            Slot::Free(_) => unreachable!(),
+        }
+    }
+
     /// Puts a pair into a free place, and answers which. It takes no memory.
     pub fn put(&mut self, left: L, right: R) -> usize
         requires { pair_count self.old < length self.old }
