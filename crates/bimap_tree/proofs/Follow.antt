@@ -5,7 +5,7 @@ use Rattle.std.specs.declared.cmp.Ordering.{Ordering}
 use Rattle.bimap_base.specs.declared.cells.Node.{Node}
 use Rattle.bimap_tree.specs.Tree.{Tree, height, branch}
 use Rattle.bimap_tree.specs.Path.{Path, below, plug, Follows, wanted}
-use Rattle.bimap_tree.specs.Route.{CanFollow, IsFollowed}
+use Rattle.bimap_tree.specs.Route.{CanFollow}
 use Rattle.bimap_tree.specs.Search.{CanSeek}
 use Rattle.bimap_tree.proofs.Branch.{height-branch}
 use Rattle.bimap_tree.proofs.Paths.{Follows-noted}
@@ -27,7 +27,3 @@ module _ (ns : List Node) (root next : Option ℕ) (live : ℕ → Type 0) (go :
         rooms = ap length e ∙ length-set places depth at ∙ h.rooms;
         more = ap length f ∙ length-set turns depth turn ∙ h.more;
       }
-
--- where it ends, it has come all the way
-pub all_the_way : (go : ℕ → Ordering) (path : Path) (s : Tree) (turn : Bool) (near : Tree) (at : ℕ) (far : Tree) → s ≡ branch turn near at far → (last : List ℕ) (ways : List Bool) (deep : ℕ) (found : Option ℕ) → (low : Path) × (e : Tree) × IsFollowed go last ways deep found (plug (below path turn at far) near) low e → (low : Path) × (e : Tree) × IsFollowed go last ways deep found (plug path s) low e
-all_the_way go path s turn near at far is last ways deep found done = subst (λ x. (low : Path) × (e : Tree) × IsFollowed go last ways deep found (plug path x) low e) (sym is) done

@@ -13,6 +13,7 @@ pub mod Ascending
 pub mod Paths
 pub mod Rises
 pub mod Follow
+pub mod Descents
 pub mod Removes
 pub mod Found
 pub mod Starts

@@ -25,6 +25,13 @@ pub fn children(node: Node, turn: bool) -> (Option<usize>, Option<usize>)
     }
 }
 
+// The child on the side of the turn, right if it is true.
+pub fn child(node: Node, turn: bool) -> Option<usize>
+    ensures { result ≡ near_of turn node }
+{
+    if turn { node.right } else { node.left }
+}
+
 // The tree at this root.
 pub fn measure<M: Meter>(cells: &Cells, root: Option<usize>, meter: &mut M) -> Subtree
     requires { (t : Tree) × Stands cells.now root t }

@@ -22,14 +22,14 @@ fn first_under<M: Meter>(
     ensures comparisons { M.comparisons meter.new ≡ M.comparisons meter.old }
     ensures touches { (s : Tree) → CanDescend cells.now at depth s → M.touches meter.new ≤ M.touches meter.old + height s }
 {
-    let node = cells.read(at, meter);
-    match node.left {
-        None => (at, depth),
-        Some(left) => {
-            route.note(depth, at, false);
-            first_under(cells, left, depth + 1, route, meter)
-        }
+    let mut at = at;
+    let mut depth = depth;
+    while let Some(left) = cells.read(at, meter).left {
+        route.note(depth, at, false);
+        at = left;
+        depth += 1;
     }
+    (at, depth)
 }
 
 // Takes out the place at the end of a route, and answers the new root. Where it has two children, the first place to its right takes its position.

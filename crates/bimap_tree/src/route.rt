@@ -7,9 +7,9 @@ ghost use Rattle.bimap_tree.specs.Index.{Index, IsBalancedIndex};
 ghost use Rattle.bimap_tree.specs.Path.{Path, plug};
 ghost use Rattle.bimap_tree.specs.Route.{CanFollow, IsFollowed, IsRoute};
 
+use crate::link::child;
 use crate::steer::Steer;
 use bimap_base::{Cells, Meter};
-use std::cmp::Ordering;
 
 /// The way that a search went down an index: at each depth a place, and whether the way goes on to its right.
 ///
@@ -76,27 +76,19 @@ pub fn route_under<S: Steer, M: Meter>(
     ensures comparisons { (s : Tree) → Stands cells.now root s → M.comparisons meter.new ≤ M.comparisons meter.old + height s }
     ensures touches { (s : Tree) → Stands cells.now root s → M.touches meter.new ≤ M.touches meter.old + height s }
 {
-    match root {
-        None => {
-            route.depth = depth;
-            None
+    let mut root = root;
+    let mut depth = depth;
+    while let Some(at) = root {
+        let node = cells.read(at, meter);
+        let side = steer.side(at, meter);
+        if side.is_eq() {
+            break;
         }
-        Some(at) => {
-            let node = cells.read(at, meter);
-            match steer.side(at, meter) {
-                Ordering::Less => {
-                    route.note(depth, at, true);
-                    route_under(cells, node.right, depth + 1, steer, route, meter)
-                }
-                Ordering::Greater => {
-                    route.note(depth, at, false);
-                    route_under(cells, node.left, depth + 1, steer, route, meter)
-                }
-                Ordering::Equal => {
-                    route.depth = depth;
-                    Some(at)
-                }
-            }
-        }
+        let turn = side.is_lt();
+        route.note(depth, at, turn);
+        root = child(node, turn);
+        depth += 1;
     }
+    route.depth = depth;
+    root
 }

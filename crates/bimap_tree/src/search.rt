@@ -4,10 +4,9 @@ ghost use Rattle.bimap_tree.specs.Tree.{Tree, Stands, height, size, reading};
 ghost use Rattle.bimap_tree.specs.Search.{CanSeek};
 ghost use Rattle.bimap_tree.specs.Order.{first_equal, count_below};
 
-use crate::link::measure;
+use crate::link::{child, measure};
 use crate::steer::Steer;
 use bimap_base::{Cells, Meter};
-use std::cmp::Ordering;
 
 // The place with the key sought.
 pub fn find_under<S: Steer, M: Meter>(
@@ -21,17 +20,16 @@ pub fn find_under<S: Steer, M: Meter>(
     ensures comparisons { (t : Tree) → Stands cells.now root t → M.comparisons meter.new ≤ M.comparisons meter.old + height t }
     ensures touches { (t : Tree) → Stands cells.now root t → M.touches meter.new ≤ M.touches meter.old + height t }
 {
-    match root {
-        None => None,
-        Some(at) => {
-            let node = cells.read(at, meter);
-            match steer.side(at, meter) {
-                Ordering::Less => find_under(cells, node.right, steer, meter),
-                Ordering::Greater => find_under(cells, node.left, steer, meter),
-                Ordering::Equal => Some(at),
-            }
+    let mut root = root;
+    while let Some(at) = root {
+        let node = cells.read(at, meter);
+        let side = steer.side(at, meter);
+        if side.is_eq() {
+            return Some(at);
         }
+        root = child(node, side.is_lt());
     }
+    None
 }
 
 // The place at a rank.
@@ -46,20 +44,22 @@ pub fn place_under<M: Meter>(
     ensures comparisons { M.comparisons meter.new ≡ M.comparisons meter.old }
     ensures touches { (t : Tree) → Stands cells.now root t → M.touches meter.new ≤ M.touches meter.old + 2 * height t }
 {
-    match root {
-        None => 0,
-        Some(at) => {
-            let node = cells.read(at, meter);
-            let before = measure(cells, node.left, meter).size;
-            if rank < before {
-                place_under(cells, node.left, rank, meter)
-            } else if rank == before {
-                at
-            } else {
-                place_under(cells, node.right, rank - before - 1, meter)
-            }
+    let mut root = root;
+    let mut rank = rank;
+    while let Some(at) = root {
+        let node = cells.read(at, meter);
+        let before = measure(cells, node.left, meter).size;
+        if rank == before {
+            return at;
+        }
+        if rank < before {
+            root = node.left;
+        } else {
+            root = node.right;
+            rank -= before + 1;
         }
     }
+    unreachable!()
 }
 
 // How many places of the tree are below the key sought.
@@ -74,17 +74,15 @@ pub fn rank_under<S: Steer, M: Meter>(
     ensures comparisons { (t : Tree) → Stands cells.now root t → M.comparisons meter.new ≤ M.comparisons meter.old + height t }
     ensures touches { (t : Tree) → Stands cells.now root t → M.touches meter.new ≤ M.touches meter.old + 2 * height t }
 {
-    match root {
-        None => 0,
-        Some(at) => {
-            let node = cells.read(at, meter);
-            match steer.side(at, meter) {
-                Ordering::Less => {
-                    let before = measure(cells, node.left, meter).size;
-                    before + 1 + rank_under(cells, node.right, steer, meter)
-                }
-                _ => rank_under(cells, node.left, steer, meter),
-            }
+    let mut root = root;
+    let mut rank = 0;
+    while let Some(at) = root {
+        let node = cells.read(at, meter);
+        let is_below = steer.side(at, meter).is_lt();
+        if is_below {
+            rank += measure(cells, node.left, meter).size + 1;
         }
+        root = child(node, is_below);
     }
+    rank
 }

@@ -1,0 +1,308 @@
+-- What a loop down a tree keeps: what it costs, and what it finds from where it has come.
+use Rattle.std.proofs.Common.{◌≡◌, ◌≢◌, ℕ, ◌+◌, ◌-◌, ◌*◌, ◌≤◌, ◌<◌, ◌^◌, Bool, true, false, List, Option, Some, None, length, length-set, refl, sym, ◌∙◌, ap, arith}
+use Rattle.std.proofs.Math.Nat.{mul-le-mul_left, mul-suc}
+use Rattle.std.specs.Prelude.{slice_get, slice_set}
+use Rattle.std.specs.Ordering.{is_eq, is_lt}
+use Rattle.std.specs.declared.cmp.Ordering.{Ordering}
+use Rattle.std.specs.declared.cmp.Ordering.TheVariants.{Less, Equal, Greater}
+use Rattle.bimap_base.specs.declared.cells.Node.{Node}
+use Rattle.bimap_tree.specs.Tree.{Tree, leaf, fork, Stands, reading, height, size, root_of, branch, near_of}
+use Rattle.bimap_tree.specs.Index.{height_at}
+use Rattle.bimap_tree.specs.Order.{first_equal, count_below}
+use Rattle.bimap_tree.specs.Path.{Path, below, plug, wanted}
+use Rattle.bimap_tree.specs.Remove.{CanDescend, IsFirst}
+use Rattle.bimap_tree.specs.Route.{CanFollow, IsFollowed}
+use Rattle.bimap_tree.specs.declared.route.Route.{Route}
+use Rattle.bimap_tree.specs.Search.{CanSeek}
+use Rattle.bimap_tree.proofs.Branch.{opened_on, height-branch}
+use Rattle.bimap_tree.proofs.Follow.{goes_on}
+use Rattle.bimap_tree.proofs.Removes.{descent, first_here, first_left}
+use Rattle.bimap_tree.proofs.Searches.{seek_into, found_right, found_left, found_here, counted_right, counted_left, counted_fits}
+use Rattle.bimap_tree.proofs.Ranks.{rank_into, rank_left, rank_here, rank_right}
+use Rattle.bimap_tree.proofs.Shown.{Stands-at, root_within, height_told, size-reading}
+use Rattle.bimap_tree.proofs.Split.{count_length}
+
+-- ---- a test of how a place stands
+pub wants : (how go : Ordering) (same turn : Bool) → how ≡ go → same ≡ is_eq how → same ≡ false → turn ≡ is_lt how → go ≡ wanted turn
+wants Less go same turn e f n t = sym e ∙ ap wanted (sym t)
+wants Equal go same turn e f n t = absurd (let x : true ≡ false = sym f ∙ n in cc)
+wants Greater go same turn e f n t = sym e ∙ ap wanted (sym t)
+
+pub is_equal : (how go : Ordering) (same : Bool) → how ≡ go → same ≡ is_eq how → same ≡ true → go ≡ Equal
+is_equal Less go same e f y = absurd (let x : false ≡ true = sym f ∙ y in cc)
+is_equal Equal go same e f y = sym e
+is_equal Greater go same e f y = absurd (let x : false ≡ true = sym f ∙ y in cc)
+
+pub is_less : (how go : Ordering) (turn : Bool) → how ≡ go → turn ≡ is_lt how → turn ≡ true → go ≡ Less
+is_less Less go turn e f y = sym e
+is_less Equal go turn e f y = absurd (let x : false ≡ true = sym f ∙ y in cc)
+is_less Greater go turn e f y = absurd (let x : false ≡ true = sym f ∙ y in cc)
+
+pub is_not_less : (how go : Ordering) (turn : Bool) → how ≡ go → turn ≡ is_lt how → turn ≡ false → go ≢ Less
+is_not_less Less go turn e f n less = absurd (let x : true ≡ false = sym f ∙ n in cc)
+is_not_less Equal go turn e f n less = absurd (let x : Equal ≡ Less = e ∙ less in cc)
+is_not_less Greater go turn e f n less = absurd (let x : Greater ≡ Less = e ∙ less in cc)
+
+-- ---- what it costs
+module _ (ns : List Node) (top : Option ℕ) (each before : ℕ) where
+  -- the levels that it has left behind have cost at most so much each
+  pub record Costs (root : Option ℕ) (now : ℕ) : Type 0 where
+    pub within : (t : Tree) → Stands ns top t → (s : Tree) × Stands ns root s × (now + each * height s ≤ before + each * height t)
+
+  pub costs_none : Costs top before
+  costs_none = record { within = λ t h. (t, h, omega arith) }
+
+  module _ (root : Option ℕ) (now : ℕ) (c : Costs root now) where
+    pub costs_end : (t : Tree) → Stands ns top t → now ≤ before + each * height t
+    costs_end t h = let (s, k, le) = c.within t h in omega arith
+
+    module _ (at : ℕ) (is : root ≡ Some at) where
+      pub cell_within : (t : Tree) → Stands ns top t → at < length ns
+      cell_within t h = let (s, k, le) = c.within t h in root_within ns at s (Stands-at ns root (Some at) s is k)
+
+      module _ (node : Node) (told : slice_get ns at ≡ Some node) (turn : Bool) where
+        -- the next level
+        near_stands : (s : Tree) → Stands ns root s → (near : Tree) × Stands ns (near_of turn node) near × (height near + 1 ≤ height s)
+        near_stands s k =
+            let (near, far, o) = opened_on ns at turn node s (Stands-at ns root (Some at) s is k) told in
+            (near, o.near_stands, omega (arith, ap height o.is, height-branch turn near at far))
+
+        pub costs_on : (next : Option ℕ) → next ≡ near_of turn node → (later : ℕ) → later ≤ now + each → Costs next later
+        costs_on next e later le = record {
+          within = λ t h. let (s, k, few) = c.within t h in
+              let (near, st, low) = near_stands s k in
+              let m : each * (height near + 1) ≤ each * height s = mul-le-mul_left each low in
+              (near, Stands-at ns (near_of turn node) next near (sym e) st, omega (arith, mul-suc each (height near)));
+        }
+
+        pub costs_last : (later : ℕ) → later ≤ now + each → (t : Tree) → Stands ns top t → later ≤ before + each * height t
+        costs_last later le t h = let (s, k, few) = (costs_on (near_of turn node) refl later le).within t h in omega arith
+
+        pub falls : (next : Option ℕ) → next ≡ near_of turn node → (t : Tree) → Stands ns top t → height_at ns next < height_at ns root
+        falls next e t h =
+            let (s, k, few) = c.within t h in
+            let (near, st, low) = near_stands s k in
+            omega (arith, height_told ns root s k, height_told ns next near (Stands-at ns (near_of turn node) next near (sym e) st))
+
+-- ---- what it finds
+module _ (ns : List Node) (live : ℕ → Type 0) (go : ℕ → Ordering) where
+  -- a step to the side of the turn
+  pub record StepOn (root : Option ℕ) (at : ℕ) (node : Node) (turn : Bool) (s near far : Tree) : Type 0 where
+    pub is : s ≡ branch turn near at far
+    pub can : CanSeek ns (near_of turn node) live go near
+    pub found : go at ≡ wanted turn → first_equal go (reading s) ≡ first_equal go (reading near)
+
+  pub step_on : (root : Option ℕ) (at : ℕ) (node : Node) (turn : Bool) (s : Tree) → CanSeek ns root live go s → root ≡ Some at → slice_get ns at ≡ Some node → (near : Tree) × (far : Tree) × StepOn root at node turn s near far
+  step_on root at node true s h e f =
+      let (l, r, i) = seek_into ns root at node live go s h e f in
+      (r, l, record { is = i.is; can = i.can_right; found = λ w. found_right ns root at node live go s l r i w })
+  step_on root at node false s h e f =
+      let (l, r, i) = seek_into ns root at node live go s h e f in
+      (l, r, record { is = i.is; can = i.can_left; found = λ w. found_left ns root at node live go s l r i w })
+
+  here : (root : Option ℕ) (at : ℕ) (node : Node) (s : Tree) → CanSeek ns root live go s → root ≡ Some at → slice_get ns at ≡ Some node → go at ≡ Equal → first_equal go (reading s) ≡ Some at
+  here root at node s h e f same =
+      let (l, r, i) = seek_into ns root at node live go s h e f in
+      found_here ns root at node live go s l r i same
+
+  none_below : (root : Option ℕ) (s : Tree) → CanSeek ns root live go s → root ≡ None → count_below go (reading s) ≡ 0
+  none_below root leaf h e = refl
+  none_below root (fork l p r) h e = absurd (let x : Some p ≡ None = h.tree.root_is ∙ e in cc)
+
+  none_here : (root : Option ℕ) (s : Tree) → CanSeek ns root live go s → root ≡ None → first_equal go (reading s) ≡ None
+  none_here root leaf h e = refl
+  none_here root (fork l p r) h e = absurd (let x : Some p ≡ None = h.tree.root_is ∙ e in cc)
+
+  live_here : (root : Option ℕ) (at : ℕ) (node : Node) (s : Tree) → CanSeek ns root live go s → root ≡ Some at → slice_get ns at ≡ Some node → live at
+  live_here root at node s h e f = let (l, r, i) = seek_into ns root at node live go s h e f in i.at_live
+
+  module _ (top : Option ℕ) where
+    -- from here it finds what it would find from the top
+    pub record Finds (root : Option ℕ) : Type 0 where
+      pub alike : (t : Tree) → CanSeek ns top live go t → (s : Tree) × CanSeek ns root live go s × (first_equal go (reading t) ≡ first_equal go (reading s))
+
+    pub finds_top : Finds top
+    finds_top = record { alike = λ t h. (t, h, refl) }
+
+    module _ (root : Option ℕ) (d : Finds root) where
+      pub finds_none : root ≡ None → (t : Tree) → CanSeek ns top live go t → None ≡ first_equal go (reading t)
+      finds_none e t h = let (s, k, f) = d.alike t h in sym (f ∙ none_here root s k e)
+
+      module _ (at : ℕ) (is : root ≡ Some at) (node : Node) (told : slice_get ns at ≡ Some node) where
+        pub finds_live : (t : Tree) → CanSeek ns top live go t → live at
+        finds_live t h = let (s, k, f) = d.alike t h in live_here root at node s k is told
+
+        pub finds_here : go at ≡ Equal → (t : Tree) → CanSeek ns top live go t → Some at ≡ first_equal go (reading t)
+        finds_here same t h = let (s, k, f) = d.alike t h in sym (f ∙ here root at node s k is told same)
+
+        pub finds_on : (turn : Bool) → go at ≡ wanted turn → (next : Option ℕ) → next ≡ near_of turn node → Finds next
+        finds_on turn w next e = record {
+          alike = λ t h. let (s, k, f) = d.alike t h in
+              let (near, far, o) = step_on root at node turn s k is told in
+              (near, rw e o.can, f ∙ o.found w);
+        }
+
+    -- so many places are below, and those that are below from here on
+    pub record Counts (root : Option ℕ) (rank : ℕ) : Type 0 where
+      pub alike : (t : Tree) → CanSeek ns top live go t → (s : Tree) × CanSeek ns root live go s × (count_below go (reading t) ≡ rank + count_below go (reading s))
+
+    pub counts_top : Counts top 0
+    counts_top = record { alike = λ t h. (t, h, omega arith) }
+
+    module _ (root : Option ℕ) (rank : ℕ) (d : Counts root rank) where
+      pub counts_none : root ≡ None → (t : Tree) → CanSeek ns top live go t → rank ≡ count_below go (reading t)
+      counts_none e t h = let (s, k, f) = d.alike t h in omega (arith, f, none_below root s k e)
+
+      module _ (at : ℕ) (is : root ≡ Some at) (node : Node) (told : slice_get ns at ≡ Some node) where
+        pub counts_live : (t : Tree) → CanSeek ns top live go t → live at
+        counts_live t h = let (s, k, f) = d.alike t h in live_here root at node s k is told
+
+        -- the tree on the left
+        pub counts_left : (t : Tree) → CanSeek ns top live go t → (l : Tree) × Stands ns node.left l × (size l + 1 < 2 ^ 64) × (go at ≡ Less → rank + (size l + 1) < 2 ^ 64)
+        counts_left t h =
+            let (s, k, f) = d.alike t h in
+            let (l, r, i) = seek_into ns root at node live go s k is told in
+            (l, i.can_left.tree, omega (arith, counted_fits ns root at node live go s l r i, k.fits), λ less. omega (arith, f, counted_right ns root at node live go s l r i less, count_length go (reading t), size-reading t, h.fits))
+
+        module _ (turn : Bool) (next : Option ℕ) (e : next ≡ near_of turn node) (later : ℕ) where
+          pub counts_below : turn ≡ true → go at ≡ Less → (sized : ℕ) → ((l : Tree) → Stands ns node.left l → sized ≡ size l) → later ≡ rank + (sized + 1) → Counts next later
+          counts_below right less sized counted now = record {
+            alike = λ t h. let (s, k, f) = d.alike t h in
+                let (l, r, i) = seek_into ns root at node live go s k is told in
+                let same : next ≡ node.right = e ∙ ap (λ x. near_of x node) right in
+                (r, rw same i.can_right, omega (arith, now, f, counted_right ns root at node live go s l r i less, counted l i.can_left.tree));
+          }
+
+          pub counts_above : turn ≡ false → go at ≢ Less → later ≡ rank → Counts next later
+          counts_above left n now = record {
+            alike = λ t h. let (s, k, f) = d.alike t h in
+                let (l, r, i) = seek_into ns root at node live go s k is told in
+                let same : next ≡ node.left = e ∙ ap (λ x. near_of x node) left in
+                (l, rw same i.can_left, omega (arith, now, f, counted_left ns root at node live go s l r i n));
+          }
+
+-- ---- where a rank leads
+no_size : (t : Tree) → root_of t ≡ None → size t ≡ 0
+no_size leaf e = refl
+no_size (fork l p r) e = absurd (cc)
+
+module _ (ns : List Node) (top : Option ℕ) (first : ℕ) where
+  -- the place at this rank from here is the one at the first rank from the top
+  pub record Leads (root : Option ℕ) (rank : ℕ) : Type 0 where
+    pub alike : (t : Tree) → Stands ns top t → first < size t → (s : Tree) × Stands ns root s × (rank < size s) × ((p : ℕ) → slice_get (reading s) rank ≡ Some p → slice_get (reading t) first ≡ Some p)
+
+  pub leads_top : Leads top first
+  leads_top = record { alike = λ t h few. (t, h, few, λ p e. e) }
+
+  module _ (root : Option ℕ) (rank : ℕ) (d : Leads root rank) where
+    pub leads_none : root ≡ None → (t : Tree) → Stands ns top t → first < size t → ⊥
+    leads_none e t h few = let (s, k, low, f) = d.alike t h few in absurd (omega (arith, no_size s (k.root_is ∙ e)))
+
+    module _ (at : ℕ) (is : root ≡ Some at) (node : Node) (told : slice_get ns at ≡ Some node) where
+      -- the tree on the left
+      pub leads_before : (t : Tree) → Stands ns top t → first < size t → (l : Tree) × Stands ns node.left l
+      leads_before t h few =
+          let (s, k, low, f) = d.alike t h few in
+          let (l, r, i) = rank_into ns root at node s k is told in
+          (l, i.left_tree)
+
+      module _ (before : ℕ) (counted : (l : Tree) → Stands ns node.left l → before ≡ size l) where
+        pub leads_here : rank ≡ before → (t : Tree) → Stands ns top t → first < size t → slice_get (reading t) first ≡ Some at
+        leads_here e t h few =
+            let (s, k, low, f) = d.alike t h few in
+            let (l, r, i) = rank_into ns root at node s k is told in
+            f at (rank_here s l r at rank i.is (e ∙ counted l i.left_tree))
+
+        pub leads_left : rank < before → Leads node.left rank
+        leads_left lt = record {
+          alike = λ t h few. let (s, k, low, f) = d.alike t h few in
+              let (l, r, i) = rank_into ns root at node s k is told in
+              let less : rank < size l = omega (arith, lt, counted l i.left_tree) in
+              (l, i.left_tree, less, λ p e. f p (rank_left s l r at rank p i.is less e));
+        }
+
+        pub leads_right : before < rank → Leads node.right (rank - (before + 1))
+        leads_right gt = record {
+          alike = λ t h few. let (s, k, low, f) = d.alike t h few in
+              let (l, r, i) = rank_into ns root at node s k is told in
+              let b = counted l i.left_tree in
+              let n = ap size i.is in
+              (r, i.right_tree, omega arith, λ p e. f p (rank_right s l r at rank (rank - (before + 1)) p i.is (omega arith) e));
+        }
+
+-- ---- a way that is noted
+module _ (ns : List Node) (live : ℕ → Type 0) (go : ℕ → Ordering) (top : Option ℕ) (first : List ℕ) (turns : List Bool) (start : ℕ) where
+  -- the way has come on to here, from where it finds what it would find at first
+  pub record Goes (root : Option ℕ) (places : List ℕ) (others : List Bool) (depth : ℕ) : Type 0 where
+    pub alike : (path : Path) (s : Tree) → CanFollow ns top live go first turns start path s → (low : Path) × (e : Tree) × CanFollow ns root live go places others depth low e × (plug low e ≡ plug path s) × (first_equal go (reading s) ≡ first_equal go (reading e))
+
+  pub goes_top : Goes top first turns start
+  goes_top = record { alike = λ path s h. (path, s, h, refl, refl) }
+
+  module _ (root : Option ℕ) (places : List ℕ) (others : List Bool) (depth : ℕ) (d : Goes root places others depth) where
+    pub goes_none : root ≡ None → (path : Path) (s : Tree) → CanFollow ns top live go first turns start path s → None ≡ first_equal go (reading s)
+    goes_none e path s h = let (low, x, k, w, f) = d.alike path s h in sym (f ∙ none_here ns live go root x k.seek e)
+
+    -- where it ends, it has come all the way
+    pub goes_end : (found : Option ℕ) → found ≡ root → (path : Path) (s : Tree) → CanFollow ns top live go first turns start path s → (low : Path) × (e : Tree) × IsFollowed go places others depth found (plug path s) low e
+    goes_end found same path s h =
+        let (low, x, k, w, f) = d.alike path s h in
+        (low, x, record { whole = w; follows = k.follows; depth_is = k.depth_is; wants = k.wants; root_is = k.seek.tree.root_is ∙ sym same })
+
+    module _ (at : ℕ) (is : root ≡ Some at) (node : Node) (told : slice_get ns at ≡ Some node) where
+      pub goes_live : (path : Path) (s : Tree) → CanFollow ns top live go first turns start path s → live at
+      goes_live path s h = let (low, x, k, w, f) = d.alike path s h in live_here ns live go root at node x k.seek is told
+
+      pub goes_deep : (path : Path) (s : Tree) → CanFollow ns top live go first turns start path s → depth < 128
+      goes_deep path s h =
+          let (low, x, k, w, f) = d.alike path s h in
+          let (near, far, o) = step_on ns live go root at node true x k.seek is told in
+          omega (arith, k.deep, ap height o.is)
+
+      pub goes_here : go at ≡ Equal → (path : Path) (s : Tree) → CanFollow ns top live go first turns start path s → Some at ≡ first_equal go (reading s)
+      goes_here same path s h = let (low, x, k, w, f) = d.alike path s h in sym (f ∙ here ns live go root at node x k.seek is told same)
+
+      pub goes_down : (turn : Bool) → go at ≡ wanted turn → (next : Option ℕ) → next ≡ near_of turn node → (noted : List ℕ) (ways : List Bool) → noted ≡ slice_set places depth at → ways ≡ slice_set others depth turn → Goes next noted ways (depth + 1)
+      goes_down turn w next e noted ways a b = record {
+        alike = λ path s h. let (low, x, k, whole, f) = d.alike path s h in
+            let (near, far, o) = step_on ns live go root at node turn x k.seek is told in
+            let can : CanSeek ns next live go near = rw e o.can in (
+              below low turn at far,
+              near,
+              goes_on ns root next live go places noted others ways depth low x k turn near far at o.is can w a b,
+              ap (λ y. plug low y) (sym o.is) ∙ whole,
+              f ∙ o.found w,
+            );
+      }
+
+-- ---- the way to a tree's first place
+module _ (ns : List Node) (top start : ℕ) (old : Route) where
+  -- what the way from here on notes is noted of the way from the top
+  pub record Descends (at depth : ℕ) (now : Route) : Type 0 where
+    pub rooms : length now.places ≡ 128
+    pub more : length now.turns ≡ 128
+    pub alike : (s : Tree) → CanDescend ns top start s → (e : Tree) × CanDescend ns at depth e × ((last : Route) (first low : ℕ) → (lefts : List (ℕ × Tree)) × (rest : Tree) × IsFirst now last depth e first low lefts rest → (lefts : List (ℕ × Tree)) × (rest : Tree) × IsFirst old last start s first low lefts rest)
+
+  pub descends_top : length old.places ≡ 128 → length old.turns ≡ 128 → Descends top start old
+  descends_top a b = record { rooms = a; more = b; alike = λ s h. (s, h, λ last first low i. i) }
+
+  module _ (at depth : ℕ) (now : Route) (d : Descends at depth now) (node : Node) (told : slice_get ns at ≡ Some node) where
+    pub descends_deep : (s : Tree) → CanDescend ns top start s → depth < 128
+    descends_deep s h = let (e, k, f) = d.alike s h in let (l, r, i) = descent ns at depth node e k told in i.here
+
+    pub descends_end : node.left ≡ None → (s : Tree) → CanDescend ns top start s → (lefts : List (ℕ × Tree)) × (rest : Tree) × IsFirst old now start s at depth lefts rest
+    descends_end none s h = let (e, k, f) = d.alike s h in f now at depth (first_here ns at depth node e k told none now)
+
+    pub descends_on : (left : ℕ) → node.left ≡ Some left → (s : Tree) → CanDescend ns top start s → (next : Route) → next.places ≡ slice_set now.places depth at → next.turns ≡ slice_set now.turns depth false → Descends left (depth + 1) next
+    descends_on left is s0 h0 next a b =
+        let deep = descends_deep s0 h0 in
+        record {
+          rooms = ap length a ∙ length-set now.places depth at ∙ d.rooms;
+          more = ap length b ∙ length-set now.turns depth false ∙ d.more;
+          alike = λ s h. let (e, k, f) = d.alike s h in
+              let (l, r, i) = descent ns at depth node e k told in (
+                l,
+                record { tree = Stands-at ns node.left (Some left) l is i.left_stands; deep = i.deeper },
+                λ last first low w. f last first low (first_left ns at depth node e k told now next last l r i a b (omega (arith, deep, d.rooms)) (omega (arith, deep, d.more)) first low w),
+              );
+        }
