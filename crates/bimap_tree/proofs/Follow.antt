@@ -4,7 +4,7 @@ use Rattle.std.specs.Prelude.{slice_set}
 use Rattle.std.specs.declared.cmp.Ordering.{Ordering}
 use Rattle.bimap_base.specs.declared.cells.Node.{Node}
 use Rattle.bimap_tree.specs.Tree.{Tree, height, branch}
-use Rattle.bimap_tree.specs.Path.{Path, below, plug, Follows, wanted}
+use Rattle.bimap_tree.specs.Path.{Path, below, Follows, wanted}
 use Rattle.bimap_tree.specs.Route.{CanFollow}
 use Rattle.bimap_tree.specs.Search.{CanSeek}
 use Rattle.bimap_tree.proofs.Branch.{height-branch}

@@ -75,13 +75,16 @@ fn recount<M: Meter>(
     ensures comparisons { M.comparisons meter.new ≡ M.comparisons meter.old }
     ensures touches { M.touches meter.new ≤ M.touches meter.old + 2 * depth }
 {
-    if depth == 0 {
-        return child;
+    let mut child = child;
+    let mut depth = depth;
+    while depth > 0 {
+        depth -= 1;
+        let (at, turn) = route.step(depth);
+        let node = cells.read(at, meter);
+        cells.write(at, recounted(node, turn, child, grew), meter);
+        child = Some(at);
     }
-    let (at, turn) = route.step(depth - 1);
-    let node = cells.read(at, meter);
-    cells.write(at, recounted(node, turn, child, grew), meter);
-    recount(cells, route, depth - 1, Some(at), grew, meter)
+    child
 }
 
 // Goes up from a child that stands in place of a tree of the height `was`, and answers the new root.
@@ -99,16 +102,20 @@ pub fn rise<M: Meter>(
     ensures comparisons { M.comparisons meter.new ≡ M.comparisons meter.old }
     ensures touches { M.touches meter.new ≤ M.touches meter.old + 11 * depth }
 {
-    if child.height == was {
-        return recount(cells, route, depth, child.root, grew, meter);
+    let mut child = child;
+    let mut was = was;
+    let mut depth = depth;
+    while child.height != was {
+        if depth == 0 {
+            return child.root;
+        }
+        depth -= 1;
+        let (at, turn) = route.step(depth);
+        let node = cells.read(at, meter);
+        child = relink(cells, at, node, turn, child, grew, meter);
+        was = node.height;
     }
-    if depth == 0 {
-        return child.root;
-    }
-    let (at, turn) = route.step(depth - 1);
-    let node = cells.read(at, meter);
-    let next = relink(cells, at, node, turn, child, grew, meter);
-    rise(cells, route, depth - 1, next, node.height, grew, meter)
+    recount(cells, route, depth, child.root, grew, meter)
 }
 
 // Puts a place in at the end of a route that leads to no place, and answers the new root.
