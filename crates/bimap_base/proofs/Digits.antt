@@ -40,3 +40,7 @@ bits-enough n = bits_from-enough n 0 n (rw zero-add (below_power n))
 pub bits-least : (n m : ℕ) → n < 2 ^ m → bits n ≤ m
 unfolding bits
 bits-least n m h = bits_from-least n 0 n m (omega arith) h
+
+-- more places have no fewer digits
+pub bits_mono : (m n : ℕ) → m ≤ n → bits m ≤ bits n
+bits_mono m n le = bits-least m (bits n) (omega (arith, bits-enough n))

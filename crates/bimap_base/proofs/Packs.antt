@@ -1,25 +1,34 @@
 -- Nodes as they are kept.
-use Rattle.std.proofs.Common.{◌≡◌, ℕ, zero, suc, ◌≤◌, ◌<◌, List, [], ◌∷◌, ◌++◌, length, take, map, replicate, refl, sym, ◌∙◌, ap, arith}
+use Rattle.std.proofs.Common.{◌≡◌, ℕ, zero, suc, ◌+◌, ◌≤◌, ◌<◌, ◌^◌, List, [], ◌∷◌, ◌++◌, length, take, map, refl, sym, ◌∙◌, ap, arith}
 use Rattle.std.specs.Prelude.{slice_get, slice_set, option_map}
-use Rattle.std.proofs.lemmas.List.{length-map, take_all}
+use Rattle.std.proofs.lemmas.List.{length-map, map-set, take_all}
 use Rattle.std.proofs.lemmas.Option.{slice_get-map}
-use Rattle.bimap_base.specs.declared.cells.Packed.{Packed}
-use Rattle.bimap_base.specs.Packed.{node_in}
+use Rattle.bimap_base.specs.Digits.{most_height}
+use Rattle.bimap_base.proofs.Digits.{bits-least}
 
-pub map-written : (xs : List Packed) (i : ℕ) (p : Packed) → map node_in (slice_set xs i p) ≡ slice_set (map node_in xs) i (node_in p)
-map-written [] i p = refl
-map-written (x ∷ xs) zero p = refl
-map-written (x ∷ xs) (suc i) p = ap (λ z. node_in x ∷ z) (map-written xs i p)
+-- a height that fits so few places fits a narrow cell
+pub low_enough : (places : ℕ) → places < 2 ^ 26 → (height : ℕ) → height ≤ most_height places + 1 → height < 64
+low_enough places few height low = omega (arith, bits-least places 26 few)
 
-get-front : (xs ys : List Packed) (k : ℕ) → k < length xs → slice_get (xs ++ ys) k ≡ slice_get xs k
+-- what is pushed at the end changes no earlier one
+pub get-front : {A : Type 0} (xs ys : List A) (k : ℕ) → k < length xs → slice_get (xs ++ ys) k ≡ slice_get xs k
 get-front [] ys k h = absurd (omega arith)
 get-front (x ∷ xs) ys zero h = refl
 get-front (x ∷ xs) ys (suc k) h = get-front xs ys k (omega arith)
 
--- what is pushed at the end changes no earlier node
-pub get-extended : (xs ys : List Packed) (n more : ℕ) (p : Packed) → length xs ≤ n → ys ≡ take n xs ++ replicate more p → (k : ℕ) → k < length (map node_in xs) → slice_get (map node_in ys) k ≡ slice_get (map node_in xs) k
-get-extended xs ys n more p h e k w =
-    let f : ys ≡ xs ++ replicate more p = e ∙ ap (λ z. z ++ replicate more p) (take_all n xs h) in
-    slice_get-map node_in ys k
-    ∙ ap (λ z. option_map node_in z) (ap (λ z. slice_get z k) f ∙ get-front xs (replicate more p) k (omega (arith, length-map xs node_in)))
-    ∙ sym (slice_get-map node_in xs k)
+-- after a resize to no fewer
+pub get-resized : {A : Type 0} (xs ys all : List A) (n : ℕ) → length xs ≤ n → all ≡ take n xs ++ ys → (k : ℕ) → k < length xs → slice_get all k ≡ slice_get xs k
+get-resized xs ys all n le e k h =
+    ap (λ z. slice_get z k) (e ∙ ap (λ z. z ++ ys) (take_all n xs le)) ∙ get-front xs ys k h
+
+-- the nodes of cells that agree so far agree so far
+pub get-mapped : {A B : Type 0} (f : A → B) (xs all : List A) → ((k : ℕ) → k < length xs → slice_get all k ≡ slice_get xs k) → (ns : List B) → map f xs ≡ ns → (k : ℕ) → k < length ns → slice_get (map f all) k ≡ slice_get ns k
+get-mapped f xs all same ns e k h =
+    slice_get-map f all k
+    ∙ ap (λ z. option_map f z) (same k (omega (arith, length-map xs f, ap length e)))
+    ∙ sym (slice_get-map f xs k)
+    ∙ ap (λ z. slice_get z k) e
+
+-- a node written over another
+pub map-written : {A B : Type 0} (f : A → B) (xs : List A) (i : ℕ) (x : A) (ns : List B) (n : B) → map f xs ≡ ns → f x ≡ n → map f (slice_set xs i x) ≡ slice_set ns i n
+map-written f xs i x ns n e d = map-set f xs i x ∙ ap (λ z. slice_set z i (f x)) e ∙ ap (λ z. slice_set ns i z) d

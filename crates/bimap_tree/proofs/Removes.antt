@@ -3,12 +3,15 @@ use Rattle.std.proofs.Common.{◌≡◌, ℕ, suc, ◌+◌, ◌^◌, ◌≤◌, 
 use Rattle.std.specs.Prelude.{is_some, slice_get, slice_set}
 use Rattle.std.proofs.lemmas.Option.{slice_get_within}
 use Rattle.bimap_base.specs.declared.cells.Node.{Node}
+use Rattle.bimap_base.specs.Digits.{most_height}
 use Rattle.bimap_base.specs.Packed.{IsThere}
 use Rattle.bimap_tree.specs.Tree.{Tree, leaf, fork, reading, height, size, occurs, is_at, root_of, node_of, IsBalanced, Shows, Stands}
 use Rattle.bimap_tree.specs.Path.{Path, top, below, plug, steps, front, back, occurs_on, size_on, Follows, Tells, Holds, Moves, CanRise, IsRisen}
 use Rattle.bimap_tree.specs.Remove.{hang, onward, FollowsOn, CanDescend, IsFirst, CanTake, IsTaken}
 use Rattle.bimap_tree.specs.declared.route.Route.{Route}
 use Rattle.bimap_tree.proofs.Paths.{occurs-plug, size-plug, reading-plug, steps_within, balanced_inside, tells, holds_of, Holds-frame, Holds-alike, IsBalanced-alike, Follows-frame, Follows-noted}
+use Rattle.bimap_tree.proofs.Heights.{low}
+use Rattle.bimap_tree.proofs.Rooms.{room_for}
 use Rattle.bimap_tree.proofs.Shown.{is_at-same, is_at-apart, Shows-frame, get-written, get-elsewhere, opened, left_stands, Stands-at, height_told, there}
 use Rattle.bimap_tree.specs.Index.{height_at}
 
@@ -246,6 +249,13 @@ module _ (nodes : List Node) (route : Route) (path : Path) (l : Tree) (at : ℕ)
 
   pub right_there : (node : Node) → slice_get nodes at ≡ Some node → IsThere (length nodes) node.right
   right_there node e = there nodes node.right r (right_tree node e)
+
+  -- a cell can keep its node
+  pub kept : (node : Node) → slice_get nodes at ≡ Some node → (node.height ≤ most_height (length nodes) + 1) × (node.size ≤ length nodes)
+  kept node e =
+      let told = node_told node e in
+      let room = room_for nodes l at r shown_here.1 shown_here.2 at_within (λ q. omega (arith, once q)) in
+      (omega (arith, ap (λ n. n.height) told, low (fork l at r) balanced_here (length nodes) room), omega (arith, ap (λ n. n.size) told, room))
 
   -- how deep the first place of the right tree is
   pub low_within : (old mid : Route) (depth first low : ℕ) (lefts : List (ℕ × Tree)) (rest : Tree) → depth ≡ route.depth → IsFirst old mid (depth + 1) r first low lefts rest → (low + 1 ≤ height (plug path (fork l at r))) × (steps path + height r + 1 ≤ height (plug path (fork l at r)))

@@ -4,12 +4,15 @@ use Rattle.std.specs.Prelude.{slice_get, slice_set}
 use Rattle.std.proofs.lemmas.Option.{slice_get_within}
 use Rattle.std.proofs.lemmas.Bool.Decides.{leb_tells}
 use Rattle.bimap_base.specs.declared.cells.Node.{Node}
+use Rattle.bimap_base.specs.Digits.{most_height}
 use Rattle.bimap_base.specs.Packed.{IsThere}
 use Rattle.bimap_tree.specs.Tree.{Tree, leaf, fork, reading, height, size, root_of, Stands, branch, node_on, near_of, far_of}
 use Rattle.bimap_tree.specs.Link.{CanRebalance, IsRebalanced}
 use Rattle.bimap_tree.specs.Path.{Path, top, below, steps, front, back, Tells, one_if, Moves, CanRise, CanRelink, CanPut, IsRisen}
 use Rattle.bimap_tree.proofs.Branch.{height-branch, size-branch, height-node_on, size-node_on, near-node_on, far-node_on, node_is, level, Shows-linked}
+use Rattle.bimap_tree.proofs.Heights.{low as low_tree}
 use Rattle.bimap_tree.proofs.Paths.{balanced_inside, Holds-frame, holds_of}
+use Rattle.bimap_tree.proofs.Rooms.{room_for}
 use Rattle.bimap_tree.proofs.Rotate.{no_rotation}
 use Rattle.bimap_tree.proofs.Shown.{is_at-same, is_at-apart, get-elsewhere, size-reading, there, Stands-at}
 
@@ -37,8 +40,17 @@ module _ (nodes : List Node) (at : ℕ) (turn grew : Bool) (node : Node) (sister
       let m3 = h.moves.not_higher in
       let f = h.fits in
       let one = one_way grew in
+      let room = room_for nodes u at sister h.shown h.sister_shown h.has_cell h.distinct in
       record {
-        link = record { has_cell = h.has_cell; near_shown = h.shown; far_shown = h.sister_shown; fits = omega arith };
+        link = record {
+          has_cell = h.has_cell;
+          near_shown = h.shown;
+          far_shown = h.sister_shown;
+          room = room;
+          near_low = low_tree u h.balanced (length nodes) (omega arith);
+          far_low = low_tree sister lv.far_balanced (length nodes) (omega arith);
+          fits = omega arith;
+        };
         distinct = h.distinct;
         near_balanced = h.balanced;
         far_balanced = lv.far_balanced;
@@ -93,6 +105,12 @@ module _ (nodes : List Node) (at : ℕ) (turn grew : Bool) (node : Node) (sister
         size_is = same_size ∙ sym (size-branch turn u at sister);
         as_high = height-branch turn u at sister ∙ ap (λ x. x + 1) even ∙ sym (height-branch turn s at sister);
       }
+
+  -- its cell can keep it
+  pub kept : (new : List Node) (more : Node) → Retold new more → (more.height ≤ most_height (length nodes) + 1) × (more.size ≤ length nodes)
+  kept new more r =
+      let link = can_rebalance.link in
+      (omega (arith, r.height_is, height-branch turn u at sister, link.near_low, link.far_low), omega (arith, r.size_is, size-branch turn u at sister, link.room))
 
   -- a child that grew, but no higher than the place was above its sister
   pub low : grew ≡ true → (level : ℕ) → level ≡ height u → level < node.height → (new : List Node) (more : Node) → near_of turn more ≡ root_of u → far_of turn more ≡ far_of turn node → more.height ≡ node.height → more.size ≡ node.size + 1 → new ≡ slice_set nodes at more → Retold new more

@@ -2,7 +2,7 @@
 use Rattle.std.proofs.Common.{◌≡◌, ◌≢◌, ℕ, zero, suc, ◌+◌, ◌≤◌, ◌<◌, List, length, refl, ap, arith, inl, inr}
 use Rattle.std.proofs.lemmas.Bool.Decides.{eqb_tells}
 use Rattle.bimap_base.specs.declared.cells.Node.{Node}
-use Rattle.bimap_tree.specs.Tree.{Tree, leaf, fork, size, occurs, is_at, Shows}
+use Rattle.bimap_tree.specs.Tree.{Tree, leaf, fork, size, occurs, is_at, IsDistinctTree, Shows}
 use Rattle.bimap_tree.proofs.Shown.{is_at-same, is_at-other}
 use Rattle.bimap_tree.proofs.Shown.{in_tree}
 
@@ -43,6 +43,15 @@ slots_size n (fork l p r) h =
 slots_room : (n : ℕ) (t : Tree) (place : ℕ) → ((q : ℕ) → occurs q t + is_at q place ≤ 1) → slots n t + ones n place ≤ n
 slots_room zero t place h = omega arith
 slots_room (suc n) t place h = omega (arith, slots_room n t place h, h n)
+
+slots_few : (n : ℕ) (t : Tree) → IsDistinctTree t → slots n t ≤ n
+slots_few zero t d = omega arith
+slots_few (suc n) t d = omega (arith, slots_few n t d, d n)
+
+-- a place and two trees, all of them apart, are no more than the nodes
+pub room_for : (ns : List Node) (near : Tree) (place : ℕ) (far : Tree) → Shows ns near → Shows ns far → place < length ns → ((q : ℕ) → occurs q near + is_at q place + occurs q far ≤ 1) → size near + size far + 1 ≤ length ns
+room_for ns near place far hn hf within d =
+    omega (arith, slots_fork (length ns) near far place, slots_size (length ns) near (λ q o. in_tree ns near q hn o), slots_size (length ns) far (λ q o. in_tree ns far q hf o), ones_one (length ns) place within, slots_few (length ns) (fork near place far) d)
 
 -- a place that the tree does not hold leaves room for it
 pub size_room : (ns : List Node) (t : Tree) (place : ℕ) → Shows ns t → place < length ns → ((q : ℕ) → occurs q t + is_at q place ≤ 1) → size t + 1 ≤ length ns

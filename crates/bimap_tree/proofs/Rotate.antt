@@ -3,6 +3,7 @@ use Rattle.std.proofs.Common.{◌≡◌, ℕ, ◌+◌, ◌^◌, ◌≤◌, ◌<�
 use Rattle.std.specs.Prelude.{slice_get, slice_set}
 use Rattle.std.proofs.lemmas.Option.{slice_get_within}
 use Rattle.bimap_base.specs.declared.cells.Node.{Node}
+use Rattle.bimap_base.specs.Digits.{most_height}
 use Rattle.bimap_tree.specs.Tree.{Tree, reading, height, size, root_of, Shows, Stands, is_at, occurs, branch, node_on, near_of, far_of}
 use Rattle.bimap_tree.specs.Link.{CanLink, CanRebalance, IsRebalanced}
 use Rattle.bimap_tree.proofs.Shown.{is_at-same, is_at-apart, Shows-keeps, get-elsewhere, Stands-at}
@@ -53,6 +54,9 @@ module _ (turn : Bool) (N0 : List Node) (place heavy : ℕ) (a b r : Tree) (h : 
     has_cell = h.link.has_cell;
     near_shown = below_heavy.far_shown;
     far_shown = h.link.far_shown;
+    room = let f = h.link.room in omega (arith, size-branch turn a heavy b);
+    near_low = let f = h.link.near_low in omega (arith, height-branch turn a heavy b);
+    far_low = h.link.far_low;
     fits = let f = h.link.fits in omega (arith, size-branch turn a heavy b);
   }
 
@@ -69,11 +73,17 @@ module _ (turn : Bool) (N0 : List Node) (place heavy : ℕ) (a b r : Tree) (h : 
         let z = is_at-same place in
         Shows-linked N0 N1 turn b place r e1 h.link.has_cell (omega arith) (omega arith) below_heavy.far_shown h.link.far_shown
 
-    pub single_second : CanLink N1 heavy a (branch turn b place r)
-    single_second = record {
-      has_cell = rw (e1, length-set) heavy_within;
+    many : length N1 ≡ length N0
+    many = rw (e1, length-set) refl
+
+    pub single_second : height (branch turn a heavy b) ≡ height r + 2 → CanLink N1 heavy a (branch turn b place r)
+    single_second two = record {
+      has_cell = rw many heavy_within;
       near_shown = outer_shown;
       far_shown = lower_shown;
+      room = rw many (let f = h.link.room in omega (arith, size-branch turn a heavy b, size-branch turn b place r));
+      near_low = rw many (let f = h.link.near_low in omega (arith, height-branch turn a heavy b));
+      far_low = rw many (let f = h.link.near_low in omega (arith, two, height-branch turn a heavy b, height-branch turn b place r));
       fits = let f = h.link.fits in omega (arith, size-branch turn a heavy b, size-branch turn b place r);
     }
 
@@ -88,7 +98,7 @@ module _ (turn : Bool) (N0 : List Node) (place heavy : ℕ) (a b r : Tree) (h : 
         let hl = height-branch turn b place r in
         let ht = height-branch turn a heavy (branch turn b place r) in
         record {
-          shown = Shows-linked N1 N2 turn a heavy (branch turn b place r) e2 single_second.has_cell (omega arith) (omega (arith, occurs-branch heavy turn b place r)) outer_shown lower_shown;
+          shown = Shows-linked N1 N2 turn a heavy (branch turn b place r) e2 (single_second two).has_cell (omega arith) (omega (arith, occurs-branch heavy turn b place r)) outer_shown lower_shown;
           in_order = single_reading turn a heavy b place r;
           same_places = λ q. omega (arith, occurs-branch q turn a heavy (branch turn b place r), occurs-branch q turn b place r, occurs-branch q turn a heavy b);
           balanced = IsBalanced-branch turn a heavy (branch turn b place r) record {
@@ -124,11 +134,25 @@ module _ (turn : Bool) (N0 : List Node) (place heavy middle : ℕ) (a b d r : Tr
   all_fit : size a + size b + size d + size r + 3 < 2 ^ 64
   all_fit = omega (arith, h.link.fits, size-branch turn a heavy (branch turn b middle d), size-branch turn b middle d)
 
+  all_room : size a + size b + size d + size r + 3 ≤ length N0
+  all_room = omega (arith, h.link.room, size-branch turn a heavy (branch turn b middle d), size-branch turn b middle d)
+
+  -- and how high they are
+  all_low : (height a + 1 ≤ most_height (length N0)) × (height b + 2 ≤ most_height (length N0)) × (height d + 2 ≤ most_height (length N0)) × (height r ≤ most_height (length N0))
+  all_low =
+      let u = height-branch turn a heavy (branch turn b middle d) in
+      let i = height-branch turn b middle d in
+      let n = h.link.near_low in
+      (omega arith, omega arith, omega arith, h.link.far_low)
+
   pub double_first : CanLink N0 heavy a b
   double_first = record {
     has_cell = slice_get_within N0 heavy (node_on turn a (branch turn b middle d)) upper.node;
     near_shown = upper.near_shown;
     far_shown = inner.near_shown;
+    room = let f = all_room in omega arith;
+    near_low = let t = all_low in omega arith;
+    far_low = let t = all_low in omega arith;
     fits = let f = all_fit in omega arith;
   }
 
@@ -141,6 +165,9 @@ module _ (turn : Bool) (N0 : List Node) (place heavy middle : ℕ) (a b d r : Tr
           has_cell = rw (e1, length-set) h.link.has_cell;
           near_shown = Shows-keeps N0 N1 d heavy (node_on turn a b) e1 (omega arith) inner.far_shown;
           far_shown = Shows-keeps N0 N1 r heavy (node_on turn a b) e1 (omega arith) h.link.far_shown;
+          room = rw (e1, length-set) (let f = all_room in omega arith);
+          near_low = rw (e1, length-set) (let t = all_low in omega arith);
+          far_low = rw (e1, length-set) h.link.far_low;
           fits = let f = all_fit in omega arith;
         }
 
@@ -151,14 +178,17 @@ module _ (turn : Bool) (N0 : List Node) (place heavy middle : ℕ) (a b d r : Tr
         Shows-linked N0 N1 turn a heavy b e1 double_first.has_cell (omega arith) (omega arith) upper.near_shown inner.near_shown
 
     module _ (N2 : List Node) (e2 : N2 ≡ slice_set N1 place (node_on turn d r)) where
-      pub double_third : CanLink N2 middle (branch turn a heavy b) (branch turn d place r)
-      double_third =
+      pub double_third : height (branch turn a heavy (branch turn b middle d)) ≡ height r + 2 → CanLink N2 middle (branch turn a heavy b) (branch turn d place r)
+      double_third two =
           let o = all_once place in
           let z = is_at-same place in
           record {
             has_cell = rw (e2, length-set, e1, length-set) (slice_get_within N0 middle (node_on turn b d) inner.node);
             near_shown = Shows-keeps N1 N2 (branch turn a heavy b) place (node_on turn d r) e2 (omega (arith, occurs-branch place turn a heavy b)) heavy_shown;
             far_shown = Shows-linked N1 N2 turn d place r e2 double_second.has_cell (omega arith) (omega arith) double_second.near_shown double_second.far_shown;
+            room = rw (e2, length-set, e1, length-set) (omega (arith, all_room, size-branch turn a heavy b, size-branch turn d place r));
+            near_low = rw (e2, length-set, e1, length-set) (omega (arith, all_low.0, all_low.1, height-branch turn a heavy b));
+            far_low = rw (e2, length-set, e1, length-set) (let n = h.link.near_low in omega (arith, all_low.2, two, height-branch turn d place r));
             fits = omega (arith, all_fit, size-branch turn a heavy b, size-branch turn d place r);
           }
 
@@ -178,7 +208,7 @@ module _ (turn : Bool) (N0 : List Node) (place heavy middle : ℕ) (a b d r : Tr
           let hf = height-branch turn d place r in
           let ht = height-branch turn (branch turn a heavy b) middle (branch turn d place r) in
           record {
-            shown = Shows-linked N2 N3 turn (branch turn a heavy b) middle (branch turn d place r) e3 double_third.has_cell (omega (arith, occurs-branch middle turn a heavy b)) (omega (arith, occurs-branch middle turn d place r)) double_third.near_shown double_third.far_shown;
+            shown = Shows-linked N2 N3 turn (branch turn a heavy b) middle (branch turn d place r) e3 (double_third two).has_cell (omega (arith, occurs-branch middle turn a heavy b)) (omega (arith, occurs-branch middle turn d place r)) (double_third two).near_shown (double_third two).far_shown;
             in_order = double_reading turn a heavy b middle d place r;
             same_places = λ q. omega (arith, occurs-branch q turn (branch turn a heavy b) middle (branch turn d place r), occurs-branch q turn a heavy b, occurs-branch q turn d place r, occurs-branch q turn a heavy (branch turn b middle d), occurs-branch q turn b middle d);
             balanced = IsBalanced-branch turn (branch turn a heavy b) middle (branch turn d place r) record {
@@ -255,7 +285,15 @@ rebalanced_of old new turn place n x f t e h = subst (λ y. IsRebalanced old new
 -- the same from the other side
 pub can_turned : (ns : List Node) (place : ℕ) (n f : Tree) → CanRebalance ns place n f → CanRebalance ns place f n
 can_turned ns place n f h = record {
-  link = record { has_cell = h.link.has_cell; near_shown = h.link.far_shown; far_shown = h.link.near_shown; fits = let z = h.link.fits in omega arith };
+  link = record {
+    has_cell = h.link.has_cell;
+    near_shown = h.link.far_shown;
+    far_shown = h.link.near_shown;
+    room = let z = h.link.room in omega arith;
+    near_low = h.link.far_low;
+    far_low = h.link.near_low;
+    fits = let z = h.link.fits in omega arith;
+  };
   distinct = λ q. let d = h.distinct q in omega arith;
   near_balanced = h.far_balanced;
   far_balanced = h.near_balanced;

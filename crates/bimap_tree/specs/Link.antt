@@ -1,6 +1,7 @@
 -- Linking a place above two trees.
 use Rattle.std.specs.Prelude.{◌≡◌, ℕ, ◌+◌, ◌≤◌, ◌<◌, ◌^◌, max, Bool, List, slice_get, length}
 use Rattle.bimap_base.specs.declared.cells.Node.{Node}
+use Rattle.bimap_base.specs.Digits.{most_height}
 use Rattle.bimap_tree.specs.Tree.{Tree, reading, height, size, root_of, IsBalanced, Shows, is_at, occurs, branch}
 use Rattle.bimap_tree.specs.declared.link.Subtree.{Subtree}
 
@@ -15,6 +16,9 @@ pub record CanLink (nodes : List Node) (place : ℕ) (near far : Tree) : Type 0 
   pub has_cell : place < length nodes
   pub near_shown : Shows nodes near
   pub far_shown : Shows nodes far
+  pub room : size near + size far + 1 ≤ length nodes
+  pub near_low : height near ≤ most_height (length nodes)
+  pub far_low : height far ≤ most_height (length nodes)
   pub fits : size near + size far + 1 < 2 ^ 64
 
 -- a place may be linked above two balanced trees whose heights differ by at most two

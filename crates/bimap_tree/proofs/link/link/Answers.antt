@@ -27,3 +27,15 @@ write-requires-clause-right g c =
       | then-turn w ↦ subst (λ x. IsThere (length c.args.cells.now) x.1) (sym w.left-is) (told_there _ _ _ c.requires.3 c.requires.2.near_shown)
       | else-turn w ↦ subst (λ x. IsThere (length c.args.cells.now) x.1) (sym w.left-is) (told_there _ _ _ c.requires.4 c.requires.2.far_shown)
     ]
+
+pub write-requires-clause-height : goal.write-requires-clause-height
+write-requires-clause-height g c =
+    let n = c.requires.3.height_is in
+    let f = c.requires.4.height_is in
+    elim c.if-near-far.branch [
+      | then-near-far w ↦ omega (arith, c.requires.2.far_low, f, w.taller-is)
+      | else-near-far w ↦ omega (arith, c.requires.2.near_low, n, w.taller-is)
+    ]
+
+pub write-requires-clause-size : goal.write-requires-clause-size
+write-requires-clause-size g c = omega (arith, c.requires.2.room, c.requires.3.size_is, c.requires.4.size_is)

@@ -18,7 +18,7 @@ pub link-requires : goal.link-requires
 link-requires g c =
     let (a, b, u) = upper_of _ _ _ _ _ _ _ _ _ c.requires.2 c.requires.3 c.read-upper.ensures.node c.children-outer_root.ensures.near c.children-outer_root.ensures.far in
     let inner = c.measure-inner.ensures.measured b u.inner_stands in
-    (a, branch c.args.turn b c.args.place c.requires.1, single_second _ _ _ _ a b _ u.can _ (c.link-lower.ensures.linked b _ inner c.requires.4), c.measure-outer.ensures.measured a u.outer_stands, c.link-lower.ensures.measured b _ inner c.requires.4)
+    (a, branch c.args.turn b c.args.place c.requires.1, single_second _ _ _ _ a b _ u.can _ (c.link-lower.ensures.linked b _ inner c.requires.4) (sym (ap height u.is) ∙ c.requires.5), c.measure-outer.ensures.measured a u.outer_stands, c.link-lower.ensures.measured b _ inner c.requires.4)
 
 pub returns-then-inner-outer-clause-tree : goal.returns-then-inner-outer-clause-tree
 returns-then-inner-outer-clause-tree g c n f h root light two =
@@ -70,7 +70,7 @@ link-requires-2 g c =
     let far = c.measure-far.ensures.measured d v.far_stands in
     let e1 = c.link-upper_side.ensures.linked a b2 outer near in
     let e2 = c.link-lower_side.ensures.linked d _ far c.requires.4 in
-    (_, _, double_third _ _ _ _ _ a b2 d _ v.can _ e1 _ e2, c.link-upper_side.ensures.measured a b2 outer near, c.link-lower_side.ensures.measured d _ far c.requires.4)
+    (_, _, double_third _ _ _ _ _ a b2 d _ v.can _ e1 _ e2 (sym (ap height v.is) ∙ c.requires.5), c.link-upper_side.ensures.measured a b2 outer near, c.link-lower_side.ensures.measured d _ far c.requires.4)
 
 pub returns-clause-tree : goal.returns-clause-tree
 returns-clause-tree g c n f h root light two =

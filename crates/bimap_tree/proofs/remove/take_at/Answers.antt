@@ -1,7 +1,7 @@
 use Rattle.std.proofs.Common.{arith, ap, ◌∙◌}
 use Rattle.bimap_tree.specs.Tree.{fork}
 use Rattle.bimap_tree.proofs.Paths.{steps_within}
-use Rattle.bimap_tree.proofs.Removes.{no_child, at_within, left_tree, right_tree, left_there, right_there, depth_few, node_told, rises_left, rises_right, taken_left, taken_right, can_descend, low_within, first_within, rest_stands, was_height, rises_first, taken_first, first_followed, taking, taken_of}
+use Rattle.bimap_tree.proofs.Removes.{no_child, at_within, left_tree, right_tree, left_there, right_there, kept, depth_few, node_told, rises_left, rises_right, taken_left, taken_right, can_descend, low_within, first_within, rest_stands, was_height, rises_first, taken_first, first_followed, taking, taken_of}
 use Rattle.bimap_tree.proofs.remove.take_at.Goals as goal
 
 pub read-node-requires : goal.read-node-requires
@@ -77,6 +77,12 @@ write-requires-clause-left g c = left_there _ _ _ _ _ _ c.requires.3 _ c.read-no
 
 pub write-requires-clause-right : goal.write-requires-clause-right
 write-requires-clause-right g c = right_there _ _ _ _ _ _ c.requires.3 _ c.read-node.ensures.node
+
+pub write-requires-clause-height : goal.write-requires-clause-height
+write-requires-clause-height g c = (kept _ _ _ _ _ _ c.requires.3 _ c.read-node.ensures.node).0
+
+pub write-requires-clause-size : goal.write-requires-clause-size
+write-requires-clause-size g c = (kept _ _ _ _ _ _ c.requires.3 _ c.read-node.ensures.node).1
 
 pub note-requires : goal.note-requires
 note-requires g c =

@@ -1,4 +1,4 @@
-use Rattle.std.proofs.Common.{◌∙◌, None, refl, lit<}
+use Rattle.std.proofs.Common.{arith, ◌∙◌, None, refl, lit<}
 use Rattle.bimap_tree.specs.Tree.{leaf, fork}
 use Rattle.bimap_tree.specs.Link.{Measures}
 use Rattle.bimap_tree.proofs.Rises.{can_put, put_risen}
@@ -9,7 +9,7 @@ nothing : Measures record { root = None; height = 0; size = 0 } leaf
 nothing = record { root_is = refl; height_is = refl; size_is = refl }
 
 pub link-alone-requires : goal.link-alone-requires
-link-alone-requires g c = (leaf, leaf, record { has_cell = c.requires.1.has_cell; near_shown = tt; far_shown = tt; fits = lit< tt }, nothing, nothing)
+link-alone-requires g c = (leaf, leaf, record { has_cell = c.requires.1.has_cell; near_shown = tt; far_shown = tt; room = omega (arith, c.requires.1.has_cell); near_low = omega arith; far_low = omega arith; fits = lit< tt }, nothing, nothing)
 
 pub rise-requires : goal.rise-requires
 rise-requires g c =

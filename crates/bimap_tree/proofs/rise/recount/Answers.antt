@@ -1,7 +1,7 @@
 use Rattle.std.proofs.Common.{arith, refl, sym, ◌∙◌}
 use Rattle.bimap_tree.proofs.Branch.{root-branch}
 use Rattle.bimap_tree.proofs.Climbs.{climbs_none, climbs_end, climbs_on, cell_within, relinks}
-use Rattle.bimap_tree.proofs.Rises.{counts, steady, moved, children_there}
+use Rattle.bimap_tree.proofs.Rises.{counts, kept, steady, moved, children_there}
 use Rattle.bimap_tree.proofs.rise.recount.Goals as goal
 
 pub loop-depth-init : goal.loop-depth-init
@@ -39,6 +39,18 @@ write-requires-clause-right g c =
     let (sister, x, t, h, known) = relinks _ _ _ _ _ _ _ _ _ c.loop-depth.invariant.climbs _ _ (omega arith) c.step-at.ensures.place c.step-at.ensures.turn _ _ _ record { rise = c.requires.3; start_is = c.requires.4; known = record { root_is = c.requires.6; as_high = c.requires.7 } } _ c.read-node.ensures.node in
     let e = c.recounted.ensures in
     (children_there _ _ _ _ _ sister x t h c.recounted.result _ known.root_is e.near e.far).1
+
+pub write-requires-clause-height : goal.write-requires-clause-height
+write-requires-clause-height g c =
+    let (sister, x, t, h, known) = relinks _ _ _ _ _ _ _ _ _ c.loop-depth.invariant.climbs _ _ (omega arith) c.step-at.ensures.place c.step-at.ensures.turn _ _ _ record { rise = c.requires.3; start_is = c.requires.4; known = record { root_is = c.requires.6; as_high = c.requires.7 } } _ c.read-node.ensures.node in
+    let e = c.recounted.ensures in
+    (kept _ _ _ _ _ sister x t h _ _ (steady _ _ _ _ _ sister x t h known.as_high _ _ (e.near ∙ sym known.root_is) e.far e.height e.size refl)).0
+
+pub write-requires-clause-size : goal.write-requires-clause-size
+write-requires-clause-size g c =
+    let (sister, x, t, h, known) = relinks _ _ _ _ _ _ _ _ _ c.loop-depth.invariant.climbs _ _ (omega arith) c.step-at.ensures.place c.step-at.ensures.turn _ _ _ record { rise = c.requires.3; start_is = c.requires.4; known = record { root_is = c.requires.6; as_high = c.requires.7 } } _ c.read-node.ensures.node in
+    let e = c.recounted.ensures in
+    (kept _ _ _ _ _ sister x t h _ _ (steady _ _ _ _ _ sister x t h known.as_high _ _ (e.near ∙ sym known.root_is) e.far e.height e.size refl)).1
 
 pub loop-depth-preserved : goal.loop-depth-preserved
 loop-depth-preserved g c =

@@ -1,6 +1,6 @@
-use Rattle.std.proofs.Common.{arith, sym, ◌∙◌}
+use Rattle.std.proofs.Common.{arith, refl, sym, ◌∙◌}
 use Rattle.bimap_tree.proofs.Branch.{root-branch}
-use Rattle.bimap_tree.proofs.Rises.{sister_stands, can_rebalance, moved, low, children_there}
+use Rattle.bimap_tree.proofs.Rises.{sister_stands, can_rebalance, moved, low, kept, children_there}
 use Rattle.bimap_tree.proofs.Shown.{Stands-at}
 use Rattle.bimap_tree.proofs.rise.relink.Goals as goal
 
@@ -13,6 +13,20 @@ pub write-requires-clause-right : goal.write-requires-clause-right
 write-requires-clause-right g c =
     let e = c.recounted-more.ensures in
     (children_there _ _ _ _ _ _ _ _ c.requires.3 c.recounted-more.result _ c.requires.4.root_is e.near e.far).1
+
+pub write-requires-clause-height : goal.write-requires-clause-height
+write-requires-clause-height g c =
+    let e = c.recounted-more.ensures in
+    let h = c.requires.3 in
+    let child = c.requires.4 in
+    (kept _ _ _ _ _ _ _ _ h _ _ (low _ _ _ _ _ _ _ _ h c.if-grew.true _ child.height_is c.if-child-node.true _ _ (e.near ∙ sym child.root_is) e.far e.height (omega (arith, e.size)) refl)).0
+
+pub write-requires-clause-size : goal.write-requires-clause-size
+write-requires-clause-size g c =
+    let e = c.recounted-more.ensures in
+    let h = c.requires.3 in
+    let child = c.requires.4 in
+    (kept _ _ _ _ _ _ _ _ h _ _ (low _ _ _ _ _ _ _ _ h c.if-grew.true _ child.height_is c.if-child-node.true _ _ (e.near ∙ sym child.root_is) e.far e.height (omega (arith, e.size)) refl)).1
 
 pub returns-then-child-node-clause-tree : goal.returns-then-child-node-clause-tree
 returns-then-child-node-clause-tree g c sister s u h child =

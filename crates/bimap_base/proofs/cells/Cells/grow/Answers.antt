@@ -1,9 +1,10 @@
-use Rattle.std.proofs.Common.{arith}
-use Rattle.bimap_base.proofs.Packs.{get-extended}
+use Rattle.std.proofs.Common.{ap, sym, ◌∙◌}
+use Rattle.bimap_base.specs.Packed.{narrow_node, wide_node, nodes_in}
+use Rattle.bimap_base.proofs.Packs.{get-mapped}
 use Rattle.bimap_base.proofs.cells.Cells.grow.Goals as goal
 
-pub returns-clause-kept : goal.returns-clause-kept
-returns-clause-kept c =
-    let same = c.try_reserve_exact.ensures.items in
-    let items = rw (c.in-Ok.is, same) at c.resize.ensures.items in
-    rw (← c.self.view_is) (get-extended c.self.inside.nodes.items c.resize.new.self.items c.args.to _ _ (omega (arith, c.if-to-places.false, c.len-places.ensures, c.self.inside.nodes.ok.0)) items)
+pub returns-then-to-lt-WIDE-clause-kept : goal.returns-then-to-lt-WIDE-clause-kept
+returns-then-to-lt-WIDE-clause-kept c = get-mapped narrow_node _ _ c.extend.ensures.kept _ (ap nodes_in (sym c.in-Narrow.is) ∙ c.self.view_is)
+
+pub returns-in-Wide-clause-kept : goal.returns-in-Wide-clause-kept
+returns-in-Wide-clause-kept c = get-mapped wide_node _ _ c.extend-in-Wide.ensures.kept _ (ap nodes_in (sym c.in-Wide.is) ∙ c.self.view_is)
