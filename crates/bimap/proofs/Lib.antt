@@ -1,4 +1,5 @@
 pub use Rattle.bimap_base.proofs.Members
+pub use Rattle.bimap_base.proofs.Extending
 pub use Rattle.bimap_base.proofs.Survivors
 pub mod Histories
 pub mod Tested
@@ -12,3 +13,4 @@ pub mod JsonWalks
 pub mod JsonRoundTrip
 pub use Rattle.bimap_base.proofs.Apart
 pub use Rattle.bimap_base.proofs.Undoing
+pub use Rattle.bimap_base.proofs.Removals

@@ -9,4 +9,6 @@ pub use Rattle.bimap_base.specs.declared.refusal.NoRoom.{NoRoom}
 pub use Rattle.bimap_base.specs.declared.refusal.NotInserted.{NotInserted}
 pub use Rattle.bimap_base.specs.declared.refusal.NotInsertedWith.{NotInsertedWith}
 pub use Rattle.bimap_base.specs.declared.refusal.ExtendStopped.{ExtendStopped}
+pub use Rattle.bimap_base.specs.declared.refusal.NotReplaced.{NotReplaced}
+pub use Rattle.bimap_base.specs.declared.refusal.ItemRefused.{ItemRefused}
 pub use Rattle.bimap_base.specs.declared.refusal.UndoStopped.{UndoStopped}

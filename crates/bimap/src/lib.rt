@@ -9,8 +9,9 @@ mod undone;
 pub mod value;
 
 pub use bimap_base::{
-    Bijection, ExtendStopped, NoMemory, NoRoom, NotInserted, NotInsertedWith, OnHeld, Overwritten,
-    Policy, UndoStopped,
+    Bijection, ExtendStopped, ItemRefused, NoMemory, NoRoom, NotInserted, NotInsertedWith,
+    NotReplaced, OnHeld, Overwritten, Policy, UndoStopped, extend_with, from_iter_with,
+    replace_left, replace_right,
 };
 pub use bimap_btree::BiBTreeMap;
 pub use bimap_hash::BiHashMap;

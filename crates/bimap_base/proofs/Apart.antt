@@ -4,7 +4,7 @@ use Rattle.std.specs.Prelude.{Contains}
 use Rattle.std.specs.Cmp.{IsEquivalence}
 use Rattle.std.proofs.lemmas.Bool.{or_left, or_right}
 use Rattle.std.proofs.lemmas.List.{get_or_default}
-use Rattle.bimap_base.specs.Sets.{shares, IsApart}
+use Rattle.bimap_base.specs.Sets.{shares, IsApart, IsWithPut}
 use Rattle.bimap_base.proofs.Members.{head_in, more_in, cases_in, none_in, AllPairs-head, AllPairs-tail}
 
 module _ {L R : Type 0} (same_left : L → L → Bool) (same_right : R → R → Bool) where
@@ -91,5 +91,15 @@ module _ {L R : Type 0} (same_left : L → L → Bool) (same_right : R → R →
       let l = no_longer ps r.rest (apart_tail same_left same_right p ps h) r.apart (λ q m. elim (r.to q (s q (more_in p ps q m))) [
         | inl e ↦ absurd (true≢false (sym (shares_itself p) ∙ ap (λ z. shares same_left same_right p z) (sym e) ∙ apart_head same_left same_right p ps h q m))
         | inr n ↦ n
+      ]) in
+      omega (arith, l, r.long)
+
+  -- a pair that is put in makes a list at most one longer
+  pub one_longer : (ps qs : List (L × R)) (new : L × R) → IsApart same_left same_right ps → IsApart same_left same_right qs → IsWithPut same_left same_right (Contains ps) new (Contains qs) → length qs ≤ suc (length ps)
+  one_longer ps qs new h k put =
+      let r = pull qs new k ((put new).1 (inl refl)) in
+      let l = no_longer r.rest ps r.apart h (λ q m. elim ((put q).0 (r.from q m).0) [
+        | inl e ↦ absurd (true≢false (sym (shares_itself new) ∙ ap (λ z. shares same_left same_right z new) (sym e) ∙ (r.from q m).1))
+        | inr w ↦ w.0
       ]) in
       omega (arith, l, r.long)

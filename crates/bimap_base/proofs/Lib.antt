@@ -1,12 +1,15 @@
 pub mod Apart
 pub mod Copying
 pub mod Digits
+pub mod Extending
 pub mod Fits
 pub mod FreeList
 pub mod Meeting
 pub mod Members
 pub mod Packing
 pub mod Packs
+pub mod Removals
+pub mod Replacing
 pub mod SameAscending
 pub mod SameSets
 pub mod Survivors

@@ -7,6 +7,7 @@ pub mod Fitting
 pub mod Holding
 pub mod Same
 pub mod Copies
+pub mod Exchange
 pub mod Extension
 pub mod Digits
 pub mod Slots

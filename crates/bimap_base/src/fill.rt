@@ -1,10 +1,11 @@
 //! Many pairs put into any bimap. It doesn't know how a bimap keeps them.
-ghost use Rattle.std.specs.Prelude.{◌≡◌, [], List, Contains, OnOk, IfOk, IfErr};
+ghost use Rattle.std.specs.Prelude.{◌≡◌, ◌≤◌, [], length, List, Contains, OnOk, IfOk, IfErr};
 ghost use Rattle.std.specs.Iterator.{IsFiniteIterable};
-ghost use Rattle.bimap_base.specs.Extension.{IsExtension, IsExtensionStopped, IsRefusedNext};
+ghost use Rattle.bimap_base.specs.Extension.{IsExtension, IsExtensionStopped, IsExtensionUnder, IsExtensionStoppedUnder, IsRefusedNext, IsRefusedNextUnder};
 
 use crate::bijection::Bijection;
-use crate::refusal::{ExtendStopped, NoRoom};
+use crate::policy::{OnHeld, Policy};
+use crate::refusal::{ExtendStopped, ItemRefused, NotInsertedWith};
 use std::mem;
 
 /// Inserts each item in order. A later one may strike earlier ones.
@@ -18,15 +19,49 @@ pub fn extend<L: Eq + Drop, R: Eq + Drop, B: Bijection<L, R>, I: IntoIterator<It
     ensures extended { OnOk result (IsExtension L.eq R.eq (I.into_iter_gives items) I.IntoIter.next_gives (B.holding bimap.old) (B.holding bimap.new)) }
     ensures stopped { IfErr result (λ e. IsExtensionStopped L.eq R.eq (I.into_iter_gives items) I.IntoIter.next_gives (B.holding bimap.old) e (B.holding bimap.new)) }
 {
+    let policy = Policy {
+        left: OnHeld::Overwrite,
+        right: OnHeld::Overwrite,
+    };
+    match extend_with(bimap, items, policy) {
+        Ok(()) => Ok(()),
+        Err(ItemRefused { taken, why }) => match why {
+            NotInsertedWith::Memory(left, right) => Err(ExtendStopped { taken, left, right }),
+            NotInsertedWith::LeftHeld(_, _) => unreachable!(),
+            NotInsertedWith::RightHeld(_, _) => unreachable!(),
+        },
+    }
+}
+
+/// Inserts each item in order where the policy lets it overwrite what it shares a value with. The first item that is
+/// refused ends it.
+///
+/// Costs one `insert_with` an item. Nothing is reserved by a size hint: an item takes memory only where it strikes
+/// nothing and no place is free. An `Err` hands the refused item back with its number and the reason, the items before
+/// it stay, and no more are asked for.
+///
+///     // each left and each right once: the item 2 has the right of the item 0
+///     let once = Policy { left: OnHeld::Refuse, right: OnHeld::Refuse };
+///     let refused = extend_with(&mut seats, [('a', 1), ('b', 2), ('c', 1), ('d', 4)], once);
+///     // Err(ItemRefused { taken: 2, why: NotInsertedWith::RightHeld('c', 1) }), and ('a', 1), ('b', 2) are held
+pub fn extend_with<L: Eq + Drop, R: Eq + Drop, B: Bijection<L, R>, I: IntoIterator<Item = (L, R)>>(
+    bimap: &mut B,
+    items: I,
+    policy: Policy,
+) -> Result<(), ItemRefused<L, R>>
+    requires { IsFiniteIterable I.into_iter_gives I.IntoIter.can_next I.IntoIter.remaining items }
+    ensures extended { OnOk result (IsExtensionUnder L.eq R.eq (I.into_iter_gives items) I.IntoIter.next_gives (B.holding bimap.old) policy (B.holding bimap.new)) }
+    ensures stopped { IfErr result (λ e. IsExtensionStoppedUnder L.eq R.eq (I.into_iter_gives items) I.IntoIter.next_gives (B.holding bimap.old) policy e (B.holding bimap.new)) }
+{
     let mut taken = 0usize;
     for (left, right) in items {
-        match bimap.insert(left, right) {
+        match bimap.insert_with(left, right, policy) {
             Ok(answer) => {
                 mem::drop(answer);
                 taken = taken.saturating_add(1);
             }
-            Err(NoRoom { left, right }) => {
-                return Err(ExtendStopped { taken, left, right });
+            Err(why) => {
+                return Err(ItemRefused { taken, why });
             }
         }
     }
@@ -49,5 +84,32 @@ pub fn from_iter<
     match extend(&mut bimap, items) {
         Ok(()) => Ok(bimap),
         Err(stopped) => Err(stopped),
+    }
+}
+
+/// Inserts each item in order into an empty bimap where the policy lets it overwrite what it shares a value with, and
+/// answers the bimap. The first item that is refused ends it, and drops the bimap.
+///
+/// Costs one `insert_with` an item, and takes memory as [`extend_with`] does. An `Err` hands the refused item back with
+/// its number and the reason.
+///
+///     // each left and each right once
+///     let once = Policy { left: OnHeld::Refuse, right: OnHeld::Refuse };
+///     let seats = from_iter_with(BiBTreeMap::new(alloc), [('a', 1), ('b', 2)], once)?;
+pub fn from_iter_with<
+    L: Eq + Drop,
+    R: Eq + Drop,
+    B: Bijection<L, R> + Drop,
+    I: IntoIterator<Item = (L, R)>,
+>(empty: B, items: I, policy: Policy) -> Result<B, ItemRefused<L, R>>
+    requires empty { (B.holding empty).pairs ≡ [] }
+    requires ends { IsFiniteIterable I.into_iter_gives I.IntoIter.can_next I.IntoIter.remaining items }
+    ensures extended { IfOk result (λ bimap. IsExtensionUnder L.eq R.eq (I.into_iter_gives items) I.IntoIter.next_gives (B.holding empty) policy (B.holding bimap)) }
+    ensures stopped { IfErr result (λ e. (taken : List (L × R)) × IsRefusedNextUnder L.eq R.eq (I.into_iter_gives items) I.IntoIter.next_gives (Contains []) ((B.holding empty).room ≤ length taken) taken policy e) }
+{
+    let mut made = empty;
+    match extend_with(&mut made, items, policy) {
+        Ok(()) => Ok(made),
+        Err(refused) => Err(refused),
     }
 }

@@ -10,15 +10,20 @@ mod overwritten;
 mod pairs;
 mod policy;
 mod refusal;
+mod replace;
 mod spread;
 
 pub use bijection::Bijection;
 pub use cells::{Cells, Node};
-pub use fill::{extend, from_iter};
+pub use fill::{extend, extend_with, from_iter, from_iter_with};
 pub use keys::{Keys, LeftOf, RightOf};
 pub use meter::Meter;
 pub use overwritten::Overwritten;
 pub use pairs::Pairs;
 pub use policy::{OnHeld, Policy};
-pub use refusal::{ExtendStopped, NoMemory, NoRoom, NotInserted, NotInsertedWith, UndoStopped};
+pub use refusal::{
+    ExtendStopped, ItemRefused, NoMemory, NoRoom, NotInserted, NotInsertedWith, NotReplaced,
+    UndoStopped,
+};
+pub use replace::{replace_left, replace_right};
 pub use spread::{LeftSpread, RightSpread, Spread};

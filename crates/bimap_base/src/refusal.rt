@@ -48,6 +48,24 @@ pub struct ExtendStopped<L, R> {
     pub right: R,
 }
 
+/// Why a value was not replaced by another. Nothing has changed, and the other value is handed back.
+#[derive(Debug, Drop, Eq, PartialEq)]
+pub enum NotReplaced<V> {
+    /// The value to replace is not held. It is asked first.
+    Missing(V),
+    /// Another pair has the other value.
+    Held(V),
+}
+
+/// An item was refused by the policy, or found no memory. The items before it were taken.
+#[derive(Debug, Drop, Eq, PartialEq)]
+pub struct ItemRefused<L, R> {
+    /// How many items were taken, which is the item's number, from 0. It stays at the greatest `usize` once it is there.
+    pub taken: usize,
+    /// The reason, with the item handed back.
+    pub why: NotInsertedWith<L, R>,
+}
+
 /// There was no memory to undo an insertion that struck two pairs. Nothing has changed, and the answer is handed back.
 #[derive(Debug, Drop, Eq, PartialEq)]
 pub struct UndoStopped<L, R> {

@@ -1,12 +1,16 @@
 //! What tests over any bimap share, and the rows of calls with what they must answer. It knows the bimaps by the interface alone.
 #![tactic(auto)]
 
+mod policies;
 mod shown;
+mod tagged;
 #[cfg(test)]
 mod tests;
 mod trails;
 mod zero;
 
+pub use policies::{KEEP_LEFT, KEEP_RIGHT, ONCE, OVERWRITE};
 pub use shown::shows;
+pub use tagged::{Tagged, with_tag};
 pub use trails::insert_all;
 pub use zero::{Crowded, Zero, crowded};

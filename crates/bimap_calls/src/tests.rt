@@ -2,6 +2,8 @@
 mod examples;
 mod insertions;
 mod items;
+mod items_under;
+mod replaced;
 mod runs;
 mod tour;
 mod undo_runs;

@@ -13,8 +13,9 @@ use Rattle.bimap.specs.declared.Overwritten.TheVariants.{Neither, Left, Right, P
 use Rattle.bimap.proofs.Undoing.{named_struck, struck_named, undone_same}
 use Rattle.bimap_undo.specs.declared.entry.Entry.{Entry}
 use Rattle.bimap_undo.specs.declared.entry.Entry.TheVariants.{Inserted, Removed}
-use Rattle.bimap_undo.specs.Marks.{Marked, IsRemoving, IsChange, IsPath, IsBefore, KeepsMarks, HasMarks}
-use Rattle.bimap_undo.proofs.Removals.{removing_from_one}
+use Rattle.bimap.specs.Exchange.{IsRemoving}
+use Rattle.bimap_undo.specs.Marks.{Marked, IsChange, IsPath, IsBefore, KeepsMarks, HasMarks}
+use Rattle.bimap.proofs.Removals.{removing_from_one}
 
 pub both_or_not : {L R : Type 0} (answer : Overwritten L R) → IsBoth answer ⊎ (IsBoth answer → ⊥)
 both_or_not (Both p q) = inl tt

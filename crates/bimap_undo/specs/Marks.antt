@@ -3,6 +3,10 @@ use Rattle.std.specs.Prelude.{◌≡◌, ◌≢◌, ◌↔◌, ℕ, ◌+◌, ◌
 use Rattle.bimap.specs.Sets.{IsApart, IsSameSet, NoneShares, SomeShares, IsWithPut, HasLeft, LacksLeft, IsWithoutLeft, HasRight, LacksRight, IsWithoutRight}
 use Rattle.bimap.specs.Holding.{Holding, IsRoomAfter}
 use Rattle.bimap.specs.Undoing.{IsInserting}
+use Rattle.bimap.specs.Exchange.{IsRemoving}
+use Rattle.bimap.specs.Answer.{IsAllowed}
+use Rattle.bimap.specs.Types.{Policy, Refuse, NotInsertedWith}
+use Rattle.bimap.specs.declared.NotInsertedWith.TheVariants.{LeftHeld, RightHeld, Memory as MemoryWith}
 use Rattle.bimap.specs.declared.NoMemory.{NoMemory}
 use Rattle.bimap.specs.declared.NoRoom.{NoRoom}
 use Rattle.bimap_undo.specs.declared.entry.Entry.{Entry}
@@ -16,11 +20,6 @@ pub record Marked (L R : Type 0) : Type 0 where
 -- a bimap with these changes recorded
 abbrev pub marked : {L R : Type 0} → Holding L R → List (Entry L R) → Marked L R
 marked held entries = record { held = held; entries = entries }
-
--- A has the pair, and B is A without it
-pub record IsRemoving {L R : Type 0} (A : List (L × R)) (pair : L × R) (B : List (L × R)) : Type 0 where
-  pub member : Contains A pair
-  pub without : (q : L × R) → Contains B q ↔ (Contains A q × (q ≢ pair))
 
 module _ {L R : Type 0} (same_left : L → L → Bool) (same_right : R → R → Bool) where
   -- the change of the entry leads from A to B
@@ -55,6 +54,24 @@ module _ {L R : Type 0} (same_left : L → L → Bool) (same_right : R → R →
     pub kept : OnOk result (KeepsMarks old (length old.entries) new)
     pub room : IsRoomAfter same_left same_right old.held pair new.held
     pub handed_back : IfErr result (λ e. (e.left, e.right) ≡ pair)
+    pub unchanged : OnErr result (new ≡ old)
+
+  -- why an insertion under a policy was refused. Memory may be wanted for the record too
+  abbrev pub IsRecordedRefusal : (L × R → Type 0) → L × R → Policy → NotInsertedWith L R → Type 0
+  IsRecordedRefusal S new policy (LeftHeld l r) = ((l, r) ≡ new) × (policy.left ≡ Refuse) × HasLeft same_left S new.0
+  IsRecordedRefusal S new policy (RightHeld l r) =
+      ((l, r) ≡ new) × (policy.left ≡ Refuse → LacksLeft same_left S new.0) × (policy.right ≡ Refuse) × HasRight same_right S new.1
+  IsRecordedRefusal S new policy (MemoryWith l r) = (l, r) ≡ new
+
+  -- what an insertion under a policy answers and leaves
+  pub record IsRecordedInsertionUnder (old : Marked L R) (pair : L × R) (policy : Policy) (result : Result Bool (NotInsertedWith L R)) (new : Marked L R) : Type 0 where
+    pub allowed : OnOk result (IsAllowed same_left same_right (Contains old.held.pairs) pair policy)
+    pub overwrote : IfOk result (λ overwrote. MatchBool overwrote (SomeShares same_left same_right (Contains old.held.pairs) pair) (NoneShares same_left same_right (Contains old.held.pairs) pair))
+    pub put : OnOk result (IsWithPut same_left same_right (Contains old.held.pairs) pair (Contains new.held.pairs))
+    pub recorded : OnOk result (length new.entries ≡ length old.entries + 1)
+    pub kept : OnOk result (KeepsMarks old (length old.entries) new)
+    pub room : IsRoomAfter same_left same_right old.held pair new.held
+    pub refused : IfErr result (IsRecordedRefusal (Contains old.held.pairs) pair policy)
     pub unchanged : OnErr result (new ≡ old)
 
   -- what a removal by left answers and leaves

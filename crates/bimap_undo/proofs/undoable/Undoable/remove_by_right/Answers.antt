@@ -1,7 +1,7 @@
 use Rattle.std.proofs.Common.{◌≡◌, ◌∙◌, ap, refl, arith, Contains, ◌++◌, ◌∷◌, [], length, length-append}
 use Rattle.bimap_undo.specs.declared.entry.Entry.TheVariants.{Removed}
 use Rattle.bimap_undo.specs.Marks.{marked, IsChange}
-use Rattle.bimap_undo.proofs.Removals.{lacks_right, removing_right}
+use Rattle.bimap.proofs.Removals.{lacks_right, removing_right}
 use Rattle.bimap_undo.proofs.Paths.{keeps_push, marks_push}
 use Rattle.bimap_undo.proofs.undoable.Undoable.remove_by_right.Goals as goal
 

@@ -3,10 +3,10 @@ use Rattle.std.proofs.Common.{◌≡◌, inl, inr, suc, ◌≤◌, Bool, true, f
 use Rattle.std.specs.Prelude.{Contains}
 use Rattle.std.specs.Cmp.{IsEquivalence}
 use Rattle.std.proofs.lemmas.Bool.{or_left, or_right, false_from_ne_true, cases_Bool}
-use Rattle.bimap.specs.Sets.{shares, IsApart, IsSameSet, IsWithPut, LacksLeft, IsWithoutLeft, LacksRight, IsWithoutRight}
-use Rattle.bimap.proofs.Members.{cases_in}
-use Rattle.bimap.proofs.Apart.{apart_more, apart_unique, no_longer, shares_itself, shares_symm}
-use Rattle.bimap_undo.specs.Marks.{IsRemoving}
+use Rattle.bimap_base.specs.Sets.{shares, IsApart, IsSameSet, IsWithPut, LacksLeft, IsWithoutLeft, LacksRight, IsWithoutRight}
+use Rattle.bimap_base.proofs.Members.{cases_in}
+use Rattle.bimap_base.proofs.Apart.{apart_more, apart_unique, no_longer, shares_itself, shares_symm}
+use Rattle.bimap_base.specs.Exchange.{IsRemoving}
 
 pub lacks_left : {L R : Type 0} (same_left : L → L → Bool) (S : L × R → Type 0) (left : L) → LacksLeft same_left S left → IsWithoutLeft same_left S left S
 lacks_left same_left S left lacks q = (λ m. (m, lacks q m), λ m. m.0)
