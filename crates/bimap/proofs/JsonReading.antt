@@ -1,12 +1,21 @@
 -- The entries of an object, read one after the other.
-use Rattle.std.proofs.Common.{◌≡◌, ℕ, ◌+◌, Bool, List, [], ◌∷◌, ◌++◌, length, refl, sym, subst, ◌∙◌, append_assoc, append-nil, arith}
-use Rattle.std.specs.Prelude.{Contains}
+use Rattle.std.proofs.Common.{◌≡◌, ◌≢◌, ◌↔◌, ℕ, ◌+◌, Bool, List, [], ◌∷◌, ◌++◌, length, refl, sym, subst, ◌∙◌, append_assoc, append-nil, arith}
+use Rattle.std.specs.Prelude.{Contains, Result, Ok, Err}
 use Rattle.std.proofs.lemmas.List.{length_push}
 use Rattle.serde_json.specs.Data.{Data}
 use Rattle.bimap_base.specs.Sets.{IsWithPut}
-use Rattle.bimap_base.specs.Survivors.{AreSurvivors}
-use Rattle.bimap_base.proofs.Survivors.{items_none, items_push}
-use Rattle.bimap.specs.JsonObjects.{Entry, HasEntries, ReadsAs, EachReadsAs, StopsAt, IsReadInto}
+use Rattle.bimap_base.specs.Answer.{IsAllowed, IsRefusalUnder}
+use Rattle.bimap_base.specs.declared.refusal.NotInsertedWith.TheVariants.{LeftHeld as LeftKept, RightHeld as RightKept}
+use Rattle.bimap_base.specs.Survivors.{Survives, PutsItself, TouchesSharing, AreSurvivors}
+use Rattle.bimap_base.specs.Holding.{Holding}
+use Rattle.bimap_base.specs.Extension.{AreAllowed}
+use Rattle.bimap_base.specs.declared.policy.OnHeld.TheVariants.{Refuse}
+use Rattle.bimap_base.specs.declared.policy.Policy.{Policy}
+use Rattle.bimap_base.proofs.Survivors.{items_none, items_push, not_split}
+use Rattle.bimap_base.proofs.Extending.{allowed_push}
+use Rattle.bimap.specs.JsonObjects.{Entry, HasEntries, ReadsAs, EachReadsAs, StopsAt, StopsUnder, IsReadInto, IsReadIntoUnder, ReadsObject, ReadsObjectUnder}
+use Rattle.bimap.specs.declared.value.object.JsonFault.{JsonFault}
+use Rattle.bimap.specs.declared.value.object.JsonFault.TheVariants.{NotAnObject, BadKey, BadValue, LeftHeld, RightHeld, Memory}
 
 module _ {L R : Type 0} (reads_key : List ℕ → L → Type 0) (reads : Data → R → Type 0) where
   read_more : (before : List Entry) (pairs : List (L × R)) (e : Entry) (p : L × R) → EachReadsAs reads_key reads before pairs → ReadsAs reads_key reads e p → EachReadsAs reads_key reads (before ++ e ∷ []) (pairs ++ p ∷ [])
@@ -15,7 +24,7 @@ module _ {L R : Type 0} (reads_key : List ℕ → L → Type 0) (reads : Data �
   read_more (f ∷ before) [] e p each one = absurd each
   read_more (f ∷ before) (q ∷ pairs) e p each one = (each.0, read_more before pairs e p each.1 one)
 
-  module _ (same_left : L → L → Bool) (same_right : R → R → Bool) where
+  module _ (same_left : L → L → Bool) (same_right : R → R → Bool) (policy : Policy) where
     -- so many entries of all were read as pairs, whose survivors are held, and these are left
     pub record IsReading (all left : List Entry) (held : List (L × R)) (at : ℕ) : Type 0 where
       pub before : List Entry
@@ -24,6 +33,7 @@ module _ {L R : Type 0} (reads_key : List ℕ → L → Type 0) (reads : Data �
       pub pairs : List (L × R)
       pub read : EachReadsAs reads_key reads before pairs
       pub survivors : AreSurvivors same_left same_right (Contains []) pairs (Contains held)
+      pub allowed : AreAllowed same_left same_right (Contains []) pairs policy
 
     pub reading_first : (all : List Entry) (held : List (L × R)) → held ≡ [] → IsReading all all held 0
     reading_first all held empty = record {
@@ -33,19 +43,21 @@ module _ {L R : Type 0} (reads_key : List ℕ → L → Type 0) (reads : Data �
       pairs = [];
       read = tt;
       survivors = subst (λ h. AreSurvivors same_left same_right (Contains []) [] (Contains h)) (sym empty) (items_none same_left same_right (Contains []));
+      allowed = λ before item later q. not_split before later item q;
     }
 
-    pub reading_more : (all left : List Entry) (e : Entry) (old new : List (L × R)) (at : ℕ) (p : L × R) → IsReading all (e ∷ left) old at → ReadsAs reads_key reads e p → IsWithPut same_left same_right (Contains old) p (Contains new) → IsReading all left new (at + 1)
-    reading_more all left e old new at p r one put = record {
+    pub reading_more : (all left : List Entry) (e : Entry) (old new : List (L × R)) (at : ℕ) (p : L × R) → IsReading all (e ∷ left) old at → ReadsAs reads_key reads e p → IsAllowed same_left same_right (Contains old) p policy → IsWithPut same_left same_right (Contains old) p (Contains new) → IsReading all left new (at + 1)
+    reading_more all left e old new at p r one let_in put = record {
       before = r.before ++ e ∷ [];
       split = r.split ∙ sym (append_assoc r.before (e ∷ []) left);
       place = length_push r.before e ∙ omega (arith, r.place);
       pairs = r.pairs ++ p ∷ [];
       read = read_more r.before r.pairs e p r.read one;
       survivors = items_push same_left same_right (Contains []) (Contains old) (Contains new) r.pairs p r.survivors put;
+      allowed = allowed_push same_left same_right (Contains []) (Contains old) r.pairs p policy r.survivors r.allowed let_in;
     }
 
-    pub reading_stops : (value : Data) (all left : List Entry) (e : Entry) (held : List (L × R)) (at : ℕ) (P : Entry → Type 0) → HasEntries value all → IsReading all (e ∷ left) held at → P e → StopsAt reads_key reads value at P
+    pub reading_stops : (value : Data) (all left : List Entry) (e : Entry) (held : List (L × R)) (at : ℕ) (P : (L × R → Type 0) → Entry → Type 0) → HasEntries value all → IsReading all (e ∷ left) held at → ((S : L × R → Type 0) → ((p : L × R) → Contains held p ↔ S p) → P S e) → StopsUnder reads_key reads same_left same_right value policy at P
     reading_stops value all left e held at P has r stops = record {
       before = r.before;
       entry = e;
@@ -54,14 +66,48 @@ module _ {L R : Type 0} (reads_key : List ℕ → L → Type 0) (reads : Data �
       place = r.place;
       pairs = r.pairs;
       read = r.read;
-      stops = stops;
+      allowed = r.allowed;
+      stops = stops (Survives PutsItself (TouchesSharing same_left same_right) (Contains []) r.pairs) r.survivors;
     }
 
-    pub reading_done : (value : Data) (all : List Entry) (held : List (L × R)) (at : ℕ) → HasEntries value all → IsReading all [] held at → IsReadInto reads_key reads same_left same_right value held
+    pub reading_done : (value : Data) (all : List Entry) (held : List (L × R)) (at : ℕ) → HasEntries value all → IsReading all [] held at → IsReadIntoUnder reads_key reads same_left same_right value policy held
     reading_done value all held at has r = record {
-      entries = r.before;
-      has = subst (HasEntries value) (r.split ∙ append-nil r.before) has;
-      pairs = r.pairs;
-      read = r.read;
-      survivors = r.survivors;
+      is_read = record {
+        entries = r.before;
+        has = subst (HasEntries value) (r.split ∙ append-nil r.before) has;
+        pairs = r.pairs;
+        read = r.read;
+        survivors = r.survivors;
+      };
+      allowed = r.allowed;
     }
+
+    -- why the policy kept a pair out, told of the survivors of the entries before it
+    pub left_kept : (S T : L × R → Type 0) (NoPlace : Type 0) (p : L × R) (l : L) (r : R) → ((q : L × R) → S q ↔ T q) → IsRefusalUnder same_left same_right S NoPlace p policy (LeftKept l r) → IsRefusalUnder same_left same_right T ⊥ p policy (LeftKept p.0 p.1)
+    left_kept S T NoPlace p l r same w = (refl, w.1, (w.2.0, (same w.2.0).0 w.2.1, w.2.2))
+
+    pub right_kept : (S T : L × R → Type 0) (NoPlace : Type 0) (p : L × R) (l : L) (r : R) → ((q : L × R) → S q ↔ T q) → IsRefusalUnder same_left same_right S NoPlace p policy (RightKept l r) → IsRefusalUnder same_left same_right T ⊥ p policy (RightKept p.0 p.1)
+    right_kept S T NoPlace p l r same w = (refl, λ refuses q m. w.1 refuses q ((same q).1 m), w.2, (w.3.0, (same w.3.0).0 w.3.1, w.3.2))
+
+    -- told without the policy
+    stopped_any : (value : Data) (at : ℕ) (P : Entry → Type 0) → StopsUnder reads_key reads same_left same_right value policy at (λ S e. P e) → StopsAt reads_key reads value at P
+    stopped_any value at P s = record {
+      before = s.before;
+      entry = s.entry;
+      rest = s.rest;
+      has = s.has;
+      place = s.place;
+      pairs = s.pairs;
+      read = s.read;
+      stops = s.stops;
+    }
+
+    -- a reading under a policy that keeps nothing
+    pub read_any : {B : Type 0} (holding : B → Holding L R) (value : Data) → policy.left ≢ Refuse → policy.right ≢ Refuse → (result : Result B JsonFault) → ReadsObjectUnder reads_key reads same_left same_right holding value policy result → ReadsObject reads_key reads same_left same_right holding value result
+    read_any holding value left right (Ok b) h = h.is_read
+    read_any holding value left right (Err NotAnObject) h = h
+    read_any holding value left right (Err (BadKey at)) h = stopped_any value at _ h
+    read_any holding value left right (Err (BadValue at)) h = stopped_any value at _ h
+    read_any holding value left right (Err (LeftHeld at)) h = left h.stops.2.1
+    read_any holding value left right (Err (RightHeld at)) h = right h.stops.2.2
+    read_any holding value left right (Err Memory) h = (h.0, stopped_any value h.0 _ h.1)

@@ -14,7 +14,7 @@ use Rattle.bimap.proofs.JsonEntries.{other_key, below_later}
 use Rattle.bimap.proofs.JsonWriting.{IsSplit, split_member, middle_in}
 use Rattle.bimap.proofs.JsonCounts.{length-le_from_lefts}
 use Rattle.bimap.specs.declared.value.object.JsonFault.{JsonFault}
-use Rattle.bimap.specs.declared.value.object.JsonFault.TheVariants.{NotAnObject, BadKey, BadValue, Memory}
+use Rattle.bimap.specs.declared.value.object.JsonFault.TheVariants.{NotAnObject, BadKey, BadValue, LeftHeld, RightHeld, Memory}
 
 members_or : Members → Option Members → Members
 members_or ms (Some x) = x
@@ -173,6 +173,8 @@ module _ {L R : Type 0} (same_left : L → L → Bool) (same_right : R → R →
           let w = stopped_at at _ h in
           let b = (each w.0 w.1).1 in
           absurd (h.stops.1 b.as_value (subst (λ f. val f.1 b.as_value) (sym w.2) b.reads))
+      reread_fault holding (LeftHeld at) h = absurd h
+      reread_fault holding (RightHeld at) h = absurd h
       reread_fault holding Memory h = refl
 
       pub reread : {B : Type 0} (holding : B → Holding L R) → ((b : B) → IsApart same_left same_right (holding b).pairs) → (result : Result B JsonFault) → ReadsObject key val same_left same_right holding value result → IfOk result (λ copy. IsSame same_left same_right ps (holding copy).pairs) × IfErr result (λ fault. fault ≡ Memory)

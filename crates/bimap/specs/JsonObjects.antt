@@ -6,11 +6,15 @@ use Rattle.std.specs.Ordering.{nat_cmp}
 use denote.Ref.{Bor}
 use Rattle.serde_json.specs.Data.{Data, Members, no_members, member}
 use Rattle.serde_json.specs.Find.{as_object}
-use Rattle.bimap_base.specs.Survivors.{Survives, AreSurvivors}
+use Rattle.bimap_base.specs.Answer.{IsRefusalUnder}
+use Rattle.bimap_base.specs.Survivors.{Survives, PutsItself, TouchesSharing, AreSurvivors}
+use Rattle.bimap_base.specs.Extension.{AreAllowed}
 use Rattle.bimap_base.specs.Holding.{Holding}
+use Rattle.bimap_base.specs.declared.policy.Policy.{Policy}
+use Rattle.bimap_base.specs.declared.refusal.NotInsertedWith.TheVariants.{LeftHeld as LeftKept, RightHeld as RightKept}
 use Rattle.bimap.specs.JsonReading.{ReadsNothing, ReadsBack}
 use Rattle.bimap.specs.declared.value.object.JsonFault.{JsonFault}
-use Rattle.bimap.specs.declared.value.object.JsonFault.TheVariants.{NotAnObject, BadKey, BadValue, Memory}
+use Rattle.bimap.specs.declared.value.object.JsonFault.TheVariants.{NotAnObject, BadKey, BadValue, LeftHeld, RightHeld, Memory}
 
 -- a key text with its value
 abbrev pub Entry : Type 0
@@ -97,7 +101,39 @@ module _ {L R : Type 0} (reads_key : List ℕ → L → Type 0) (reads : Data �
     ReadsObject holding value (Err NotAnObject) = as_object value ≡ None
     ReadsObject holding value (Err (BadKey at)) = StopsAt value at (λ e. ReadsNothing (reads_key e.0))
     ReadsObject holding value (Err (BadValue at)) = StopsAt value at (λ e. ((l : L) × reads_key e.0 l) × ReadsNothing (reads e.1))
+    ReadsObject holding value (Err (LeftHeld at)) = ⊥
+    ReadsObject holding value (Err (RightHeld at)) = ⊥
     ReadsObject holding value (Err Memory) = (at : ℕ) × StopsAt value at (λ e. Unit {0})
+
+    -- and the policy let each of them in
+    pub record IsReadIntoUnder (value : Data) (policy : Policy) (held : List (L × R)) : Type 0 where
+      pub is_read : IsReadInto value held
+      pub allowed : AreAllowed same_left same_right (Contains []) is_read.pairs policy
+
+    -- so many entries of an object read as pairs that the policy let in, and the next one has P, told of their survivors
+    pub record StopsUnder (value : Data) (policy : Policy) (at : ℕ) (P : (L × R → Type 0) → Entry → Type 0) : Type 0 where
+      pub before : List Entry
+      pub entry : Entry
+      pub rest : List Entry
+      pub has : HasEntries value (before ++ entry ∷ rest)
+      pub place : length before ≡ at
+      pub pairs : List (L × R)
+      pub read : EachReadsAs before pairs
+      pub allowed : AreAllowed same_left same_right (Contains []) pairs policy
+      pub stops : P (Survives PutsItself (TouchesSharing same_left same_right) (Contains []) pairs) entry
+
+    -- what the reading of a bimap under a policy answers. The first faulty entry is named: its key is asked first, then
+    -- its value, then whether the policy lets the pair in
+    abbrev pub ReadsObjectUnder : {B : Type 0} → (B → Holding L R) → Data → Policy → Result B JsonFault → Type 0
+    ReadsObjectUnder holding value policy (Ok b) = IsReadIntoUnder value policy (holding b).pairs
+    ReadsObjectUnder holding value policy (Err NotAnObject) = as_object value ≡ None
+    ReadsObjectUnder holding value policy (Err (BadKey at)) = StopsUnder value policy at (λ S e. ReadsNothing (reads_key e.0))
+    ReadsObjectUnder holding value policy (Err (BadValue at)) = StopsUnder value policy at (λ S e. ((l : L) × reads_key e.0 l) × ReadsNothing (reads e.1))
+    ReadsObjectUnder holding value policy (Err (LeftHeld at)) =
+        StopsUnder value policy at (λ S e. (p : L × R) × ReadsAs e p × IsRefusalUnder same_left same_right S ⊥ p policy (LeftKept p.0 p.1))
+    ReadsObjectUnder holding value policy (Err (RightHeld at)) =
+        StopsUnder value policy at (λ S e. (p : L × R) × ReadsAs e p × IsRefusalUnder same_left same_right S ⊥ p policy (RightKept p.0 p.1))
+    ReadsObjectUnder holding value policy (Err Memory) = (at : ℕ) × StopsUnder value policy at (λ S e. Unit {0})
 
 -- what references to the sides show
 abbrev pub shown_pairs : {L R : Type 0} → List (Bor L × Bor R) → List (L × R)

@@ -1,4 +1,4 @@
--- What one call needs and leaves. No public clause cites this module.
+-- What one call needs and leaves.
 use Rattle.std.specs.Prelude.{◌↔◌, ◌⊎◌, Bool}
 use Rattle.bimap.specs.declared.call.Call.{Call}
 use Rattle.bimap.specs.declared.call.Call.TheVariants.{Retain}

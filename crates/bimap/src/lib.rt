@@ -16,7 +16,7 @@ pub use bimap_base::{
 pub use bimap_btree::BiBTreeMap;
 pub use bimap_hash::BiHashMap;
 pub use call::{Call, Reply, RunRefused};
-pub use runs::run;
+pub use runs::{perform, run};
 pub use undone::{UndoRunStopped, undo_run};
 
 /// The bimap for where no order is wanted.

@@ -9,8 +9,15 @@ use crate::call::{Call, Reply, RunRefused};
 use bimap_base::{Bijection, NoRoom, NotInserted, NotInsertedWith};
 use std::alloc::Global;
 
-/// Performs one call.
-fn perform<L: Eq + Drop, R: Eq + Drop, K: Drop, B: Bijection<L, R>, F: Fn(&K, &L, &R) -> bool>(
+/// Performs one call, and answers its reply.
+///
+/// Costs what the call of the bimap costs, and takes memory only where that does: for a reply there is none to take.
+/// `NoRoom` is answered only where no place is free; it, and each other refusal, leaves what is held as it was. The
+/// test must have one answer for the key of a `Retain` and each pair held: it answers whether the pair is kept.
+///
+///     let reply = perform(&mut seats, Call::InsertNoOverwrite('a', 1), &|_: &u32, _: &char, _: &u32| true);
+///     // Reply::Put, or Reply::Occupied('a', 1), or Reply::NoRoom('a', 1)
+pub fn perform<L: Eq + Drop, R: Eq + Drop, K: Drop, B: Bijection<L, R>, F: Fn(&K, &L, &R) -> bool>(
     bimap: &mut B,
     call: Call<L, R, K>,
     test: &F,

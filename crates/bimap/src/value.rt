@@ -9,6 +9,6 @@ mod texts;
 mod unsigned;
 
 pub use hashed::{from_value_with_hashers, hash_to_value};
-pub use object::{JsonFault, JsonObject, read_into, reread, write_walk};
+pub use object::{JsonFault, JsonObject, read_into, read_into_with, reread, write_walk};
 pub use serde_json::Value;
 pub use sides::{JsonKey, JsonValue, ReadFault};

@@ -2,4 +2,5 @@
 mod json;
 mod json_hashed;
 mod json_types;
+mod json_under;
 mod shown;

@@ -4,10 +4,10 @@ ghost use Rattle.std.specs.Iterator.{Drains, IsFiniteIterable};
 ghost use denote.Ref.{Bor};
 ghost use Rattle.serde_json.specs.View.{view};
 ghost use Rattle.bimap_base.specs.Same.{IsSame};
-ghost use Rattle.bimap.specs.JsonObjects.{IsObjectOf, IsEntryOf, IsLastEntryOf, EachReadsBack, ReadsObject, shown_pairs};
+ghost use Rattle.bimap.specs.JsonObjects.{IsObjectOf, IsEntryOf, IsLastEntryOf, EachReadsBack, ReadsObject, ReadsObjectUnder, shown_pairs};
 
 use crate::value::sides::{JsonKey, JsonValue, ReadFault};
-use bimap_base::{Bijection, NoMemory};
+use bimap_base::{Bijection, NoMemory, NotInsertedWith, OnHeld, Policy};
 use serde_json::{Map, Value};
 use std::alloc::Global;
 use std::mem;
@@ -21,6 +21,10 @@ pub enum JsonFault {
     BadKey(usize),
     /// The entries before this one read, its key does too, and its value does not.
     BadValue(usize),
+    /// The entries before this one were taken, and its left is held, which the policy keeps. It is asked before the right.
+    LeftHeld(usize),
+    /// The entries before this one were taken, and its right is held, which the policy keeps.
+    RightHeld(usize),
     /// Memory was wanting before any fault was met.
     Memory,
 }
@@ -77,6 +81,31 @@ pub fn read_into<L: JsonKey + Drop, R: JsonValue + Drop, B: Bijection<L, R> + Dr
     requires { (B.holding empty).pairs ≡ [] }
     ensures { ReadsObject L.reads_key R.reads L.eq R.eq B.holding (view value.now) result }
 {
+    let policy = Policy {
+        left: OnHeld::Overwrite,
+        right: OnHeld::Overwrite,
+    };
+    read_into_with(alloc, empty, value, policy)
+}
+
+/// Inserts an object's entries into an empty bimap in ascending byte order of their keys, where the policy lets each
+/// overwrite what it shares a value with, and answers it. The first entry that doesn't read, or that the policy keeps
+/// out, is named.
+///
+/// Costs one reading and one `insert_with` an entry, and takes memory for them. A fault drops the bimap.
+///
+///     // no seat twice: {"A": 1, "B": 2, "C": 1} answers Err(JsonFault::RightHeld(2))
+///     let once = Policy { left: OnHeld::Refuse, right: OnHeld::Refuse };
+///     let seats = read_into_with(alloc, BiBTreeMap::new(alloc), &value, once)?;
+pub fn read_into_with<L: JsonKey + Drop, R: JsonValue + Drop, B: Bijection<L, R> + Drop>(
+    alloc: Global,
+    empty: B,
+    value: &Value,
+    policy: Policy,
+) -> Result<B, JsonFault>
+    requires { (B.holding empty).pairs ≡ [] }
+    ensures { ReadsObjectUnder L.reads_key R.reads L.eq R.eq B.holding (view value.now) policy result }
+{
     let Some(map) = value.as_object() else {
         return Err(JsonFault::NotAnObject);
     };
@@ -94,9 +123,11 @@ pub fn read_into<L: JsonKey + Drop, R: JsonValue + Drop, B: Bijection<L, R> + Dr
             Err(ReadFault::Bad) => return Err(JsonFault::BadValue(at)),
             Err(ReadFault::Memory) => return Err(JsonFault::Memory),
         };
-        match bimap.insert(left, right) {
+        match bimap.insert_with(left, right, policy) {
             Ok(struck) => mem::drop(struck),
-            Err(_) => return Err(JsonFault::Memory),
+            Err(NotInsertedWith::LeftHeld(_, _)) => return Err(JsonFault::LeftHeld(at)),
+            Err(NotInsertedWith::RightHeld(_, _)) => return Err(JsonFault::RightHeld(at)),
+            Err(NotInsertedWith::Memory(_, _)) => return Err(JsonFault::Memory),
         }
         at += 1;
     }

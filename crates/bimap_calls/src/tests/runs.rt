@@ -1,6 +1,8 @@
 //! Lists of calls with the replies that they must give.
-use crate::{crowded, shows};
-use bimap::{BiBTreeMap, BiHashMap, Bijection, Call, OnHeld, Overwritten, Policy, Reply, run};
+use crate::{ONCE, Tagged, crowded, shows, with_tag};
+use bimap::{
+    BiBTreeMap, BiHashMap, Bijection, Call, OnHeld, Overwritten, Policy, Reply, perform, run,
+};
 use bimap_plain::Plain;
 use std::alloc::Global;
 use std::process::Abort;
@@ -162,4 +164,69 @@ fn a_run_without_room(rt: HostRuntime) -> Result<(), Fail> {
     assert!(rt; replies_of(alloc, &mut bimap, calls) == Some(wanted));
     assert!(rt; shows(&bimap, &[('b', 1)]));
     Ok(())
+}
+
+// One call after the other, with no vector of calls or replies.
+fn performed<B: Bijection<char, u32> + Drop>(rt: &impl Abort, mut bimap: B) {
+    let at_least = |least: &u32, _: &char, right: &u32| *right >= *least;
+    let rows: [(Call<char, u32, u32>, Reply<char, u32>, &[(char, u32)]); 9] = [
+        (Call::InsertNoOverwrite('a', 1), Reply::Put, &[('a', 1)]),
+        (
+            Call::InsertNoOverwrite('a', 2),
+            Reply::Occupied('a', 2),
+            &[('a', 1)],
+        ),
+        (
+            Call::Insert('b', 2),
+            Reply::Inserted(Overwritten::Neither),
+            &[('a', 1), ('b', 2)],
+        ),
+        (
+            Call::InsertWith('c', 2, ONCE),
+            Reply::RightHeld('c', 2),
+            &[('a', 1), ('b', 2)],
+        ),
+        (
+            Call::ContainsRight(2),
+            Reply::Holds(true),
+            &[('a', 1), ('b', 2)],
+        ),
+        (Call::Retain(2), Reply::Done, &[('b', 2)]),
+        (Call::RemoveByLeft('a'), Reply::Removed(None), &[('b', 2)]),
+        (Call::RemoveByRight(2), Reply::Removed(Some(('b', 2))), &[]),
+        (Call::Clear, Reply::Done, &[]),
+    ];
+    for (call, reply, held) in rows {
+        assert!(rt; perform(&mut bimap, call, &at_least) == reply, "{reply:?}");
+        assert!(rt; shows(&bimap, held), "{reply:?}");
+    }
+}
+
+#[test]
+fn one_call_at_a_time(rt: HostRuntime) {
+    performed(&rt, BiBTreeMap::<char, u32>::new(rt.alloc()));
+    performed(&rt, BiHashMap::<char, u32>::new(rt.alloc()));
+    performed(&rt, crowded::<char, u32>(rt.alloc()));
+}
+
+fn hands_back<B: Bijection<Tagged, Tagged> + Drop>(rt: &impl Abort, mut bimap: B) {
+    let all = |_: &u32, _: &Tagged, _: &Tagged| true;
+    let first: Call<Tagged, Tagged, u32> = Call::Insert(with_tag('a', 1), with_tag('x', 1));
+    assert!(rt; perform(&mut bimap, first, &all) == Reply::Inserted(Overwritten::Neither));
+    let second = Call::InsertWith(with_tag('b', 2), with_tag('x', 2), ONCE);
+    match perform(&mut bimap, second, &all) {
+        Reply::RightHeld(left, right) => assert!(rt; left.tag == 2 && right.tag == 2),
+        _ => assert!(rt; false, "x is held"),
+    }
+    match perform(&mut bimap, Call::RemoveByRight(with_tag('x', 3)), &all) {
+        Reply::Removed(Some((left, right))) => assert!(rt; left.tag == 1 && right.tag == 1),
+        _ => assert!(rt; false, "x is held"),
+    }
+}
+
+#[test]
+fn one_call_hands_back_the_very_values(rt: HostRuntime) {
+    hands_back(&rt, BiBTreeMap::<Tagged, Tagged>::new(rt.alloc()));
+    hands_back(&rt, BiHashMap::<Tagged, Tagged>::new(rt.alloc()));
+    hands_back(&rt, crowded::<Tagged, Tagged>(rt.alloc()));
 }

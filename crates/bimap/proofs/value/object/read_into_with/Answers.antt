@@ -1,0 +1,128 @@
+use Rattle.bimap_base.specs.Answer.{IsRefusalUnder}
+use Rattle.bimap_base.specs.Holding.{IsFull}
+use Rattle.std.proofs.Common.{Contains, ap, sym, subst, Err, length, string_bytes, arith}
+use Rattle.serde_json.specs.View.{members_view, view}
+use Rattle.bimap.specs.JsonReading.{Reads, ReadsNothing}
+use Rattle.bimap.specs.JsonObjects.{entries_of}
+use Rattle.bimap.proofs.JsonEntries.{map_has}
+use Rattle.bimap.proofs.JsonReading.{IsReading, reading_first, reading_more, reading_stops, reading_done, left_kept, right_kept}
+use Rattle.bimap.proofs.value.object.read_into_with.Goals as goal
+
+pub loop-key-init : goal.loop-key-init
+loop-key-init g c = record {
+  reading = reading_first g.L.JsonKey.reads_key g.R.JsonValue.reads g.L.PartialEq.eq g.R.PartialEq.eq c.args.policy (entries_of (members_view c.iter-entries.result)) (g.B.Bijection.holding c.args.empty).pairs c.requires;
+  counted = omega arith;
+}
+
+pub loop-key-preserved : goal.loop-key-preserved
+loop-key-preserved g c =
+    let key = g.L.JsonKey.reads_key in
+    let val = g.R.JsonValue.reads in
+    let i = c.loop-key.invariant in
+    let p : g.row.L.Denot × g.row.R.Denot = (c.in-Ok.left, c.in-Ok-from_json.right) in
+    let held = (g.B.Bijection.holding c.loop-key.bimap).pairs in
+    let all = entries_of (members_view c.iter-entries.result) in
+    record {
+      reading = reading_more key val g.L.PartialEq.eq g.R.PartialEq.eq c.args.policy all (entries_of (members_view c.next.new.self)) (string_bytes c.in-Some-next.key.now, view c.in-Some-next.value.now) held (g.B.Bijection.holding c.insert_with.new.self).pairs c.loop-key.at p
+          (subst (λ l. IsReading key val g.L.PartialEq.eq g.R.PartialEq.eq c.args.policy all (entries_of (members_view l)) held c.loop-key.at) c.in-Some-next.ensures.steps i.reading)
+          (subst (λ t. key t c.in-Ok.left) c.as_str.ensures.value c.in-Ok.ensures, c.in-Ok-from_json.ensures)
+          c.in-Ok-insert_with.ensures.allowed c.in-Ok-insert_with.ensures.put;
+      counted = omega (arith, ap length c.in-Some-next.ensures.steps, i.counted);
+    }
+
+pub overflow_add-at : goal.overflow_add-at
+overflow_add-at g c = omega (arith, ap length c.in-Some-next.ensures.steps, c.loop-key.invariant.counted, ap length c.iter-entries.ensures.rest, c.iter-entries.ensures.fits)
+
+pub returns-in-Err-Bad : goal.returns-in-Err-Bad
+returns-in-Err-Bad g c =
+    let key = g.L.JsonKey.reads_key in
+    let val = g.R.JsonValue.reads in
+    let held = (g.B.Bijection.holding c.loop-key.bimap).pairs in
+    reading_stops key val g.L.PartialEq.eq g.R.PartialEq.eq c.args.policy (view c.args.value.now) (entries_of (members_view c.iter-entries.result)) (entries_of (members_view c.next.new.self)) (string_bytes c.in-Some-next.key.now, view c.in-Some-next.value.now) held c.loop-key.at (λ S e. ReadsNothing (key e.0))
+    (map_has (view c.args.value.now) c.in-Some.map.now.entries c.iter-entries.result c.in-Some.ensures c.iter-entries.ensures.rest c.iter-entries.ensures.ordered)
+    (subst (λ l. IsReading key val g.L.PartialEq.eq g.R.PartialEq.eq c.args.policy (entries_of (members_view c.iter-entries.result)) (entries_of (members_view l)) held c.loop-key.at) c.in-Some-next.ensures.steps c.loop-key.invariant.reading)
+    (λ S same l t. subst (λ e. Reads (key c.as_str.result.now) (Err e)) c.in-Err-Bad.field-0-is c.in-Err-Bad.ensures l (subst (λ s. key s l) (sym c.as_str.ensures.value) t))
+
+pub returns-in-Err-Bad-from_json : goal.returns-in-Err-Bad-from_json
+returns-in-Err-Bad-from_json g c =
+    let key = g.L.JsonKey.reads_key in
+    let val = g.R.JsonValue.reads in
+    let held = (g.B.Bijection.holding c.loop-key.bimap).pairs in
+    reading_stops key val g.L.PartialEq.eq g.R.PartialEq.eq c.args.policy (view c.args.value.now) (entries_of (members_view c.iter-entries.result)) (entries_of (members_view c.next.new.self)) (string_bytes c.in-Some-next.key.now, view c.in-Some-next.value.now) held c.loop-key.at (λ S e. ((l : g.row.L.Denot) × key e.0 l) × ReadsNothing (val e.1))
+    (map_has (view c.args.value.now) c.in-Some.map.now.entries c.iter-entries.result c.in-Some.ensures c.iter-entries.ensures.rest c.iter-entries.ensures.ordered)
+    (subst (λ l. IsReading key val g.L.PartialEq.eq g.R.PartialEq.eq c.args.policy (entries_of (members_view c.iter-entries.result)) (entries_of (members_view l)) held c.loop-key.at) c.in-Some-next.ensures.steps c.loop-key.invariant.reading)
+    (λ S same. ((c.in-Ok.left, subst (λ t. key t c.in-Ok.left) c.as_str.ensures.value c.in-Ok.ensures), subst (λ e. Reads (val (view c.in-Some-next.value.now)) (Err e)) c.in-Err-Bad-from_json.field-0-is c.in-Err-Bad-from_json.ensures))
+
+pub returns-in-Err-Memory : goal.returns-in-Err-Memory
+returns-in-Err-Memory g c =
+    let key = g.L.JsonKey.reads_key in
+    let val = g.R.JsonValue.reads in
+    let held = (g.B.Bijection.holding c.loop-key.bimap).pairs in (
+      c.loop-key.at,
+      reading_stops key val g.L.PartialEq.eq g.R.PartialEq.eq c.args.policy (view c.args.value.now) (entries_of (members_view c.iter-entries.result)) (entries_of (members_view c.next.new.self)) (string_bytes c.in-Some-next.key.now, view c.in-Some-next.value.now) held c.loop-key.at (λ S e. Unit {0})
+          (map_has (view c.args.value.now) c.in-Some.map.now.entries c.iter-entries.result c.in-Some.ensures c.iter-entries.ensures.rest c.iter-entries.ensures.ordered)
+          (subst (λ l. IsReading key val g.L.PartialEq.eq g.R.PartialEq.eq c.args.policy (entries_of (members_view c.iter-entries.result)) (entries_of (members_view l)) held c.loop-key.at) c.in-Some-next.ensures.steps c.loop-key.invariant.reading)
+          (λ S same. tt),
+    )
+
+pub returns-in-Err-Memory-from_json : goal.returns-in-Err-Memory-from_json
+returns-in-Err-Memory-from_json g c =
+    let key = g.L.JsonKey.reads_key in
+    let val = g.R.JsonValue.reads in
+    let held = (g.B.Bijection.holding c.loop-key.bimap).pairs in (
+      c.loop-key.at,
+      reading_stops key val g.L.PartialEq.eq g.R.PartialEq.eq c.args.policy (view c.args.value.now) (entries_of (members_view c.iter-entries.result)) (entries_of (members_view c.next.new.self)) (string_bytes c.in-Some-next.key.now, view c.in-Some-next.value.now) held c.loop-key.at (λ S e. Unit {0})
+          (map_has (view c.args.value.now) c.in-Some.map.now.entries c.iter-entries.result c.in-Some.ensures c.iter-entries.ensures.rest c.iter-entries.ensures.ordered)
+          (subst (λ l. IsReading key val g.L.PartialEq.eq g.R.PartialEq.eq c.args.policy (entries_of (members_view c.iter-entries.result)) (entries_of (members_view l)) held c.loop-key.at) c.in-Some-next.ensures.steps c.loop-key.invariant.reading)
+          (λ S same. tt),
+    )
+
+pub returns-in-Err-Memory-insert_with : goal.returns-in-Err-Memory-insert_with
+returns-in-Err-Memory-insert_with g c =
+    let key = g.L.JsonKey.reads_key in
+    let val = g.R.JsonValue.reads in
+    let held = (g.B.Bijection.holding c.loop-key.bimap).pairs in (
+      c.loop-key.at,
+      reading_stops key val g.L.PartialEq.eq g.R.PartialEq.eq c.args.policy (view c.args.value.now) (entries_of (members_view c.iter-entries.result)) (entries_of (members_view c.next.new.self)) (string_bytes c.in-Some-next.key.now, view c.in-Some-next.value.now) held c.loop-key.at (λ S e. Unit {0})
+          (map_has (view c.args.value.now) c.in-Some.map.now.entries c.iter-entries.result c.in-Some.ensures c.iter-entries.ensures.rest c.iter-entries.ensures.ordered)
+          (subst (λ l. IsReading key val g.L.PartialEq.eq g.R.PartialEq.eq c.args.policy (entries_of (members_view c.iter-entries.result)) (entries_of (members_view l)) held c.loop-key.at) c.in-Some-next.ensures.steps c.loop-key.invariant.reading)
+          (λ S same. tt),
+    )
+
+pub returns : goal.returns
+returns g c =
+    let key = g.L.JsonKey.reads_key in
+    let val = g.R.JsonValue.reads in
+    let held = (g.B.Bijection.holding c.loop-key.bimap).pairs in
+    let all = entries_of (members_view c.iter-entries.result) in
+    reading_done key val g.L.PartialEq.eq g.R.PartialEq.eq c.args.policy (view c.args.value.now) all held c.loop-key.at
+    (map_has (view c.args.value.now) c.in-Some.map.now.entries c.iter-entries.result c.in-Some.ensures c.iter-entries.ensures.rest c.iter-entries.ensures.ordered)
+    (subst (λ l. IsReading key val g.L.PartialEq.eq g.R.PartialEq.eq c.args.policy all (entries_of (members_view l)) held c.loop-key.at) c.in_default-next.ensures.steps.0 c.loop-key.invariant.reading)
+
+pub returns-in-Err-LeftHeld : goal.returns-in-Err-LeftHeld
+returns-in-Err-LeftHeld g c =
+    let key = g.L.JsonKey.reads_key in
+    let val = g.R.JsonValue.reads in
+    let held = (g.B.Bijection.holding c.loop-key.bimap).pairs in
+    reading_stops key val g.L.PartialEq.eq g.R.PartialEq.eq c.args.policy (view c.args.value.now) (entries_of (members_view c.iter-entries.result)) (entries_of (members_view c.next.new.self)) (string_bytes c.in-Some-next.key.now, view c.in-Some-next.value.now) held c.loop-key.at _
+    (map_has (view c.args.value.now) c.in-Some.map.now.entries c.iter-entries.result c.in-Some.ensures c.iter-entries.ensures.rest c.iter-entries.ensures.ordered)
+    (subst (λ l. IsReading key val g.L.PartialEq.eq g.R.PartialEq.eq c.args.policy (entries_of (members_view c.iter-entries.result)) (entries_of (members_view l)) held c.loop-key.at) c.in-Some-next.ensures.steps c.loop-key.invariant.reading)
+    (λ S same. (
+      (c.in-Ok.left, c.in-Ok-from_json.right),
+      (subst (λ t. key t c.in-Ok.left) c.as_str.ensures.value c.in-Ok.ensures, c.in-Ok-from_json.ensures),
+      left_kept key val g.L.PartialEq.eq g.R.PartialEq.eq c.args.policy (Contains held) S (IsFull (g.B.Bijection.holding c.loop-key.bimap)) (c.in-Ok.left, c.in-Ok-from_json.right) c.in-Err-LeftHeld.field-0-0 c.in-Err-LeftHeld.field-0-1 same (subst (IsRefusalUnder g.L.PartialEq.eq g.R.PartialEq.eq (Contains held) (IsFull (g.B.Bijection.holding c.loop-key.bimap)) (c.in-Ok.left, c.in-Ok-from_json.right) c.args.policy) c.in-Err-LeftHeld.field-0-is c.in-Err-LeftHeld.ensures.refused),
+    ))
+
+pub returns-in-Err-RightHeld : goal.returns-in-Err-RightHeld
+returns-in-Err-RightHeld g c =
+    let key = g.L.JsonKey.reads_key in
+    let val = g.R.JsonValue.reads in
+    let held = (g.B.Bijection.holding c.loop-key.bimap).pairs in
+    reading_stops key val g.L.PartialEq.eq g.R.PartialEq.eq c.args.policy (view c.args.value.now) (entries_of (members_view c.iter-entries.result)) (entries_of (members_view c.next.new.self)) (string_bytes c.in-Some-next.key.now, view c.in-Some-next.value.now) held c.loop-key.at _
+    (map_has (view c.args.value.now) c.in-Some.map.now.entries c.iter-entries.result c.in-Some.ensures c.iter-entries.ensures.rest c.iter-entries.ensures.ordered)
+    (subst (λ l. IsReading key val g.L.PartialEq.eq g.R.PartialEq.eq c.args.policy (entries_of (members_view c.iter-entries.result)) (entries_of (members_view l)) held c.loop-key.at) c.in-Some-next.ensures.steps c.loop-key.invariant.reading)
+    (λ S same. (
+      (c.in-Ok.left, c.in-Ok-from_json.right),
+      (subst (λ t. key t c.in-Ok.left) c.as_str.ensures.value c.in-Ok.ensures, c.in-Ok-from_json.ensures),
+      right_kept key val g.L.PartialEq.eq g.R.PartialEq.eq c.args.policy (Contains held) S (IsFull (g.B.Bijection.holding c.loop-key.bimap)) (c.in-Ok.left, c.in-Ok-from_json.right) c.in-Err-RightHeld.field-0-0 c.in-Err-RightHeld.field-0-1 same (subst (IsRefusalUnder g.L.PartialEq.eq g.R.PartialEq.eq (Contains held) (IsFull (g.B.Bijection.holding c.loop-key.bimap)) (c.in-Ok.left, c.in-Ok-from_json.right) c.args.policy) c.in-Err-RightHeld.field-0-is c.in-Err-RightHeld.ensures.refused),
+    ))

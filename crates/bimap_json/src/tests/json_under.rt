@@ -1,0 +1,99 @@
+//! JSON texts with what is read of them under a policy.
+use crate::tests::shown::shows;
+use bimap::value::{JsonFault, read_into_with};
+use bimap::{BiBTreeMap, BiHashMap, Bijection, OnHeld, Policy};
+use serde_json::Value;
+use std::alloc::Global;
+use std::process::Abort;
+
+const ONCE: Policy = Policy {
+    left: OnHeld::Refuse,
+    right: OnHeld::Refuse,
+};
+
+const KEEP_LEFT: Policy = Policy {
+    left: OnHeld::Refuse,
+    right: OnHeld::Overwrite,
+};
+
+/// A text and a policy, with the fault or the pairs that are held.
+type Row = (
+    &'static str,
+    Policy,
+    Result<&'static [(char, u8)], JsonFault>,
+);
+
+const ROWS: [Row; 9] = [
+    ("{}", ONCE, Ok(&[])),
+    ("{\"A\":1,\"B\":2}", ONCE, Ok(&[('A', 1), ('B', 2)])),
+    (
+        "{\"A\":1,\"B\":2,\"C\":1}",
+        ONCE,
+        Err(JsonFault::RightHeld(2)),
+    ),
+    (
+        "{\"A\":1,\"B\":1,\"C\":1}",
+        ONCE,
+        Err(JsonFault::RightHeld(1)),
+    ),
+    (
+        "{\"C\":1,\"B\":2,\"A\":1}",
+        ONCE,
+        Err(JsonFault::RightHeld(2)),
+    ),
+    (
+        "{\"A\":1,\"B\":2,\"C\":1}",
+        KEEP_LEFT,
+        Ok(&[('B', 2), ('C', 1)]),
+    ),
+    (
+        "{\"A\":1,\"B\":1,\"CD\":1}",
+        ONCE,
+        Err(JsonFault::RightHeld(1)),
+    ),
+    (
+        "{\"A\":1,\"BC\":1,\"C\":1}",
+        ONCE,
+        Err(JsonFault::BadKey(1)),
+    ),
+    ("[]", ONCE, Err(JsonFault::NotAnObject)),
+];
+
+fn reads<B: Bijection<char, u8> + Drop>(
+    rt: &impl Abort,
+    alloc: Global,
+    empty: B,
+    text: &str,
+    policy: Policy,
+    wanted: Result<&[(char, u8)], JsonFault>,
+) {
+    let value = Value::from_str(alloc, text).expect(rt, "JSON");
+    match (read_into_with(alloc, empty, &value, policy), wanted) {
+        (Ok(bimap), Ok(held)) => assert!(rt; shows(&bimap, held), "{text}"),
+        (Err(fault), Err(named)) => assert_eq!(rt; fault, named, "{text}"),
+        (_, _) => assert!(rt; false, "{text}"),
+    }
+}
+
+#[test]
+fn the_first_entry_kept_out_is_named(rt: HostRuntime) {
+    let alloc = rt.alloc();
+    for (text, policy, wanted) in ROWS {
+        reads(
+            &rt,
+            alloc,
+            BiBTreeMap::<char, u8>::new(alloc),
+            text,
+            policy,
+            wanted,
+        );
+        reads(
+            &rt,
+            alloc,
+            BiHashMap::<char, u8>::new(alloc),
+            text,
+            policy,
+            wanted,
+        );
+    }
+}
