@@ -1,11 +1,13 @@
 //! A bimap with a record of its insertions and removals. It doesn't know which bimap it is.
-ghost use Rattle.std.specs.Prelude.{◌≡◌, ◌≤◌, List, [], length, Contains};
+ghost use Rattle.std.specs.Prelude.{◌≡◌, ◌≤◌, List, [], length, Contains, OnOk, IfErr};
+ghost use Rattle.std.specs.Iterator.{IsFiniteIterable};
 ghost use Rattle.bimap.specs.Sets.{IsApart, IsSameSet};
-ghost use Rattle.bimap_undo.specs.Marks.{IsChange, IsBefore, IsRecordedInsertion, IsRecordedRemovalByLeft, IsRecordedRemovalByRight, IsReturn};
+ghost use Rattle.bimap_undo.specs.Marks.{IsChange, IsBefore, IsRecordedInsertion, IsRecordedInsertionUnder, IsRecordedRemovalByLeft, IsRecordedRemovalByRight, IsReturn};
+ghost use Rattle.bimap_undo.specs.AllOrNone.{AreAllRecorded, AreNoneRecorded};
 
 use crate::copy_left::CopyLeft;
 use crate::entry::Entry;
-use bimap::{Bijection, NoMemory, NoRoom};
+use bimap::{Bijection, ItemRefused, NoMemory, NoRoom, NotInsertedWith, OnHeld, Policy};
 use std::alloc::Global;
 use std::marker::Model;
 
@@ -63,13 +65,44 @@ impl<B: Bijection<L, R> + Drop, L: CopyLeft + Drop, R: Eq + Drop> Undoable<B, L,
     pub fn insert(&mut self, left: L, right: R) -> Result<bool, NoRoom<L, R>>
         ensures { IsRecordedInsertion L.eq R.eq self.old (left, right) result self.new }
     {
+        let policy = Policy {
+            left: OnHeld::Overwrite,
+            right: OnHeld::Overwrite,
+        };
+        match self.insert_with(left, right, policy) {
+            Ok(overwrote) => Ok(overwrote),
+            Err(NotInsertedWith::Memory(left, right)) => Err(NoRoom { left, right }),
+            Err(NotInsertedWith::LeftHeld(_, _)) => unreachable!(),
+            Err(NotInsertedWith::RightHeld(_, _)) => unreachable!(),
+        }
+    }
+
+    /// Inserts a pair where the policy lets it overwrite what it shares a value with, and answers whether others were
+    /// struck out.
+    ///
+    /// Costs what the bimap's own `insert_with` costs, and a copy of the left. Memory for that copy and for the record
+    /// is taken first, so want of it may be answered also where something would be struck, or the policy would refuse.
+    /// A refusal changes nothing, and hands the pair back.
+    ///
+    ///     let keep = Policy { left: OnHeld::Refuse, right: OnHeld::Refuse };
+    ///     seats.insert_with('a', 1, keep)?;
+    ///     seats.insert_with('b', 1, keep)
+    ///     // Err(NotInsertedWith::RightHeld('b', 1)), and nothing is recorded
+    pub fn insert_with(
+        &mut self,
+        left: L,
+        right: R,
+        policy: Policy,
+    ) -> Result<bool, NotInsertedWith<L, R>>
+        ensures { IsRecordedInsertionUnder L.eq R.eq self.old (left, right) policy result self.new }
+    {
         let Ok(copy) = left.copy_left(self.alloc) else {
-            return Err(NoRoom { left, right });
+            return Err(NotInsertedWith::Memory(left, right));
         };
         let Ok(()) = self.changes.reserve(1) else {
-            return Err(NoRoom { left, right });
+            return Err(NotInsertedWith::Memory(left, right));
         };
-        match self.bimap.insert(left, right) {
+        match self.bimap.insert_with(left, right, policy) {
             Ok(answer) => {
                 let overwrote = answer.did_overwrite();
                 self.changes.push_reserved(Entry::Inserted(copy, answer));
@@ -77,6 +110,44 @@ impl<B: Bijection<L, R> + Drop, L: CopyLeft + Drop, R: Eq + Drop> Undoable<B, L,
             }
             Err(refused) => Err(refused),
         }
+    }
+
+    /// Inserts all items in order where the policy lets each overwrite what it shares a value with, or none of them.
+    ///
+    /// Costs one [`insert_with`](Undoable::insert_with) an item. Each is recorded, so that a mark may lie between them.
+    /// The first item that is refused ends it: it is handed back with its number and the reason, no more are asked for,
+    /// and [`back_to`](Undoable::back_to) takes those before it back, for which it asks for no memory. Then exactly the
+    /// pairs of before are held, and the marks of before stand for what they did. Places that were made stay.
+    ///
+    ///     let keep = Policy { left: OnHeld::Refuse, right: OnHeld::Refuse };
+    ///     seats.insert('a', 1)?;
+    ///     let refused = seats.insert_all([('b', 2), ('c', 3), ('d', 1)], keep);
+    ///     // Err(ItemRefused { taken: 2, why: NotInsertedWith::RightHeld('d', 1) }), and ('a', 1) alone is held
+    pub fn insert_all<I: IntoIterator<Item = (L, R)>>(
+        &mut self,
+        items: I,
+        policy: Policy,
+    ) -> Result<(), ItemRefused<L, R>>
+        requires { IsFiniteIterable I.into_iter_gives I.IntoIter.can_next I.IntoIter.remaining items }
+        ensures all { OnOk result (AreAllRecorded L.eq R.eq (I.into_iter_gives items) I.IntoIter.next_gives self.old policy self.new) }
+        ensures none { IfErr result (λ e. AreNoneRecorded L.eq R.eq (I.into_iter_gives items) I.IntoIter.next_gives self.old policy e self.new) }
+    {
+        let mark = self.mark();
+        let mut taken = 0usize;
+        for (left, right) in items {
+            match self.insert_with(left, right, policy) {
+                Ok(_) => {
+                    // Of what a bimap holds, no two pairs share a value.
+                    let _held = self.held();
+                    taken = taken.saturating_add(1);
+                }
+                Err(why) => {
+                    self.back_to(mark);
+                    return Err(ItemRefused { taken, why });
+                }
+            }
+        }
+        Ok(())
     }
 
     /// Takes out the pair of a left, and answers whether it was held.

@@ -2,4 +2,6 @@
 #![tactic(auto)]
 
 #[cfg(test)]
+mod all_or_none;
+#[cfg(test)]
 mod tests;

@@ -1,0 +1,100 @@
+use Rattle.std.proofs.Common.{◌≡◌, ◌↔◌, ◌≤◌, ◌∙◌, Bool, ap, refl, sym, subst, arith, length, Contains, rules}
+use Rattle.std.proofs.lemmas.List.{length_push}
+use Rattle.bimap.specs.Sets.{IsApart}
+use Rattle.bimap.specs.Types.{Policy, NotInsertedWith}
+use Rattle.bimap.proofs.Extending.{ArePutIn, put_in_none, put_in_more}
+use Rattle.bimap.specs.declared.NotInsertedWith.TheVariants.{LeftHeld, RightHeld, Memory}
+use Rattle.bimap_undo.specs.Marks.{Marked, KeepsMarks, IsRecordedRefusal}
+use Rattle.bimap_undo.proofs.undoable.Undoable.insert_all.Goals as goal
+
+pub loop-left-init : goal.loop-left-init
+loop-left-init g c =
+    let ready = c.requires _ c.into_iter-left-iterator.ensures.into_iter_gives in
+    record {
+      callable = ready.0;
+      ends = ready.1;
+      taken = refl;
+      apart = c.mark-mark.ensures.stands_for_what_is_held.apart;
+      put_in = put_in_none g.L.PartialEq.eq g.R.PartialEq.eq c.args.self.now.held c.args.policy;
+      recorded = omega arith;
+      kept = λ mark within A b. b;
+    }
+
+pub loop-left-preserved : goal.loop-left-preserved
+loop-left-preserved g c =
+    let p = c.in-Some.ensures.goes.on c.loop-left.invariant.ends in
+    let more = length_push c.loop-left.yielded (c.in-Some.left, c.in-Some.right) in
+    let i = c.loop-left.invariant in
+    let e = c.in-Ok.ensures in
+    let apart = subst (λ held. IsApart g.L.PartialEq.eq g.R.PartialEq.eq held.pairs) c.held-held.ensures (g.met.B.Bijection.apart c.held-held.result.now) in
+    record {
+      callable = p.0;
+      ends = p.1;
+      taken = omega (arith, more, c.saturating_add-taken.ensures, i.taken);
+      apart = apart;
+      put_in = put_in_more g.L.PartialEq.eq g.R.PartialEq.eq c.args.self.now.held c.loop-left.yielded c.args.policy c.loop-left.self.held (c.in-Some.left, c.in-Some.right) c.insert_with.new.self.held
+          g.met.L.Eq.laws g.met.R.Eq.laws i.apart apart i.put_in e.allowed e.put e.room;
+      recorded = omega (arith, more, e.recorded, i.recorded);
+      kept = λ mark within A b. e.kept mark (omega (arith, within, i.recorded)) A (i.kept mark within A b);
+    }
+
+pub back_to-requires : goal.back_to-requires
+back_to-requires g c = omega (arith, ap (λ (u : Marked g.row.L.Denot g.row.R.Denot). length u.entries) c.in-Err.ensures.unchanged, c.loop-left.invariant.recorded, c.mark-mark.ensures.recorded)
+
+recorded_along : {L R : Type 0} (same_left : L → L → Bool) (same_right : R → R → Bool) (S T : L × R → Type 0) (new : L × R) (policy : Policy) (why : NotInsertedWith L R) → ((p : L × R) → S p ↔ T p) → IsRecordedRefusal same_left same_right S new policy why → IsRecordedRefusal same_left same_right T new policy why
+recorded_along same_left same_right S T new policy (LeftHeld l r) same w = (w.0, w.1, (w.2.0, (same w.2.0).0 w.2.1, w.2.2))
+recorded_along same_left same_right S T new policy (RightHeld l r) same w = (w.0, λ refuses q m. w.1 refuses q ((same q).1 m), w.2, (w.3.0, (same w.3.0).0 w.3.1, w.3.2))
+recorded_along same_left same_right S T new policy (Memory l r) same w = w
+
+pub returns-in-Err-clause-none : goal.returns-in-Err-clause-none
+returns-in-Err-clause-none g c =
+    let first : Marked g.row.L.Denot g.row.R.Denot = c.args.self.now in
+    let held : Marked g.row.L.Denot g.row.R.Denot = c.loop-left.self in
+    let i = c.loop-left.invariant in
+    let e = c.in-Err.ensures in
+    let it = c.into_iter-left-iterator in
+    let mark = c.mark-mark.ensures.recorded in
+    let back = c.back_to.ensures in
+    let same : held ≡ c.insert_with.new.self = sym e.unchanged in
+    let put_in = subst (λ (u : Marked g.row.L.Denot g.row.R.Denot). ArePutIn g.L.PartialEq.eq g.R.PartialEq.eq first.held c.loop-left.yielded c.args.policy u.held) same i.put_in in
+    let kept = subst (λ (u : Marked g.row.L.Denot g.row.R.Denot). KeepsMarks g.L.PartialEq.eq g.R.PartialEq.eq first (length first.entries) u) same i.kept in
+    record {
+      items = c.loop-left.yielded;
+      item = (c.in-Some.left, c.in-Some.right);
+      is_next = record {
+        iterator = it.result;
+        rest = c.next.new.self;
+        given = it.ensures.into_iter_gives;
+        next_item = (c.loop-left.left-iterator, c.loop-left.yielded_by, c.in-Some.ensures.steps);
+        counted = i.taken;
+      };
+      allowed = put_in.allowed;
+      why = recorded_along g.L.PartialEq.eq g.R.PartialEq.eq (Contains held.held.pairs) _ (c.in-Some.left, c.in-Some.right) c.args.policy c.in-Err.why i.put_in.survivors e.refused;
+      held = back.gone_back.held first.held.pairs (kept c.mark-mark.result (omega (arith, mark)) first.held.pairs c.mark-mark.ensures.stands_for_what_is_held);
+      recorded = back.gone_back.recorded ∙ mark;
+      kept = λ m within A b. back.gone_back.kept m (omega (arith, within, mark)) A (kept m within A b);
+      room = record {
+        not_lower = omega (arith, put_in.room.not_lower, back.room);
+        had_places = λ fits. back.room ∙ put_in.room.had_places fits;
+      };
+    }
+
+pub returns-clause-all : goal.returns-clause-all
+returns-clause-all g c =
+    let it = c.into_iter-left-iterator in
+    let i = c.loop-left.invariant in
+    record {
+      put_in = record {
+        extension = record {
+          iterator = it.result;
+          items = c.loop-left.yielded;
+          given = it.ensures.into_iter_gives;
+          all = search rules;
+          survivors = i.put_in.survivors;
+          room = i.put_in.room;
+        };
+        allowed = i.put_in.allowed;
+      };
+      recorded = i.recorded;
+      kept = i.kept;
+    }
