@@ -185,7 +185,6 @@ module _ {L R K : Type 0} where
 
   -- the next call may be made
   pub MayRetain_next : (Decided : K → L × R → Type 0) (S T : L × R → Type 0) (calls done left : List (Call L R K)) (c : Call L R K) → ((k : K) (p : L × R) → Contains calls (Retain k) → S p ⊎ IsHandedIn calls p → Decided k p) → calls ≡ done ++ c ∷ left → ((p : L × R) → T p → S p ⊎ IsHandedIn done p) → MayRetain Decided T c
-  MayRetain_next D S T calls done left (Retain k) h q t =
-      λ p m. h k p (subst (λ (cs : List (Call L R K)). Contains cs (Retain k)) (sym q) (Contains-append_right done (Retain k ∷ left) (Retain k) (head_in (Retain k) left)))
-      (elim (t p m) [ inl s ↦ inl s | inr w ↦ inr (subst (λ (cs : List (Call L R K)). IsHandedIn cs p) (sym q) (handed_first done (Retain k ∷ left) p w)) ])
-  MayRetain_next D S T calls done left c h q t = tt
+  MayRetain_next D S T calls done left c h q t = λ k p e m.
+      h k p (subst (λ (cs : List (Call L R K)). Contains cs (Retain k)) (sym q) (Contains-append_right done (c ∷ left) (Retain k) (subst (Contains (c ∷ left)) e (head_in c left))))
+      (elim (t p m) [ inl s ↦ inl s | inr w ↦ inr (subst (λ (cs : List (Call L R K)). IsHandedIn cs p) (sym q) (handed_first done (c ∷ left) p w)) ])

@@ -1,13 +1,12 @@
 -- What one call needs and leaves.
-use Rattle.std.specs.Prelude.{◌↔◌, ◌⊎◌, Bool}
+use Rattle.std.specs.Prelude.{◌≡◌, ◌↔◌, ◌⊎◌, Bool}
 use Rattle.bimap.specs.declared.call.Call.{Call}
 use Rattle.bimap.specs.declared.call.Call.TheVariants.{Retain}
 use Rattle.bimap.specs.History.{Entry, Puts, Touches}
 
 -- the test may be called on the key of a `Retain` and each member of S
 abbrev pub MayRetain : {L R K : Type 0} → (K → L × R → Type 0) → (L × R → Type 0) → Call L R K → Type 0
-MayRetain IsDecided S (Retain k) = (p : _) → S p → IsDecided k p
-MayRetain IsDecided S call = Unit {0}
+MayRetain {L} {R} {K} IsDecided S call = (k : K) (p : L × R) → call ≡ Retain k → S p → IsDecided k p
 
 -- T is what the entry leaves of S
 abbrev pub IsStep : {L R K : Type 0} → (L → L → Bool) → (R → R → Bool) → (K → L × R → Bool → Type 0) → (L × R → Type 0) → Entry L R K → (L × R → Type 0) → Type 0

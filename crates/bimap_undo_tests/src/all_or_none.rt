@@ -19,7 +19,7 @@ type Row = (
     usize,
 );
 
-fn rows() -> [Row; 7] {
+fn rows_taken() -> [Row; 3] {
     [
         (ONCE, &[], Ok(()), &[('a', 1), ('b', 2)], 0),
         (
@@ -29,6 +29,18 @@ fn rows() -> [Row; 7] {
             &[('a', 1), ('b', 2), ('c', 3), ('d', 4)],
             2,
         ),
+        (
+            OVERWRITE,
+            &[('a', 2), ('c', 3), ('a', 3)],
+            Ok(()),
+            &[('a', 3)],
+            3,
+        ),
+    ]
+}
+
+fn rows_refused() -> [Row; 4] {
+    [
         (
             ONCE,
             &[('c', 3), ('d', 4), ('e', 3), ('f', 6)],
@@ -57,13 +69,6 @@ fn rows() -> [Row; 7] {
             &[('a', 1), ('b', 2)],
             0,
         ),
-        (
-            OVERWRITE,
-            &[('a', 2), ('c', 3), ('a', 3)],
-            Ok(()),
-            &[('a', 3)],
-            3,
-        ),
     ]
 }
 
@@ -88,18 +93,36 @@ fn all_or_none<B: Bijection<char, u32> + Drop>(
 }
 
 #[test]
-fn all_items_are_put_in_or_none(rt: HostRuntime) -> Result<(), Fail> {
+fn all_items_are_put_in(rt: HostRuntime) -> Result<(), Fail> {
     let alloc = rt.alloc();
-    for row in rows() {
+    for row in rows_taken() {
         all_or_none(&rt, alloc, Plain::new(alloc), row)?;
     }
-    for row in rows() {
+    for row in rows_taken() {
         all_or_none(&rt, alloc, BiBTreeMap::<char, u32>::new(alloc), row)?;
     }
-    for row in rows() {
+    for row in rows_taken() {
         all_or_none(&rt, alloc, BiHashMap::<char, u32>::new(alloc), row)?;
     }
-    for row in rows() {
+    for row in rows_taken() {
+        all_or_none(&rt, alloc, crowded::<char, u32>(alloc), row)?;
+    }
+    Ok(())
+}
+
+#[test]
+fn where_one_is_refused_none_is_put_in(rt: HostRuntime) -> Result<(), Fail> {
+    let alloc = rt.alloc();
+    for row in rows_refused() {
+        all_or_none(&rt, alloc, Plain::new(alloc), row)?;
+    }
+    for row in rows_refused() {
+        all_or_none(&rt, alloc, BiBTreeMap::<char, u32>::new(alloc), row)?;
+    }
+    for row in rows_refused() {
+        all_or_none(&rt, alloc, BiHashMap::<char, u32>::new(alloc), row)?;
+    }
+    for row in rows_refused() {
         all_or_none(&rt, alloc, crowded::<char, u32>(alloc), row)?;
     }
     Ok(())

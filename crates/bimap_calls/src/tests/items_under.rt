@@ -10,6 +10,14 @@ use std::process::Abort;
 
 type Refused = ItemRefused<char, u32>;
 
+/// Items under a policy, with what is answered and the pairs that are held then.
+type Row = (
+    Policy,
+    &'static [(char, u32)],
+    Result<(), Refused>,
+    &'static [(char, u32)],
+);
+
 fn refused(taken: usize, why: NotInsertedWith<char, u32>) -> Result<(), Refused> {
     Err(ItemRefused { taken, why })
 }
@@ -92,8 +100,8 @@ fn from_none(
 }
 
 #[test]
-fn the_first_refused_item_ends_it(rt: HostRuntime) {
-    let rows: [(Policy, &[(char, u32)], Result<(), Refused>, &[(char, u32)]); 9] = [
+fn each_value_once(rt: HostRuntime) {
+    let rows: [Row; 4] = [
         (ONCE, &[], Ok(()), &[]),
         (ONCE, &[('a', 1), ('b', 2)], Ok(()), &[('a', 1), ('b', 2)]),
         (
@@ -108,6 +116,15 @@ fn the_first_refused_item_ends_it(rt: HostRuntime) {
             refused(1, NotInsertedWith::LeftHeld('a', 1)),
             &[('a', 1)],
         ),
+    ];
+    for (policy, items, answer, held) in rows {
+        from_none(&rt, rt.alloc(), items, policy, answer, held);
+    }
+}
+
+#[test]
+fn one_side_once_or_none(rt: HostRuntime) {
+    let rows: [Row; 5] = [
         (
             KEEP_LEFT,
             &[('a', 1), ('b', 1), ('c', 2), ('b', 3), ('d', 4)],
