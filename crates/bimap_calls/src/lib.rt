@@ -1,6 +1,7 @@
 //! What tests over any bimap share, and the rows of calls with what they must answer. It knows the bimaps by the interface alone.
 #![tactic(auto)]
 
+mod kind;
 mod policies;
 mod shown;
 mod tagged;
@@ -9,6 +10,7 @@ mod tests;
 mod trails;
 mod zero;
 
+pub use kind::{CopyKind, Kind};
 pub use policies::{KEEP_LEFT, KEEP_RIGHT, ONCE, OVERWRITE};
 pub use shown::shows;
 pub use tagged::{Tagged, with_tag};

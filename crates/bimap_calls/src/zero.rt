@@ -7,7 +7,7 @@ use std::alloc::Global;
 use std::hash::{BuildHasher, Hash, Hasher};
 
 /// A hasher that forgets all that it is given, and its own builder.
-#[derive(Clone, Copy)]
+#[derive(Clone, Copy, Default)]
 pub struct Zero;
 
 impl Hasher for Zero {
