@@ -1,11 +1,10 @@
 //! Insertions under a policy into a bimap with a record, one by one, and all or none.
-use bimap::{BiBTreeMap, BiHashMap, Bijection, ItemRefused, NotInsertedWith, Policy};
-use bimap_calls::{KEEP_LEFT, KEEP_RIGHT, ONCE, OVERWRITE, Tagged, crowded, shows, with_tag};
+use bimap::{BiBTreeMap, BiHashMap, Bijection, NotInsertedWith, Policy};
+use bimap_calls::{KEEP_LEFT, KEEP_RIGHT, ONCE, OVERWRITE, crowded, shows};
 use bimap_plain::Plain;
-use bimap_undo::Undoable;
+use bimap_undo::{CopyLeft, Undoable};
 use std::alloc::Global;
 use std::process::Abort;
-use std::test::Fail;
 
 type Refused = NotInsertedWith<char, u32>;
 
@@ -72,130 +71,185 @@ fn rows_refused() -> [Row; 4] {
     ]
 }
 
+// Puts the pairs of before in, and then all items or none.
+fn is_all_or_none<B: Bijection<L, R> + Drop, L: CopyLeft + Copy + Drop, R: Eq + Copy + Drop>(
+    alloc: Global,
+    empty: B,
+    before: &[(L, R)],
+    policy: Policy,
+    items: &[(L, R)],
+    answer: Result<(), (usize, NotInsertedWith<L, R>)>,
+    held: &[(L, R)],
+    mark: usize,
+) -> bool {
+    let mut bimap = empty;
+    for (left, right) in before {
+        if bimap.insert(*left, *right).is_err() {
+            return false;
+        }
+    }
+    let mut undoable = Undoable::new(alloc, bimap);
+    let inserted = undoable.insert_all(items.iter().copied(), policy);
+    let is_answered = match (inserted, answer) {
+        (Ok(()), Ok(())) => true,
+        (Err(refused), Err((taken, why))) => refused.taken == taken && refused.why == why,
+        (_, _) => false,
+    };
+    if !(is_answered && shows(undoable.held(), held) && undoable.mark() == mark) {
+        return false;
+    }
+    undoable.back_to(0);
+    shows(undoable.held(), before)
+}
+
 fn all_or_none<B: Bijection<char, u32> + Drop>(
     rt: &impl Abort,
     alloc: Global,
     empty: B,
     (policy, items, answer, held, mark): Row,
-) -> Result<(), Fail> {
-    let mut bimap = empty;
-    bimap.insert('a', 1).ok().ok_or("no memory")?;
-    bimap.insert('b', 2).ok().ok_or("no memory")?;
-    let mut undoable = Undoable::new(alloc, bimap);
-    let inserted = undoable.insert_all(items.iter().copied(), policy);
-    let wanted = answer.map_err(|(taken, why)| ItemRefused { taken, why });
-    assert!(rt; inserted == wanted, "{items:?}");
-    assert!(rt; shows(undoable.held(), held), "{items:?}");
-    assert_eq!(rt; undoable.mark(), mark, "{items:?}");
-    undoable.back_to(0);
-    assert!(rt; shows(undoable.held(), &[('a', 1), ('b', 2)]), "{items:?}");
-    Ok(())
+) {
+    let before = [('a', 1), ('b', 2)];
+    let is_so = is_all_or_none(alloc, empty, &before, policy, items, answer, held, mark);
+    assert!(rt; is_so, "{items:?}");
 }
 
 #[test]
-fn all_items_are_put_in(rt: HostRuntime) -> Result<(), Fail> {
+fn all_items_are_put_in(rt: HostRuntime) {
     let alloc = rt.alloc();
     for row in rows_taken() {
-        all_or_none(&rt, alloc, Plain::new(alloc), row)?;
+        all_or_none(&rt, alloc, Plain::new(alloc), row);
     }
     for row in rows_taken() {
-        all_or_none(&rt, alloc, BiBTreeMap::<char, u32>::new(alloc), row)?;
+        all_or_none(&rt, alloc, BiBTreeMap::<char, u32>::new(alloc), row);
     }
     for row in rows_taken() {
-        all_or_none(&rt, alloc, BiHashMap::<char, u32>::new(alloc), row)?;
+        all_or_none(&rt, alloc, BiHashMap::<char, u32>::new(alloc), row);
     }
     for row in rows_taken() {
-        all_or_none(&rt, alloc, crowded::<char, u32>(alloc), row)?;
+        all_or_none(&rt, alloc, crowded::<char, u32>(alloc), row);
     }
-    Ok(())
 }
 
 #[test]
-fn where_one_is_refused_none_is_put_in(rt: HostRuntime) -> Result<(), Fail> {
+fn where_one_is_refused_none_is_put_in(rt: HostRuntime) {
     let alloc = rt.alloc();
     for row in rows_refused() {
-        all_or_none(&rt, alloc, Plain::new(alloc), row)?;
+        all_or_none(&rt, alloc, Plain::new(alloc), row);
     }
     for row in rows_refused() {
-        all_or_none(&rt, alloc, BiBTreeMap::<char, u32>::new(alloc), row)?;
+        all_or_none(&rt, alloc, BiBTreeMap::<char, u32>::new(alloc), row);
     }
     for row in rows_refused() {
-        all_or_none(&rt, alloc, BiHashMap::<char, u32>::new(alloc), row)?;
+        all_or_none(&rt, alloc, BiHashMap::<char, u32>::new(alloc), row);
     }
     for row in rows_refused() {
-        all_or_none(&rt, alloc, crowded::<char, u32>(alloc), row)?;
+        all_or_none(&rt, alloc, crowded::<char, u32>(alloc), row);
     }
-    Ok(())
 }
 
-// The marks of before stand for what they did.
-fn older_marks<B: Bijection<char, u32> + Drop>(
-    rt: &impl Abort,
+// Whether the list is refused at this number, and these pairs are held as before it.
+fn is_refused_at<B: Bijection<L, R> + Drop, L: CopyLeft + Copy + Drop, R: Eq + Copy + Drop>(
+    undoable: &mut Undoable<B, L, R>,
+    items: &[(L, R)],
+    policy: Policy,
+    taken: usize,
+    held: &[(L, R)],
+) -> bool {
+    match undoable.insert_all(items.iter().copied(), policy) {
+        Err(refused) => refused.taken == taken && shows(undoable.held(), held),
+        Ok(()) => false,
+    }
+}
+
+// Whether the marks of before stand for what they did: the first pair goes in, and the second one, which strikes it.
+fn keeps_marks<B: Bijection<L, R> + Drop, L: CopyLeft + Copy + Drop, R: Eq + Copy + Drop>(
     alloc: Global,
     empty: B,
-) -> Result<(), Fail> {
+    first: (L, R),
+    second: (L, R),
+    items: &[(L, R)],
+) -> bool {
     let mut undoable = Undoable::new(alloc, empty);
-    undoable.insert('a', 1).ok().ok_or("no memory")?;
+    if undoable.insert(first.0, first.1).is_err() {
+        return false;
+    }
     let mark = undoable.mark();
-    undoable.insert('a', 2).ok().ok_or("no memory")?;
-    let refused = undoable.insert_all([('b', 2), ('c', 3), ('b', 3)], KEEP_RIGHT);
-    assert!(rt;
-        refused
-            == Err(ItemRefused {
-                taken: 0,
-                why: NotInsertedWith::RightHeld('b', 2)
-            })
-    );
-    let refused = undoable.insert_all([('b', 2), ('c', 3), ('b', 3)], KEEP_LEFT);
-    assert!(rt;
-        refused
-            == Err(ItemRefused {
-                taken: 2,
-                why: NotInsertedWith::LeftHeld('b', 3)
-            })
-    );
-    assert!(rt; shows(undoable.held(), &[('a', 2)]));
+    if undoable.insert(second.0, second.1).is_err() {
+        return false;
+    }
+    let is_first_kept_out = is_refused_at(&mut undoable, items, KEEP_RIGHT, 0, &[second]);
+    let is_last_kept_out = is_refused_at(&mut undoable, items, KEEP_LEFT, 2, &[second]);
     undoable.back_to(mark);
-    assert!(rt; shows(undoable.held(), &[('a', 1)]));
-    Ok(())
+    is_first_kept_out && is_last_kept_out && shows(undoable.held(), &[first])
+}
+
+fn older_marks<B: Bijection<char, u32> + Drop>(rt: &impl Abort, alloc: Global, empty: B) {
+    let items = [('b', 2), ('c', 3), ('b', 3)];
+    assert!(rt; keeps_marks(alloc, empty, ('a', 1), ('a', 2), &items));
 }
 
 #[test]
-fn a_refused_list_keeps_the_marks(rt: HostRuntime) -> Result<(), Fail> {
+fn a_refused_list_keeps_the_marks(rt: HostRuntime) {
     let alloc = rt.alloc();
-    older_marks(&rt, alloc, BiBTreeMap::<char, u32>::new(alloc))?;
-    older_marks(&rt, alloc, BiHashMap::<char, u32>::new(alloc))?;
-    older_marks(&rt, alloc, crowded::<char, u32>(alloc))
+    older_marks(&rt, alloc, BiBTreeMap::<char, u32>::new(alloc));
+    older_marks(&rt, alloc, BiHashMap::<char, u32>::new(alloc));
+    older_marks(&rt, alloc, crowded::<char, u32>(alloc));
+}
+
+// Whether an insertion under a policy answers this, and leaves this many changes recorded.
+fn is_inserted_with<B: Bijection<L, R> + Drop, L: CopyLeft + Copy + Drop, R: Eq + Copy + Drop>(
+    undoable: &mut Undoable<B, L, R>,
+    (left, right): (L, R),
+    policy: Policy,
+    answer: Result<bool, NotInsertedWith<L, R>>,
+    mark: usize,
+) -> bool {
+    undoable.insert_with(left, right, policy) == answer && undoable.mark() == mark
+}
+
+// Whether the rows answer as they must, and going back to two of the marks shows what was held there.
+fn are_inserted_with<
+    B: Bijection<L, R> + Drop,
+    L: CopyLeft + Copy + Drop,
+    R: Eq + Copy + Drop,
+    const N: usize,
+>(
+    alloc: Global,
+    empty: B,
+    rows: [((L, R), Policy, Result<bool, NotInsertedWith<L, R>>, usize); N],
+    at_3: &[(L, R)],
+    at_1: &[(L, R)],
+) -> bool {
+    let mut undoable = Undoable::new(alloc, empty);
+    for (pair, policy, answer, mark) in rows {
+        if !is_inserted_with(&mut undoable, pair, policy, answer, mark) {
+            return false;
+        }
+    }
+    if undoable.mark() < 3 {
+        return false;
+    }
+    undoable.back_to(3);
+    let is_at_3 = shows(undoable.held(), at_3);
+    undoable.back_to(1);
+    is_at_3 && shows(undoable.held(), at_1)
 }
 
 fn one_by_one<B: Bijection<char, u32> + Drop>(rt: &impl Abort, alloc: Global, empty: B) {
-    let mut undoable = Undoable::new(alloc, empty);
-    let rows: [(char, u32, Policy, Result<bool, Refused>, usize); 6] = [
-        ('a', 1, ONCE, Ok(false), 1),
-        ('a', 2, ONCE, Err(NotInsertedWith::LeftHeld('a', 2)), 1),
+    let rows: [((char, u32), Policy, Result<bool, Refused>, usize); 6] = [
+        (('a', 1), ONCE, Ok(false), 1),
+        (('a', 2), ONCE, Err(NotInsertedWith::LeftHeld('a', 2)), 1),
         (
-            'b',
-            1,
+            ('b', 1),
             KEEP_RIGHT,
             Err(NotInsertedWith::RightHeld('b', 1)),
             1,
         ),
-        ('b', 1, KEEP_LEFT, Ok(true), 2),
-        ('c', 3, ONCE, Ok(false), 3),
-        ('b', 3, OVERWRITE, Ok(true), 4),
+        (('b', 1), KEEP_LEFT, Ok(true), 2),
+        (('c', 3), ONCE, Ok(false), 3),
+        (('b', 3), OVERWRITE, Ok(true), 4),
     ];
-    for (left, right, policy, answer, mark) in rows {
-        assert!(rt;
-            undoable.insert_with(left, right, policy) == answer,
-            "{left} {right}"
-        );
-        assert_eq!(rt; undoable.mark(), mark, "{left} {right}");
-    }
-    assert!(rt; shows(undoable.held(), &[('b', 3)]));
-    undoable.back_to(3);
-    assert!(rt; shows(undoable.held(), &[('b', 1), ('c', 3)]));
-    undoable.back_to(1);
-    assert!(rt; shows(undoable.held(), &[('a', 1)]));
+    assert!(rt; are_inserted_with(alloc, empty, rows, &[('b', 1), ('c', 3)], &[('a', 1)]));
 }
 
 #[test]
@@ -204,38 +258,4 @@ fn insertions_under_policies_are_recorded(rt: HostRuntime) {
     one_by_one(&rt, alloc, BiBTreeMap::<char, u32>::new(alloc));
     one_by_one(&rt, alloc, BiHashMap::<char, u32>::new(alloc));
     one_by_one(&rt, alloc, crowded::<char, u32>(alloc));
-}
-
-// The very item is handed back, and the very pairs of before are held again.
-fn tags<B: Bijection<char, Tagged> + Drop>(
-    rt: &impl Abort,
-    alloc: Global,
-    empty: B,
-) -> Result<(), Fail> {
-    let mut undoable = Undoable::new(alloc, empty);
-    undoable
-        .insert('a', with_tag('x', 1))
-        .ok()
-        .ok_or("no memory")?;
-    let items = [('b', with_tag('x', 2)), ('b', with_tag('x', 3))];
-    match undoable.insert_all(items, KEEP_LEFT) {
-        Err(
-            ItemRefused {
-                taken: 1,
-                why: NotInsertedWith::LeftHeld('b', right),
-            },
-        ) => { assert_eq!(rt; right.tag, 3) }
-        _ => assert!(rt; false, "b is held"),
-    }
-    let right = undoable.held().get_by_left(&'a').map(|right| right.tag);
-    assert_eq!(rt; right, Some(1));
-    Ok(())
-}
-
-#[test]
-fn the_very_values_come_back(rt: HostRuntime) -> Result<(), Fail> {
-    let alloc = rt.alloc();
-    tags(&rt, alloc, BiBTreeMap::<char, Tagged>::new(alloc))?;
-    tags(&rt, alloc, BiHashMap::<char, Tagged>::new(alloc))?;
-    tags(&rt, alloc, crowded::<char, Tagged>(alloc))
 }

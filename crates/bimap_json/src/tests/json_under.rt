@@ -1,4 +1,6 @@
 //! JSON texts with what is read of them under a policy.
+ghost use Rattle.std.specs.Prelude.{◌≡◌, []};
+
 use crate::tests::shown::shows;
 use bimap::value::{JsonFault, read_into_with};
 use bimap::{BiBTreeMap, BiHashMap, Bijection, OnHeld, Policy};
@@ -66,7 +68,9 @@ fn reads<B: Bijection<char, u8> + Drop>(
     text: &str,
     policy: Policy,
     wanted: Result<&[(char, u8)], JsonFault>,
-) {
+)
+    requires { (B.holding empty).pairs ≡ [] }
+{
     let value = Value::from_str(alloc, text).expect(rt, "JSON");
     match (read_into_with(alloc, empty, &value, policy), wanted) {
         (Ok(bimap), Ok(held)) => assert!(rt; shows(&bimap, held), "{text}"),
