@@ -166,9 +166,20 @@ fn a_run_without_room(rt: HostRuntime) -> Result<(), Fail> {
     Ok(())
 }
 
+// The reply of one call. `Retain` keeps the pairs whose right is at least its key.
+fn reply_of<B: Bijection<char, u32>>(
+    bimap: &mut B,
+    call: Call<char, u32, u32>,
+) -> Reply<char, u32> {
+    perform(
+        bimap,
+        call,
+        &|least: &u32, _: &char, right: &u32| *right >= *least,
+    )
+}
+
 // One call after the other, with no vector of calls or replies.
 fn performed<B: Bijection<char, u32> + Drop>(rt: &impl Abort, mut bimap: B) {
-    let at_least = |least: &u32, _: &char, right: &u32| *right >= *least;
     let rows: [(Call<char, u32, u32>, Reply<char, u32>, &[(char, u32)]); 9] = [
         (Call::InsertNoOverwrite('a', 1), Reply::Put, &[('a', 1)]),
         (
@@ -197,7 +208,7 @@ fn performed<B: Bijection<char, u32> + Drop>(rt: &impl Abort, mut bimap: B) {
         (Call::Clear, Reply::Done, &[]),
     ];
     for (call, reply, held) in rows {
-        assert!(rt; perform(&mut bimap, call, &at_least) == reply, "{reply:?}");
+        assert!(rt; reply_of(&mut bimap, call) == reply, "{reply:?}");
         assert!(rt; shows(&bimap, held), "{reply:?}");
     }
 }
