@@ -62,7 +62,7 @@ impl<L: Ord, R: Ord> BiBTreeMap<L, R> {
         ensures pairs { (holding result).pairs ≡ [] }
         ensures room { (holding result).room ≡ 0 }
     {
-        BijectiveMap::empty(alloc)
+        BiBTreeMap::empty(alloc)
     }
 
     /// The empty bimap of exactly this capacity, in time in proportion to it. At 0 it takes no memory. A refusal makes
@@ -75,7 +75,7 @@ impl<L: Ord, R: Ord> BiBTreeMap<L, R> {
         ensures room { IfOk result (λ bimap. (holding bimap).room ≡ capacity) }
         ensures none { capacity ≡ 0 → IsOk result }
     {
-        BijectiveMap::of_capacity(alloc, capacity)
+        BiBTreeMap::of_capacity(alloc, capacity)
     }
 }
 
@@ -87,7 +87,7 @@ impl<L: Eq + Hash, R: Eq + Hash> BiHashMap<L, R> {
         ensures pairs { (holding result).pairs ≡ [] }
         ensures room { (holding result).room ≡ 0 }
     {
-        BijectiveMap::empty(alloc)
+        BiHashMap::empty(alloc)
     }
 
     /// The empty bimap of exactly this capacity, in time in proportion to it. At 0 it takes no memory. A refusal makes
@@ -100,7 +100,7 @@ impl<L: Eq + Hash, R: Eq + Hash> BiHashMap<L, R> {
         ensures room { IfOk result (λ bimap. (holding bimap).room ≡ capacity) }
         ensures none { capacity ≡ 0 → IsOk result }
     {
-        BijectiveMap::of_capacity(alloc, capacity)
+        BiHashMap::of_capacity(alloc, capacity)
     }
 }
 
@@ -112,7 +112,7 @@ impl<L: Ord, R: Eq + Hash> BiBTreeHashMap<L, R> {
         ensures pairs { (holding result).pairs ≡ [] }
         ensures room { (holding result).room ≡ 0 }
     {
-        BijectiveMap::empty(alloc)
+        BiBTreeHashMap::empty(alloc)
     }
 
     /// The empty bimap of exactly this capacity, in time in proportion to it. At 0 it takes no memory. A refusal makes
@@ -125,7 +125,7 @@ impl<L: Ord, R: Eq + Hash> BiBTreeHashMap<L, R> {
         ensures room { IfOk result (λ bimap. (holding bimap).room ≡ capacity) }
         ensures none { capacity ≡ 0 → IsOk result }
     {
-        BijectiveMap::of_capacity(alloc, capacity)
+        BiBTreeHashMap::of_capacity(alloc, capacity)
     }
 }
 
@@ -137,7 +137,7 @@ impl<L: Eq + Hash, R: Ord> BiHashBTreeMap<L, R> {
         ensures pairs { (holding result).pairs ≡ [] }
         ensures room { (holding result).room ≡ 0 }
     {
-        BijectiveMap::empty(alloc)
+        BiHashBTreeMap::empty(alloc)
     }
 
     /// The empty bimap of exactly this capacity, in time in proportion to it. At 0 it takes no memory. A refusal makes
@@ -150,6 +150,6 @@ impl<L: Eq + Hash, R: Ord> BiHashBTreeMap<L, R> {
         ensures room { IfOk result (λ bimap. (holding bimap).room ≡ capacity) }
         ensures none { capacity ≡ 0 → IsOk result }
     {
-        BijectiveMap::of_capacity(alloc, capacity)
+        BiHashBTreeMap::of_capacity(alloc, capacity)
     }
 }
