@@ -5,6 +5,7 @@ use bimap_plain::Plain;
 use bimap_undo::{CopyLeft, Undoable};
 use std::alloc::Global;
 use std::process::Abort;
+use std::test::Fail;
 
 type Refused = NotInsertedWith<char, u32>;
 
@@ -165,8 +166,8 @@ fn is_refused_at<B: Bijection<L, R> + Drop, L: CopyLeft + Copy + Drop, R: Eq + C
 fn keeps_marks<B: Bijection<L, R> + Drop, L: CopyLeft + Copy + Drop, R: Eq + Copy + Drop>(
     alloc: Global,
     empty: B,
-    first: (L, R),
-    second: (L, R),
+    (first, first_held): ((L, R), &[(L, R)]),
+    (second, second_held): ((L, R), &[(L, R)]),
     items: &[(L, R)],
 ) -> bool {
     let mut undoable = Undoable::new(alloc, empty);
@@ -177,15 +178,20 @@ fn keeps_marks<B: Bijection<L, R> + Drop, L: CopyLeft + Copy + Drop, R: Eq + Cop
     if undoable.insert(second.0, second.1).is_err() {
         return false;
     }
-    let is_first_kept_out = is_refused_at(&mut undoable, items, KEEP_RIGHT, 0, &[second]);
-    let is_last_kept_out = is_refused_at(&mut undoable, items, KEEP_LEFT, 2, &[second]);
+    let is_first_kept_out = is_refused_at(&mut undoable, items, KEEP_RIGHT, 0, second_held);
+    let is_last_kept_out = is_refused_at(&mut undoable, items, KEEP_LEFT, 2, second_held);
+    if undoable.mark() < mark {
+        return false;
+    }
     undoable.back_to(mark);
-    is_first_kept_out && is_last_kept_out && shows(undoable.held(), &[first])
+    is_first_kept_out && is_last_kept_out && shows(undoable.held(), first_held)
 }
 
 fn older_marks<B: Bijection<char, u32> + Drop>(rt: &impl Abort, alloc: Global, empty: B) {
     let items = [('b', 2), ('c', 3), ('b', 3)];
-    assert!(rt; keeps_marks(alloc, empty, ('a', 1), ('a', 2), &items));
+    let first = (('a', 1), [('a', 1)].as_slice());
+    let second = (('a', 2), [('a', 2)].as_slice());
+    assert!(rt; keeps_marks(alloc, empty, first, second, &items));
 }
 
 #[test]
@@ -208,15 +214,10 @@ fn is_inserted_with<B: Bijection<L, R> + Drop, L: CopyLeft + Copy + Drop, R: Eq 
 }
 
 // Whether the rows answer as they must, and going back to two of the marks shows what was held there.
-fn are_inserted_with<
-    B: Bijection<L, R> + Drop,
-    L: CopyLeft + Copy + Drop,
-    R: Eq + Copy + Drop,
-    const N: usize,
->(
+fn are_inserted_with<B: Bijection<L, R> + Drop, L: CopyLeft + Copy + Drop, R: Eq + Copy + Drop>(
     alloc: Global,
     empty: B,
-    rows: [((L, R), Policy, Result<bool, NotInsertedWith<L, R>>, usize); N],
+    rows: Vec<((L, R), Policy, Result<bool, NotInsertedWith<L, R>>, usize)>,
     at_3: &[(L, R)],
     at_1: &[(L, R)],
 ) -> bool {
@@ -231,31 +232,39 @@ fn are_inserted_with<
     }
     undoable.back_to(3);
     let is_at_3 = shows(undoable.held(), at_3);
+    if undoable.mark() < 1 {
+        return false;
+    }
     undoable.back_to(1);
     is_at_3 && shows(undoable.held(), at_1)
 }
 
-fn one_by_one<B: Bijection<char, u32> + Drop>(rt: &impl Abort, alloc: Global, empty: B) {
-    let rows: [((char, u32), Policy, Result<bool, Refused>, usize); 6] = [
+fn one_by_one<B: Bijection<char, u32> + Drop>(
+    rt: &impl Abort,
+    alloc: Global,
+    empty: B,
+) -> Result<(), Fail> {
+    let rows = vec![in alloc;
         (('a', 1), ONCE, Ok(false), 1),
         (('a', 2), ONCE, Err(NotInsertedWith::LeftHeld('a', 2)), 1),
         (
             ('b', 1),
             KEEP_RIGHT,
             Err(NotInsertedWith::RightHeld('b', 1)),
-            1,
+            1
         ),
         (('b', 1), KEEP_LEFT, Ok(true), 2),
         (('c', 3), ONCE, Ok(false), 3),
         (('b', 3), OVERWRITE, Ok(true), 4),
-    ];
+    ]?;
     assert!(rt; are_inserted_with(alloc, empty, rows, &[('b', 1), ('c', 3)], &[('a', 1)]));
+    Ok(())
 }
 
 #[test]
-fn insertions_under_policies_are_recorded(rt: HostRuntime) {
+fn insertions_under_policies_are_recorded(rt: HostRuntime) -> Result<(), Fail> {
     let alloc = rt.alloc();
-    one_by_one(&rt, alloc, BiBTreeMap::<char, u32>::new(alloc));
-    one_by_one(&rt, alloc, BiHashMap::<char, u32>::new(alloc));
-    one_by_one(&rt, alloc, crowded::<char, u32>(alloc));
+    one_by_one(&rt, alloc, BiBTreeMap::<char, u32>::new(alloc))?;
+    one_by_one(&rt, alloc, BiHashMap::<char, u32>::new(alloc))?;
+    one_by_one(&rt, alloc, crowded::<char, u32>(alloc))
 }

@@ -4,8 +4,7 @@ ghost use Rattle.std.specs.Prelude.{length};
 
 use super::{THREE, Zero, crowded, holds, plain, put_all};
 use bimap_base::ExtendStopped;
-use bimap_kinds::BiHashMap;
-use bimap_walk::by_place::Iter;
+use bimap_hash::{BiHashMap, Iter};
 use std::alloc::{AllocError, Global};
 use std::hash::BuildHasher;
 
