@@ -1,6 +1,6 @@
 //! What no clause says: each call once on its happy path, keys that carry other data, and counted comparisons.
 use bimap_base::{Bijection, NotInserted, NotInsertedWith, OnHeld, Overwritten, Policy};
-use bimap_btree::BiBTreeMap;
+use bimap_kinds::BiBTreeMap;
 use std::alloc::Global;
 
 mod built;

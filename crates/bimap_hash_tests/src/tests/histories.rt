@@ -1,7 +1,7 @@
 //! Histories of calls, each from the empty bimap.
 use super::{THREE, answers, crowded, holds, plain, put_all};
 use bimap_base::{Bijection, NotInserted, NotInsertedWith, OnHeld, Overwritten, Policy};
-use bimap_hash::BiHashMap;
+use bimap_kinds::BiHashMap;
 use std::alloc::Global;
 use std::cell::Cell;
 use std::hash::{BuildHasher, RandomState};

@@ -4,7 +4,8 @@ ghost use Rattle.std.specs.Prelude.{length};
 
 use super::{THREE, Zero, crowded, holds, plain, put_all};
 use bimap_base::ExtendStopped;
-use bimap_hash::{BiHashMap, Iter};
+use bimap_kinds::BiHashMap;
+use bimap_walk::by_place::Iter;
 use std::alloc::{AllocError, Global};
 use std::hash::BuildHasher;
 

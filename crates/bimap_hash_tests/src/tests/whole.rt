@@ -1,7 +1,7 @@
 //! Equality, copies and texts of whole bimaps, under a builder that hashes everything alike.
 use super::{Zero, crowded, holds, put_all};
 use bimap_base::{NoMemory, Overwritten};
-use bimap_hash::BiHashMap;
+use bimap_kinds::BiHashMap;
 use std::alloc::{AllocError, Global};
 use std::hash::BuildHasher;
 

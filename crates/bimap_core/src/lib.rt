@@ -1,0 +1,14 @@
+//! A bimap over any two indexes: the store, one index for each side, and what they keep together.
+#![tactic(auto)]
+
+mod copy;
+mod insert;
+mod pack;
+mod remove;
+mod retain;
+mod room;
+mod table;
+mod undo;
+mod write;
+
+pub use table::Table;
