@@ -1,4 +1,4 @@
-//! What both bimaps stand on: the plain types, the store of pairs, and the interfaces between store, index and bimap.
+//! What every bimap stands on: the plain types, the store of pairs, and the interfaces between store, index and bimap.
 #![tactic(auto)]
 
 mod bijection;

@@ -329,7 +329,7 @@ fn undoes_to_the_exact_values(rt: HostRuntime) {
     assert!(&rt; mark_of(&map, 1) == Some(1));
 }
 
-// Through the bound that both bimaps share.
+// Through the bound that all bimaps share.
 fn renames<B: Bijection<char, u32>>(bimap: &mut B) -> bool {
     bimap.insert('a', 1) == Ok(Overwritten::Neither)
         && bimap.insert_no_overwrite('b', 2) == Ok(())
