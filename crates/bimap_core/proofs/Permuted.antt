@@ -34,9 +34,9 @@ module _ {X : Type 0} where
 
   with_it : (a b : List X) (x p : X) → Contains (a ++ b) p → Contains (a ++ x ∷ b) p
   with_it a b x p c = elim (Contains-append_cases a b p c) [
-      | inl d ↦ Contains-append_left a (x ∷ b) p d
-      | inr d ↦ Contains-append_right a (x ∷ b) p (more_in x b p d)
-    ]
+    | inl d ↦ Contains-append_left a (x ∷ b) p d
+    | inr d ↦ Contains-append_right a (x ∷ b) p (more_in x b p d)
+  ]
 
   apart_without : (a : List X) (x : X) (b : List X) → AllPairs (λ p q. p ≢ q) (a ++ x ∷ b) → AllPairs (λ p q. p ≢ q) (a ++ b)
   apart_without [] x b all = AllPairs-tail (λ p q. p ≢ q) x b all
@@ -55,9 +55,9 @@ module _ {X : Type 0} where
       let b = w.1 in
       let apart'' = subst (AllPairs (λ p q. p ≢ q)) w.2 apart' in
       let rest = permuted xs (a ++ b) (AllPairs-tail (λ p q. p ≢ q) x xs apart) (apart_without a x b apart'') (λ p. (
-            λ c. others a b p ((subst (λ z. Contains z p) w.2 ((same p).0 (more_in x xs p c)))) (λ e. AllPairs-head (λ p q. p ≢ q) x xs apart p c (sym e)),
-            λ c. back p (cases_in x xs p ((same p).1 (subst (λ z. Contains z p) (sym w.2) (with_it a b x p c)))) (apart_left a x b apart'' p c)
-          )) in
+        λ c. others a b p ((subst (λ z. Contains z p) w.2 ((same p).0 (more_in x xs p c)))) (λ e. AllPairs-head (λ p q. p ≢ q) x xs apart p c (sym e)),
+        λ c. back p (cases_in x xs p ((same p).1 (subst (λ z. Contains z p) (sym w.2) (with_it a b x p c)))) (apart_left a x b apart'' p c),
+      )) in
       subst (IsPermutation (x ∷ xs)) (sym w.2) (IsPermutation-trans (x ∷ xs) (x ∷ (a ++ b)) (a ++ x ∷ b) (IsPermutation-cons x xs (a ++ b) rest) (IsPermutation-sym (a ++ x ∷ b) (x ∷ (a ++ b)) (IsPermutation-middle a x b)))
     where
       others : (a b : List X) (p : X) → Contains (a ++ x ∷ b) p → p ≢ x → Contains (a ++ b) p

@@ -21,8 +21,7 @@ impl<L: Eq, R: Eq, I: Index<L>, J: Index<R>> Table<L, R, I, J> {
         {
             None => None,
             Some(place) => {
-                self.right
-                    .unlink(RightSide::new(&self.pairs), place, meter);
+                self.right.unlink(RightSide::new(&self.pairs), place, meter);
                 Some(self.pairs.take(place))
             }
         }

@@ -37,8 +37,7 @@ impl<L: Eq, R: Eq, I: Index<L>, J: Index<R>> Table<L, R, I, J> {
         ensures comparisons { M.comparisons meter.new ≤ M.comparisons meter.old + 2 * J.effort (length (J.places self.old.right)) }
         ensures touches { M.touches meter.new ≤ M.touches meter.old + 128 * (J.effort (length (J.places self.old.right)) + 1) }
     {
-        self.right
-            .unlink(RightSide::new(&self.pairs), place, meter);
+        self.right.unlink(RightSide::new(&self.pairs), place, meter);
         let old = self.pairs.swap_in(place, left, right);
         self.right
             .relink(RightSide::new(&self.pairs), place, spot, meter);
@@ -80,8 +79,7 @@ impl<L: Eq, R: Eq, I: Index<L>, J: Index<R>> Table<L, R, I, J> {
         ensures touches { M.touches meter.new ≤ M.touches meter.old + 64 * (I.effort (length (I.places self.old.left)) + 1) + 64 * (J.effort (length (J.places self.old.right)) + 1) }
     {
         self.left.unlink(LeftSide::new(&self.pairs), place, meter);
-        self.right
-            .unlink(RightSide::new(&self.pairs), place, meter);
+        self.right.unlink(RightSide::new(&self.pairs), place, meter);
         self.pairs.take(place)
     }
 

@@ -2,9 +2,9 @@
 ghost use Rattle.std.specs.Iterator.{IsFinite};
 
 use super::{Seats, filled};
+use bimap_famine::Famine;
 use bimap_kinds::BiBTreeMap;
 use bimap_walk::by_rank::{IntoIter, Iter, LeftRange, LeftValues, RightRange, RightValues};
-use bimap_famine::Famine;
 use std::alloc::{AllocError, Global};
 use std::ops::Bound;
 use std::test::Fail;
