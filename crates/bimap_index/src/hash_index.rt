@@ -9,11 +9,11 @@ ghost use Rattle.bimap_index.specs.ByHash.{ListsByHash, places_from};
 ghost use Rattle.bimap_index.specs.HashLaws.{hash_listed, hash_distinct, hash_by_place, hash_in_order, hash_respects, hash_settled};
 
 use crate::index::Index;
-use crate::made::{CopiedIndex, EmptyIndex, PackedIndex};
+use crate::made::{CopiedIndex, DefaultIndex, EmptyIndex, PackedIndex};
 use bimap_base::{ByHash, Meter, NoMemory, Side, Spread};
 use bimap_chain::Hashed;
 use std::alloc::Global;
-use std::hash::{BuildHasher, Hash};
+use std::hash::{BuildHasher, BuildHasherDefault, FoldHasher, Hash};
 
 /// A hashed index and the builder that numbers its keys.
 #[derive(Drop)]
@@ -141,6 +141,8 @@ impl<K: Eq + Hash, B: BuildHasher + Default> EmptyIndex<K> for HashIndex<B> {
         HashIndex::new(alloc, B::default())
     }
 }
+
+impl<K: Eq + Hash> DefaultIndex<K> for HashIndex<BuildHasherDefault<FoldHasher>> {}
 
 impl<K: Eq + Hash, B: BuildHasher + Clone> CopiedIndex<K> for HashIndex<B> {
     ghost finds_as = { λ h copy. B.is_clone h.builder copy.builder };

@@ -11,4 +11,4 @@ mod ordered;
 
 pub use hash_index::HashIndex;
 pub use index::Index;
-pub use made::{CopiedIndex, EmptyIndex, PackedIndex};
+pub use made::{CopiedIndex, DefaultIndex, EmptyIndex, PackedIndex};

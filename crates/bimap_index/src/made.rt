@@ -15,6 +15,9 @@ pub trait EmptyIndex<K: Eq>: Index<K> {
         ensures cells { Self.cells result ≡ 0 };
 }
 
+/// The index of a side for which none is named: the ordered one, or the hashed one with the default builder.
+pub trait DefaultIndex<K: Eq>: EmptyIndex<K> {}
+
 /// An index that is made like another one.
 pub trait CopiedIndex<K: Eq>: Index<K> {
     /// The second finds keys as a copy of the first does: by clones of what it finds them by.

@@ -7,7 +7,7 @@ ghost use Rattle.bimap_index.specs.ByOrder.{ListsByOrder};
 ghost use Rattle.bimap_index.specs.OrderLaws.{order_listed, order_distinct, order_in_order, order_respects, order_settled};
 
 use crate::index::Index;
-use crate::made::{CopiedIndex, EmptyIndex};
+use crate::made::{CopiedIndex, DefaultIndex, EmptyIndex};
 use bimap_base::{ByOrder, Keys, Meter, NoMemory, Side};
 use bimap_tree::{Ordered, Route};
 use std::alloc::Global;
@@ -116,6 +116,8 @@ impl<K: Ord> EmptyIndex<K> for Ordered {
         Ordered::new(alloc)
     }
 }
+
+impl<K: Ord> DefaultIndex<K> for Ordered {}
 
 impl<K: Ord> CopiedIndex<K> for Ordered {
     ghost finds_as = { λ o copy. ⊤ };

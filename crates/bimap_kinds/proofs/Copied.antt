@@ -23,8 +23,7 @@ module _ {P : Type 0} (R : P → P → Type 0) (xs clones : List P) (zip : AllZi
       let clone = get_or clones k y in
       let rest = gather ys (λ p c. within p (more_in y ys p c)) in
       let cs = rest.0 in
-      let is : R y clone = subst (λ z. R z clone) here.2 (AllZip-get_or R xs clones k y y zip here.1) in
-      (
+      let is : R y clone = subst (λ z. R z clone) here.2 (AllZip-get_or R xs clones k y y zip here.1) in (
         clone ∷ cs,
         (is, rest.1),
         (λ q c. elim (cases_in clone cs q c) [

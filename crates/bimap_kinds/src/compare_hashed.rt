@@ -29,7 +29,8 @@ impl<L: Eq + Hash, R: Eq, LS: BuildHasher, J: Index<R>> PartialEq
     }
 }
 
-impl<L: Eq + Hash, R: Eq, LS: BuildHasher, J: Index<R>> Eq for BijectiveMap<L, R, HashIndex<LS>, J> {
+impl<L: Eq + Hash, R: Eq, LS: BuildHasher, J: Index<R>> Eq
+    for BijectiveMap<L, R, HashIndex<LS>, J> {
     ghost laws = { same_equiv L.eq R.eq L.Eq.laws R.Eq.laws (λ b. (holding b).pairs) (λ b. b.apart) };
 }
 

@@ -8,10 +8,11 @@ ghost use Rattle.bimap_base.specs.Same.{same, pair_eq, pair_cmp, lexicographic};
 ghost use Rattle.bimap_base.proofs.SameSets.{same_per, same_equiv};
 ghost use Rattle.bimap_base.proofs.SameAscending.{held_total, held_ties, held_po, held_alike};
 ghost use Rattle.bimap_kinds.specs.Held.{holding};
-use bimap_walk::by_rank::Iter;
+
 use crate::map::BijectiveMap;
 use bimap_index::Index;
 use bimap_tree::Ordered;
+use bimap_walk::by_rank::Iter;
 use std::cmp::Ordering;
 use std::hash::{Hash, Hasher};
 
@@ -61,7 +62,8 @@ impl<L: Ord + Drop, R: Ord + Drop, J: Index<R>> Ord for BijectiveMap<L, R, Order
 }
 
 /// Equal bimaps hash alike, as equal values of each side do.
-impl<L: Ord + Hash + Drop, R: Ord + Hash + Drop, J: Index<R>> Hash for BijectiveMap<L, R, Ordered, J> {
+impl<L: Ord + Hash + Drop, R: Ord + Hash + Drop, J: Index<R>> Hash
+    for BijectiveMap<L, R, Ordered, J> {
     ghost hash_input = { λ b. fed.slice (λ p. L.hash_input p.0 ++ R.hash_input p.1) (holding b).pairs };
 
     ghost respects_eq = { (held_alike L.eq R.eq L.total R.total L.matches_eq R.matches_eq (λ b. (holding b).pairs) (λ b. b.ascending) (record { fed = L.respects_eq }) (record { fed = R.respects_eq })).fed };

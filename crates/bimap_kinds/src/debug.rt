@@ -16,8 +16,12 @@ impl<L: Ord + fmt::Debug + Drop, R: Eq + fmt::Debug + Drop, J: Index<R>> fmt::De
 }
 
 /// The pairs in an open order, as `{'a' <> 1, 'b' <> 2}`.
-impl<L: Eq + Hash + fmt::Debug + Drop, R: Eq + fmt::Debug + Drop, LS: BuildHasher, J: Index<R>> fmt::Debug
-    for BijectiveMap<L, R, HashIndex<LS>, J> {
+impl<
+    L: Eq + Hash + fmt::Debug + Drop,
+    R: Eq + fmt::Debug + Drop,
+    LS: BuildHasher,
+    J: Index<R>,
+> fmt::Debug for BijectiveMap<L, R, HashIndex<LS>, J> {
     fn fmt<W: fmt::Write>(&self, f: &mut fmt::Formatter<W>) -> fmt::Result {
         write_pairs(self.iter(), f)
     }

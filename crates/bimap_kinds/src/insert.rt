@@ -3,7 +3,9 @@ ghost use Rattle.std.specs.Prelude.{◌≡◌, ◌+◌, ◌*◌, ◌≤◌, leng
 ghost use Rattle.bimap_base.specs.Holding.{IsInsertion, IsInsertionWithoutOverwriting, IsInsertionUnder};
 
 use crate::map::BijectiveMap;
-use bimap_base::{Bijection, Count, Meter, NoRoom, NotInserted, NotInsertedWith, OnHeld, Overwritten, Policy};
+use bimap_base::{
+    Bijection, Count, Meter, NoRoom, NotInserted, NotInsertedWith, OnHeld, Overwritten, Policy,
+};
 use bimap_index::Index;
 
 impl<L: Eq + Drop, R: Eq + Drop, I: Index<L>, J: Index<R>> BijectiveMap<L, R, I, J> {

@@ -1,12 +1,11 @@
 //! Empty bimaps of each kind.
 ghost use Rattle.std.specs.Prelude.{◌≡◌, [], None, IfOk, IsOk};
 
-use crate::map::{BiBTreeHashMap, BiBTreeMap, BiHashBTreeMap, BiHashMap, BijectiveMap};
+use crate::map::BijectiveMap;
 use bimap_base::NoMemory;
 use bimap_core::Table;
-use bimap_index::{EmptyIndex, Index};
+use bimap_index::{DefaultIndex, EmptyIndex, Index};
 use std::alloc::Global;
-use std::hash::Hash;
 
 impl<L: Eq, R: Eq, I: Index<L>, J: Index<R>> BijectiveMap<L, R, I, J> {
     ghost use Rattle.bimap_kinds.specs.Held.{holding};
@@ -27,16 +26,29 @@ impl<L: Eq, R: Eq, I: Index<L>, J: Index<R>> BijectiveMap<L, R, I, J> {
 impl<L: Eq, R: Eq, I: EmptyIndex<L>, J: EmptyIndex<R>> BijectiveMap<L, R, I, J> {
     ghost use Rattle.bimap_kinds.specs.Held.{holding};
 
-    /// The empty bimap of any kind, without places. It takes no memory, and constant time.
+    /// The empty bimap without places, also of a kind that names builders of its own. It takes no memory, and constant time.
     pub fn empty(alloc: Global) -> Self
         ensures pairs { (holding result).pairs ≡ [] }
         ensures room { (holding result).room ≡ 0 }
     {
         BijectiveMap::over(alloc, I::empty(alloc), J::empty(alloc))
     }
+}
 
-    // The empty bimap of exactly this capacity.
-    fn of_capacity(alloc: Global, capacity: usize) -> Result<Self, NoMemory>
+impl<L: Eq, R: Eq, I: DefaultIndex<L>, J: DefaultIndex<R>> BijectiveMap<L, R, I, J> {
+    ghost use Rattle.bimap_kinds.specs.Held.{holding};
+
+    /// The empty bimap, without places. It takes no memory, and constant time.
+    pub fn new(alloc: Global) -> Self
+        ensures pairs { (holding result).pairs ≡ [] }
+        ensures room { (holding result).room ≡ 0 }
+    {
+        Self::empty(alloc)
+    }
+
+    /// The empty bimap of exactly this capacity, in time in proportion to it. At 0 it takes no memory. A refusal makes
+    /// nothing.
+    pub fn with_capacity(alloc: Global, capacity: usize) -> Result<Self, NoMemory>
     where
         L: Drop,
         R: Drop,
@@ -51,105 +63,5 @@ impl<L: Eq, R: Eq, I: EmptyIndex<L>, J: EmptyIndex<R>> BijectiveMap<L, R, I, J> 
             Ok(()) => Ok(bimap),
             Err(refused) => Err(refused),
         }
-    }
-}
-
-impl<L: Ord, R: Ord> BiBTreeMap<L, R> {
-    ghost use Rattle.bimap_kinds.specs.Held.{holding};
-
-    /// The empty bimap, without places. It takes no memory, and constant time.
-    pub fn new(alloc: Global) -> Self
-        ensures pairs { (holding result).pairs ≡ [] }
-        ensures room { (holding result).room ≡ 0 }
-    {
-        BiBTreeMap::empty(alloc)
-    }
-
-    /// The empty bimap of exactly this capacity, in time in proportion to it. At 0 it takes no memory. A refusal makes
-    /// nothing.
-    pub fn with_capacity(alloc: Global, capacity: usize) -> Result<Self, NoMemory>
-    where
-        L: Drop,
-        R: Drop,
-        ensures pairs { IfOk result (λ bimap. (holding bimap).pairs ≡ []) }
-        ensures room { IfOk result (λ bimap. (holding bimap).room ≡ capacity) }
-        ensures none { capacity ≡ 0 → IsOk result }
-    {
-        BiBTreeMap::of_capacity(alloc, capacity)
-    }
-}
-
-impl<L: Eq + Hash, R: Eq + Hash> BiHashMap<L, R> {
-    ghost use Rattle.bimap_kinds.specs.Held.{holding};
-
-    /// The empty bimap, without places. It takes no memory, and constant time.
-    pub fn new(alloc: Global) -> Self
-        ensures pairs { (holding result).pairs ≡ [] }
-        ensures room { (holding result).room ≡ 0 }
-    {
-        BiHashMap::empty(alloc)
-    }
-
-    /// The empty bimap of exactly this capacity, in time in proportion to it. At 0 it takes no memory. A refusal makes
-    /// nothing.
-    pub fn with_capacity(alloc: Global, capacity: usize) -> Result<Self, NoMemory>
-    where
-        L: Drop,
-        R: Drop,
-        ensures pairs { IfOk result (λ bimap. (holding bimap).pairs ≡ []) }
-        ensures room { IfOk result (λ bimap. (holding bimap).room ≡ capacity) }
-        ensures none { capacity ≡ 0 → IsOk result }
-    {
-        BiHashMap::of_capacity(alloc, capacity)
-    }
-}
-
-impl<L: Ord, R: Eq + Hash> BiBTreeHashMap<L, R> {
-    ghost use Rattle.bimap_kinds.specs.Held.{holding};
-
-    /// The empty bimap, without places. It takes no memory, and constant time.
-    pub fn new(alloc: Global) -> Self
-        ensures pairs { (holding result).pairs ≡ [] }
-        ensures room { (holding result).room ≡ 0 }
-    {
-        BiBTreeHashMap::empty(alloc)
-    }
-
-    /// The empty bimap of exactly this capacity, in time in proportion to it. At 0 it takes no memory. A refusal makes
-    /// nothing.
-    pub fn with_capacity(alloc: Global, capacity: usize) -> Result<Self, NoMemory>
-    where
-        L: Drop,
-        R: Drop,
-        ensures pairs { IfOk result (λ bimap. (holding bimap).pairs ≡ []) }
-        ensures room { IfOk result (λ bimap. (holding bimap).room ≡ capacity) }
-        ensures none { capacity ≡ 0 → IsOk result }
-    {
-        BiBTreeHashMap::of_capacity(alloc, capacity)
-    }
-}
-
-impl<L: Eq + Hash, R: Ord> BiHashBTreeMap<L, R> {
-    ghost use Rattle.bimap_kinds.specs.Held.{holding};
-
-    /// The empty bimap, without places. It takes no memory, and constant time.
-    pub fn new(alloc: Global) -> Self
-        ensures pairs { (holding result).pairs ≡ [] }
-        ensures room { (holding result).room ≡ 0 }
-    {
-        BiHashBTreeMap::empty(alloc)
-    }
-
-    /// The empty bimap of exactly this capacity, in time in proportion to it. At 0 it takes no memory. A refusal makes
-    /// nothing.
-    pub fn with_capacity(alloc: Global, capacity: usize) -> Result<Self, NoMemory>
-    where
-        L: Drop,
-        R: Drop,
-        ensures pairs { IfOk result (λ bimap. (holding bimap).pairs ≡ []) }
-        ensures room { IfOk result (λ bimap. (holding bimap).room ≡ capacity) }
-        ensures none { capacity ≡ 0 → IsOk result }
-    {
-        BiHashBTreeMap::of_capacity(alloc, capacity)
     }
 }

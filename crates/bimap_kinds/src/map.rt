@@ -29,12 +29,8 @@ pub type BiBTreeMap<L, R> = BijectiveMap<L, R, Ordered, Ordered>;
 /// The bimap of two hashed sides, for where no order is wanted.
 ///
 /// The default builders have a fixed seed: hand in a `RandomState` for a side whose values strangers choose.
-pub type BiHashMap<
-    L,
-    R,
-    LS = BuildHasherDefault<FoldHasher>,
-    RS = BuildHasherDefault<FoldHasher>,
-> = BijectiveMap<L, R, HashIndex<LS>, HashIndex<RS>>;
+pub type BiHashMap<L, R, LS = BuildHasherDefault<FoldHasher>, RS = BuildHasherDefault<FoldHasher>> =
+    BijectiveMap<L, R, HashIndex<LS>, HashIndex<RS>>;
 
 /// The bimap of an ordered left and a hashed right: walks and ranges by ascending left, rights found by hash.
 pub type BiBTreeHashMap<L, R, RS = BuildHasherDefault<FoldHasher>> = BijectiveMap<

@@ -45,7 +45,14 @@ impl<L: Ord, R: Eq, J: Index<R>> BijectiveMap<L, R, Ordered, J> {
     {
         let table = &self.table;
         let lefts = ByOrder::new(LeftSide::new(&table.pairs));
-        by_rank::range(&table.pairs, &table.left, LeftPart, &lefts, &range, &mut Count::new())
+        by_rank::range(
+            &table.pairs,
+            &table.left,
+            LeftPart,
+            &lefts,
+            &range,
+            &mut Count::new(),
+        )
     }
 }
 
@@ -70,7 +77,14 @@ impl<L: Eq, R: Ord, I: Index<L>> BijectiveMap<L, R, I, Ordered> {
     {
         let table = &self.table;
         let rights = ByOrder::new(RightSide::new(&table.pairs));
-        by_rank::range(&table.pairs, &table.right, RightPart, &rights, &range, &mut Count::new())
+        by_rank::range(
+            &table.pairs,
+            &table.right,
+            RightPart,
+            &rights,
+            &range,
+            &mut Count::new(),
+        )
     }
 }
 
