@@ -47,7 +47,7 @@ returns-in_default g c =
       recorded = tt;
       kept = tt;
       room = refl;
-      refused = (lacking (Contains (g.B.Bijection.holding c.self.inside.bimap).pairs) (λ (p : g.row.L.Denot × g.row.R.Denot). g.L.PartialEq.eq p.0 c.args.left.now) c.if-not-contains_left.ensures);
+      refused = c.if-not-contains_left.ensures.0 refl;
       unchanged = ap (marked (g.B.Bijection.holding c.self.inside.bimap)) c.reserve.ensures.items;
     })
 

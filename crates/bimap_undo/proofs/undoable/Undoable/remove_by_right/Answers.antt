@@ -47,7 +47,7 @@ returns-in_default g c =
       recorded = tt;
       kept = tt;
       room = refl;
-      refused = (lacking (Contains (g.B.Bijection.holding c.self.inside.bimap).pairs) (λ (p : g.row.L.Denot × g.row.R.Denot). g.R.PartialEq.eq p.1 c.args.right.now) c.if-not-contains_right.ensures);
+      refused = c.if-not-contains_right.ensures.0 refl;
       unchanged = ap (marked (g.B.Bijection.holding c.self.inside.bimap)) c.reserve.ensures.items;
     })
 
