@@ -8,3 +8,6 @@ pub mod Reserving
 pub mod Permuted
 pub mod Undoing
 pub mod Shrinking
+pub mod OneOut
+pub mod Ascending
+pub mod InTurn

@@ -1,5 +1,5 @@
 -- Lists with the same elements, none twice, and the pairs of a walk as those of the store in another order.
-use Rattle.std.proofs.Common.{◌≡◌, ◌≢◌, ◌⊎◌, ◌↔◌, ℕ, zero, suc, Bool, true, false, List, [], ◌∷◌, ◌++◌, length, get_or, Option, refl, sym, ap, subst, ◌∙◌, inl, inr, arith, true≢false, Contains}
+use Rattle.std.proofs.Common.{◌≡◌, ◌≢◌, ◌⊎◌, ◌↔◌, ℕ, Bool, List, [], ◌∷◌, ◌++◌, get_or, Option, sym, ap, subst, ◌∙◌, inl, inr, true≢false, Contains}
 use Rattle.std.specs.List.{AllPairs}
 use Rattle.std.specs.List.Sorted.{IsPermutation}
 use Rattle.std.specs.Cmp.{IsEquivalence}
@@ -24,7 +24,7 @@ module _ {X : Type 0} where
       by (inl same) rest = ([], ys, ap (λ z. z ∷ ys) same)
       by (inr d) rest = let w = rest d in (y ∷ w.0, w.1, ap (λ z. y ∷ z) w.2)
 
-  apart_left : (a : List X) (x : X) (b : List X) → AllPairs (λ p q. p ≢ q) (a ++ x ∷ b) → (p : X) → Contains (a ++ b) p → p ≢ x
+  pub apart_left : (a : List X) (x : X) (b : List X) → AllPairs (λ p q. p ≢ q) (a ++ x ∷ b) → (p : X) → Contains (a ++ b) p → p ≢ x
   apart_left [] x b all p c e = AllPairs-head (λ p q. p ≢ q) x b all p c (sym e)
   apart_left (y ∷ a) x b all p c e =
       elim (cases_in y (a ++ b) p c) [
@@ -32,18 +32,25 @@ module _ {X : Type 0} where
         | inr d ↦ apart_left a x b (AllPairs-tail (λ p q. p ≢ q) y (a ++ x ∷ b) all) p d e
       ]
 
-  with_it : (a b : List X) (x p : X) → Contains (a ++ b) p → Contains (a ++ x ∷ b) p
+  pub with_it : (a b : List X) (x p : X) → Contains (a ++ b) p → Contains (a ++ x ∷ b) p
   with_it a b x p c = elim (Contains-append_cases a b p c) [
     | inl d ↦ Contains-append_left a (x ∷ b) p d
     | inr d ↦ Contains-append_right a (x ∷ b) p (more_in x b p d)
   ]
 
-  apart_without : (a : List X) (x : X) (b : List X) → AllPairs (λ p q. p ≢ q) (a ++ x ∷ b) → AllPairs (λ p q. p ≢ q) (a ++ b)
-  apart_without [] x b all = AllPairs-tail (λ p q. p ≢ q) x b all
-  apart_without (y ∷ a) x b all =
-      AllPairs-cons (λ p q. p ≢ q) y (a ++ b)
-      (λ k d l. AllPairs-head (λ p q. p ≢ q) y (a ++ x ∷ b) all (get_or (a ++ b) k d) (with_it a b x (get_or (a ++ b) k d) (k, l, get_or_default (a ++ b) k (get_or (a ++ b) k d) d l)))
-      (apart_without a x b (AllPairs-tail (λ p q. p ≢ q) y (a ++ x ∷ b) all))
+  pub without_it : (a b : List X) (x p : X) → Contains (a ++ x ∷ b) p → p ≢ x → Contains (a ++ b) p
+  without_it a b x p c away = elim (Contains-append_cases a (x ∷ b) p c) [
+    | inl d ↦ Contains-append_left a b p d
+    | inr d ↦ elim (cases_in x b p d) [ inl e ↦ absurd (away (sym e)) | inr f ↦ Contains-append_right a b p f ]
+  ]
+
+  -- what holds of each two elements holds of each two of the others
+  pub all_without : (S : X → X → Type 0) (a : List X) (x : X) (b : List X) → AllPairs S (a ++ x ∷ b) → AllPairs S (a ++ b)
+  all_without S [] x b all = AllPairs-tail S x b all
+  all_without S (y ∷ a) x b all =
+      AllPairs-cons S y (a ++ b)
+      (λ k d l. AllPairs-head S y (a ++ x ∷ b) all (get_or (a ++ b) k d) (with_it a b x (get_or (a ++ b) k d) (k, l, get_or_default (a ++ b) k (get_or (a ++ b) k d) d l)))
+      (all_without S a x b (AllPairs-tail S y (a ++ x ∷ b) all))
 
   -- lists with no element twice and the same elements are the same but for the order
   pub permuted : (xs ys : List X) → AllPairs (λ p q. p ≢ q) xs → AllPairs (λ p q. p ≢ q) ys → ((p : X) → Contains xs p ↔ Contains ys p) → IsPermutation xs ys
@@ -54,18 +61,12 @@ module _ {X : Type 0} where
       let a = w.0 in
       let b = w.1 in
       let apart'' = subst (AllPairs (λ p q. p ≢ q)) w.2 apart' in
-      let rest = permuted xs (a ++ b) (AllPairs-tail (λ p q. p ≢ q) x xs apart) (apart_without a x b apart'') (λ p. (
-        λ c. others a b p ((subst (λ z. Contains z p) w.2 ((same p).0 (more_in x xs p c)))) (λ e. AllPairs-head (λ p q. p ≢ q) x xs apart p c (sym e)),
+      let rest = permuted xs (a ++ b) (AllPairs-tail (λ p q. p ≢ q) x xs apart) (all_without (λ p q. p ≢ q) a x b apart'') (λ p. (
+        λ c. without_it a b x p ((subst (λ z. Contains z p) w.2 ((same p).0 (more_in x xs p c)))) (λ e. AllPairs-head (λ p q. p ≢ q) x xs apart p c (sym e)),
         λ c. back p (cases_in x xs p ((same p).1 (subst (λ z. Contains z p) (sym w.2) (with_it a b x p c)))) (apart_left a x b apart'' p c),
       )) in
       subst (IsPermutation (x ∷ xs)) (sym w.2) (IsPermutation-trans (x ∷ xs) (x ∷ (a ++ b)) (a ++ x ∷ b) (IsPermutation-cons x xs (a ++ b) rest) (IsPermutation-sym (a ++ x ∷ b) (x ∷ (a ++ b)) (IsPermutation-middle a x b)))
     where
-      others : (a b : List X) (p : X) → Contains (a ++ x ∷ b) p → p ≢ x → Contains (a ++ b) p
-      others a b p c away = elim (Contains-append_cases a (x ∷ b) p c) [
-        | inl d ↦ Contains-append_left a b p d
-        | inr d ↦ elim (cases_in x b p d) [ inl e ↦ absurd (away (sym e)) | inr f ↦ Contains-append_right a b p f ]
-      ]
-
       back : (p : X) → (x ≡ p) ⊎ Contains xs p → p ≢ x → Contains xs p
       back p (inl e) away = absurd (away (sym e))
       back p (inr c) away = c

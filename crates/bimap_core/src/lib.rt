@@ -6,6 +6,7 @@ mod insert;
 mod pack;
 mod remove;
 mod retain;
+mod retain_in_turn;
 mod room;
 mod table;
 mod undo;

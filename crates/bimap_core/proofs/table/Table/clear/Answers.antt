@@ -1,4 +1,4 @@
-use Rattle.std.proofs.Common.{sym, subst, arith, length}
+use Rattle.std.proofs.Common.{subst, arith}
 use Rattle.std.proofs.lemmas.Grind.{merely}
 use Rattle.bimap_core.proofs.Places.{pairs_none, fits_in}
 use Rattle.bimap_core.proofs.Removing.{apart_none}

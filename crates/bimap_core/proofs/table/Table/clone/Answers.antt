@@ -1,6 +1,5 @@
-use Rattle.std.proofs.Common.{◌+◌, ◌∷◌, drop, length, arith, sym, ap, subst, ◌∙◌}
+use Rattle.std.proofs.Common.{◌+◌, drop, arith, sym, ap, subst, ◌∙◌}
 use Rattle.bimap_base.specs.Places.{pairs_in}
-use Rattle.bimap_base.specs.Slots.{pair_at}
 use Rattle.bimap_base.proofs.Copying.{IsCopiedUpTo, copied_none, copied_more, copied_all}
 use Rattle.bimap_base.proofs.Passing.{from_free, from_live, from_end}
 use Rattle.bimap_core.proofs.Places.{pairs_kept}

@@ -1,4 +1,4 @@
-use Rattle.std.proofs.Common.{◌<◌, arith, Some, length}
+use Rattle.std.proofs.Common.{arith, Some}
 use Rattle.std.specs.Prelude.{slice_set}
 use Rattle.std.proofs.lemmas.Grind.{merely}
 use Rattle.std.proofs.lemmas.List.{length-set}
