@@ -1,5 +1,5 @@
 -- A copy of a store, in the order of a walk.
-use Rattle.std.proofs.Common.{◌≡◌, ◌≢◌, ◌⊎◌, ◌∙◌, ℕ, ◌<◌, Bool, List, [], ◌∷◌, length, get_or, Option, refl, sym, ap, subst, inl, inr, arith, true≢false, Contains}
+use Rattle.std.proofs.Common.{◌≡◌, ◌≢◌, ◌∙◌, ℕ, ◌<◌, Bool, List, [], ◌∷◌, length, get_or, sym, ap, subst, inl, inr, arith, true≢false, Contains}
 use Rattle.std.specs.List.{AllPairs, AllZip}
 use Rattle.std.proofs.lemmas.List.{get_or_default}
 use Rattle.std.proofs.lemmas.List.Elements.{AllZip-get_or}
@@ -7,7 +7,6 @@ use Rattle.std.proofs.lemmas.Slice.Zip.{AllZip-long}
 use Rattle.std.proofs.lemmas.Bool.{cases_lt}
 use Rattle.std.specs.Cmp.{IsEquivalence}
 use Rattle.bimap_base.specs.Sets.{shares, IsApart, IsSameSet}
-use Rattle.bimap_base.specs.Same.{IsSame}
 use Rattle.bimap_base.specs.Copies.{IsPairClone, AreClonesEqual, IsCopy}
 use Rattle.bimap_core.proofs.Inserting.{left_of_two}
 use Rattle.bimap_base.proofs.Members.{head_in, more_in, cases_in, none_in}

@@ -3,7 +3,6 @@ use Rattle.std.proofs.Common.{◌≡◌, ◌≢◌, ◌↔◌, ◌≤◌, ◌+�
 use Rattle.std.specs.Prelude.{Result, Ok, Err, OnOk, OnErr, max, min}
 use denote.Param.Members.{Mut}
 use denote.Ref.{Bor}
-use Rattle.std.specs.List.Sorted.{IsPermutation}
 use Rattle.std.proofs.lemmas.List.{get_or_default}
 use Rattle.std.proofs.lemmas.List.Sorted.{IsPermutation-trans}
 use Rattle.std.specs.List.{All, AllPairs}
@@ -21,13 +20,13 @@ use Rattle.bimap_base.specs.Places.{pairs_in}
 use Rattle.bimap_base.specs.Sets.{IsApart}
 use Rattle.bimap_base.specs.Slots.{pair_at, left_at, right_at, IsLive}
 use Rattle.bimap_base.proofs.HoldingsAlike.{AreAlike}
-use Rattle.bimap_base.proofs.Walked.{IsWalk, walk_of, walked, long_walked, listed_long, pairs_walked, fits_walked}
+use Rattle.bimap_base.proofs.Walked.{IsWalk, walk_of, walked, long_walked, listed_long, pairs_walked}
 use Rattle.bimap_base.proofs.Results.{OnErr-then}
 use Rattle.bimap_index.specs.ByOrder.{ListsByOrder}
-use Rattle.bimap_index.specs.OrderLaws.{order_settled, order_listed, order_distinct, order_in_order}
 use Rattle.bimap_index.specs.ByHash.{ListsByHash, places_from}
 use Rattle.bimap_index.specs.HashLaws.{hash_settled, hash_listed, hash_distinct, hash_by_place}
 use Rattle.bimap_index.proofs.Placed.{pairs_by_place}
+use Rattle.bimap_core.proofs.Ascending.{order_walk, order_ascends}
 use Rattle.bimap_core.proofs.Permuted.{walk_permuted}
 use Rattle.bimap_core.specs.Store.{holding_of}
 use Rattle.bimap_kinds.specs.Sorted.{IsByRight}
@@ -140,20 +139,12 @@ hash_walk {P} {K} key {same} {number} slots numbers h =
     let walk = walk_of key slots (places_from 0 numbers) (hash_listed same number numbers side listing) (hash_distinct same number numbers side listing) in
     pairs_by_place slots (places_from 0 numbers) (hash_by_place same number numbers side listing) walk.live
 
--- an ordered index lists the places of a walk
-pub order_walk : {P K : Type 0} (key : P → K) {order : K → K → Ordering} {same : K → K → Bool} → IsTotalOrder order → ((x y : K) → same x y ≡ eq_by_cmp order x y) → (slots : List (Option P)) (places : List ℕ) → ∥ ListsByOrder order places (λ place. option_map key (pair_at slots place)) ∥₁ → IsWalk slots places
-order_walk {P} {K} key {order} {same} total agrees slots places h =
-    let side : ℕ → Option K = λ place. option_map key (pair_at slots place) in
-    let listing = order_settled order same total agrees places side h in
-    walk_of key slots places (order_listed order same total agrees places side listing) (order_distinct order same total agrees places side listing)
-
 -- the walk by an ordered right
 pub sorted_walk : {L R : Type 0} {order : R → R → Ordering} {same : R → R → Bool} → IsTotalOrder order → ((x y : R) → same x y ≡ eq_by_cmp order x y) → (slots : List (Option (L × R))) (places : List ℕ) → IsWalk slots places → (places' : List ℕ) → ∥ ListsByOrder order places' (right_at slots) ∥₁ → IsByRight order (pairs_at slots places) (pairs_at slots places')
 sorted_walk {L} {R} {order} {same} total agrees slots places walk places' h =
-    let listing = order_settled order same total agrees places' (right_at slots) h in
     let walk' = order_walk (λ p. p.1) total agrees slots places' h in
     record {
       same = λ p. let v = walked slots places walk p in let w = walked slots places' walk' p in (λ c. w.0 (v.1 c), λ c. v.0 (w.1 c));
-      ascends = pairs_walked slots places' walk' (λ a b. (k l : R) → right_at slots a ≡ Some k → right_at slots b ≡ Some l → order k l ≡ Less) (λ p q. order p.1 q.1 ≡ Less) (λ a b p q s i j. s p.1 q.1 (ap (option_map (λ x. x.1)) i) (ap (option_map (λ x. x.1)) j)) (order_in_order order same total agrees places' (right_at slots) listing);
+      ascends = order_ascends (λ p. p.1) total agrees slots places' h;
       count = long_walked slots places' walk' ∙ sym (long_walked slots places walk);
     }

@@ -1,10 +1,11 @@
 //! Keeping what a closure wants.
-ghost use Rattle.bimap_base.specs.Holding.{IsRetention};
-ghost use Rattle.bimap_base.specs.Kept.{MayTest};
+ghost use Rattle.bimap_base.specs.Holding.{IsRetention, IsRetentionInTurn};
+ghost use Rattle.bimap_base.specs.Kept.{MayTest, MayTestInTurn};
 
 use crate::map::BijectiveMap;
 use bimap_base::Count;
 use bimap_index::{HashIndex, Index};
+use bimap_tree::Ordered;
 use std::hash::{BuildHasher, Hash};
 
 impl<L: Eq + Hash + Drop, R: Eq + Drop, LS: BuildHasher, J: Index<R>> BijectiveMap<
@@ -24,6 +25,21 @@ impl<L: Eq + Hash + Drop, R: Eq + Drop, LS: BuildHasher, J: Index<R>> BijectiveM
         ensures { IsRetention F.FnMut (holding self.old) f (holding self.new) }
     {
         self.retain_by_place(f);
+    }
+}
+
+impl<L: Ord + Drop, R: Eq + Drop, J: Index<R>> BijectiveMap<L, R, Ordered, J> {
+    ghost use Rattle.bimap_kinds.specs.Held.{holding};
+
+    /// Calls the closure once on each pair, by ascending left, and takes out those on which it answers false.
+    ///
+    /// It takes no memory, and the room stays. Time is the length times its logarithm, and that of a removal more for each
+    /// pair that is taken out.
+    pub fn retain<F: FnMut(&L, &R) -> bool>(&mut self, f: F)
+        requires { MayTestInTurn F.FnMut f (holding self.old).pairs }
+        ensures { IsRetentionInTurn F.FnMut (holding self.old) f (holding self.new) }
+    {
+        self.table.retain_in_turn(f, &mut Count::new());
     }
 }
 

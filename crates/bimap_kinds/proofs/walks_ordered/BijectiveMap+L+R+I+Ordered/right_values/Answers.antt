@@ -1,4 +1,5 @@
-use Rattle.bimap_kinds.proofs.Walk.{the_walk, order_walk, all_live, sorted_walk}
+use Rattle.bimap_core.proofs.Ascending.{order_walk}
+use Rattle.bimap_kinds.proofs.Walk.{the_walk, all_live, sorted_walk}
 use Rattle.bimap_kinds.proofs.walks_ordered.BijectiveMap+L+R+I+Ordered.right_values.Goals as goal
 
 pub right_values-requires : goal.right_values-requires

@@ -1,4 +1,5 @@
-use Rattle.bimap_kinds.proofs.Walk.{order_walk, all_live}
+use Rattle.bimap_core.proofs.Ascending.{order_walk}
+use Rattle.bimap_kinds.proofs.Walk.{all_live}
 use Rattle.bimap_kinds.proofs.walks_ordered.BijectiveMap+L+R+Ordered+HashIndex+RS.right_values.Goals as goal
 
 pub right_values-requires : goal.right_values-requires

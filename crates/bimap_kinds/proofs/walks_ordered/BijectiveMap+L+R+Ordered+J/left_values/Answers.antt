@@ -1,4 +1,5 @@
-use Rattle.bimap_kinds.proofs.Walk.{order_walk, all_live}
+use Rattle.bimap_core.proofs.Ascending.{order_walk}
+use Rattle.bimap_kinds.proofs.Walk.{all_live}
 use Rattle.bimap_kinds.proofs.walks_ordered.BijectiveMap+L+R+Ordered+J.left_values.Goals as goal
 
 pub left_values-requires : goal.left_values-requires

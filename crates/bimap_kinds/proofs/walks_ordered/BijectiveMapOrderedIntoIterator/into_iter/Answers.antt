@@ -1,4 +1,5 @@
-use Rattle.bimap_kinds.proofs.Walk.{order_walk, all_live}
+use Rattle.bimap_core.proofs.Ascending.{order_walk}
+use Rattle.bimap_kinds.proofs.Walk.{all_live}
 use Rattle.bimap_kinds.proofs.walks_ordered.BijectiveMapOrderedIntoIterator.into_iter.Goals as goal
 
 pub into_iter-requires : goal.into_iter-requires
