@@ -7,7 +7,7 @@ mod signed;
 mod texts;
 mod unsigned;
 
-pub use kinds::{from_value_with_hashers, hash_to_value};
+pub use kinds::{from_value_with_hashers, hash_to_value, reread_with_hashers};
 pub use object::{JsonFault, JsonObject, read_into, read_into_with, reread, write_walk};
 pub use serde_json::Value;
 pub use sides::{JsonKey, JsonValue, ReadFault};

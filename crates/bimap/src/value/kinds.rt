@@ -1,6 +1,7 @@
 //! Each kind of bimap as a JSON object and back. It doesn't know how a side is written.
-ghost use Rattle.std.specs.Prelude.{Contains, IfOk, OnOk};
+ghost use Rattle.std.specs.Prelude.{◌≡◌, Contains, IfErr, IfOk, OnOk};
 ghost use Rattle.serde_json.specs.View.{view};
+ghost use Rattle.bimap_base.specs.Same.{IsSame};
 ghost use Rattle.bimap_kinds.specs.Held.{holding};
 ghost use Rattle.bimap.specs.JsonObjects.{IsObjectOf, IsEntryOf, EachReadsBack, ReadsObject};
 
@@ -47,6 +48,29 @@ pub fn from_value_with_hashers<
 {
     let empty = BiHashMap::with_hashers(alloc, left_builder, right_builder);
     read_into(alloc, empty, value)
+}
+
+/// Writes a bimap as an object and reads it back with these builders: an equal bimap, or want of memory.
+pub fn reread_with_hashers<
+    L: JsonKey + Hash + Drop,
+    R: JsonValue + Hash + Drop,
+    LS: BuildHasher,
+    RS: BuildHasher,
+    NewLS: BuildHasher + Drop,
+    NewRS: BuildHasher + Drop,
+>(
+    alloc: Global,
+    left_builder: NewLS,
+    right_builder: NewRS,
+    bimap: &BiHashMap<L, R, LS, RS>,
+) -> Result<BiHashMap<L, R, NewLS, NewRS>, JsonFault>
+    ensures same { IfOk result (λ copy. IsSame L.eq R.eq (holding bimap.now).pairs (holding copy).pairs) }
+    ensures only_memory { IfErr result (λ fault. fault ≡ JsonFault.Memory) }
+{
+    match hash_to_value(alloc, bimap) {
+        Ok(value) => from_value_with_hashers(alloc, left_builder, right_builder, &value),
+        Err(NoMemory) => Err(JsonFault::Memory),
+    }
 }
 
 impl<L: JsonKey + Ord + Drop, R: JsonValue + Ord + Drop> JsonObject<L, R> for BiBTreeMap<L, R> {
