@@ -1,12 +1,11 @@
 //! The Rust crate's own examples.
-use crate::{crowded, shows};
-use bimap::{BiBTreeMap, BiMap, Bijection, Overwritten};
+use crate::with_each_kind;
+use bimap::{Bijection, Overwritten};
 use std::process::Abort;
 
-fn symbols_of_elements<B: Bijection<&'static str, &'static str> + Drop>(
-    rt: &impl Abort,
-    mut bimap: B,
-) {
+type Text = &'static str;
+
+fn symbols_of_elements<B: Bijection<Text, Text> + Drop>(rt: &impl Abort, mut bimap: B) {
     for (element, symbol) in [
         ("hydrogen", "H"),
         ("carbon", "C"),
@@ -27,12 +26,7 @@ fn symbols_of_elements<B: Bijection<&'static str, &'static str> + Drop>(
 
 #[test]
 fn elements_and_symbols(rt: HostRuntime) {
-    symbols_of_elements(
-        &rt,
-        BiBTreeMap::<&'static str, &'static str>::new(rt.alloc()),
-    );
-    symbols_of_elements(&rt, BiMap::<&'static str, &'static str>::new(rt.alloc()));
-    symbols_of_elements(&rt, crowded::<&'static str, &'static str>(rt.alloc()));
+    with_each_kind!(bimap: (Text, Text) in rt.alloc() => symbols_of_elements(&rt, bimap));
 }
 
 fn positions_of_letters<B: Bijection<char, u8> + Drop>(rt: &impl Abort, mut bimap: B) {
@@ -47,7 +41,5 @@ fn positions_of_letters<B: Bijection<char, u8> + Drop>(rt: &impl Abort, mut bima
 
 #[test]
 fn letters_of_the_alphabet_and_their_positions(rt: HostRuntime) {
-    positions_of_letters(&rt, BiBTreeMap::<char, u8>::new(rt.alloc()));
-    positions_of_letters(&rt, BiMap::<char, u8>::new(rt.alloc()));
-    positions_of_letters(&rt, crowded::<char, u8>(rt.alloc()));
+    with_each_kind!(bimap: (char, u8) in rt.alloc() => positions_of_letters(&rt, bimap));
 }
