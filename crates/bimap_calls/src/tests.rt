@@ -1,4 +1,4 @@
-//! Rows of calls with what they must answer, each over every kind of bimap.
+//! Rows of calls with what they must answer, each over the ordered bimap, the hashed one, and a hashed one whose keys all have one hash number.
 mod examples;
 mod insertions;
 mod items;

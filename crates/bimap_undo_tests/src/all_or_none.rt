@@ -1,6 +1,6 @@
 //! Insertions under a policy into a bimap with a record, one by one, and all or none.
-use bimap::{Bijection, NotInsertedWith, Policy};
-use bimap_calls::{KEEP_LEFT, KEEP_RIGHT, ONCE, OVERWRITE, shows, with_each_kind};
+use bimap::{BiBTreeMap, BiHashMap, Bijection, NotInsertedWith, Policy};
+use bimap_calls::{KEEP_LEFT, KEEP_RIGHT, ONCE, OVERWRITE, crowded, shows};
 use bimap_plain::Plain;
 use bimap_undo::{CopyLeft, Undoable};
 use std::alloc::Global;
@@ -79,7 +79,7 @@ fn is_all_or_none<B: Bijection<L, R> + Drop, L: CopyLeft + Copy + Drop, R: Eq + 
     before: &[(L, R)],
     policy: Policy,
     items: &[(L, R)],
-    answer: &Result<(), (usize, NotInsertedWith<L, R>)>,
+    answer: Result<(), (usize, NotInsertedWith<L, R>)>,
     held: &[(L, R)],
     mark: usize,
 ) -> bool {
@@ -93,7 +93,7 @@ fn is_all_or_none<B: Bijection<L, R> + Drop, L: CopyLeft + Copy + Drop, R: Eq + 
     let inserted = undoable.insert_all(items.iter().copied(), policy);
     let is_answered = match (inserted, answer) {
         (Ok(()), Ok(())) => true,
-        (Err(refused), Err((taken, why))) => refused.taken == *taken && refused.why == *why,
+        (Err(refused), Err((taken, why))) => refused.taken == taken && refused.why == why,
         (_, _) => false,
     };
     if !(is_answered && shows(undoable.held(), held) && undoable.mark() == mark) {
@@ -107,10 +107,10 @@ fn all_or_none<B: Bijection<char, u32> + Drop>(
     rt: &impl Abort,
     alloc: Global,
     empty: B,
-    (policy, items, answer, held, mark): &Row,
+    (policy, items, answer, held, mark): Row,
 ) {
     let before = [('a', 1), ('b', 2)];
-    let is_so = is_all_or_none(alloc, empty, &before, *policy, items, answer, held, *mark);
+    let is_so = is_all_or_none(alloc, empty, &before, policy, items, answer, held, mark);
     assert!(rt; is_so, "{items:?}");
 }
 
@@ -118,8 +118,16 @@ fn all_or_none<B: Bijection<char, u32> + Drop>(
 fn all_items_are_put_in(rt: HostRuntime) {
     let alloc = rt.alloc();
     for row in rows_taken() {
-        all_or_none(&rt, alloc, Plain::new(alloc), &row);
-        with_each_kind!(it: (char, u32) in alloc => all_or_none(&rt, alloc, it, &row));
+        all_or_none(&rt, alloc, Plain::new(alloc), row);
+    }
+    for row in rows_taken() {
+        all_or_none(&rt, alloc, BiBTreeMap::<char, u32>::new(alloc), row);
+    }
+    for row in rows_taken() {
+        all_or_none(&rt, alloc, BiHashMap::<char, u32>::new(alloc), row);
+    }
+    for row in rows_taken() {
+        all_or_none(&rt, alloc, crowded::<char, u32>(alloc), row);
     }
 }
 
@@ -127,8 +135,16 @@ fn all_items_are_put_in(rt: HostRuntime) {
 fn where_one_is_refused_none_is_put_in(rt: HostRuntime) {
     let alloc = rt.alloc();
     for row in rows_refused() {
-        all_or_none(&rt, alloc, Plain::new(alloc), &row);
-        with_each_kind!(it: (char, u32) in alloc => all_or_none(&rt, alloc, it, &row));
+        all_or_none(&rt, alloc, Plain::new(alloc), row);
+    }
+    for row in rows_refused() {
+        all_or_none(&rt, alloc, BiBTreeMap::<char, u32>::new(alloc), row);
+    }
+    for row in rows_refused() {
+        all_or_none(&rt, alloc, BiHashMap::<char, u32>::new(alloc), row);
+    }
+    for row in rows_refused() {
+        all_or_none(&rt, alloc, crowded::<char, u32>(alloc), row);
     }
 }
 
@@ -181,7 +197,9 @@ fn older_marks<B: Bijection<char, u32> + Drop>(rt: &impl Abort, alloc: Global, e
 #[test]
 fn a_refused_list_keeps_the_marks(rt: HostRuntime) {
     let alloc = rt.alloc();
-    with_each_kind!(bimap: (char, u32) in alloc => older_marks(&rt, alloc, bimap));
+    older_marks(&rt, alloc, BiBTreeMap::<char, u32>::new(alloc));
+    older_marks(&rt, alloc, BiHashMap::<char, u32>::new(alloc));
+    older_marks(&rt, alloc, crowded::<char, u32>(alloc));
 }
 
 // Whether an insertion under a policy answers this, and leaves this many changes recorded.
@@ -246,6 +264,7 @@ fn one_by_one<B: Bijection<char, u32> + Drop>(
 #[test]
 fn insertions_under_policies_are_recorded(rt: HostRuntime) -> Result<(), Fail> {
     let alloc = rt.alloc();
-    with_each_kind!(bimap: (char, u32) in alloc => one_by_one(&rt, alloc, bimap)?);
-    Ok(())
+    one_by_one(&rt, alloc, BiBTreeMap::<char, u32>::new(alloc))?;
+    one_by_one(&rt, alloc, BiHashMap::<char, u32>::new(alloc))?;
+    one_by_one(&rt, alloc, crowded::<char, u32>(alloc))
 }

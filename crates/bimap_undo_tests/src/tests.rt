@@ -1,7 +1,8 @@
-//! Rows of calls with the answers that they must give, over each kind of bimap, and one that is looked through one by one.
+//! Rows of calls with the answers that they must give, over the ordered bimap, the hashed one, a hashed one whose keys all
+//! have one hash number, and one that is looked through one by one.
 
-use bimap::{Bijection, NoRoom};
-use bimap_calls::{shows, with_each_kind};
+use bimap::{BiBTreeMap, BiHashMap, Bijection, NoRoom};
+use bimap_calls::{crowded, shows};
 use bimap_famine::Famine;
 use bimap_plain::Plain;
 use bimap_undo::{CopyLeft, Operation, Undoable, there_and_back};
@@ -92,8 +93,10 @@ fn back_to_marks<B: Bijection<L, R> + Drop, L: CopyLeft + Copy + Drop, R: Eq + C
 fn goes_back_to_marks(rt: HostRuntime) {
     let alloc = rt.alloc();
     back_to_marks(&rt, alloc, Plain::new(alloc), &OF_INSERTIONS);
-    let rows = &OF_INSERTIONS;
-    with_each_kind!(it: (char, i32) in alloc => back_to_marks(&rt, alloc, it, rows));
+    back_to_marks(&rt, alloc, BiBTreeMap::new(alloc), &OF_INSERTIONS);
+    let hashed: BiHashMap<char, i32> = BiHashMap::new(alloc);
+    back_to_marks(&rt, alloc, hashed, &OF_INSERTIONS);
+    back_to_marks(&rt, alloc, crowded::<char, i32>(alloc), &OF_INSERTIONS);
 }
 
 fn without_the_record<B: Bijection<L, R> + Drop, L: CopyLeft + Copy + Drop, R: Eq + Copy + Drop>(
@@ -113,8 +116,10 @@ fn gives_the_bimap_without_the_record(rt: HostRuntime) {
     let alloc = rt.alloc();
     let rows = &OF_INSERTIONS[..5];
     without_the_record(&rt, alloc, Plain::new(alloc), rows, &[('a', 2)]);
-    let held = [('a', 2)];
-    with_each_kind!(it: (char, i32) in alloc => without_the_record(&rt, alloc, it, rows, &held));
+    without_the_record(&rt, alloc, BiBTreeMap::new(alloc), rows, &[('a', 2)]);
+    let hashed: BiHashMap<char, i32> = BiHashMap::new(alloc);
+    without_the_record(&rt, alloc, hashed, rows, &[('a', 2)]);
+    without_the_record(&rt, alloc, crowded::<char, i32>(alloc), rows, &[('a', 2)]);
 }
 
 fn back_from_removals<B: Bijection<L, R> + Drop, L: CopyLeft + Copy + Drop, R: Eq + Copy + Drop>(
@@ -142,9 +147,11 @@ fn takes_removals_back_without_memory(rt: HostRuntime) -> Result<(), Fail> {
     let alloc = rt.alloc();
     let pairs = [('a', 1), ('b', 2)];
     back_from_removals(&rt, alloc, Plain::new(alloc), &pairs, &OF_REMOVALS)?;
-    let rows = &OF_REMOVALS;
-    with_each_kind!(it: (char, i32) in alloc => back_from_removals(&rt, alloc, it, &pairs, rows)?);
-    Ok(())
+    back_from_removals(&rt, alloc, BiBTreeMap::new(alloc), &pairs, &OF_REMOVALS)?;
+    let hashed: BiHashMap<char, i32> = BiHashMap::new(alloc);
+    back_from_removals(&rt, alloc, hashed, &pairs, &OF_REMOVALS)?;
+    let crowded = crowded::<char, i32>(alloc);
+    back_from_removals(&rt, alloc, crowded, &pairs, &OF_REMOVALS)
 }
 
 /// Inserts a pair under a famine that eases, and answers how often it was refused, or `None` where a refusal changed
@@ -212,9 +219,10 @@ fn refused_insertions<B: Bijection<L, R> + Drop, L: CopyLeft + Copy + Drop, R: E
 fn a_refused_insertion_changes_nothing(rt: HostRuntime) -> Result<(), Fail> {
     let alloc = rt.alloc();
     refused_insertions(&rt, alloc, Plain::new(alloc), &OF_INSERTIONS)?;
-    let rows = &OF_INSERTIONS;
-    with_each_kind!(it: (char, i32) in alloc => refused_insertions(&rt, alloc, it, rows)?);
-    Ok(())
+    refused_insertions(&rt, alloc, BiBTreeMap::new(alloc), &OF_INSERTIONS)?;
+    let hashed: BiHashMap<char, i32> = BiHashMap::new(alloc);
+    refused_insertions(&rt, alloc, hashed, &OF_INSERTIONS)?;
+    refused_insertions(&rt, alloc, crowded::<char, i32>(alloc), &OF_INSERTIONS)
 }
 
 fn refused_copies_and_removals<B: Bijection<String, i32> + Drop>(
@@ -249,8 +257,9 @@ fn refused_copies_and_removals<B: Bijection<String, i32> + Drop>(
 fn a_refused_copy_or_removal_changes_nothing(rt: HostRuntime) -> Result<(), Fail> {
     let alloc = rt.alloc();
     refused_copies_and_removals(&rt, alloc, Plain::<String, i32>::new(alloc))?;
-    with_each_kind!(it: (String, i32) in alloc => refused_copies_and_removals(&rt, alloc, it)?);
-    Ok(())
+    refused_copies_and_removals(&rt, alloc, BiBTreeMap::<String, i32>::new(alloc))?;
+    refused_copies_and_removals(&rt, alloc, BiHashMap::<String, i32>::new(alloc))?;
+    refused_copies_and_removals(&rt, alloc, crowded::<String, i32>(alloc))
 }
 
 #[test]
@@ -290,7 +299,9 @@ fn there_and_again<B: Bijection<L, R> + Drop, L: CopyLeft + Copy + Drop, R: Eq +
 fn goes_there_and_back(rt: HostRuntime) -> Result<(), Fail> {
     let alloc = rt.alloc();
     there_and_again(&rt, alloc, Plain::new(alloc), ('a', 1), &OF_INSERTIONS)?;
-    let rows = &OF_INSERTIONS;
-    with_each_kind!(it: (char, i32) in alloc => there_and_again(&rt, alloc, it, ('a', 1), rows)?);
-    Ok(())
+    there_and_again(&rt, alloc, BiBTreeMap::new(alloc), ('a', 1), &OF_INSERTIONS)?;
+    let hashed: BiHashMap<char, i32> = BiHashMap::new(alloc);
+    there_and_again(&rt, alloc, hashed, ('a', 1), &OF_INSERTIONS)?;
+    let crowded = crowded::<char, i32>(alloc);
+    there_and_again(&rt, alloc, crowded, ('a', 1), &OF_INSERTIONS)
 }

@@ -1,11 +1,12 @@
 //! The Rust crate's own examples.
-use crate::with_each_kind;
-use bimap::{Bijection, Overwritten};
+use crate::{crowded, shows};
+use bimap::{BiBTreeMap, BiMap, Bijection, Overwritten};
 use std::process::Abort;
 
-type Text = &'static str;
-
-fn symbols_of_elements<B: Bijection<Text, Text> + Drop>(rt: &impl Abort, mut bimap: B) {
+fn symbols_of_elements<B: Bijection<&'static str, &'static str> + Drop>(
+    rt: &impl Abort,
+    mut bimap: B,
+) {
     for (element, symbol) in [
         ("hydrogen", "H"),
         ("carbon", "C"),
@@ -26,7 +27,12 @@ fn symbols_of_elements<B: Bijection<Text, Text> + Drop>(rt: &impl Abort, mut bim
 
 #[test]
 fn elements_and_symbols(rt: HostRuntime) {
-    with_each_kind!(bimap: (Text, Text) in rt.alloc() => symbols_of_elements(&rt, bimap));
+    symbols_of_elements(
+        &rt,
+        BiBTreeMap::<&'static str, &'static str>::new(rt.alloc()),
+    );
+    symbols_of_elements(&rt, BiMap::<&'static str, &'static str>::new(rt.alloc()));
+    symbols_of_elements(&rt, crowded::<&'static str, &'static str>(rt.alloc()));
 }
 
 fn positions_of_letters<B: Bijection<char, u8> + Drop>(rt: &impl Abort, mut bimap: B) {
@@ -41,5 +47,7 @@ fn positions_of_letters<B: Bijection<char, u8> + Drop>(rt: &impl Abort, mut bima
 
 #[test]
 fn letters_of_the_alphabet_and_their_positions(rt: HostRuntime) {
-    with_each_kind!(bimap: (char, u8) in rt.alloc() => positions_of_letters(&rt, bimap));
+    positions_of_letters(&rt, BiBTreeMap::<char, u8>::new(rt.alloc()));
+    positions_of_letters(&rt, BiMap::<char, u8>::new(rt.alloc()));
+    positions_of_letters(&rt, crowded::<char, u8>(rt.alloc()));
 }

@@ -1,6 +1,9 @@
 //! Items put in under a policy, until one is refused.
-use crate::{KEEP_LEFT, KEEP_RIGHT, ONCE, OVERWRITE, Tagged, shows, with_each_kind, with_tag};
-use bimap::{Bijection, ItemRefused, NotInsertedWith, Policy, extend_with, from_iter_with};
+use crate::{KEEP_LEFT, KEEP_RIGHT, ONCE, OVERWRITE, Tagged, crowded, shows, with_tag};
+use bimap::{
+    BiBTreeMap, BiHashMap, Bijection, ItemRefused, NotInsertedWith, Policy, extend_with,
+    from_iter_with,
+};
 use bimap_plain::Plain;
 use std::alloc::Global;
 use std::process::Abort;
@@ -34,24 +37,66 @@ fn extended<B: Bijection<char, u32> + Drop>(
 
 fn made<B: Bijection<char, u32> + Drop>(
     rt: &impl Abort,
-    empty: B,
-    items: &[(char, u32)],
-    policy: Policy,
+    collected: Result<B, Refused>,
     answer: &Result<(), Refused>,
     held: &[(char, u32)],
 ) {
-    match (from_iter_with(empty, items.iter().copied(), policy), answer) {
+    match (collected, answer) {
         (Ok(bimap), Ok(())) => assert!(rt; shows(&bimap, held)),
         (Err(refused), Err(wanted)) => assert!(rt; refused == *wanted),
         (_, _) => assert!(rt; false, "{held:?}"),
     }
 }
 
-fn from_none(rt: &impl Abort, alloc: Global, rows: &[Row]) {
-    for (policy, items, answer, held) in rows {
-        with_each_kind!(it: (char, u32) in alloc => made(rt, it, items, *policy, answer, held));
-        with_each_kind!(it: (char, u32) in alloc => extended(rt, it, items, *policy, answer, held));
-    }
+fn from_none(
+    rt: &impl Abort,
+    alloc: Global,
+    items: &[(char, u32)],
+    policy: Policy,
+    answer: Result<(), Refused>,
+    held: &[(char, u32)],
+) {
+    let items_of = items.iter().copied();
+    let ordered = BiBTreeMap::<char, u32>::new(alloc);
+    made(rt, from_iter_with(ordered, items_of, policy), &answer, held);
+    let hashed = BiHashMap::<char, u32>::new(alloc);
+    made(
+        rt,
+        from_iter_with(hashed, items.iter().copied(), policy),
+        &answer,
+        held,
+    );
+    let crowd = crowded::<char, u32>(alloc);
+    made(
+        rt,
+        from_iter_with(crowd, items.iter().copied(), policy),
+        &answer,
+        held,
+    );
+    extended(
+        rt,
+        BiBTreeMap::<char, u32>::new(alloc),
+        items,
+        policy,
+        &answer,
+        held,
+    );
+    extended(
+        rt,
+        BiHashMap::<char, u32>::new(alloc),
+        items,
+        policy,
+        &answer,
+        held,
+    );
+    extended(
+        rt,
+        crowded::<char, u32>(alloc),
+        items,
+        policy,
+        &answer,
+        held,
+    );
 }
 
 #[test]
@@ -72,7 +117,9 @@ fn each_value_once(rt: HostRuntime) {
             &[('a', 1)],
         ),
     ];
-    from_none(&rt, rt.alloc(), &rows);
+    for (policy, items, answer, held) in rows {
+        from_none(&rt, rt.alloc(), items, policy, answer, held);
+    }
 }
 
 #[test]
@@ -109,7 +156,9 @@ fn one_side_once_or_none(rt: HostRuntime) {
             &[('a', 2), ('c', 1)],
         ),
     ];
-    from_none(&rt, rt.alloc(), &rows);
+    for (policy, items, answer, held) in rows {
+        from_none(&rt, rt.alloc(), items, policy, answer, held);
+    }
 }
 
 fn added_to_those_held<B: Bijection<char, u32> + Drop>(rt: &impl Abort, mut bimap: B) {
@@ -122,7 +171,9 @@ fn added_to_those_held<B: Bijection<char, u32> + Drop>(rt: &impl Abort, mut bima
 
 #[test]
 fn those_held_before_are_asked_too(rt: HostRuntime) {
-    with_each_kind!(bimap: (char, u32) in rt.alloc() => added_to_those_held(&rt, bimap));
+    added_to_those_held(&rt, BiBTreeMap::<char, u32>::new(rt.alloc()));
+    added_to_those_held(&rt, BiHashMap::<char, u32>::new(rt.alloc()));
+    added_to_those_held(&rt, crowded::<char, u32>(rt.alloc()));
 }
 
 // An item that finds no place, where none can be added.
@@ -160,5 +211,7 @@ fn hands_back<B: Bijection<Tagged, Tagged> + Drop>(rt: &impl Abort, mut bimap: B
 
 #[test]
 fn the_very_item_is_handed_back(rt: HostRuntime) {
-    with_each_kind!(bimap: (Tagged, Tagged) in rt.alloc() => hands_back(&rt, bimap));
+    hands_back(&rt, BiBTreeMap::<Tagged, Tagged>::new(rt.alloc()));
+    hands_back(&rt, BiHashMap::<Tagged, Tagged>::new(rt.alloc()));
+    hands_back(&rt, crowded::<Tagged, Tagged>(rt.alloc()));
 }

@@ -1,6 +1,6 @@
 //! Values that take the place of others.
-use crate::{Tagged, shows, with_each_kind, with_tag};
-use bimap::{Bijection, NotReplaced, Overwritten, replace_left, replace_right};
+use crate::{Tagged, crowded, shows, with_tag};
+use bimap::{BiBTreeMap, BiHashMap, Bijection, NotReplaced, replace_left, replace_right};
 use std::process::Abort;
 use std::test::Fail;
 
@@ -56,8 +56,9 @@ fn lefts_replaced<B: Bijection<char, u32> + Drop>(
 
 #[test]
 fn lefts_are_replaced(rt: HostRuntime) -> Result<(), Fail> {
-    with_each_kind!(bimap: (char, u32) in rt.alloc() => lefts_replaced(&rt, bimap)?);
-    Ok(())
+    lefts_replaced(&rt, BiBTreeMap::<char, u32>::new(rt.alloc()))?;
+    lefts_replaced(&rt, BiHashMap::<char, u32>::new(rt.alloc()))?;
+    lefts_replaced(&rt, crowded::<char, u32>(rt.alloc()))
 }
 
 fn rights_replaced<B: Bijection<char, u32> + Drop>(
@@ -86,8 +87,9 @@ fn rights_replaced<B: Bijection<char, u32> + Drop>(
 
 #[test]
 fn rights_are_replaced(rt: HostRuntime) -> Result<(), Fail> {
-    with_each_kind!(bimap: (char, u32) in rt.alloc() => rights_replaced(&rt, bimap)?);
-    Ok(())
+    rights_replaced(&rt, BiBTreeMap::<char, u32>::new(rt.alloc()))?;
+    rights_replaced(&rt, BiHashMap::<char, u32>::new(rt.alloc()))?;
+    rights_replaced(&rt, crowded::<char, u32>(rt.alloc()))
 }
 
 // The tag of what was answered, where it was.
@@ -136,42 +138,7 @@ fn tags_replaced<B: Bijection<Tagged, Tagged> + Drop>(
 
 #[test]
 fn an_equal_value_takes_the_place(rt: HostRuntime) -> Result<(), Fail> {
-    with_each_kind!(bimap: (Tagged, Tagged) in rt.alloc() => tags_replaced(&rt, bimap)?);
-    Ok(())
-}
-
-fn left_struck<B: Bijection<Tagged, u32> + Drop>(rt: &impl Abort, mut bimap: B) {
-    assert!(rt; bimap.insert(with_tag('a', 1), 99) == Ok(Overwritten::Neither));
-    match bimap.insert(with_tag('a', 2), 100) {
-        Ok(Overwritten::Left(struck, right)) => assert_eq!(rt; (struck.tag, right), (1, 99)),
-        _ => assert!(rt; false, "a is held"),
-    }
-    assert_eq!(rt; bimap.get_by_right(&100).map(|left| left.tag), Some(2));
-    assert_eq!(rt; bimap.len(), 1);
-}
-
-#[test]
-fn an_insertion_strikes_an_equal_left(rt: HostRuntime) {
-    with_each_kind!(bimap: (Tagged, u32) in rt.alloc() => left_struck(&rt, bimap));
-}
-
-fn pair_struck<B: Bijection<Tagged, Tagged> + Drop>(rt: &impl Abort, mut bimap: B) {
-    let first = bimap.insert(with_tag('a', 1), with_tag('x', 1));
-    assert!(rt; first == Ok(Overwritten::Neither));
-    match bimap.insert(with_tag('a', 2), with_tag('x', 2)) {
-        Ok(Overwritten::Pair(left, right)) => assert_eq!(rt; (left.tag, right.tag), (1, 1)),
-        _ => assert!(rt; false, "both are held"),
-    }
-    let (left, right) = (with_tag('a', 9), with_tag('x', 9));
-    assert_eq!(rt; bimap.get_by_left(&left).map(|found| found.tag), Some(2));
-    assert_eq!(rt; bimap.get_by_right(&right).map(|found| found.tag), Some(2));
-    match bimap.remove_by_left(&left) {
-        Some((left, right)) => assert_eq!(rt; (left.tag, right.tag), (2, 2)),
-        None => assert!(rt; false, "a is held"),
-    }
-}
-
-#[test]
-fn an_insertion_strikes_an_equal_pair(rt: HostRuntime) {
-    with_each_kind!(bimap: (Tagged, Tagged) in rt.alloc() => pair_struck(&rt, bimap));
+    tags_replaced(&rt, BiBTreeMap::<Tagged, Tagged>::new(rt.alloc()))?;
+    tags_replaced(&rt, BiHashMap::<Tagged, Tagged>::new(rt.alloc()))?;
+    tags_replaced(&rt, crowded::<Tagged, Tagged>(rt.alloc()))
 }

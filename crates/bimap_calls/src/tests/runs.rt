@@ -1,6 +1,8 @@
 //! Lists of calls with the replies that they must give.
-use crate::{ONCE, Tagged, shows, with_each_kind, with_tag};
-use bimap::{Bijection, Call, OnHeld, Overwritten, Policy, Reply, perform, run};
+use crate::{ONCE, Tagged, crowded, shows, with_tag};
+use bimap::{
+    BiBTreeMap, BiHashMap, Bijection, Call, OnHeld, Overwritten, Policy, Reply, perform, run,
+};
 use bimap_plain::Plain;
 use std::alloc::Global;
 use std::process::Abort;
@@ -54,8 +56,9 @@ fn each_call<B: Bijection<char, u32> + Drop>(
 #[test]
 fn each_call_replies(rt: HostRuntime) -> Result<(), Fail> {
     let alloc = rt.alloc();
-    with_each_kind!(bimap: (char, u32) in alloc => each_call(&rt, alloc, bimap)?);
-    Ok(())
+    each_call(&rt, alloc, BiBTreeMap::<char, u32>::new(alloc))?;
+    each_call(&rt, alloc, BiHashMap::<char, u32>::new(alloc))?;
+    each_call(&rt, alloc, crowded::<char, u32>(alloc))
 }
 
 fn another_left<B: Bijection<char, u32> + Drop>(
@@ -87,8 +90,9 @@ fn another_left<B: Bijection<char, u32> + Drop>(
 #[test]
 fn a_pair_gives_its_right_to_another_left(rt: HostRuntime) -> Result<(), Fail> {
     let alloc = rt.alloc();
-    with_each_kind!(bimap: (char, u32) in alloc => another_left(&rt, alloc, bimap)?);
-    Ok(())
+    another_left(&rt, alloc, BiBTreeMap::<char, u32>::new(alloc))?;
+    another_left(&rt, alloc, BiHashMap::<char, u32>::new(alloc))?;
+    another_left(&rt, alloc, crowded::<char, u32>(alloc))
 }
 
 fn policy(left: OnHeld, right: OnHeld) -> Policy {
@@ -133,8 +137,9 @@ fn each_policy<B: Bijection<char, u32> + Drop>(
 #[test]
 fn policies_in_a_run(rt: HostRuntime) -> Result<(), Fail> {
     let alloc = rt.alloc();
-    with_each_kind!(bimap: (char, u32) in alloc => each_policy(&rt, alloc, bimap)?);
-    Ok(())
+    each_policy(&rt, alloc, BiBTreeMap::<char, u32>::new(alloc))?;
+    each_policy(&rt, alloc, BiHashMap::<char, u32>::new(alloc))?;
+    each_policy(&rt, alloc, crowded::<char, u32>(alloc))
 }
 
 // Where no place can be added, each insertion that strikes nothing is refused, and the run goes on.
@@ -210,7 +215,9 @@ fn performed<B: Bijection<char, u32> + Drop>(rt: &impl Abort, mut bimap: B) {
 
 #[test]
 fn one_call_at_a_time(rt: HostRuntime) {
-    with_each_kind!(bimap: (char, u32) in rt.alloc() => performed(&rt, bimap));
+    performed(&rt, BiBTreeMap::<char, u32>::new(rt.alloc()));
+    performed(&rt, BiHashMap::<char, u32>::new(rt.alloc()));
+    performed(&rt, crowded::<char, u32>(rt.alloc()));
 }
 
 fn hands_back<B: Bijection<Tagged, Tagged> + Drop>(rt: &impl Abort, mut bimap: B) {
@@ -230,5 +237,7 @@ fn hands_back<B: Bijection<Tagged, Tagged> + Drop>(rt: &impl Abort, mut bimap: B
 
 #[test]
 fn one_call_hands_back_the_very_values(rt: HostRuntime) {
-    with_each_kind!(bimap: (Tagged, Tagged) in rt.alloc() => hands_back(&rt, bimap));
+    hands_back(&rt, BiBTreeMap::<Tagged, Tagged>::new(rt.alloc()));
+    hands_back(&rt, BiHashMap::<Tagged, Tagged>::new(rt.alloc()));
+    hands_back(&rt, crowded::<Tagged, Tagged>(rt.alloc()));
 }

@@ -1,6 +1,5 @@
 //! The calls of the README's tour, with what it says that they answer.
 use super::runs::replies_of;
-use bimap::btree::{Iter, RightRange};
 use bimap::{BiBTreeMap, Call, NotInserted, NotInsertedWith, OnHeld, Overwritten, Policy, Reply};
 use std::alloc::Global;
 use std::process::Abort;
@@ -39,22 +38,13 @@ fn refuses_what_is_kept(rt: HostRuntime) -> Result<(), Fail> {
     Ok(())
 }
 
-type Ends = (Option<(char, u32)>, Option<(char, u32)>);
-
-fn ends_of(mut walk: Iter<'_, char, u32>) -> Ends {
-    let first = walk.next().map(|(left, right)| (*left, *right));
-    (first, walk.next_back().map(|(left, right)| (*left, *right)))
-}
-
-fn first_of(mut range: RightRange<'_, char, u32>) -> Option<(char, u32)> {
-    range.next().map(|(left, right)| (*left, *right))
-}
-
 #[test]
 fn walks_from_both_ends(rt: HostRuntime) -> Result<(), Fail> {
     let seats = seats(&rt, rt.alloc())?;
-    assert!(&rt; ends_of(seats.iter()) == (Some(('a', 4)), Some(('d', 2))));
-    assert!(&rt; first_of(seats.right_range(3..)) == Some(('c', 3)));
+    let mut walk = seats.iter();
+    assert!(&rt; walk.next() == Some((&'a', &4)));
+    assert!(&rt; walk.next_back() == Some((&'d', &2)));
+    assert!(&rt; seats.right_range(3..).next() == Some((&'c', &3)));
     Ok(())
 }
 

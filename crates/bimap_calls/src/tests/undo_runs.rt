@@ -1,6 +1,6 @@
 //! Trails of insertions that are undone.
-use crate::{insert_all, shows, with_each_kind};
-use bimap::{Bijection, Overwritten, undo_run};
+use crate::{crowded, insert_all, shows};
+use bimap::{BiBTreeMap, BiHashMap, Bijection, Overwritten, undo_run};
 use bimap_plain::Plain;
 use std::alloc::Global;
 use std::process::Abort;
@@ -31,8 +31,9 @@ fn three_insertions<B: Bijection<char, u32> + Drop>(
 #[test]
 fn insertions_are_undone(rt: HostRuntime) -> Result<(), Fail> {
     let alloc = rt.alloc();
-    with_each_kind!(bimap: (char, u32) in alloc => three_insertions(&rt, alloc, bimap)?);
-    Ok(())
+    three_insertions(&rt, alloc, BiBTreeMap::<char, u32>::new(alloc))?;
+    three_insertions(&rt, alloc, BiHashMap::<char, u32>::new(alloc))?;
+    three_insertions(&rt, alloc, crowded::<char, u32>(alloc))
 }
 
 fn two_that_strike_two<B: Bijection<char, u32> + Drop>(
@@ -58,8 +59,9 @@ fn two_that_strike_two<B: Bijection<char, u32> + Drop>(
 #[test]
 fn insertions_that_struck_two_are_undone(rt: HostRuntime) -> Result<(), Fail> {
     let alloc = rt.alloc();
-    with_each_kind!(bimap: (char, u32) in alloc => two_that_strike_two(&rt, alloc, bimap)?);
-    Ok(())
+    two_that_strike_two(&rt, alloc, BiBTreeMap::<char, u32>::new(alloc))?;
+    two_that_strike_two(&rt, alloc, BiHashMap::<char, u32>::new(alloc))?;
+    two_that_strike_two(&rt, alloc, crowded::<char, u32>(alloc))
 }
 
 // An undo that needs a place more, where none can be added: the entry comes back, and those before it.

@@ -1,40 +1,46 @@
 //! Values of no bytes, and texts.
 use bimap::{Bijection, Overwritten};
-use bimap_calls::{Taken, with_each_kind};
+use bimap_calls::{Kind, over_each_kind};
 use std::alloc::{AllocError, Global};
 use std::process::Abort;
 use std::test::Fail;
 
-fn nothing_on_both_sides<B: Bijection<(), ()> + Drop>(rt: &impl Abort, mut bimap: B) {
+fn nothing_on_both_sides<B: Kind<(), ()>>(rt: &impl Abort, alloc: Global) -> Result<(), Fail> {
+    let mut bimap = B::empty(alloc);
     assert!(rt; bimap.get_by_left(&()).is_none() && !bimap.contains_right(&()));
     assert!(rt; bimap.insert((), ()) == Ok(Overwritten::Neither));
     assert!(rt; bimap.insert((), ()) == Ok(Overwritten::Pair((), ())));
     assert!(rt; bimap.len() == 1 && bimap.get_by_left(&()) == Some(&()));
     assert!(rt; bimap.remove_by_right(&()) == Some(((), ())));
     assert!(rt; bimap.len() == 0 && bimap.remove_by_left(&()).is_none());
+    Ok(())
 }
 
-fn nothing_on_the_left<B: Taken<(), u32>>(rt: &impl Abort, alloc: Global, mut bimap: B) {
+fn nothing_on_the_left<B: Kind<(), u32>>(rt: &impl Abort, alloc: Global) -> Result<(), Fail> {
+    let mut bimap = B::empty(alloc);
     assert!(rt; bimap.insert((), 1) == Ok(Overwritten::Neither));
     assert!(rt; bimap.insert((), 2) == Ok(Overwritten::Left((), 1)));
     assert!(rt; bimap.get_by_right(&1).is_none() && bimap.get_by_left(&()) == Some(&2));
-    assert_eq!(rt; bimap.give_up(alloc, 1), 1);
+    assert_eq!(rt; bimap.give_up(1), 1);
+    Ok(())
 }
 
-fn nothing_on_the_right<B: Bijection<u32, ()> + Drop>(rt: &impl Abort, mut bimap: B) {
+fn nothing_on_the_right<B: Kind<u32, ()>>(rt: &impl Abort, alloc: Global) -> Result<(), Fail> {
+    let mut bimap = B::empty(alloc);
     assert!(rt; bimap.insert(1, ()) == Ok(Overwritten::Neither));
     assert!(rt; bimap.insert(2, ()) == Ok(Overwritten::Right(1, ())));
     assert!(rt; bimap.get_by_left(&1).is_none() && bimap.get_by_right(&()) == Some(&2));
     bimap.retain(|left: &u32, _: &()| *left == 1);
     assert_eq!(rt; bimap.len(), 0);
+    Ok(())
 }
 
 #[test]
-fn values_may_have_no_bytes(rt: HostRuntime) {
-    let alloc = rt.alloc();
-    with_each_kind!(bimap: ((), ()) in alloc => nothing_on_both_sides(&rt, bimap));
-    with_each_kind!(bimap: ((), u32) in alloc => nothing_on_the_left(&rt, alloc, bimap));
-    with_each_kind!(bimap: (u32, ()) in alloc => nothing_on_the_right(&rt, bimap));
+fn values_may_have_no_bytes(rt: HostRuntime) -> Result<(), Fail> {
+    over_each_kind!(nothing_on_both_sides, (), (), &rt);
+    over_each_kind!(nothing_on_the_left, (), u32, &rt);
+    over_each_kind!(nothing_on_the_right, u32, (), &rt);
+    Ok(())
 }
 
 fn text(alloc: Global, of: &str) -> Result<String, AllocError> {
@@ -62,11 +68,8 @@ fn put<B: Bijection<String, String>>(
     Ok(bimap.insert(text(alloc, left)?, text(alloc, right)?).ok())
 }
 
-fn texts<B: Bijection<String, String> + Drop>(
-    rt: &impl Abort,
-    alloc: Global,
-    mut bimap: B,
-) -> Result<(), Fail> {
+fn texts<B: Kind<String, String>>(rt: &impl Abort, alloc: Global) -> Result<(), Fail> {
+    let mut bimap = B::empty(alloc);
     for (left, right) in [("", "empty"), ("é", ""), ("ea", "b"), ("e", "ab")] {
         let answer = put(alloc, &mut bimap, left, right)?;
         assert!(rt; answer == Some(Overwritten::Neither), "{left}");
@@ -92,7 +95,6 @@ fn texts<B: Bijection<String, String> + Drop>(
 
 #[test]
 fn values_may_be_texts(rt: HostRuntime) -> Result<(), Fail> {
-    let alloc = rt.alloc();
-    with_each_kind!(bimap: (String, String) in alloc => texts(&rt, alloc, bimap)?);
+    over_each_kind!(texts, String, String, &rt);
     Ok(())
 }

@@ -1,6 +1,7 @@
 //! Calls that take no memory, with every request refused.
-use bimap::{Bijection, NotInserted, Overwritten};
-use bimap_calls::{Kind, over_each_kind, shows};
+use super::subject::Subject;
+use bimap::{BiBTreeMap, BiHashMap, Bijection, NotInserted, Overwritten};
+use bimap_calls::{Crowded, shows};
 use bimap_famine::Famine;
 use std::alloc::Global;
 use std::process::Abort;
@@ -26,7 +27,7 @@ fn all_undone<B: Bijection<char, u32>>(bimap: &mut B) -> bool {
         && bimap.undo_insert(&'d', answer) == Ok(('d', 5))
 }
 
-fn never_refused<B: Kind<char, u32>>(rt: &impl Abort, alloc: Global) -> Result<(), Fail> {
+fn never_refused<B: Subject<char, u32>>(rt: &impl Abort, alloc: Global) -> Result<(), Fail> {
     let mut bimap = B::empty(alloc);
     bimap.add(&[('a', 1), ('b', 2)]).ok().ok_or("no memory")?;
     let famine = Famine::begin(alloc, 0)?;
@@ -40,11 +41,12 @@ fn never_refused<B: Kind<char, u32>>(rt: &impl Abort, alloc: Global) -> Result<(
 
 #[test]
 fn what_has_a_place_is_never_refused(rt: HostRuntime) -> Result<(), Fail> {
-    over_each_kind!(never_refused, char, u32, &rt, ?);
-    Ok(())
+    never_refused::<BiBTreeMap<char, u32>>(&rt, rt.alloc())?;
+    never_refused::<BiHashMap<char, u32>>(&rt, rt.alloc())?;
+    never_refused::<Crowded<char, u32>>(&rt, rt.alloc())
 }
 
-fn made_of_nothing<B: Kind<char, u32>>(rt: &impl Abort, alloc: Global) -> Result<(), Fail> {
+fn made_of_nothing<B: Subject<char, u32>>(rt: &impl Abort, alloc: Global) -> Result<(), Fail> {
     let famine = Famine::begin(alloc, 0)?;
     let bimap = B::empty(alloc);
     let empty = shows(&bimap, &[]);
@@ -55,6 +57,7 @@ fn made_of_nothing<B: Kind<char, u32>>(rt: &impl Abort, alloc: Global) -> Result
 
 #[test]
 fn an_empty_bimap_takes_no_memory(rt: HostRuntime) -> Result<(), Fail> {
-    over_each_kind!(made_of_nothing, char, u32, &rt, ?);
-    Ok(())
+    made_of_nothing::<BiBTreeMap<char, u32>>(&rt, rt.alloc())?;
+    made_of_nothing::<BiHashMap<char, u32>>(&rt, rt.alloc())?;
+    made_of_nothing::<Crowded<char, u32>>(&rt, rt.alloc())
 }
