@@ -1,8 +1,9 @@
 //! Each value that a bimap was given is dropped once, and not before it is let go.
 use super::counted::{Counted, Ledger};
-use bimap::{Bijection, Overwritten};
-use bimap_calls::{Kind, over_each_kind};
+use bimap::{BiHashMap, Bijection};
+use bimap_calls::{Kind, crowded, over_each_kind};
 use std::alloc::{AllocError, Global};
+use std::hash::BuildHasher;
 use std::process::Abort;
 use std::test::Fail;
 
@@ -18,22 +19,25 @@ fn put<B: Bijection<Counted, Counted>>(
     Ok(())
 }
 
-// So many pairs of equal names, in a new bimap.
-fn filled<B: Kind<Counted, Counted>>(
-    alloc: Global,
+// Puts in so many pairs of equal names.
+fn fill<B: Bijection<Counted, Counted>>(
+    bimap: &mut B,
     ledger: &mut Ledger,
     pairs: u32,
-) -> Result<B, AllocError> {
-    let mut bimap = B::empty(alloc);
+) -> Result<(), AllocError> {
     for name in 0..pairs {
-        put(&mut bimap, ledger, name, name)?;
+        put(bimap, ledger, name, name)?;
     }
-    Ok(bimap)
+    Ok(())
 }
 
-fn struck<B: Kind<Counted, Counted>>(rt: &impl Abort, alloc: Global) -> Result<(), Fail> {
+fn struck<B: Bijection<Counted, Counted> + Drop>(
+    rt: &impl Abort,
+    alloc: Global,
+    mut bimap: B,
+) -> Result<(), Fail> {
     let mut ledger = Ledger::new(alloc);
-    let mut bimap = filled::<B>(alloc, &mut ledger, 8)?;
+    fill(&mut bimap, &mut ledger, 8)?;
     assert_eq!(rt; ledger.dropped(), Some(0));
     // A left, a right, a pair, and two pairs.
     for (left, right, dropped) in [(0, 10, 2), (11, 1, 4), (2, 2, 6), (3, 4, 10)] {
@@ -46,18 +50,13 @@ fn struck<B: Kind<Counted, Counted>>(rt: &impl Abort, alloc: Global) -> Result<(
     Ok(())
 }
 
-#[test]
-fn what_is_struck_is_dropped_once(rt: HostRuntime) -> Result<(), Fail> {
-    over_each_kind!(struck, Counted, Counted, &rt);
-    Ok(())
-}
-
-fn refused_and_removed<B: Kind<Counted, Counted>>(
+fn handed_back<B: Bijection<Counted, Counted> + Drop>(
     rt: &impl Abort,
     alloc: Global,
+    mut bimap: B,
 ) -> Result<(), Fail> {
     let mut ledger = Ledger::new(alloc);
-    let mut bimap = filled::<B>(alloc, &mut ledger, 8)?;
+    fill(&mut bimap, &mut ledger, 8)?;
     let (left, right) = ledger.pair(0, 9)?;
     drop(bimap.insert_no_overwrite(left, right));
     assert_eq!(rt; ledger.dropped(), Some(2));
@@ -76,16 +75,14 @@ fn refused_and_removed<B: Kind<Counted, Counted>>(
     Ok(())
 }
 
-#[test]
-fn what_is_handed_back_is_dropped_once(rt: HostRuntime) -> Result<(), Fail> {
-    over_each_kind!(refused_and_removed, Counted, Counted, &rt);
-    Ok(())
-}
-
 // Takes back an insertion that struck two pairs: they are held again, and the inserted pair is let go.
-fn undone<B: Kind<Counted, Counted>>(rt: &impl Abort, alloc: Global) -> Result<(), Fail> {
+fn undone<B: Bijection<Counted, Counted> + Drop>(
+    rt: &impl Abort,
+    alloc: Global,
+    mut bimap: B,
+) -> Result<(), Fail> {
     let mut ledger = Ledger::new(alloc);
-    let mut bimap = filled::<B>(alloc, &mut ledger, 4)?;
+    fill(&mut bimap, &mut ledger, 4)?;
     let (left, right) = ledger.pair(0, 1)?;
     let answer = bimap.insert(left, right).ok().ok_or("no memory")?;
     assert_eq!(rt; ledger.dropped(), Some(0));
@@ -101,24 +98,26 @@ fn undone<B: Kind<Counted, Counted>>(rt: &impl Abort, alloc: Global) -> Result<(
     Ok(())
 }
 
-#[test]
-fn what_is_put_back_is_not_dropped(rt: HostRuntime) -> Result<(), Fail> {
-    over_each_kind!(undone, Counted, Counted, &rt);
-    Ok(())
-}
-
-fn retained_and_cleared<B: Kind<Counted, Counted>>(
+// Keeps 8 of 20 pairs.
+fn retain_some<B: Bijection<Counted, Counted>>(
     rt: &impl Abort,
-    alloc: Global,
-) -> Result<(), Fail> {
-    let mut ledger = Ledger::new(alloc);
-    let mut bimap = filled::<B>(alloc, &mut ledger, 20)?;
+    bimap: &mut B,
+    ledger: &mut Ledger,
+) -> Result<(), AllocError> {
+    fill(bimap, ledger, 20)?;
     let least = ledger.value(12)?;
     bimap.retain(|left: &Counted, _: &Counted| *left >= least);
     drop(least);
     assert_eq!(rt; (bimap.len(), ledger.dropped()), (8, Some(25)));
-    bimap.shrink().ok().ok_or("no memory")?;
-    assert_eq!(rt; (bimap.len(), ledger.dropped()), (8, Some(25)));
+    Ok(())
+}
+
+// Clears what is left of them.
+fn clear_all<B: Bijection<Counted, Counted> + Drop>(
+    rt: &impl Abort,
+    mut bimap: B,
+    mut ledger: Ledger,
+) -> Result<(), Fail> {
     bimap.clear();
     assert!(rt; ledger.is_balanced());
     put(&mut bimap, &mut ledger, 1, 2)?;
@@ -128,29 +127,68 @@ fn retained_and_cleared<B: Kind<Counted, Counted>>(
     Ok(())
 }
 
-#[test]
-fn what_is_not_kept_is_dropped_once(rt: HostRuntime) -> Result<(), Fail> {
-    over_each_kind!(retained_and_cleared, Counted, Counted, &rt);
+fn retained_and_cleared<B: Bijection<Counted, Counted> + Drop>(
+    rt: &impl Abort,
+    alloc: Global,
+    mut bimap: B,
+) -> Result<(), Fail> {
+    let mut ledger = Ledger::new(alloc);
+    retain_some(rt, &mut bimap, &mut ledger)?;
+    clear_all(rt, bimap, ledger)
+}
+
+fn shrunk_and_cleared<LS: BuildHasher + Drop, RS: BuildHasher + Drop>(
+    rt: &impl Abort,
+    alloc: Global,
+    mut bimap: BiHashMap<Counted, Counted, LS, RS>,
+) -> Result<(), Fail> {
+    let mut ledger = Ledger::new(alloc);
+    retain_some(rt, &mut bimap, &mut ledger)?;
+    bimap.shrink_to_fit()?;
+    assert_eq!(rt; (bimap.len(), ledger.dropped()), (8, Some(25)));
+    clear_all(rt, bimap, ledger)
+}
+
+// An owning walk that is given up drops the rest.
+fn given_up<B: Kind<Counted, Counted>>(
+    rt: &impl Abort,
+    alloc: Global,
+    mut bimap: B,
+    steps: usize,
+    given: usize,
+) -> Result<(), Fail> {
+    let mut ledger = Ledger::new(alloc);
+    fill(&mut bimap, &mut ledger, 44)?;
+    // Some places in the midst are free.
+    for name in 20..24 {
+        let key = ledger.value(name)?;
+        drop(bimap.remove_by_left(&key));
+    }
+    assert_eq!(rt; bimap.give_up(alloc, steps), given);
+    assert!(rt; ledger.is_balanced(), "{steps}");
     Ok(())
 }
 
-fn given_up<B: Kind<Counted, Counted>>(rt: &impl Abort, alloc: Global) -> Result<(), Fail> {
+fn all<B: Kind<Counted, Counted>>(rt: &impl Abort, alloc: Global) -> Result<(), Fail> {
+    struck(rt, alloc, B::empty(alloc))?;
+    handed_back(rt, alloc, B::empty(alloc))?;
+    undone(rt, alloc, B::empty(alloc))?;
+    retained_and_cleared(rt, alloc, B::empty(alloc))?;
     for (steps, given) in [(0, 0), (1, 1), (20, 20), (39, 39), (40, 40), (50, 40)] {
-        let mut ledger = Ledger::new(alloc);
-        let mut bimap = filled::<B>(alloc, &mut ledger, 44)?;
-        // Some places in the midst are free.
-        for name in 20..24 {
-            let key = ledger.value(name)?;
-            drop(bimap.remove_by_left(&key));
-        }
-        assert_eq!(rt; bimap.give_up(steps), given);
-        assert!(rt; ledger.is_balanced(), "{steps}");
+        given_up(rt, alloc, B::empty(alloc), steps, given)?;
     }
     Ok(())
 }
 
 #[test]
-fn an_owning_walk_given_up_drops_the_rest(rt: HostRuntime) -> Result<(), Fail> {
-    over_each_kind!(given_up, Counted, Counted, &rt);
+fn each_value_is_dropped_once(rt: HostRuntime) -> Result<(), Fail> {
+    over_each_kind!(all, Counted, Counted, &rt, ?);
     Ok(())
+}
+
+#[test]
+fn a_shrink_drops_nothing(rt: HostRuntime) -> Result<(), Fail> {
+    let alloc = rt.alloc();
+    shrunk_and_cleared(&rt, alloc, BiHashMap::<Counted, Counted>::new(alloc))?;
+    shrunk_and_cleared(&rt, alloc, crowded::<Counted, Counted>(alloc))
 }

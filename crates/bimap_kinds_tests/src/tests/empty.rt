@@ -1,6 +1,6 @@
 //! Calls on the empty bimap.
 use bimap::Bijection;
-use bimap_calls::{CopyKind, over_each_kind};
+use bimap_calls::{Kind, Walked};
 use std::alloc::{AllocError, Global};
 use std::cell::Cell;
 use std::process::Abort;
@@ -17,7 +17,10 @@ fn tests<B: Bijection<u32, u32>>(bimap: &mut B) -> u32 {
 }
 
 // Whether each walk ends at once.
-fn walks_nowhere<B: CopyKind<u32, u32>>(alloc: Global, bimap: B) -> Result<bool, AllocError> {
+fn walks_nowhere<B: Kind<u32, u32> + Walked<u32, u32>>(
+    alloc: Global,
+    mut bimap: B,
+) -> Result<bool, AllocError> {
     let (on, copy) = bimap.walk_twice(alloc, 3)?;
     Ok(
         bimap.walk(alloc)?.is_empty()
@@ -29,26 +32,26 @@ fn walks_nowhere<B: CopyKind<u32, u32>>(alloc: Global, bimap: B) -> Result<bool,
     )
 }
 
-fn is_empty<B: CopyKind<u32, u32>>(rt: &impl Abort, alloc: Global) -> Result<(), Fail> {
+fn is_empty<B: Kind<u32, u32> + Walked<u32, u32>>(
+    rt: &impl Abort,
+    alloc: Global,
+) -> Result<(), Fail> {
     let mut bimap = B::empty(alloc);
     assert_eq!(rt; tests(&mut bimap), 0);
     assert!(rt; bimap.remove_by_left(&1).is_none() && bimap.remove_by_right(&1).is_none());
     assert!(rt; bimap.equals(&B::empty(alloc)));
-    let copy = bimap.copied().ok().ok_or("no memory")?;
-    assert!(rt; copy.len() == 0 && copy.equals(&bimap));
-    assert_eq!(rt; copy.give_up(2), 0);
+    let mut copy = bimap.copied().ok().ok_or("no memory")?;
+    assert!(rt; copy.is_empty() && copy.equals(&bimap));
+    assert_eq!(rt; copy.give_up(alloc, 2), 0);
     assert!(rt; walks_nowhere(alloc, bimap)?);
     Ok(())
 }
 
-#[test]
-fn an_empty_bimap_answers_each_call(rt: HostRuntime) -> Result<(), Fail> {
-    over_each_kind!(is_empty, u32, u32, &rt);
-    Ok(())
-}
-
 // The same of a bimap that was emptied, and has places.
-fn is_empty_again<B: CopyKind<u32, u32>>(rt: &impl Abort, alloc: Global) -> Result<(), Fail> {
+fn is_empty_again<B: Kind<u32, u32> + Walked<u32, u32>>(
+    rt: &impl Abort,
+    alloc: Global,
+) -> Result<(), Fail> {
     let mut bimap = B::empty(alloc);
     for name in 0..20 {
         bimap.insert(name, name).ok().ok_or("no memory")?;
@@ -60,8 +63,10 @@ fn is_empty_again<B: CopyKind<u32, u32>>(rt: &impl Abort, alloc: Global) -> Resu
     Ok(())
 }
 
-#[test]
-fn an_emptied_bimap_answers_each_call(rt: HostRuntime) -> Result<(), Fail> {
-    over_each_kind!(is_empty_again, u32, u32, &rt);
-    Ok(())
+pub(super) fn all<B: Kind<u32, u32> + Walked<u32, u32>>(
+    rt: &impl Abort,
+    alloc: Global,
+) -> Result<(), Fail> {
+    is_empty::<B>(rt, alloc)?;
+    is_empty_again::<B>(rt, alloc)
 }

@@ -1,6 +1,6 @@
 //! So many pairs that no limit on the size is missed. The crowded kind is left out: each look-up would go through all.
-use bimap::{BiBTreeMap, BiHashMap, Bijection, Overwritten};
-use bimap_calls::CopyKind;
+use bimap::{BiBTreeHashMap, BiBTreeMap, BiHashBTreeMap, BiHashMap, Bijection, Overwritten};
+use bimap_calls::{Kind, Walked};
 use std::alloc::{AllocError, Global};
 use std::process::Abort;
 use std::test::Fail;
@@ -76,7 +76,7 @@ fn gave(mut walked: Vec<(u32, u32)>, wanted: &[(u32, u32)]) -> bool {
 }
 
 // Fills a bimap, and takes half out again.
-fn halved<B: CopyKind<u32, u32>>(rt: &impl Abort, alloc: Global) -> B {
+fn halved<B: Kind<u32, u32>>(rt: &impl Abort, alloc: Global) -> B {
     let mut bimap = B::empty(alloc);
     assert!(rt; put_all(&mut bimap, PAIRS));
     assert!(rt; shows(&bimap, 0));
@@ -85,7 +85,10 @@ fn halved<B: CopyKind<u32, u32>>(rt: &impl Abort, alloc: Global) -> B {
     bimap
 }
 
-fn holds_many<B: CopyKind<u32, u32>>(rt: &impl Abort, alloc: Global) -> Result<(), Fail> {
+fn holds_many<B: Kind<u32, u32> + Walked<u32, u32>>(
+    rt: &impl Abort,
+    alloc: Global,
+) -> Result<(), Fail> {
     let mut bimap = halved::<B>(rt, alloc);
     let half = pairs_without(alloc, 1)?;
     assert!(rt; gave(bimap.walk(alloc)?, half.as_slice()));
@@ -108,4 +111,14 @@ fn an_ordered_bimap_holds_many(rt: HostRuntime) -> Result<(), Fail> {
 #[test]
 fn a_hashed_bimap_holds_many(rt: HostRuntime) -> Result<(), Fail> {
     holds_many::<BiHashMap<u32, u32>>(&rt, rt.alloc())
+}
+
+#[test]
+fn a_bimap_of_an_ordered_left_holds_many(rt: HostRuntime) -> Result<(), Fail> {
+    holds_many::<BiBTreeHashMap<u32, u32>>(&rt, rt.alloc())
+}
+
+#[test]
+fn a_bimap_of_an_ordered_right_holds_many(rt: HostRuntime) -> Result<(), Fail> {
+    holds_many::<BiHashBTreeMap<u32, u32>>(&rt, rt.alloc())
 }

@@ -1,5 +1,7 @@
-//! The five walks of the ordered bimap, over several batches of sixteen, from both ends, with a copy made on the way.
-use bimap::BiBTreeMap;
+//! The walks by an ordered side, over several batches of sixteen, from both ends, with a copy made on the way.
+use bimap::{BiBTreeHashMap, BiBTreeMap, BiHashBTreeMap, Bijection, BijectiveMap};
+use bimap_index::Index;
+use bimap_tree::Ordered;
 use std::alloc::{AllocError, Global};
 use std::process::Abort;
 use std::test::Fail;
@@ -10,13 +12,11 @@ const PAIRS: u32 = 50;
 const STEPS: [u32; 10] = [0, 1, 7, 8, 9, 15, 16, 17, 24, 25];
 
 // A greater left has a smaller right: the rights are those from `PAIRS` on.
-fn filled(alloc: Global) -> Result<BiBTreeMap<u32, u32>, Fail> {
-    let mut bimap = BiBTreeMap::new(alloc);
+fn fill<B: Bijection<u32, u32>>(bimap: &mut B) {
     for left in 0..PAIRS {
         let right = (2 * PAIRS - 1).wrapping_sub(left);
-        bimap.insert(left, right).ok().ok_or("no memory")?;
+        drop(bimap.insert(left, right));
     }
-    Ok(bimap)
 }
 
 // Makes so many steps from either end, and answers the numbers that the walk then gives from its front, and those that a
@@ -70,11 +70,11 @@ fn is_middle(rest: &Rest, first: u32, steps: u32) -> bool {
     rest.front.len() == length && rest.back.len() == length
 }
 
-fn left_of((left, _): (&u32, &u32)) -> u32 {
+fn left_of<R>((left, _): (&u32, &R)) -> u32 {
     *left
 }
 
-fn right_of((_, right): (&u32, &u32)) -> u32 {
+fn right_of<L>((_, right): (&L, &u32)) -> u32 {
     *right
 }
 
@@ -83,7 +83,11 @@ fn value(number: &u32) -> u32 {
 }
 
 // Whether the walks in the order of the lefts give the middle.
-fn by_left(alloc: Global, bimap: &BiBTreeMap<u32, u32>, steps: u32) -> Result<bool, AllocError> {
+fn by_left<R: Eq + Drop, J: Index<R>>(
+    alloc: Global,
+    bimap: &BijectiveMap<u32, R, Ordered, J>,
+    steps: u32,
+) -> Result<bool, AllocError> {
     let pairs = rest!(bimap.iter(), left_of, steps, alloc);
     let lefts = rest!(bimap.left_values(), value, steps, alloc);
     let range = rest!(bimap.left_range(0..PAIRS), left_of, steps, alloc);
@@ -91,22 +95,33 @@ fn by_left(alloc: Global, bimap: &BiBTreeMap<u32, u32>, steps: u32) -> Result<bo
 }
 
 // Whether the walks in the order of the rights do.
-fn by_right(alloc: Global, bimap: &BiBTreeMap<u32, u32>, steps: u32) -> Result<bool, AllocError> {
+fn by_right<L: Eq + Drop, I: Index<L>>(
+    alloc: Global,
+    bimap: &BijectiveMap<L, u32, I, Ordered>,
+    steps: u32,
+) -> Result<bool, AllocError> {
     let rights = rest!(bimap.right_values(), value, steps, alloc);
     let range = rest!(bimap.right_range(PAIRS..), right_of, steps, alloc);
     Ok(is_middle(&rights, PAIRS, steps) && is_middle(&range, PAIRS, steps))
 }
 
-fn all_give_the_middle(rt: &impl Abort, alloc: Global) -> Result<(), Fail> {
-    let bimap = filled(alloc)?;
+fn give_the_middle(rt: &impl Abort, alloc: Global) -> Result<(), Fail> {
+    let mut ordered: BiBTreeMap<u32, u32> = BiBTreeMap::new(alloc);
+    let mut lefts_ordered: BiBTreeHashMap<u32, u32> = BiBTreeHashMap::new(alloc);
+    let mut rights_ordered: BiHashBTreeMap<u32, u32> = BiHashBTreeMap::new(alloc);
+    fill(&mut ordered);
+    fill(&mut lefts_ordered);
+    fill(&mut rights_ordered);
     for steps in STEPS {
-        assert!(rt; by_left(alloc, &bimap, steps)?, "{steps}");
-        assert!(rt; by_right(alloc, &bimap, steps)?, "{steps}");
+        assert!(rt; by_left(alloc, &ordered, steps)?, "{steps}");
+        assert!(rt; by_right(alloc, &ordered, steps)?, "{steps}");
+        assert!(rt; by_left(alloc, &lefts_ordered, steps)?, "{steps}");
+        assert!(rt; by_right(alloc, &rights_ordered, steps)?, "{steps}");
     }
     Ok(())
 }
 
 #[test]
 fn a_walk_and_its_copy_meet_at_any_batch(rt: HostRuntime) -> Result<(), Fail> {
-    all_give_the_middle(&rt, rt.alloc())
+    give_the_middle(&rt, rt.alloc())
 }

@@ -1,18 +1,41 @@
-//! Copies of walks that are made on the way, and bimaps under unlike builders.
+//! Walks: each pair once, copies that are made on the way, and bimaps under unlike builders.
 use bimap::{BiHashMap, Bijection};
-use bimap_calls::{CopyKind, over_each_kind};
+use bimap_calls::{CopyKind, Kind, Walked, holds};
 use std::alloc::Global;
 use std::hash::RandomState;
 use std::process::Abort;
 use std::test::Fail;
 
-// A walk of the ordered bimap reads sixteen places at a time. It is given up on before, at and after the ends of these.
+const HELD: [(char, u32); 3] = [('a', 3), ('b', 2), ('c', 1)];
+
+pub(super) fn gives_each_once<B: CopyKind<char, u32> + Walked<char, u32>>(
+    rt: &impl Abort,
+    alloc: Global,
+) -> Result<(), Fail> {
+    let mut bimap = B::empty(alloc);
+    bimap.add(&[('x', 9)]).ok().ok_or("no memory")?;
+    bimap.add(&HELD).ok().ok_or("no memory")?;
+    assert!(rt; bimap.remove_by_left(&'x') == Some(('x', 9)));
+    assert!(rt; holds(alloc, &bimap, &HELD)?);
+    let mut lefts = bimap.walk_lefts(alloc)?;
+    lefts.sort_unstable();
+    assert_eq!(rt; lefts.as_slice(), ['a', 'b', 'c'].as_slice());
+    let mut rights = bimap.walk_rights(alloc)?;
+    rights.sort_unstable();
+    assert_eq!(rt; rights.as_slice(), [1, 2, 3].as_slice());
+    let mut owned = bimap.take_apart(alloc)?;
+    owned.sort_unstable();
+    assert_eq!(rt; owned.as_slice(), HELD.as_slice());
+    Ok(())
+}
+
+// A walk by an ordered side reads sixteen places at a time. It is given up on before, at and after the ends of these.
 const LENGTHS: [u32; 6] = [0, 1, 15, 16, 17, 50];
 
 const STEPS: [usize; 7] = [0, 1, 7, 15, 16, 17, 33];
 
 // So many pairs, in no order.
-fn filled<B: CopyKind<u32, u32>>(alloc: Global, pairs: u32) -> Result<B, Fail> {
+fn filled<B: Kind<u32, u32>>(alloc: Global, pairs: u32) -> Result<B, Fail> {
     let mut bimap = B::empty(alloc);
     for at in 0..pairs {
         let name = at.wrapping_mul(0x9e37_79b1);
@@ -21,7 +44,10 @@ fn filled<B: CopyKind<u32, u32>>(alloc: Global, pairs: u32) -> Result<B, Fail> {
     Ok(bimap)
 }
 
-fn walks_alike<B: CopyKind<u32, u32>>(rt: &impl Abort, alloc: Global) -> Result<(), Fail> {
+pub(super) fn walks_alike<B: Kind<u32, u32> + Walked<u32, u32>>(
+    rt: &impl Abort,
+    alloc: Global,
+) -> Result<(), Fail> {
     for length in LENGTHS {
         let bimap = filled::<B>(alloc, length)?;
         let whole = bimap.walk(alloc)?;
@@ -33,12 +59,6 @@ fn walks_alike<B: CopyKind<u32, u32>>(rt: &impl Abort, alloc: Global) -> Result<
             assert!(rt; copy.as_slice() == rest, "{length} {steps}");
         }
     }
-    Ok(())
-}
-
-#[test]
-fn a_copy_of_a_walk_goes_on_alike(rt: HostRuntime) -> Result<(), Fail> {
-    over_each_kind!(walks_alike, u32, u32, &rt);
     Ok(())
 }
 
