@@ -11,3 +11,4 @@ pub mod Shrinking
 pub mod OneOut
 pub mod Ascending
 pub mod InTurn
+pub mod Below

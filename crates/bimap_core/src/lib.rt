@@ -4,6 +4,7 @@
 mod copy;
 mod insert;
 mod pack;
+mod ranks;
 mod remove;
 mod retain;
 mod retain_in_turn;
