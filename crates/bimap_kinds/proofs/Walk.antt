@@ -12,6 +12,7 @@ use Rattle.std.specs.Ordering.{eq_by_cmp}
 use Rattle.std.specs.declared.cmp.Ordering.{Ordering}
 use Rattle.std.specs.declared.cmp.Ordering.TheVariants.{Less}
 use Rattle.bimap_base.specs.Capacity.{IsReservation, IsShrink}
+use Rattle.bimap_base.specs.Exchange.{IsRemoving}
 use Rattle.bimap_base.specs.Holding.{Holding, IsRetention}
 use Rattle.bimap_base.specs.Kept.{MayTest}
 use Rattle.bimap_base.specs.declared.refusal.NoMemory.{NoMemory}
@@ -59,6 +60,14 @@ module _ {L R : Type 0} (slots : List (Option (L × R))) (places : List ℕ) (wa
 
   pub ordered : (order : L → L → Ordering) → AllPairs (λ a b. (k l : L) → left_at slots a ≡ Some k → left_at slots b ≡ Some l → order k l ≡ Less) places → AllPairs (λ p q. order p.0 q.0 ≡ Less) (pairs_at slots places)
   ordered order all = pairs_walked slots places walk (λ a b. (k l : L) → left_at slots a ≡ Some k → left_at slots b ≡ Some l → order k l ≡ Less) (λ p q. order p.0 q.0 ≡ Less) (λ a b p q s i j. s p.0 q.0 (ap (option_map (λ x. x.0)) i) (ap (option_map (λ x. x.0)) j)) all
+
+  -- the pairs of a store without the one are those of a walk without it
+  pub removing_walked : (slots' : List (Option (L × R))) (places' : List ℕ) → IsWalk slots' places' → (p : L × R) → IsRemoving (pairs_in slots) p (pairs_in slots') → IsRemoving (pairs_at slots places) p (pairs_at slots' places')
+  removing_walked slots' places' walk' p h =
+      record {
+        member = (walked slots places walk p).0 h.member;
+        without = λ q. let v = walked slots places walk q in let w = walked slots' places' walk' q in (λ c. let o = (h.without q).0 (w.1 c) in (v.0 o.0, o.1), λ o. w.0 ((h.without q).1 (v.1 o.0, o.1)));
+      }
 
   -- a reservation and a shrink are the same of the pairs in the order of a walk, which stays
   module _ (slots' : List (Option (L × R))) (places' : List ℕ) (same : pairs_at slots' places' ≡ pairs_at slots places) where

@@ -7,6 +7,7 @@ mod compare_hashed;
 mod compare_ordered;
 mod copy;
 mod debug;
+mod ends;
 mod hashers;
 mod insert;
 mod look_up;
