@@ -10,6 +10,7 @@ mod capacities;
 mod counted;
 mod drops;
 mod empty;
+mod ends;
 mod many;
 mod odd_values;
 mod ordered_walks;
