@@ -3,3 +3,4 @@ mod json;
 mod json_hashed;
 mod json_types;
 mod json_under;
+mod shown;

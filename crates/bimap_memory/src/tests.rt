@@ -5,6 +5,7 @@ mod index;
 mod insertions;
 mod items;
 mod runs;
+mod subject;
 mod undo_runs;
 mod undone;
 mod within;

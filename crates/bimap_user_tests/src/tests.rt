@@ -3,4 +3,3 @@ mod ledger;
 mod looks;
 mod meter;
 mod metered;
-mod metered_ends;

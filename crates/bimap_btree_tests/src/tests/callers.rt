@@ -1,11 +1,11 @@
 //! What a caller writes with walks, with what it then knows.
 ghost use Rattle.std.specs.Prelude.{◌≡◌, IfOk, map, reverse};
 ghost use Rattle.std.specs.Map.{keys_of, values_of};
-ghost use Rattle.bimap_kinds.specs.Held.{holding};
-ghost use Rattle.bimap_kinds.specs.Held.{by_right};
+ghost use Rattle.bimap_btree.specs.Held.{holding};
+ghost use Rattle.bimap_btree.specs.Sides.{by_right};
 
 use super::filled;
-use bimap::BiBTreeMap;
+use bimap_btree::BiBTreeMap;
 use std::alloc::{AllocError, Global};
 
 fn rights_by_loop(alloc: Global, bimap: &BiBTreeMap<char, u32>) -> Result<Vec<u32>, AllocError>
@@ -67,7 +67,7 @@ const PAIRS: [(char, u32); 3] = [('a', 3), ('b', 1), ('c', 2)];
 
 #[test]
 fn callers_know_what_they_walked(rt: HostRuntime) {
-    let map: BiBTreeMap<char, u32> = filled(rt.alloc(), &PAIRS);
+    let map = filled(rt.alloc(), &PAIRS);
     assert!(&rt; are(rights_by_loop(rt.alloc(), &map), &[3, 1, 2]));
     assert!(&rt; are(rights_by_chain(rt.alloc(), &map), &[3, 1, 2]));
     assert!(&rt; are(sorted_rights(rt.alloc(), &map), &[1, 2, 3]));

@@ -5,8 +5,8 @@ ghost use Rattle.std.specs.Cmp.{partial_order_from_own_ties};
 ghost use Rattle.std.specs.Cmp.Rules.{comparing};
 ghost use Rattle.std.specs.Ordering.{nat_cmp, on, as_partial_cmp};
 
-use bimap::btree::Iter;
-use bimap::{BiBTreeMap, Overwritten};
+use bimap_base::Overwritten;
+use bimap_btree::{BiBTreeMap, Iter};
 use bimap_famine::Famine;
 use std::alloc::Global;
 use std::cell::Cell;

@@ -1,13 +1,12 @@
 //! The Rust crate's own examples.
-use crate::{Kind, over_each_kind};
-use bimap::Overwritten;
-use std::alloc::Global;
+use crate::{crowded, shows};
+use bimap::{BiBTreeMap, BiMap, Bijection, Overwritten};
 use std::process::Abort;
 
-type Text = &'static str;
-
-fn symbols_of_elements<B: Kind<Text, Text>>(rt: &impl Abort, alloc: Global) {
-    let mut bimap = B::empty(alloc);
+fn symbols_of_elements<B: Bijection<&'static str, &'static str> + Drop>(
+    rt: &impl Abort,
+    mut bimap: B,
+) {
     for (element, symbol) in [
         ("hydrogen", "H"),
         ("carbon", "C"),
@@ -28,11 +27,15 @@ fn symbols_of_elements<B: Kind<Text, Text>>(rt: &impl Abort, alloc: Global) {
 
 #[test]
 fn elements_and_symbols(rt: HostRuntime) {
-    over_each_kind!(symbols_of_elements, Text, Text, &rt);
+    symbols_of_elements(
+        &rt,
+        BiBTreeMap::<&'static str, &'static str>::new(rt.alloc()),
+    );
+    symbols_of_elements(&rt, BiMap::<&'static str, &'static str>::new(rt.alloc()));
+    symbols_of_elements(&rt, crowded::<&'static str, &'static str>(rt.alloc()));
 }
 
-fn positions_of_letters<B: Kind<char, u8>>(rt: &impl Abort, alloc: Global) {
-    let mut bimap = B::empty(alloc);
+fn positions_of_letters<B: Bijection<char, u8> + Drop>(rt: &impl Abort, mut bimap: B) {
     for position in 1..=26u8 {
         let letter = char::from(b'A' + (position - 1));
         assert!(rt; bimap.insert(letter, position) == Ok(Overwritten::Neither));
@@ -44,5 +47,7 @@ fn positions_of_letters<B: Kind<char, u8>>(rt: &impl Abort, alloc: Global) {
 
 #[test]
 fn letters_of_the_alphabet_and_their_positions(rt: HostRuntime) {
-    over_each_kind!(positions_of_letters, char, u8, &rt);
+    positions_of_letters(&rt, BiBTreeMap::<char, u8>::new(rt.alloc()));
+    positions_of_letters(&rt, BiMap::<char, u8>::new(rt.alloc()));
+    positions_of_letters(&rt, crowded::<char, u8>(rt.alloc()));
 }
