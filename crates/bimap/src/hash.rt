@@ -1,3 +1,2 @@
-//! The bimap of two hashed sides, and what belongs to it.
-pub use bimap_kinds::BiHashMap;
-pub use bimap_walk::by_place::{IntoIter, Iter, LeftValues, RightValues};
+//! The hashed bimap and what belongs to it.
+pub use bimap_hash::{BiHashMap, IntoIter, Iter, LeftValues, RightValues};

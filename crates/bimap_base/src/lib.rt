@@ -1,11 +1,8 @@
-//! What every bimap stands on: the plain types, the store of pairs, and the interfaces between store, index and bimap.
+//! What both bimaps stand on: the plain types, the store of pairs, and the interfaces between store, index and bimap.
 #![tactic(auto)]
 
 mod bijection;
-mod by_hash;
-mod by_order;
 mod cells;
-mod count;
 mod fill;
 mod keys;
 mod meter;
@@ -14,16 +11,12 @@ mod pairs;
 mod policy;
 mod refusal;
 mod replace;
-mod side;
 mod spread;
 
 pub use bijection::Bijection;
-pub use by_hash::ByHash;
-pub use by_order::ByOrder;
 pub use cells::{Cells, Node};
-pub use count::Count;
 pub use fill::{extend, extend_with, from_iter, from_iter_with};
-pub use keys::Keys;
+pub use keys::{Keys, LeftOf, RightOf};
 pub use meter::Meter;
 pub use overwritten::Overwritten;
 pub use pairs::Pairs;
@@ -33,5 +26,4 @@ pub use refusal::{
     UndoStopped,
 };
 pub use replace::{replace_left, replace_right};
-pub use side::{LeftSide, RightSide, Side};
-pub use spread::Spread;
+pub use spread::{LeftSpread, RightSpread, Spread};

@@ -7,5 +7,3 @@ pub mod Link
 pub mod Path
 pub mod Route
 pub mod Remove
-pub mod Batches
-pub mod Spans

@@ -4,8 +4,7 @@ ghost use Rattle.std.specs.Prelude.{length};
 
 use super::{THREE, Zero, crowded, holds, plain, put_all};
 use bimap_base::ExtendStopped;
-use bimap_kinds::BiHashMap;
-use bimap_walk::by_place::Iter;
+use bimap_hash::{BiHashMap, Iter};
 use std::alloc::{AllocError, Global};
 use std::hash::BuildHasher;
 
@@ -17,10 +16,7 @@ where
     LS: Drop,
     RS: Drop,
 {
-    match made {
-        Ok(map) => holds(&map, held),
-        Err(_) => false,
-    }
+    made.is_ok_and(|map| holds(&map, held))
 }
 
 const ITEMS: [(char, u32); 6] = [('a', 1), ('b', 2), ('c', 3), ('b', 2), ('a', 4), ('b', 3)];

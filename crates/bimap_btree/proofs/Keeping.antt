@@ -1,0 +1,121 @@
+-- Pairs that are tested one after another.
+use Rattle.std.proofs.Common.{◌≡◌, ℕ, suc, zero, ◌+◌, ◌<◌, ◌≤◌, Bool, true, false, List, [], ◌∷◌, ◌++◌, length, take, drop, get_or, refl, sym, ap, ◌∙◌, subst, arith, length-append, append_assoc}
+use denote.Param.Members.{Mut}
+use denote.Ref.{Bor}
+use Rattle.bimap_base.specs.Kept.{TestedAt, TestsInTurn, answered_true, IsKeptInTurn}
+
+module _ {F L R : Type 0} (g : Mut F (Bor L × (Bor R × Unit {0})) Bool) where
+  pub tests_push : (f : F) (ps : List (L × R)) (bs : List Bool) (m : F) (p : L × R) (b : Bool) (t : F) → TestsInTurn g f ps bs m → TestedAt g m p b t → TestsInTurn g f (ps ++ p ∷ []) (bs ++ b ∷ []) t
+  tests_push f [] [] m p b t h k = (t, subst (λ (x : F). TestedAt g x p b t) (sym h) k, refl)
+  tests_push f [] (c ∷ bs) m p b t h k = absurd h
+  tests_push f (q ∷ ps) [] m p b t h k = absurd h
+  tests_push f (q ∷ ps) (c ∷ bs) m p b t h k = (h.0, h.1, tests_push h.0 ps bs m p b t h.2 k)
+
+  pub true_push : (f : F) (ps : List (L × R)) (bs : List Bool) (m : F) (p : L × R) → TestsInTurn g f ps bs m → answered_true g (ps ++ p ∷ []) (bs ++ true ∷ []) ≡ answered_true g ps bs ++ p ∷ []
+  true_push f [] [] m p h = refl
+  true_push f [] (c ∷ bs) m p h = absurd h
+  true_push f (q ∷ ps) [] m p h = absurd h
+  true_push f (q ∷ ps) (true ∷ bs) m p h = ap (λ xs. q ∷ xs) (true_push h.0 ps bs m p h.2)
+  true_push f (q ∷ ps) (false ∷ bs) m p h = true_push h.0 ps bs m p h.2
+
+  pub false_push : (f : F) (ps : List (L × R)) (bs : List Bool) (m : F) (p : L × R) → TestsInTurn g f ps bs m → answered_true g (ps ++ p ∷ []) (bs ++ false ∷ []) ≡ answered_true g ps bs
+  false_push f [] [] m p h = refl
+  false_push f [] (c ∷ bs) m p h = absurd h
+  false_push f (q ∷ ps) [] m p h = absurd h
+  false_push f (q ∷ ps) (true ∷ bs) m p h = ap (λ xs. q ∷ xs) (false_push h.0 ps bs m p h.2)
+  false_push f (q ∷ ps) (false ∷ bs) m p h = false_push h.0 ps bs m p h.2
+
+  -- the pairs old were tested up to rest: f is the closure now, items the pairs that are left, kept how many of these passed
+  pub record Going (first f : F) (old items : List (L × R)) (kept : ℕ) : Type 0 where
+    pub tested : List (L × R)
+    pub answers : List Bool
+    pub rest : List (L × R)
+    pub all : old ≡ tested ++ rest
+    pub left : items ≡ answered_true g tested answers ++ rest
+    pub count : kept ≡ length (answered_true g tested answers)
+    pub calls : TestsInTurn g first tested answers f
+
+  pub start : (f : F) (old : List (L × R)) → Going f f old old 0
+  start f old = record { tested = []; answers = []; rest = old; all = refl; left = refl; count = refl; calls = refl }
+
+  at_length : (xs ys : List (L × R)) (d : L × R) (k : ℕ) → k ≡ length xs → k < length (xs ++ ys) → ys ≡ get_or (xs ++ ys) k d ∷ drop (suc k) (xs ++ ys)
+  at_length xs [] d k e h = absurd (omega (arith, length-append xs []))
+  at_length [] (y ∷ ys) d zero e h = refl
+  at_length [] (y ∷ ys) d (suc k) e h = absurd (omega arith)
+  at_length (x ∷ xs) (y ∷ ys) d zero e h = absurd (omega arith)
+  at_length (x ∷ xs) (y ∷ ys) d (suc k) e h = at_length xs (y ∷ ys) d k (omega arith) (omega arith)
+
+  cut : (xs ys : List (L × R)) (k : ℕ) → k ≡ length xs → take k (xs ++ ys) ≡ xs
+  cut [] ys zero e = refl
+  cut [] ys (suc k) e = absurd (omega arith)
+  cut (x ∷ xs) ys zero e = absurd (omega arith)
+  cut (x ∷ xs) ys (suc k) e = ap (λ zs. x ∷ zs) (cut xs ys k (omega arith))
+
+  module _ (first f t : F) (old items : List (L × R)) (kept : ℕ) (going : Going first f old items kept) (inside : kept < length items) (p : L × R) (value : p ≡ get_or items kept p) where
+    pub tail : List (L × R)
+    tail = drop (suc kept) items
+
+    rest_is : going.rest ≡ p ∷ tail
+    unfolding tail
+    rest_is =
+        at_length (answered_true g going.tested going.answers) going.rest p kept going.count (subst (λ (xs : List (L × R)). kept < length xs) going.left inside)
+        ∙ ap (λ (xs : List (L × R)). get_or xs kept p ∷ drop (suc kept) xs) (sym going.left)
+        ∙ ap (λ (q : L × R). q ∷ drop (suc kept) items) (sym value)
+
+    all_is : old ≡ (going.tested ++ p ∷ []) ++ tail
+    all_is = going.all ∙ ap (λ xs. going.tested ++ xs) rest_is ∙ sym (append_assoc going.tested (p ∷ []) tail)
+
+    pub order_now : (q : L × R) → q ≡ p → old ≡ going.tested ++ q ∷ tail
+    order_now q e = going.all ∙ ap (λ xs. going.tested ++ xs) (rest_is ∙ ap (λ (x : L × R). x ∷ tail) (sym e))
+
+    pub passed : TestedAt g f p true t → Going first t old items (kept + 1)
+    passed h = record {
+      tested = going.tested ++ p ∷ [];
+      answers = going.answers ++ true ∷ [];
+      rest = tail;
+      all = all_is;
+      left = going.left ∙ ap (λ xs. answered_true g going.tested going.answers ++ xs) rest_is ∙ sym (append_assoc (answered_true g going.tested going.answers) (p ∷ []) tail) ∙ ap (λ xs. xs ++ tail) (sym (true_push first going.tested going.answers f p going.calls));
+      count = omega (arith, going.count, length-append (answered_true g going.tested going.answers) (p ∷ []), ap length (true_push first going.tested going.answers f p going.calls));
+      calls = tests_push first going.tested going.answers f p true t going.calls h;
+    }
+
+    pub refused : (items' : List (L × R)) → items' ≡ take kept items ++ drop (suc kept) items → TestedAt g f p false t → Going first t old items' kept
+    unfolding tail
+    refused items' e h = record {
+      tested = going.tested ++ p ∷ [];
+      answers = going.answers ++ false ∷ [];
+      rest = tail;
+      all = all_is;
+      left = e ∙ ap (λ xs. xs ++ tail) (ap (take kept) going.left ∙ cut (answered_true g going.tested going.answers) going.rest kept going.count ∙ sym (false_push first going.tested going.answers f p going.calls));
+      count = going.count ∙ ap length (sym (false_push first going.tested going.answers f p going.calls));
+      calls = tests_push first going.tested going.answers f p false t going.calls h;
+    }
+
+  module _ (first f : F) (old items : List (L × R)) (kept : ℕ) (going : Going first f old items kept) (end : length items ≤ kept) where
+    none_left : (xs ys : List (L × R)) → length (xs ++ ys) ≤ length xs → ys ≡ []
+    none_left xs [] h = refl
+    none_left xs (y ∷ ys) h = absurd (omega (arith, length-append xs (y ∷ ys)))
+
+    rest_none : going.rest ≡ []
+    rest_none = none_left (answered_true g going.tested going.answers) going.rest (omega (arith, ap length going.left, going.count))
+
+    append_nil : (xs : List (L × R)) → xs ++ [] ≡ xs
+    append_nil [] = refl
+    append_nil (x ∷ xs) = ap (λ ys. x ∷ ys) (append_nil xs)
+
+    order_is : old ≡ going.tested
+    order_is = going.all ∙ ap (λ xs. going.tested ++ xs) rest_none ∙ append_nil going.tested
+
+    items_is : items ≡ answered_true g going.tested going.answers
+    items_is = going.left ∙ ap (λ xs. answered_true g going.tested going.answers ++ xs) rest_none ∙ append_nil (answered_true g going.tested going.answers)
+
+    pub ended : IsKeptInTurn g first old items
+    ended = record {
+      answers = going.answers;
+      last = f;
+      calls = subst (λ (xs : List (L × R)). TestsInTurn g first xs going.answers f) (sym order_is) going.calls;
+      kept = items_is ∙ ap (λ xs. answered_true g xs going.answers) (sym order_is);
+    }
+
+pub same_pair_by : {L R : Type 0} (p : L × R) (l : L) (r : R) → l ≡ p.0 → r ≡ p.1 → ◌≡◌ {A = L × R} (l, r) p
+same_pair_by {L} {R} p l r x y = ap (λ (a : L). (a, r)) x ∙ ap (λ (b : R). (p.0, b)) y

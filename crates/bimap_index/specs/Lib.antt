@@ -1,5 +1,0 @@
-pub mod Listed
-pub mod ByOrder
-pub mod ByHash
-pub mod OrderLaws
-pub mod HashLaws

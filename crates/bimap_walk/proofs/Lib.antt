@@ -1,5 +1,0 @@
-pub mod Windows
-pub mod Ends
-pub mod Listed
-pub mod Walking
-pub mod InSpan
