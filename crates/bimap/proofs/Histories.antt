@@ -3,13 +3,13 @@ use Rattle.std.proofs.Common.{◌≡◌, ◌↔◌, ◌⊎◌, inl, inr, ◌≤�
 use Rattle.std.specs.Prelude.{Contains}
 use Rattle.std.specs.List.{zip}
 use Rattle.std.proofs.lemmas.List.Elements.{Contains-append_left, Contains-append_right}
-use Rattle.bimap_base.specs.Sets.{IsApart, IsWithPut}
+use Rattle.bimap_base.specs.Sets.{IsApart, IsWithPut, HasLeft, HasRight}
 use Rattle.bimap_base.specs.Answer.{IsAnswer, IsOnlyStruck}
 use Rattle.bimap_base.specs.Holding.{Holding}
 use Rattle.bimap_base.specs.declared.overwritten.Overwritten.{Overwritten}
 use Rattle.bimap_base.specs.declared.overwritten.Overwritten.TheVariants.{Neither, Left, Right, Pair, Both}
 use Rattle.bimap_base.specs.declared.policy.Policy.{Policy}
-use Rattle.bimap_base.proofs.Members.{head_in, more_in, none_in}
+use Rattle.bimap_base.proofs.Members.{head_in, more_in, none_in, lacking}
 use Rattle.bimap_base.proofs.Survivors.{split_append, split_push, not_split, Survives_none, Survives_append, Survives_along, survivors_push, put_touches}
 use Rattle.bimap.specs.declared.call.Call.{Call}
 use Rattle.bimap.specs.declared.call.Call.TheVariants.{Insert, InsertNoOverwrite, InsertWith, RemoveByLeft, RemoveByRight, ContainsLeft, ContainsRight, Retain, Clear}
@@ -53,6 +53,16 @@ module _ {L R : Type 0} (same_left : L → L → Bool) (same_right : R → R →
   IsRight_along (Retain k, Done) h = tt
   IsRight_along (Clear, Done) h = tt
   IsRight_along (call, reply) h = absurd h
+
+module _ {L R : Type 0} (same_left : L → L → Bool) (same_right : R → R → Bool) (S : L × R → Type 0) where
+  -- a look at a side is right where it is true exactly if the side is held
+  pub right_contains_left : (K : Type 0) (l : L) (held : Bool) → (held ≡ true) ↔ HasLeft same_left S l → IsRight {K = K} same_left same_right S (ContainsLeft l, Holds held)
+  right_contains_left K l true h = h.0 refl
+  right_contains_left K l false h = lacking S (λ p. same_left p.0 l) h
+
+  pub right_contains_right : (K : Type 0) (r : R) (held : Bool) → (held ≡ true) ↔ HasRight same_right S r → IsRight {K = K} same_left same_right S (ContainsRight r, Holds held)
+  right_contains_right K r true h = h.0 refl
+  right_contains_right K r false h = lacking S (λ p. same_right p.1 r) h
 
 module _ {L R K : Type 0} (same_left : L → L → Bool) (same_right : R → R → Bool) (Test : K → L × R → Bool → Type 0) where
   -- what an insertion leaves is what its entry does

@@ -1,3 +1,3 @@
--- What a contract sees of a `BiBTreeMap`: its pairs, each once and ascending by left, and the number of its places.
-pub use Rattle.bimap_btree.specs.Held.{holding}
-pub use Rattle.bimap_btree.specs.Sides.{by_right, IsByRight}
+-- What a contract sees of a bimap with an ordered left: its pairs, each once and ascending by left, and the number of its places.
+pub use Rattle.bimap_kinds.specs.Held.{holding, by_right}
+pub use Rattle.bimap_kinds.specs.Sorted.{IsByRight}

@@ -9,7 +9,7 @@ pub use Rattle.bimap_base.specs.Undoing
 pub use Rattle.bimap_base.specs.Exchange
 pub use Rattle.bimap_base.specs.Extension
 pub use Rattle.bimap_base.specs.Digits
-pub use Rattle.bimap_hash.specs.Capacity
+pub use Rattle.bimap_base.specs.Capacity
 pub mod BTree
 pub mod Hash
 pub mod Test

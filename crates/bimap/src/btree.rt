@@ -1,5 +1,4 @@
-//! The ordered bimap and what belongs to it.
-pub use bimap_base::Meter;
-pub use bimap_btree::{
-    BiBTreeMap, Count, IntoIter, Iter, LeftRange, LeftValues, RightRange, RightValues,
-};
+//! The bimaps with an ordered side, and what belongs to them.
+pub use bimap_base::{Count, Meter};
+pub use bimap_kinds::{BiBTreeHashMap, BiBTreeMap, BiHashBTreeMap};
+pub use bimap_walk::by_rank::{IntoIter, Iter, LeftRange, LeftValues, RightRange, RightValues};

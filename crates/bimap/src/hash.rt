@@ -1,2 +1,3 @@
-//! The hashed bimap and what belongs to it.
-pub use bimap_hash::{BiHashMap, IntoIter, Iter, LeftValues, RightValues};
+//! The bimap of two hashed sides, and what belongs to it.
+pub use bimap_kinds::BiHashMap;
+pub use bimap_walk::by_place::{IntoIter, Iter, LeftValues, RightValues};

@@ -1,4 +1,4 @@
-//! The facade: both bimaps' interface and plain types, lists of calls on any bimap, and their undoing.
+//! The facade: the bimaps' interface and plain types, lists of calls on any bimap, and their undoing.
 #![tactic(auto)]
 
 pub mod btree;
@@ -13,8 +13,7 @@ pub use bimap_base::{
     NotReplaced, OnHeld, Overwritten, Policy, UndoStopped, extend_with, from_iter_with,
     replace_left, replace_right,
 };
-pub use bimap_btree::BiBTreeMap;
-pub use bimap_hash::BiHashMap;
+pub use bimap_kinds::{BiBTreeHashMap, BiBTreeMap, BiHashBTreeMap, BiHashMap, BijectiveMap};
 pub use call::{Call, Reply, RunRefused};
 pub use runs::{perform, run};
 pub use undone::{UndoRunStopped, undo_run};

@@ -1,14 +1,13 @@
 //! Bimaps as JSON objects and back. It doesn't know how a bimap keeps its pairs.
 mod digits;
-mod hashed;
+mod kinds;
 mod object;
-mod ordered;
 mod sides;
 mod signed;
 mod texts;
 mod unsigned;
 
-pub use hashed::{from_value_with_hashers, hash_to_value};
+pub use kinds::{from_value_with_hashers, hash_to_value, reread_with_hashers};
 pub use object::{JsonFault, JsonObject, read_into, read_into_with, reread, write_walk};
 pub use serde_json::Value;
 pub use sides::{JsonKey, JsonValue, ReadFault};

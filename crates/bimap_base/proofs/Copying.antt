@@ -12,7 +12,7 @@ use Rattle.bimap_base.proofs.Members.{head_in, more_in, cases_in, none_in}
 
 -- each element of the one list stands beside one of the other
 module _ {X : Type 0} (P : X → X → Type 0) where
-  source_of : (xs ys : List X) → AllZip P xs ys → (y : X) → Contains ys y → (x : X) × Contains xs x × P x y
+  pub source_of : (xs ys : List X) → AllZip P xs ys → (y : X) → Contains ys y → (x : X) × Contains xs x × P x y
   source_of [] [] zip y there = none_in y there
   source_of [] (z ∷ ys) zip y there = absurd zip
   source_of (x ∷ xs) [] zip y there = absurd zip
@@ -22,7 +22,7 @@ module _ {X : Type 0} (P : X → X → Type 0) where
         | inr w ↦ let s = source_of xs ys zip.1 y w in (s.0, more_in x xs s.0 s.1, s.2)
       ]
 
-  image_of : (xs ys : List X) → AllZip P xs ys → (x : X) → Contains xs x → (y : X) × Contains ys y × P x y
+  pub image_of : (xs ys : List X) → AllZip P xs ys → (x : X) → Contains xs x → (y : X) × Contains ys y × P x y
   image_of [] [] zip x there = none_in x there
   image_of [] (y ∷ ys) zip x there = absurd zip
   image_of (z ∷ xs) [] zip x there = absurd zip
@@ -72,13 +72,13 @@ module _ {L R : Type 0} (same_left : L → L → Bool) (same_right : R → R →
         let r = equal_along rights p.1 x.1 q.1 y.1 (second_so (same_left p.0 x.0) (same_right p.1 x.1) e) (second_so (same_left q.0 y.0) (same_right q.1 y.1) f) in
         λ i. l i || r i
 
-    equal_clone : (pairs : List (L × R)) → AreClonesEqual is_clone_left is_clone_right same_left same_right pairs → (p q : L × R) → Contains pairs p → IsPairClone is_clone_left is_clone_right p q → pair_eq same_left same_right p q ≡ true
+    pub equal_clone : (pairs : List (L × R)) → AreClonesEqual is_clone_left is_clone_right same_left same_right pairs → (p q : L × R) → Contains pairs p → IsPairClone is_clone_left is_clone_right p q → pair_eq same_left same_right p q ≡ true
     equal_clone pairs equal p q there clone =
         let l = equal.left p there q.0 clone.0 in
         let r = equal.right p there q.1 clone.1 in
         λ i. l i && r i
 
-    apart_clones : (ps qs : List (L × R)) → AreClonesEqual is_clone_left is_clone_right same_left same_right ps → AllZip (IsPairClone is_clone_left is_clone_right) ps qs → IsApart same_left same_right ps → IsApart same_left same_right qs
+    pub apart_clones : (ps qs : List (L × R)) → AreClonesEqual is_clone_left is_clone_right same_left same_right ps → AllZip (IsPairClone is_clone_left is_clone_right) ps qs → IsApart same_left same_right ps → IsApart same_left same_right qs
     apart_clones [] [] equal zip apart = apart_none same_left same_right
     apart_clones [] (q ∷ qs) equal zip apart = absurd zip
     apart_clones (p ∷ ps) [] equal zip apart = absurd zip

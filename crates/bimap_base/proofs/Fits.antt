@@ -1,19 +1,27 @@
 -- Which answers can be taken back, asked one value at a time.
-use Rattle.std.proofs.Common.{◌≡◌, ◌⊎◌, inl, inr, Bool, true, false, ◌||◌, List, refl, sym, ap, ◌∙◌, subst, true≢false}
-use Rattle.std.specs.Prelude.{Contains, MatchBool, not}
+use Rattle.std.proofs.Common.{◌≡◌, ◌↔◌, ◌⊎◌, inl, inr, Bool, true, false, List, refl, sym, ap, ◌∙◌, subst, true≢false}
+use Rattle.std.specs.Prelude.{Contains, not}
 use Rattle.std.specs.Cmp.{IsEquivalence}
-use Rattle.std.proofs.lemmas.Bool.{or_left, or_right}
+use Rattle.std.proofs.lemmas.Bool.{or_left, or_right, not-true, not_from_false, false_from_ne_true}
 use Rattle.bimap_base.specs.Sets.{shares, IsApart, HasLeft}
-use Rattle.bimap_base.specs.Answer.{IsNamed}
+use Rattle.bimap_base.specs.Answer.{IsNamed, IsBoth}
 use Rattle.bimap_base.specs.Fitting.{Fits, FitsLeft, FitsRight}
 use Rattle.bimap_base.specs.Undoing.{IsUndoable, AreNamedApart}
 use Rattle.bimap_base.specs.declared.overwritten.Overwritten.{Overwritten}
-use Rattle.bimap_base.specs.declared.overwritten.Overwritten.TheVariants.{Both}
+use Rattle.bimap_base.specs.declared.overwritten.Overwritten.TheVariants.{Left, Right, Pair, Both}
 use Rattle.bimap_base.proofs.Apart.{apart_unique}
 
-or_either : (a b : Bool) → (a || b) ≡ true → (a ≡ true) ⊎ (b ≡ true)
-or_either true b e = inl refl
-or_either false b e = inr e
+-- the answer names this pair alone
+pub record NamesOne {L R : Type 0} (answer : Overwritten L R) (p : L × R) : Type 0 where
+  pub only : (q : L × R) → IsNamed answer q → q ≡ p
+  pub is : IsNamed answer p
+  pub not_both : IsBoth answer → ⊥
+  pub apart : (same_left : L → L → Bool) (same_right : R → R → Bool) → AreNamedApart same_left same_right answer
+
+pub names_one : {L R : Type 0} (answer : Overwritten L R) (l : L) (r : R) → (answer ≡ Left l r) ⊎ ((answer ≡ Right l r) ⊎ (answer ≡ Pair l r)) → NamesOne answer (l, r)
+names_one answer l r (inl e) = rw e (record { only = λ q n. n; is = refl; not_both = λ b. b; apart = λ f g. tt })
+names_one answer l r (inr (inl e)) = rw e (record { only = λ q n. n; is = refl; not_both = λ b. b; apart = λ f g. tt })
+names_one answer l r (inr (inr e)) = rw e (record { only = λ q n. n; is = refl; not_both = λ b. b; apart = λ f g. tt })
 
 module _ {L R : Type 0} (same_left : L → L → Bool) (same_right : R → R → Bool) (lefts : IsEquivalence same_left) (rights : IsEquivalence same_right) where
   tie : (a b c : L) → same_left a c ≡ true → same_left b c ≡ true → same_left a b ≡ true
@@ -37,29 +45,33 @@ module _ {L R : Type 0} (same_left : L → L → Bool) (same_right : R → R →
     fits_from a u q o s m e = subst (λ (z : L × R). same_left z.0 left ≡ true) (sym (u.alone q s o m e)) u.by_left
 
     -- an answer that names one pair
-    pub one_pair : (a : Overwritten L R) (p : L × R) (b : Bool) → HasLeft same_left (Contains xs) left → ((q : L × R) → IsNamed a q → q ≡ p) → IsNamed a p → AreNamedApart same_left same_right a → MatchBool b (Fits same_left same_right (Contains xs) left p) (Fits same_left same_right (Contains xs) left p → ⊥) → MatchBool b (IsUndoable same_left same_right (Contains xs) left a) (IsUndoable same_left same_right (Contains xs) left a → ⊥)
-    one_pair a p true h one o t f = undoable_by a h (λ q n. subst (Fits same_left same_right (Contains xs) left) (sym (one q n)) f) t
-    one_pair a p false h one o t f = λ u. f (fits_from a u p o)
+    pub one_pair : (a : Overwritten L R) (p : L × R) (b : Bool) → NamesOne a p → HasLeft same_left (Contains xs) left → (b ≡ true) ↔ Fits same_left same_right (Contains xs) left p → (b ≡ true) ↔ IsUndoable same_left same_right (Contains xs) left a
+    one_pair a p b one h f = (
+      λ e. undoable_by a h (λ q n. subst (Fits same_left same_right (Contains xs) left) (sym (one.only q n)) (f.0 e)) (one.apart same_left same_right),
+      λ u. f.1 (fits_from a u p one.is),
+    )
 
     -- an answer that names two
-    pub two_pairs : (p s : L × R) (b : Bool) → HasLeft same_left (Contains xs) left → Fits same_left same_right (Contains xs) left p → Fits same_left same_right (Contains xs) left s → b ≡ not (shares same_left same_right p s) → MatchBool b (IsUndoable same_left same_right (Contains xs) left (Both p s)) (IsUndoable same_left same_right (Contains xs) left (Both p s) → ⊥)
-    two_pairs p s b h f g e = by_case (shares same_left same_right p s) refl b e
-      where
-        by_case : (k : Bool) → shares same_left same_right p s ≡ k → (b : Bool) → b ≡ not k → MatchBool b (IsUndoable same_left same_right (Contains xs) left (Both p s)) (IsUndoable same_left same_right (Contains xs) left (Both p s) → ⊥)
-        by_case true k true e = absurd (true≢false e)
-        by_case true k false e = λ u. true≢false (sym k ∙ u.two)
-        by_case false k true e = undoable_by (Both p s) h (λ q o. elim o [
-          | inl m ↦ subst (Fits same_left same_right (Contains xs) left) (sym m) f
-          | inr m ↦ subst (Fits same_left same_right (Contains xs) left) (sym m) g
-        ]) k
-        by_case false k false e = absurd (true≢false (sym e))
+    pub two_pairs : (p s : L × R) (b : Bool) → HasLeft same_left (Contains xs) left → Fits same_left same_right (Contains xs) left p → Fits same_left same_right (Contains xs) left s → b ≡ not (shares same_left same_right p s) → (b ≡ true) ↔ IsUndoable same_left same_right (Contains xs) left (Both p s)
+    two_pairs p s b h f g e = (
+      λ t. undoable_by (Both p s) h (λ q o. elim o [
+        | inl m ↦ subst (Fits same_left same_right (Contains xs) left) (sym m) f
+        | inr m ↦ subst (Fits same_left same_right (Contains xs) left) (sym m) g
+      ]) (not-true (shares same_left same_right p s) (sym e ∙ t)),
+      λ u. e ∙ ap not u.two,
+    )
 
     -- a right that another pair may have
-    pub fits_right_by : (l : L) (r : R) (b : Bool) → ((w : R) × Contains xs (l, w) × (same_right w r ≡ true)) → b ≡ same_left l left → MatchBool b (FitsRight same_left same_right (Contains xs) left r) (FitsRight same_left same_right (Contains xs) left r → ⊥)
-    fits_right_by l r true h e = λ s m f.
-        subst (λ (z : L × R). same_left z.0 left ≡ true) (sym (one_of s (l, h.0) m h.1 (or_right (same_left s.0 l) (same_right s.1 h.0) (rights.symm s.1 h.0 ∙ rights.congr h.0 r s.1 h.2 ∙ f)))) (sym e)
-    fits_right_by l r false h e = λ f. true≢false (sym (f (l, h.0) h.1 (rights.symm r h.0 ∙ h.2)) ∙ sym e)
+    pub fits_right_by : (l : L) (r : R) → ((w : R) × Contains xs (l, w) × (same_right w r ≡ true)) → (same_left l left ≡ true) ↔ FitsRight same_left same_right (Contains xs) left r
+    fits_right_by l r h = (
+      λ e s m f.
+          subst (λ (z : L × R). same_left z.0 left ≡ true) (sym (one_of s (l, h.0) m h.1 (or_right (same_left s.0 l) (same_right s.1 h.0) (rights.symm s.1 h.0 ∙ rights.congr h.0 r s.1 h.2 ∙ f)))) e,
+      λ f. f (l, h.0) h.1 (rights.symm r h.0 ∙ h.2),
+    )
 
-  pub fits_both : (S : L × R → Type 0) (left : L) (q : L × R) (b : Bool) → FitsLeft same_left S left q.0 → MatchBool b (FitsRight same_left same_right S left q.1) (FitsRight same_left same_right S left q.1 → ⊥) → MatchBool b (Fits same_left same_right S left q) (Fits same_left same_right S left q → ⊥)
-  fits_both S left q true f g = λ s m e. elim (or_either (same_left q.0 s.0) (same_right q.1 s.1) e) [ inl k ↦ f s m k | inr k ↦ g s m k ]
-  fits_both S left q false f g = λ h. g (λ s m e. h s m (or_right (same_left q.0 s.0) (same_right q.1 s.1) e))
+  -- a left that is not equal to the given one
+  pub fits_left_by : (S : L × R → Type 0) (left l : L) (b : Bool) → same_left l left ≡ false → (b ≡ true) ↔ HasLeft same_left S l → (not b ≡ true) ↔ FitsLeft same_left S left l
+  fits_left_by S left l b differ has = (
+    λ e s m f. absurd (true≢false (sym (has.1 (s, m, lefts.symm s.0 l ∙ f)) ∙ not-true b e)),
+    λ fits. not_from_false b (false_from_ne_true b (λ e. let h = has.0 e in true≢false (sym (sym (lefts.congr h.0.0 l left h.2) ∙ fits h.0 h.1 (lefts.symm l h.0.0 ∙ h.2)) ∙ differ))),
+  )

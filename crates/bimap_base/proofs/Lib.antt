@@ -1,16 +1,23 @@
+mod Fieldless
 pub mod Apart
+pub mod CopiesAlike
 pub mod Copying
 pub mod Digits
 pub mod Extending
 pub mod Fits
 pub mod FreeList
+pub mod HoldingsAlike
 pub mod Meeting
 pub mod Members
 pub mod Packing
 pub mod Packs
+pub mod Passing
+pub mod Results
 pub mod Removals
 pub mod Replacing
 pub mod SameAscending
 pub mod SameSets
+pub mod SetsAlike
 pub mod Survivors
 pub mod Undoing
+pub mod Walked

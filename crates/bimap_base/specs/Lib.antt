@@ -5,6 +5,7 @@ pub mod Kept
 pub mod Undoing
 pub mod Fitting
 pub mod Holding
+pub mod Capacity
 pub mod Same
 pub mod Copies
 pub mod Exchange
@@ -13,5 +14,7 @@ pub mod Digits
 pub mod Slots
 pub mod FreeSlots
 pub mod Keyed
+pub mod Numbered
 pub mod Packed
 pub mod Places
+pub mod PairsAt

@@ -1,13 +1,15 @@
-//! The interface that both bimaps share.
-ghost use Rattle.std.specs.Prelude.{◌≡◌, ◌≤◌, [], length, Contains, MatchBool};
-ghost use Rattle.bimap_base.specs.Sets.{IsApart, HasLeft, LacksLeft, HasRight, LacksRight};
+//! The interface that all bimaps share.
+ghost use Rattle.std.specs.Prelude.{◌≡◌, ◌≤◌, ◌↔◌, [], length, Contains, IsTrue, not};
+ghost use Rattle.bimap_base.specs.Capacity.{IsReservation};
+ghost use Rattle.bimap_base.specs.Fitting.{FitsLeft, FitsRight, Fits};
+ghost use Rattle.bimap_base.specs.Sets.{shares, IsApart, HasLeft, HasRight};
 ghost use Rattle.bimap_base.specs.Holding.{Holding, IsFoundByLeft, IsFoundByRight, IsInsertion, IsInsertionWithoutOverwriting, IsInsertionUnder, IsRemovalByLeft, IsRemovalByRight, IsRetention, IsUndoing};
 ghost use Rattle.bimap_base.specs.Kept.{MayTest};
 ghost use Rattle.bimap_base.specs.Undoing.{IsUndoable};
 
 use crate::overwritten::Overwritten;
-use crate::policy::Policy;
-use crate::refusal::{NoRoom, NotInserted, NotInsertedWith, UndoStopped};
+use crate::policy::{OnHeld, Policy};
+use crate::refusal::{NoMemory, NoRoom, NotInserted, NotInsertedWith, UndoStopped};
 
 /// A set of pairs in which each left has one right and each right has one left.
 ///
@@ -21,13 +23,9 @@ pub trait Bijection<L: Eq + Drop, R: Eq + Drop> {
     fn len(&self) -> usize
         ensures { result ≡ length (holding self.now).pairs };
 
-    /// Whether the left is held.
-    fn contains_left(&self, left: &L) -> bool
-        ensures { MatchBool result (HasLeft L.eq (Contains (holding self.now).pairs) left.now) (LacksLeft L.eq (Contains (holding self.now).pairs) left.now) };
-
-    /// Whether the right is held.
-    fn contains_right(&self, right: &R) -> bool
-        ensures { MatchBool result (HasRight R.eq (Contains (holding self.now).pairs) right.now) (LacksRight R.eq (Contains (holding self.now).pairs) right.now) };
+    /// The number of places for pairs.
+    fn capacity(&self) -> usize
+        ensures { result ≡ (holding self.now).room };
 
     /// The partner of a left, or `None` where it is not held.
     fn get_by_left(&self, left: &L) -> Option<&R>
@@ -36,14 +34,6 @@ pub trait Bijection<L: Eq + Drop, R: Eq + Drop> {
     /// The partner of a right, or `None` where it is not held.
     fn get_by_right(&self, right: &R) -> Option<&L>
         ensures { IsFoundByRight R.eq (holding self.now) right.now result };
-
-    /// Inserts a pair, and answers the pairs that it strikes out. Where it strikes any, it takes no memory.
-    fn insert(&mut self, left: L, right: R) -> Result<Overwritten<L, R>, NoRoom<L, R>>
-        ensures { IsInsertion L.eq R.eq (holding self.old) (left, right) result (holding self.new) };
-
-    /// Inserts a pair of which neither value is held. A refusal changes nothing.
-    fn insert_no_overwrite(&mut self, left: L, right: R) -> Result<(), NotInserted<L, R>>
-        ensures { IsInsertionWithoutOverwriting L.eq R.eq (holding self.old) (left, right) result (holding self.new) };
 
     /// Inserts a pair where the policy lets it overwrite what it shares a value with. A refusal changes nothing.
     fn insert_with(
@@ -72,9 +62,10 @@ pub trait Bijection<L: Eq + Drop, R: Eq + Drop> {
         ensures pairs { (holding self.new).pairs ≡ [] }
         ensures room { (holding self.new).room ≡ (holding self.old).room };
 
-    /// Whether the insertion that gave this answer for this left may be undone.
-    fn can_undo_insert(&self, left: &L, answer: &Overwritten<L, R>) -> bool
-        ensures { MatchBool result (IsUndoable L.eq R.eq (Contains (holding self.now).pairs) left.now answer.now) (IsUndoable L.eq R.eq (Contains (holding self.now).pairs) left.now answer.now → ⊥) };
+    /// Makes the room at least the length plus `more`, exactly. Where it is so already, no memory is taken. A refusal
+    /// changes nothing.
+    fn reserve(&mut self, more: usize) -> Result<(), NoMemory>
+        ensures { IsReservation (holding self.old) more result (holding self.new) };
 
     /// Takes out the pair of a left and answers it, and holds the pairs of the answer instead. Only where the answer is
     /// `Both` and no place is free does it take memory.
@@ -86,9 +77,112 @@ pub trait Bijection<L: Eq + Drop, R: Eq + Drop> {
         requires { IsUndoable L.eq R.eq (Contains (holding self.old).pairs) left.now answer }
         ensures { IsUndoing L.eq R.eq (holding self.old) left.now answer result (holding self.new) };
 
+    /// Whether no pair is held.
+    final fn is_empty(&self) -> bool
+        ensures { IsTrue result ↔ ((holding self.now).pairs ≡ []) }
+    {
+        self.len() == 0
+    }
+
+    /// Whether the left is held.
+    final fn contains_left(&self, left: &L) -> bool
+        ensures { IsTrue result ↔ HasLeft L.eq (Contains (holding self.now).pairs) left.now }
+    {
+        self.get_by_left(left).is_some()
+    }
+
+    /// Whether the right is held.
+    final fn contains_right(&self, right: &R) -> bool
+        ensures { IsTrue result ↔ HasRight R.eq (Contains (holding self.now).pairs) right.now }
+    {
+        self.get_by_right(right).is_some()
+    }
+
+    /// Inserts a pair, and answers the pairs that it strikes out. Where it strikes any, it takes no memory.
+    final fn insert(&mut self, left: L, right: R) -> Result<Overwritten<L, R>, NoRoom<L, R>>
+        ensures { IsInsertion L.eq R.eq (holding self.old) (left, right) result (holding self.new) }
+    {
+        let policy = Policy {
+            left: OnHeld::Overwrite,
+            right: OnHeld::Overwrite,
+        };
+        match self.insert_with(left, right, policy) {
+            Ok(answer) => Ok(answer),
+            Err(NotInsertedWith::Memory(left, right)) => Err(NoRoom { left, right }),
+            Err(_) => unreachable!(),
+        }
+    }
+
+    /// Inserts a pair of which neither value is held. A refusal changes nothing.
+    final fn insert_no_overwrite(&mut self, left: L, right: R) -> Result<(), NotInserted<L, R>>
+        ensures { IsInsertionWithoutOverwriting L.eq R.eq (holding self.old) (left, right) result (holding self.new) }
+    {
+        let policy = Policy {
+            left: OnHeld::Refuse,
+            right: OnHeld::Refuse,
+        };
+        match self.insert_with(left, right, policy) {
+            Ok(_) => Ok(()),
+            Err(NotInsertedWith::LeftHeld(left, right)) => Err(NotInserted::Occupied(left, right)),
+            Err(NotInsertedWith::RightHeld(left, right)) => Err(NotInserted::Occupied(left, right)),
+            Err(NotInsertedWith::Memory(left, right)) => Err(NotInserted::Memory(left, right)),
+        }
+    }
+
+    /// Whether the insertion that gave this answer for this left may be undone.
+    final fn can_undo_insert(&self, left: &L, answer: &Overwritten<L, R>) -> bool
+        ensures { IsTrue result ↔ IsUndoable L.eq R.eq (Contains (holding self.now).pairs) left.now answer.now }
+    {
+        if !self.contains_left(left) {
+            return false;
+        }
+        match answer {
+            Overwritten::Neither => true,
+            Overwritten::Left(l, r) | Overwritten::Right(l, r) | Overwritten::Pair(l, r) => {
+                self.fits_beside(left, l, r)
+            }
+            Overwritten::Both(first, second) => {
+                self.fits_beside(left, &first.0, &first.1)
+                    && self.fits_beside(left, &second.0, &second.1)
+                    && are_apart(first, second)
+            }
+        }
+    }
+
+    /// Whether a pair shares a value with no pair but that of `left`.
+    final fn fits_beside(&self, left: &L, l: &L, r: &R) -> bool
+        ensures { IsTrue result ↔ Fits L.eq R.eq (Contains (holding self.now).pairs) left.now (l.now, r.now) }
+    {
+        self.fits_left(left, l) && self.fits_right(left, r)
+    }
+
+    /// Whether no pair but that of `left` has the left `l`.
+    final fn fits_left(&self, left: &L, l: &L) -> bool
+        ensures { IsTrue result ↔ FitsLeft L.eq (Contains (holding self.now).pairs) left.now l.now }
+    {
+        *l == *left || !self.contains_left(l)
+    }
+
+    /// Whether no pair but that of `left` has the right `r`.
+    final fn fits_right(&self, left: &L, r: &R) -> bool
+        ensures { IsTrue result ↔ FitsRight L.eq R.eq (Contains (holding self.now).pairs) left.now r.now }
+    {
+        match self.get_by_right(r) {
+            None => true,
+            Some(found) => *found == *left,
+        }
+    }
+
     /// No two of the pairs held share a value.
     ghost apart: { (bimap : Self) → IsApart L.eq R.eq (holding bimap).pairs };
 
     /// There is a place for each pair held.
     ghost fits: { (bimap : Self) → length (holding bimap).pairs ≤ (holding bimap).room };
+}
+
+// Whether two pairs share no value.
+fn are_apart<L: Eq, R: Eq>(first: &(L, R), second: &(L, R)) -> bool
+    ensures { result ≡ not (shares L.eq R.eq first.now second.now) }
+{
+    !(first.0 == second.0 || first.1 == second.1)
 }

@@ -3,10 +3,8 @@ ghost use Rattle.std.specs.Prelude.{◌≡◌, ℕ, ◌+◌, Option, Some, IsSom
 ghost use Rattle.std.specs.declared.cmp.Ordering.{Ordering};
 ghost use Rattle.std.specs.Cmp.{IsTotalOrder};
 ghost use Rattle.bimap_base.specs.Keyed.{standing, standing_of};
-ghost use Rattle.bimap_base.specs.Slots.{left_at, right_at};
 
 use crate::meter::Meter;
-use crate::pairs::Pairs;
 use std::cmp::Ordering;
 
 /// Live places, each with a key, and a total order of keys. Each call counts one comparison.
@@ -36,84 +34,4 @@ pub trait Keys {
 
     /// The order is total, and `Equal` is an equivalence.
     ghost total: { IsTotalOrder order };
-}
-
-/// The lefts of a store as keys.
-#[derive_where(Clone, Copy)]
-pub struct LeftOf<'a, L, R> {
-    pairs: &'a Pairs<L, R>,
-}
-
-/// The rights of a store as keys.
-#[derive_where(Clone, Copy)]
-pub struct RightOf<'a, L, R> {
-    pairs: &'a Pairs<L, R>,
-}
-
-impl<'a, L, R> LeftOf<'a, L, R> {
-    /// The lefts of this store. It takes no memory.
-    pub fn new(pairs: &'a Pairs<L, R>) -> Self
-        ensures { result.pairs.now ≡ pairs.now }
-    {
-        LeftOf { pairs }
-    }
-}
-
-impl<'a, L, R> RightOf<'a, L, R> {
-    /// The rights of this store. It takes no memory.
-    pub fn new(pairs: &'a Pairs<L, R>) -> Self
-        ensures { result.pairs.now ≡ pairs.now }
-    {
-        RightOf { pairs }
-    }
-}
-
-impl<'a, L: Ord, R> Keys for LeftOf<'a, L, R> {
-    type Key = L;
-
-    ghost key_at = { λ s. left_at s.pairs.now };
-
-    ghost order = { L.cmp };
-
-    ghost total = { L.total };
-
-    fn compare<M: Meter>(&self, place: usize, key: &L, meter: &mut M) -> Ordering {
-        meter.compared();
-        let pairs = self.pairs;
-        let (left, _) = pairs.held(place);
-        left.cmp(key)
-    }
-
-    fn compare_places<M: Meter>(&self, a: usize, b: usize, meter: &mut M) -> Ordering {
-        meter.compared();
-        let pairs = self.pairs;
-        let (first, _) = pairs.held(a);
-        let (second, _) = pairs.held(b);
-        first.cmp(second)
-    }
-}
-
-impl<'a, L, R: Ord> Keys for RightOf<'a, L, R> {
-    type Key = R;
-
-    ghost key_at = { λ s. right_at s.pairs.now };
-
-    ghost order = { R.cmp };
-
-    ghost total = { R.total };
-
-    fn compare<M: Meter>(&self, place: usize, key: &R, meter: &mut M) -> Ordering {
-        meter.compared();
-        let pairs = self.pairs;
-        let (_, right) = pairs.held(place);
-        right.cmp(key)
-    }
-
-    fn compare_places<M: Meter>(&self, a: usize, b: usize, meter: &mut M) -> Ordering {
-        meter.compared();
-        let pairs = self.pairs;
-        let (_, first) = pairs.held(a);
-        let (_, second) = pairs.held(b);
-        first.cmp(second)
-    }
 }

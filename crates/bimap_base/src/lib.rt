@@ -1,8 +1,11 @@
-//! What both bimaps stand on: the plain types, the store of pairs, and the interfaces between store, index and bimap.
+//! What every bimap stands on: the plain types, the store of pairs, and the interfaces between store, index and bimap.
 #![tactic(auto)]
 
 mod bijection;
+mod by_hash;
+mod by_order;
 mod cells;
+mod count;
 mod fill;
 mod keys;
 mod meter;
@@ -11,12 +14,16 @@ mod pairs;
 mod policy;
 mod refusal;
 mod replace;
+mod side;
 mod spread;
 
 pub use bijection::Bijection;
+pub use by_hash::ByHash;
+pub use by_order::ByOrder;
 pub use cells::{Cells, Node};
+pub use count::Count;
 pub use fill::{extend, extend_with, from_iter, from_iter_with};
-pub use keys::{Keys, LeftOf, RightOf};
+pub use keys::Keys;
 pub use meter::Meter;
 pub use overwritten::Overwritten;
 pub use pairs::Pairs;
@@ -26,4 +33,5 @@ pub use refusal::{
     UndoStopped,
 };
 pub use replace::{replace_left, replace_right};
-pub use spread::{LeftSpread, RightSpread, Spread};
+pub use side::{LeftSide, RightSide, Side};
+pub use spread::Spread;

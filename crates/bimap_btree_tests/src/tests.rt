@@ -1,6 +1,6 @@
 //! What no clause says: each call once on its happy path, keys that carry other data, and counted comparisons.
 use bimap_base::{Bijection, NotInserted, NotInsertedWith, OnHeld, Overwritten, Policy};
-use bimap_btree::BiBTreeMap;
+use bimap_kinds::BiBTreeMap;
 use std::alloc::Global;
 
 mod built;
@@ -329,7 +329,7 @@ fn undoes_to_the_exact_values(rt: HostRuntime) {
     assert!(&rt; mark_of(&map, 1) == Some(1));
 }
 
-// Through the bound that both bimaps share.
+// Through the bound that all bimaps share.
 fn renames<B: Bijection<char, u32>>(bimap: &mut B) -> bool {
     bimap.insert('a', 1) == Ok(Overwritten::Neither)
         && bimap.insert_no_overwrite('b', 2) == Ok(())

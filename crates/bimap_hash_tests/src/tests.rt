@@ -1,6 +1,6 @@
 //! What no clause says: worked histories, under several builders. The histories are the same for each.
 use bimap_base::{Bijection, Overwritten};
-use bimap_hash::BiHashMap;
+use bimap_kinds::BiHashMap;
 use std::alloc::Global;
 use std::hash::{BuildHasher, Hasher};
 

@@ -1,28 +1,16 @@
 -- A pair that is taken out, and pairs that come back for it.
-use Rattle.std.proofs.Common.{◌≡◌, ◌↔◌, ◌⊎◌, inl, inr, Bool, true, false, List, [], ◌∷◌, ◌++◌, refl, sym, ap, ◌∙◌, subst, true≢false}
-use Rattle.std.specs.Prelude.{Contains, MatchBool, not}
+use Rattle.std.proofs.Common.{◌≡◌, inl, inr, Bool, true, false, List, [], ◌∷◌, ◌++◌, refl, sym, ap, ◌∙◌, subst, true≢false}
+use Rattle.std.specs.Prelude.{Contains}
 use Rattle.std.specs.Cmp.{IsEquivalence}
-use Rattle.std.proofs.lemmas.Bool.{or_left, or_right, or_cases, false_from_ne_true}
+use Rattle.std.proofs.lemmas.Bool.{false_from_ne_true}
 use Rattle.std.proofs.lemmas.List.Elements.{Contains-append_left, Contains-push, Contains-push_cases}
-use Rattle.bimap_base.specs.Sets.{shares, IsApart, HasLeft, IsWithoutLeft}
-use Rattle.bimap_base.specs.Answer.{IsNamed, IsBoth}
+use Rattle.bimap_base.specs.Sets.{shares, IsApart, IsWithoutLeft}
+use Rattle.bimap_base.specs.Answer.{IsNamed}
 use Rattle.bimap_base.specs.Undoing.{AreNamedApart, IsUndoable, IsUndone}
 use Rattle.bimap_base.specs.declared.overwritten.Overwritten.{Overwritten}
-use Rattle.bimap_base.specs.declared.overwritten.Overwritten.TheVariants.{Neither, Left, Right, Pair, Both}
-use Rattle.bimap_base.proofs.Apart.{apart_unique, shares_symm}
-use Rattle.bimap_plain.specs.Plain.{Fits}
+use Rattle.bimap_base.specs.declared.overwritten.Overwritten.TheVariants.{Both}
+use Rattle.bimap_base.proofs.Apart.{shares_symm}
 use Rattle.bimap_plain.proofs.Removal.{apart_push}
-
--- the answer names this pair alone
-pub record NamesOne {L R : Type 0} (answer : Overwritten L R) (p : L × R) : Type 0 where
-  pub only : (q : L × R) → IsNamed answer q → q ≡ p
-  pub is : IsNamed answer p
-  pub not_both : IsBoth answer → ⊥
-
-pub names_one : {L R : Type 0} (answer : Overwritten L R) (l : L) (r : R) → (answer ≡ Left l r) ⊎ ((answer ≡ Right l r) ⊎ (answer ≡ Pair l r)) → NamesOne answer (l, r)
-names_one answer l r (inl e) = rw e (record { only = λ q n. n; is = refl; not_both = λ b. b })
-names_one answer l r (inr (inl e)) = rw e (record { only = λ q n. n; is = refl; not_both = λ b. b })
-names_one answer l r (inr (inr e)) = rw e (record { only = λ q n. n; is = refl; not_both = λ b. b })
 
 module _ {L R : Type 0} (same_left : L → L → Bool) (same_right : R → R → Bool) where
   -- one pair came back
@@ -74,34 +62,3 @@ module _ {L R : Type 0} (same_left : L → L → Bool) (same_right : R → R →
           | inl k ↦ named_free s q named_s k
           | inr w ↦ subst (λ z. shares same_left same_right z s ≡ false) w two
         ]))
-
-  module _ (xs : List (L × R)) (left : L) (apart : IsApart same_left same_right xs) where
-    pub undoable_by : (a : Overwritten L R) → HasLeft same_left (Contains xs) left → ((q : L × R) → IsNamed a q → Fits same_left same_right (Contains xs) left q) → AreNamedApart same_left same_right a → IsUndoable same_left same_right (Contains xs) left a
-    undoable_by a h f t = record {
-      pair = h.0;
-      member = h.1;
-      by_left = h.2;
-      alone = λ q s o m e. apart_unique same_left same_right lefts rights xs s h.0 apart m h.1 (or_left (same_left s.0 h.0.0) (same_right s.1 h.0.1) (tie s.0 h.0.0 left (f q o s m e) h.2));
-      two = t;
-    }
-
-    fits_from : (a : Overwritten L R) → IsUndoable same_left same_right (Contains xs) left a → (q : L × R) → IsNamed a q → Fits same_left same_right (Contains xs) left q
-    fits_from a u q o s m e = subst (λ (z : L × R). same_left z.0 left ≡ true) (sym (u.alone q s o m e)) u.by_left
-
-    -- an answer that names one pair
-    pub one_pair : (a : Overwritten L R) (p : L × R) (b : Bool) → HasLeft same_left (Contains xs) left → ((q : L × R) → IsNamed a q → q ≡ p) → IsNamed a p → AreNamedApart same_left same_right a → MatchBool b (Fits same_left same_right (Contains xs) left p) (Fits same_left same_right (Contains xs) left p → ⊥) → MatchBool b (IsUndoable same_left same_right (Contains xs) left a) (IsUndoable same_left same_right (Contains xs) left a → ⊥)
-    one_pair a p true h one o t f = undoable_by a h (λ q n. subst (Fits same_left same_right (Contains xs) left) (sym (one q n)) f) t
-    one_pair a p false h one o t f = λ u. f (fits_from a u p o)
-
-    -- an answer that names two
-    pub two_pairs : (p s : L × R) (b : Bool) → HasLeft same_left (Contains xs) left → Fits same_left same_right (Contains xs) left p → Fits same_left same_right (Contains xs) left s → b ≡ not (shares same_left same_right p s) → MatchBool b (IsUndoable same_left same_right (Contains xs) left (Both p s)) (IsUndoable same_left same_right (Contains xs) left (Both p s) → ⊥)
-    two_pairs p s b h f g e = by_case (shares same_left same_right p s) refl b e
-      where
-        by_case : (k : Bool) → shares same_left same_right p s ≡ k → (b : Bool) → b ≡ not k → MatchBool b (IsUndoable same_left same_right (Contains xs) left (Both p s)) (IsUndoable same_left same_right (Contains xs) left (Both p s) → ⊥)
-        by_case true k true e = absurd (true≢false e)
-        by_case true k false e = λ u. true≢false (sym k ∙ u.two)
-        by_case false k true e = undoable_by (Both p s) h (λ q o. elim o [
-          | inl m ↦ subst (Fits same_left same_right (Contains xs) left) (sym m) f
-          | inr m ↦ subst (Fits same_left same_right (Contains xs) left) (sym m) g
-        ]) k
-        by_case false k false e = absurd (true≢false (sym e))

@@ -1,5 +1,5 @@
 -- What a scanned vector of pairs shows.
-use Rattle.std.specs.Prelude.{◌≡◌, ◌↔◌, ℕ, Bool, true, false, List, Contains}
+use Rattle.std.specs.Prelude.{◌≡◌, ◌↔◌, ℕ, Bool, false, List, Contains}
 use Rattle.bimap_base.specs.Sets.{shares}
 use Rattle.bimap_base.specs.Holding.{Holding}
 
@@ -11,7 +11,3 @@ module _ {L R : Type 0} (same_left : L → L → Bool) (same_right : R → R →
   -- what is left has the pairs that share no value with p
   abbrev pub IsCleared : List (L × R) → L × R → List (L × R) → Type 0
   IsCleared pairs p left = (q : L × R) → Contains left q ↔ (Contains pairs q × (shares same_left same_right q p ≡ false))
-
-  -- each member that shares a value with the pair has the left
-  abbrev pub Fits : (L × R → Type 0) → L → L × R → Type 0
-  Fits S left q = (s : L × R) → S s → shares same_left same_right q s ≡ true → same_left s.0 left ≡ true

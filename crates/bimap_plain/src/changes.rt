@@ -2,15 +2,14 @@
 ghost use Rattle.std.specs.Prelude.{◌≡◌, ◌≤◌, ◌<◌, ◌⊎◌, Contains, OnOk, OnErr, vec_len, vec_capacity};
 ghost use Rattle.bimap_base.specs.Sets.{IsApart};
 ghost use Rattle.bimap_base.specs.Answer.{IsAnswer};
-ghost use Rattle.bimap_base.specs.Holding.{IsInsertion, IsInsertionWithoutOverwriting, IsInsertionUnder, IsUndoing};
+ghost use Rattle.bimap_base.specs.Capacity.{IsReservation};
+ghost use Rattle.bimap_base.specs.Holding.{IsInsertion, IsInsertionUnder, IsUndoing};
 ghost use Rattle.bimap_base.specs.Kept.{MayTest, MayTestPair, TestedAt, IsKept};
 ghost use Rattle.bimap_base.specs.Undoing.{IsUndoable};
 ghost use Rattle.bimap_plain.specs.Plain.{shown, IsCleared};
 
 use crate::scan::{has_left, has_right, take_left, take_right};
-use bimap_base::{
-    NoMemory, NoRoom, NotInserted, NotInsertedWith, Overwritten, Policy, UndoStopped,
-};
+use bimap_base::{NoMemory, NoRoom, NotInsertedWith, Overwritten, Policy, UndoStopped};
 
 /// Makes a place free, where none is. It takes memory only there, and none where the room is fixed.
 fn make_place<T>(items: &mut Vec<T>, fixed: bool) -> Result<(), NoMemory>
@@ -30,8 +29,18 @@ fn make_place<T>(items: &mut Vec<T>, fixed: bool) -> Result<(), NoMemory>
     items.reserve_exact(1).map_err(|_| NoMemory)
 }
 
+/// Makes room for so many more pairs, exactly. Where it is missing and the room is fixed, it is refused.
+pub fn reserve<L, R>(pairs: &mut Vec<(L, R)>, fixed: bool, more: usize) -> Result<(), NoMemory>
+    ensures { IsReservation (shown pairs.old.items (vec_capacity pairs.old)) more result (shown pairs.new.items (vec_capacity pairs.new)) }
+{
+    if fixed && pairs.capacity() - pairs.len() < more {
+        return Err(NoMemory);
+    }
+    pairs.reserve_exact(more).map_err(|_| NoMemory)
+}
+
 /// Puts a pair in, and takes out those that share a value with it.
-pub fn insert<L: Eq + Drop, R: Eq + Drop>(
+fn insert<L: Eq + Drop, R: Eq + Drop>(
     pairs: &mut Vec<(L, R)>,
     fixed: bool,
     left: L,
@@ -47,29 +56,6 @@ pub fn insert<L: Eq + Drop, R: Eq + Drop>(
     }
     pairs.push_reserved((left, right));
     Ok(answer)
-}
-
-/// Puts a pair in where neither value is held.
-pub fn insert_new<L: Eq + Drop, R: Eq + Drop>(
-    pairs: &mut Vec<(L, R)>,
-    fixed: bool,
-    left: L,
-    right: R,
-) -> Result<(), NotInserted<L, R>>
-    requires { IsApart L.eq R.eq pairs.old.items }
-    ensures insertion { IsInsertionWithoutOverwriting L.eq R.eq (shown pairs.old.items (vec_capacity pairs.old)) (left, right) result (shown pairs.new.items (vec_capacity pairs.new)) }
-    ensures apart { IsApart L.eq R.eq pairs.new.items }
-{
-    if has_left(pairs, &left) {
-        return Err(NotInserted::Occupied(left, right));
-    }
-    if has_right(pairs, &right) {
-        return Err(NotInserted::Occupied(left, right));
-    }
-    match insert(pairs, fixed, left, right) {
-        Ok(_) => Ok(()),
-        Err(NoRoom { left, right }) => Err(NotInserted::Memory(left, right)),
-    }
 }
 
 /// Puts a pair in where the policy lets it overwrite.

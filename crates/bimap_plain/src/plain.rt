@@ -6,9 +6,7 @@ ghost use Rattle.bimap_base.specs.Undoing.{IsUndoable};
 ghost use Rattle.bimap_plain.specs.Plain.{shown};
 
 use crate::{changes, scan};
-use bimap_base::{
-    Bijection, NoMemory, NoRoom, NotInserted, NotInsertedWith, Overwritten, Policy, UndoStopped,
-};
+use bimap_base::{Bijection, NoMemory, NotInsertedWith, Overwritten, Policy, UndoStopped};
 use std::alloc::Global;
 
 /// Pairs in a vector, whose capacity is the room.
@@ -62,12 +60,8 @@ impl<L: Eq + Drop, R: Eq + Drop> Bijection<L, R> for Plain<L, R> {
         self.pairs.len()
     }
 
-    fn contains_left(&self, left: &L) -> bool {
-        scan::has_left(&self.pairs, left)
-    }
-
-    fn contains_right(&self, right: &R) -> bool {
-        scan::has_right(&self.pairs, right)
+    fn capacity(&self) -> usize {
+        self.pairs.capacity()
     }
 
     fn get_by_left(&self, left: &L) -> Option<&R> {
@@ -82,14 +76,6 @@ impl<L: Eq + Drop, R: Eq + Drop> Bijection<L, R> for Plain<L, R> {
             None => None,
             Some(pair) => Some(&pair.0),
         }
-    }
-
-    fn insert(&mut self, left: L, right: R) -> Result<Overwritten<L, R>, NoRoom<L, R>> {
-        changes::insert(&mut self.pairs, self.fixed, left, right)
-    }
-
-    fn insert_no_overwrite(&mut self, left: L, right: R) -> Result<(), NotInserted<L, R>> {
-        changes::insert_new(&mut self.pairs, self.fixed, left, right)
     }
 
     fn insert_with(
@@ -117,8 +103,8 @@ impl<L: Eq + Drop, R: Eq + Drop> Bijection<L, R> for Plain<L, R> {
         self.pairs.clear();
     }
 
-    fn can_undo_insert(&self, left: &L, answer: &Overwritten<L, R>) -> bool {
-        scan::may_undo(&self.pairs, left, answer)
+    fn reserve(&mut self, more: usize) -> Result<(), NoMemory> {
+        changes::reserve(&mut self.pairs, self.fixed, more)
     }
 
     fn undo_insert(

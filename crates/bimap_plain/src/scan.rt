@@ -1,10 +1,6 @@
 //! What looks through pairs one by one, and takes one out.
-ghost use Rattle.std.specs.Prelude.{◌≡◌, ◌+◌, ◌<◌, true, Contains, MatchOption, MatchBool, IfNone, OnSome, not, vec_len, vec_capacity};
-ghost use Rattle.bimap_base.specs.Sets.{shares, IsApart, HasLeft, LacksLeft, IsWithoutLeft, HasRight, LacksRight, IsWithoutRight};
-ghost use Rattle.bimap_base.specs.Undoing.{IsUndoable};
-ghost use Rattle.bimap_plain.specs.Plain.{Fits};
-
-use bimap_base::Overwritten;
+ghost use Rattle.std.specs.Prelude.{◌≡◌, ◌+◌, ◌<◌, true, Contains, MatchOption, MatchBool, IfNone, OnSome, vec_len, vec_capacity};
+ghost use Rattle.bimap_base.specs.Sets.{IsApart, HasLeft, LacksLeft, IsWithoutLeft, HasRight, LacksRight, IsWithoutRight};
 
 pub fn has_left<L: Eq, R>(pairs: &[(L, R)], left: &L) -> bool
     ensures { MatchBool result (HasLeft L.eq (Contains pairs.now) left.now) (LacksLeft L.eq (Contains pairs.now) left.now) }
@@ -82,46 +78,4 @@ pub fn take_right<L: Eq + Drop, R: Eq + Drop>(pairs: &mut Vec<(L, R)>, right: &R
         }
     }
     None
-}
-
-/// Whether each pair that shares a value with this left and right has the other left.
-fn fits<L: Eq, R: Eq>(pairs: &[(L, R)], other: &L, left: &L, right: &R) -> bool
-    ensures { MatchBool result (Fits L.eq R.eq (Contains pairs.now) other.now (left.now, right.now)) (Fits L.eq R.eq (Contains pairs.now) other.now (left.now, right.now) → ⊥) }
-{
-    for pair in pairs {
-        if do_share(left, right, pair) && !(pair.0 == *other) {
-            return false;
-        }
-    }
-    true
-}
-
-fn do_share<L: Eq, R: Eq>(left: &L, right: &R, pair: &(L, R)) -> bool
-    ensures { result ≡ shares L.eq R.eq (left.now, right.now) pair.now }
-{
-    *left == pair.0 || *right == pair.1
-}
-
-pub fn may_undo<L: Eq, R: Eq>(pairs: &[(L, R)], left: &L, answer: &Overwritten<L, R>) -> bool
-    requires { IsApart L.eq R.eq pairs.now }
-    ensures { MatchBool result (IsUndoable L.eq R.eq (Contains pairs.now) left.now answer.now) (IsUndoable L.eq R.eq (Contains pairs.now) left.now answer.now → ⊥) }
-{
-    if !has_left(pairs, left) {
-        return false;
-    }
-    match answer {
-        Overwritten::Neither => true,
-        Overwritten::Left(l, r) => fits(pairs, left, l, r),
-        Overwritten::Right(l, r) => fits(pairs, left, l, r),
-        Overwritten::Pair(l, r) => fits(pairs, left, l, r),
-        Overwritten::Both(first, second) => {
-            if !fits(pairs, left, &first.0, &first.1) {
-                return false;
-            }
-            if !fits(pairs, left, &second.0, &second.1) {
-                return false;
-            }
-            !do_share(&first.0, &first.1, second)
-        }
-    }
 }

@@ -4,6 +4,8 @@ use std::io::{self, BufRead, Error, ErrorKind, Read, Write};
 use std::process::Abort;
 use std::test::Fail;
 
+mod famine;
+
 /// Gives its chunks, and then ends or fails.
 #[derive(Drop)]
 struct Chunks {

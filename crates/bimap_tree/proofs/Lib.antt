@@ -19,4 +19,6 @@ pub mod Found
 pub mod Starts
 pub mod Whole
 pub mod Routes
+pub mod Batches
+pub mod Spans
 pub mod Climbs

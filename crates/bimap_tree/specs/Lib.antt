@@ -7,3 +7,5 @@ pub mod Link
 pub mod Path
 pub mod Route
 pub mod Remove
+pub mod Batches
+pub mod Spans

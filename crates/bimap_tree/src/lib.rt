@@ -1,14 +1,18 @@
 //! An index of places in the order of their keys: a balanced tree over cells, which compares keys through `Keys` alone.
 #![tactic(auto)]
 
+mod batch;
 mod link;
 mod ordered;
 mod remove;
 mod rise;
 mod route;
 mod search;
+mod span;
 mod steer;
 mod walk;
 
+pub use batch::Batch;
 pub use ordered::Ordered;
 pub use route::Route;
+pub use span::Span;

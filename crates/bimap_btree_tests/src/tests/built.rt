@@ -5,7 +5,7 @@ use super::{
     Seats, has_left, has_right, holds, left_of, put, refuses, right_of, without_left, without_right,
 };
 use bimap_base::{ExtendStopped, NoMemory, Overwritten};
-use bimap_btree::BiBTreeMap;
+use bimap_kinds::BiBTreeMap;
 use std::alloc::Global;
 use std::test::Fail;
 

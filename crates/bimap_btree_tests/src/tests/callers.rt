@@ -1,11 +1,11 @@
 //! What a caller writes with walks, with what it then knows.
 ghost use Rattle.std.specs.Prelude.{◌≡◌, IfOk, map, reverse};
 ghost use Rattle.std.specs.Map.{keys_of, values_of};
-ghost use Rattle.bimap_btree.specs.Held.{holding};
-ghost use Rattle.bimap_btree.specs.Sides.{by_right};
+ghost use Rattle.bimap_kinds.specs.Held.{holding};
+ghost use Rattle.bimap_kinds.specs.Held.{by_right};
 
 use super::filled;
-use bimap_btree::BiBTreeMap;
+use bimap_kinds::BiBTreeMap;
 use std::alloc::{AllocError, Global};
 
 fn rights_by_loop(alloc: Global, bimap: &BiBTreeMap<char, u32>) -> Result<Vec<u32>, AllocError>

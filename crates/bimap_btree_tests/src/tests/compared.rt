@@ -1,11 +1,11 @@
 //! Equality, order, hashes and texts of whole bimaps.
 ghost use Rattle.std.specs.Prelude.{◌≡◌, nat_eq};
 ghost use Rattle.bimap_base.specs.Same.{same};
-ghost use Rattle.bimap_btree.specs.Held.{holding};
+ghost use Rattle.bimap_kinds.specs.Held.{holding};
 
 use super::Seats;
 use super::built::made;
-use bimap_btree::BiBTreeMap;
+use bimap_kinds::BiBTreeMap;
 use std::alloc::Global;
 use std::cmp::Ordering;
 use std::collections::HashSet;

@@ -6,8 +6,9 @@ ghost use Rattle.std.specs.Cmp.Rules.{comparing};
 ghost use Rattle.std.specs.Ordering.{nat_cmp, on, as_partial_cmp};
 
 use bimap_base::Overwritten;
-use bimap_btree::{BiBTreeMap, Iter};
 use bimap_famine::Famine;
+use bimap_kinds::BiBTreeMap;
+use bimap_walk::by_rank::Iter;
 use std::alloc::Global;
 use std::cell::Cell;
 use std::cmp::Ordering;

@@ -1,11 +1,14 @@
 //! Walks and ranges: rows of items from either end, clones, ends of ranges, and walks given up early.
 ghost use Rattle.std.specs.Iterator.{IsFinite};
+ghost use Rattle.std.specs.Ordering.{nat_cmp};
+ghost use Rattle.std.specs.BTreeMap.Range.{IsLeBy, IsLtBy, range_contains};
 
 use super::{Seats, filled};
-use bimap_btree::{BiBTreeMap, IntoIter, Iter, LeftRange, LeftValues, RightRange, RightValues};
 use bimap_famine::Famine;
+use bimap_kinds::BiBTreeMap;
+use bimap_walk::by_rank::{IntoIter, Iter, LeftRange, LeftValues, RightRange, RightValues};
 use std::alloc::{AllocError, Global};
-use std::ops::Bound;
+use std::ops::{Bound, RangeBounds};
 use std::test::Fail;
 
 const FALLING: [(char, u32); 4] = [('a', 4), ('b', 3), ('c', 2), ('d', 1)];
@@ -65,7 +68,8 @@ fn a_bimap_is_walked_by_reference(rt: HostRuntime) {
     assert!(&rt; pairs_of((&map).into_iter(), &THREE));
 }
 
-fn lefts_are(mut lefts: LeftValues<'_, char, u32>, items: &[char]) -> bool {
+fn lefts_are(map: &Seats, items: &[char]) -> bool {
+    let mut lefts = map.left_values();
     for left in items {
         if lefts.next() != Some(left) {
             return false;
@@ -74,7 +78,8 @@ fn lefts_are(mut lefts: LeftValues<'_, char, u32>, items: &[char]) -> bool {
     lefts.next().is_none()
 }
 
-fn lefts_are_back(mut lefts: LeftValues<'_, char, u32>, items: &[char]) -> bool {
+fn lefts_are_back(map: &Seats, items: &[char]) -> bool {
+    let mut lefts = map.left_values();
     for left in items {
         if lefts.next_back() != Some(left) {
             return false;
@@ -83,7 +88,8 @@ fn lefts_are_back(mut lefts: LeftValues<'_, char, u32>, items: &[char]) -> bool 
     lefts.next_back().is_none()
 }
 
-fn rights_are(mut rights: RightValues<'_, char, u32>, items: &[u32]) -> bool {
+fn rights_are(map: &Seats, items: &[u32]) -> bool {
+    let mut rights = map.right_values();
     for right in items {
         if rights.next() != Some(right) {
             return false;
@@ -92,7 +98,8 @@ fn rights_are(mut rights: RightValues<'_, char, u32>, items: &[u32]) -> bool {
     rights.next().is_none()
 }
 
-fn rights_are_back(mut rights: RightValues<'_, char, u32>, items: &[u32]) -> bool {
+fn rights_are_back(map: &Seats, items: &[u32]) -> bool {
+    let mut rights = map.right_values();
     for right in items {
         if rights.next_back() != Some(right) {
             return false;
@@ -101,15 +108,23 @@ fn rights_are_back(mut rights: RightValues<'_, char, u32>, items: &[u32]) -> boo
     rights.next_back().is_none()
 }
 
+fn count_lefts(map: &Seats) -> usize {
+    map.left_values().len()
+}
+
+fn hint_of_rights(map: &Seats) -> (usize, Option<usize>) {
+    map.right_values().size_hint()
+}
+
 #[test]
 fn sides_are_walked_alone(rt: HostRuntime) {
     let map = filled(rt.alloc(), &THREE);
-    assert!(&rt; map.left_values().len() == 3);
-    assert!(&rt; map.right_values().size_hint() == (3, Some(3)));
-    assert!(&rt; lefts_are(map.left_values(), &['a', 'b', 'c']));
-    assert!(&rt; rights_are(map.right_values(), &[1, 2, 3]));
-    assert!(&rt; lefts_are_back(map.left_values(), &['c', 'b', 'a']));
-    assert!(&rt; rights_are_back(map.right_values(), &[3, 2, 1]));
+    assert!(&rt; count_lefts(&map) == 3);
+    assert!(&rt; hint_of_rights(&map) == (3, Some(3)));
+    assert!(&rt; lefts_are(&map, &['a', 'b', 'c']));
+    assert!(&rt; rights_are(&map, &[1, 2, 3]));
+    assert!(&rt; lefts_are_back(&map, &['c', 'b', 'a']));
+    assert!(&rt; rights_are_back(&map, &[3, 2, 1]));
 }
 
 fn last_right(rights: &mut RightValues<'_, char, u32>) -> Option<u32> {
@@ -150,8 +165,10 @@ fn a_clone_goes_on_where_it_was_made(rt: HostRuntime) -> Result<(), Fail> {
     Ok(())
 }
 
-fn right_range_gives(range: RightRange<'_, char, u32>, items: &[(char, u32)]) -> bool {
-    pairs_of(range, items)
+fn right_range_gives<A: RangeBounds<u32>>(map: &Seats, range: A, items: &[(char, u32)]) -> bool
+    requires { A.is_forward range (IsLeBy nat_cmp) (IsLtBy nat_cmp) }
+{
+    pairs_of(map.right_range(range), items)
 }
 
 // Whether the last pair left is this one, of so many.
@@ -176,39 +193,61 @@ fn a_range_of_rights_from_its_end(rt: HostRuntime) {
 #[test]
 fn ranges_of_rights(rt: HostRuntime) {
     let map = filled(rt.alloc(), &FALLING);
-    assert!(&rt; right_range_gives(map.right_range(2..4), &[('c', 2), ('b', 3)]));
+    assert!(&rt; right_range_gives(&map, 2..4, &[('c', 2), ('b', 3)]));
     let range = (Bound::Excluded(1), Bound::Included(3));
-    assert!(&rt; map.right_range(range).size_hint() == (2, Some(2)));
-    assert!(&rt; right_range_gives(map.right_range(range), &[('c', 2), ('b', 3)]));
-    assert!(&rt; right_range_gives(map.right_range(..=2), &[('d', 1), ('c', 2)]));
+    assert!(&rt; right_range_hint(&map, range) == (2, Some(2)));
+    assert!(&rt; right_range_gives(&map, range, &[('c', 2), ('b', 3)]));
+    assert!(&rt; right_range_gives(&map, ..=2, &[('d', 1), ('c', 2)]));
 }
 
-fn left_range_gives(range: LeftRange<'_, char, u32>, items: &[(char, u32)]) -> bool {
-    pairs_of(range, items)
+fn left_range_len<A: RangeBounds<char>>(map: &Seats, range: A) -> usize
+    requires { A.is_forward range (IsLeBy nat_cmp) (IsLtBy nat_cmp) }
+{
+    map.left_range(range).len()
 }
 
-fn left_range_gives_back(range: LeftRange<'_, char, u32>, items: &[(char, u32)]) -> bool {
-    pairs_of(range.rev(), items)
+fn right_range_len<A: RangeBounds<u32>>(map: &Seats, range: A) -> usize
+    requires { A.is_forward range (IsLeBy nat_cmp) (IsLtBy nat_cmp) }
+{
+    map.right_range(range).len()
+}
+
+fn right_range_hint<A: RangeBounds<u32>>(map: &Seats, range: A) -> (usize, Option<usize>)
+    requires { A.is_forward range (IsLeBy nat_cmp) (IsLtBy nat_cmp) }
+{
+    map.right_range(range).size_hint()
+}
+
+fn left_range_gives<A: RangeBounds<char>>(map: &Seats, range: A, items: &[(char, u32)]) -> bool
+    requires { A.is_forward range (IsLeBy nat_cmp) (IsLtBy nat_cmp) }
+{
+    pairs_of(map.left_range(range), items)
+}
+
+fn left_range_gives_back<A: RangeBounds<char>>(map: &Seats, range: A, items: &[(char, u32)]) -> bool
+    requires { A.is_forward range (IsLeBy nat_cmp) (IsLtBy nat_cmp) }
+{
+    pairs_of(map.left_range(range).rev(), items)
 }
 
 #[test]
 fn ranges_of_lefts(rt: HostRuntime) {
     let map = filled(rt.alloc(), &FALLING);
-    assert!(&rt; left_range_gives(map.left_range('b'..'b'), &[]));
+    assert!(&rt; left_range_gives(&map, 'b'..'b', &[]));
     let range = (Bound::Excluded('b'), Bound::Included('b'));
-    assert!(&rt; left_range_gives(map.left_range(range), &[]));
-    assert!(&rt; left_range_gives(map.left_range('b'..'d'), &[('b', 3), ('c', 2)]));
-    assert!(&rt; left_range_gives_back(map.left_range('b'..'d'), &[('c', 2), ('b', 3)]));
+    assert!(&rt; left_range_gives(&map, range, &[]));
+    assert!(&rt; left_range_gives(&map, 'b'..'d', &[('b', 3), ('c', 2)]));
+    assert!(&rt; left_range_gives_back(&map, 'b'..'d', &[('c', 2), ('b', 3)]));
     let range = (Bound::Excluded('a'), Bound::Excluded('d'));
-    assert!(&rt; left_range_gives(map.left_range(range), &[('b', 3), ('c', 2)]));
+    assert!(&rt; left_range_gives(&map, range, &[('b', 3), ('c', 2)]));
 }
 
 #[test]
 fn ranges_past_all_lefts(rt: HostRuntime) {
     let map = filled(rt.alloc(), &FALLING);
-    assert!(&rt; map.left_range('e'..).len() == 0);
-    assert!(&rt; left_range_gives(map.left_range('e'..), &[]));
-    assert!(&rt; left_range_gives_back(map.left_range('e'..), &[]));
+    assert!(&rt; left_range_len(&map, 'e'..) == 0);
+    assert!(&rt; left_range_gives(&map, 'e'.., &[]));
+    assert!(&rt; left_range_gives_back(&map, 'e'.., &[]));
 }
 
 fn first_is(range: &mut LeftRange<'_, char, u32>, item: Option<Pair<'_>>) -> bool {
@@ -233,21 +272,23 @@ fn a_range_without_ends_from_both(rt: HostRuntime) {
 #[test]
 fn ranges_of_no_lefts(rt: HostRuntime) {
     let map = filled(rt.alloc(), &[]);
-    assert!(&rt; map.left_range('a'..'z').len() == 0);
-    assert!(&rt; left_range_gives(map.left_range('a'..'z'), &[]));
-    assert!(&rt; left_range_gives_back(map.left_range('a'..='a'), &[]));
+    assert!(&rt; left_range_len(&map, 'a'..'z') == 0);
+    assert!(&rt; left_range_gives(&map, 'a'..'z', &[]));
+    assert!(&rt; left_range_gives_back(&map, 'a'..='a', &[]));
 }
 
-fn right_range_gives_back(range: RightRange<'_, char, u32>, items: &[(char, u32)]) -> bool {
-    pairs_of(range.rev(), items)
+fn right_range_gives_back<A: RangeBounds<u32>>(map: &Seats, range: A, items: &[(char, u32)]) -> bool
+    requires { A.is_forward range (IsLeBy nat_cmp) (IsLtBy nat_cmp) }
+{
+    pairs_of(map.right_range(range).rev(), items)
 }
 
 #[test]
 fn ranges_of_no_rights(rt: HostRuntime) {
     let map = filled(rt.alloc(), &[]);
-    assert!(&rt; map.right_range(..).len() == 0);
-    assert!(&rt; right_range_gives(map.right_range(3..), &[]));
-    assert!(&rt; right_range_gives_back(map.right_range(..), &[]));
+    assert!(&rt; right_range_len(&map, ..) == 0);
+    assert!(&rt; right_range_gives(&map, 3.., &[]));
+    assert!(&rt; right_range_gives_back(&map, .., &[]));
 }
 
 fn taken_first(walk: &mut IntoIter<char, u32>) -> Option<(char, u32)> {

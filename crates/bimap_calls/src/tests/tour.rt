@@ -38,13 +38,26 @@ fn refuses_what_is_kept(rt: HostRuntime) -> Result<(), Fail> {
     Ok(())
 }
 
+type Seats = BiBTreeMap<char, u32>;
+
+// The first pair and the last.
+fn ends_of(seats: &Seats) -> (Option<(char, u32)>, Option<(char, u32)>) {
+    let mut walk = seats.iter();
+    let first = walk.next().map(|(left, right)| (*left, *right));
+    (first, walk.next_back().map(|(left, right)| (*left, *right)))
+}
+
+// The pair of the least right from this one on.
+fn first_from(seats: &Seats, least: u32) -> Option<(char, u32)> {
+    let mut range = seats.right_range(least..);
+    range.next().map(|(left, right)| (*left, *right))
+}
+
 #[test]
 fn walks_from_both_ends(rt: HostRuntime) -> Result<(), Fail> {
     let seats = seats(&rt, rt.alloc())?;
-    let mut walk = seats.iter();
-    assert!(&rt; walk.next() == Some((&'a', &4)));
-    assert!(&rt; walk.next_back() == Some((&'d', &2)));
-    assert!(&rt; seats.right_range(3..).next() == Some((&'c', &3)));
+    assert!(&rt; ends_of(&seats) == (Some(('a', 4)), Some(('d', 2))));
+    assert!(&rt; first_from(&seats, 3) == Some(('c', 3)));
     Ok(())
 }
 

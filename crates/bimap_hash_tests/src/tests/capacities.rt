@@ -1,7 +1,7 @@
 //! The room, exact to the place.
 use super::{THREE, Zero, answers, crowded, holds, plain, put_all};
 use bimap_base::{NoMemory, Overwritten};
-use bimap_hash::BiHashMap;
+use bimap_kinds::BiHashMap;
 use std::hash::BuildHasher;
 
 /// How many more places to reserve, what that answers, and the capacity that it leaves.

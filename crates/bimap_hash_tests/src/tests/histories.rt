@@ -1,7 +1,7 @@
 //! Histories of calls, each from the empty bimap.
 use super::{THREE, answers, crowded, holds, plain, put_all};
 use bimap_base::{Bijection, NotInserted, NotInsertedWith, OnHeld, Overwritten, Policy};
-use bimap_hash::BiHashMap;
+use bimap_kinds::BiHashMap;
 use std::alloc::Global;
 use std::cell::Cell;
 use std::hash::{BuildHasher, RandomState};
@@ -340,7 +340,7 @@ fn finds_under_handed_builders(rt: HostRuntime) {
     assert!(&rt; map.get_by_left(&'a') == Some(&42) && map.get_by_right(&42) == Some(&'a'));
 }
 
-// Through the bound that both bimaps share.
+// Through the bound that all bimaps share.
 fn renames<B: Bijection<char, u32>>(bimap: &mut B) -> bool {
     bimap.insert('a', 1) == Ok(Overwritten::Neither)
         && bimap.insert_no_overwrite('b', 2) == Ok(())

@@ -1,6 +1,6 @@
 //! Equal values that carry other data.
 use bimap_base::{Bijection, Overwritten};
-use bimap_hash::BiHashMap;
+use bimap_kinds::BiHashMap;
 
 // Equal by its name alone.
 #[derive(Clone, Copy, Debug, Drop)]

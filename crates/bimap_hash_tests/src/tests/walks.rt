@@ -4,7 +4,8 @@ ghost use Rattle.std.specs.Prelude.{length};
 
 use super::{THREE, Zero, crowded, holds, plain, put_all};
 use bimap_base::ExtendStopped;
-use bimap_hash::{BiHashMap, Iter};
+use bimap_kinds::BiHashMap;
+use bimap_walk::by_place::Iter;
 use std::alloc::{AllocError, Global};
 use std::hash::BuildHasher;
 
@@ -16,7 +17,10 @@ where
     LS: Drop,
     RS: Drop,
 {
-    made.is_ok_and(|map| holds(&map, held))
+    match made {
+        Ok(map) => holds(&map, held),
+        Err(_) => false,
+    }
 }
 
 const ITEMS: [(char, u32); 6] = [('a', 1), ('b', 2), ('c', 3), ('b', 2), ('a', 4), ('b', 3)];

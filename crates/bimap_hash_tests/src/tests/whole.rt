@@ -1,9 +1,10 @@
 //! Equality, copies and texts of whole bimaps, under a builder that hashes everything alike.
 use super::{Zero, crowded, holds, put_all};
 use bimap_base::{NoMemory, Overwritten};
-use bimap_hash::BiHashMap;
+use bimap_kinds::BiHashMap;
 use std::alloc::{AllocError, Global};
-use std::hash::BuildHasher;
+use std::fmt::Debug;
+use std::hash::{BuildHasher, Hash};
 
 type Crowded = BiHashMap<char, u32, Zero, Zero>;
 
@@ -14,7 +15,7 @@ fn made(alloc: Global, pairs: &[(char, u32)]) -> Crowded {
 }
 
 fn is_same(first: &Crowded, second: &Crowded) -> bool {
-    first == second
+    *first == *second
 }
 
 /// Two lists of items, and whether their bimaps are equal.
@@ -99,8 +100,16 @@ fn a_copy_of_none_holds_none(rt: HostRuntime) {
     assert!(&rt; copied(&crowded(rt.alloc())).is_ok_and(|empty| holds(&empty, &[])));
 }
 
+// What `{:?}` prints of a bimap.
+fn text_of<R: Eq + Hash + Debug + Drop, LS: BuildHasher, RS: BuildHasher>(
+    alloc: Global,
+    map: &BiHashMap<char, R, LS, RS>,
+) -> Result<String, AllocError> {
+    format!(in alloc; "{map:?}")
+}
+
 fn prints_one_of(alloc: Global, map: &Crowded, texts: &[&str]) -> Result<bool, AllocError> {
-    let text = format!(in alloc; "{map:?}")?;
+    let text = text_of(alloc, map)?;
     for expected in texts {
         if text.as_str() == *expected {
             return Ok(true);

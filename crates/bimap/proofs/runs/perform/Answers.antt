@@ -1,7 +1,7 @@
-use Rattle.std.proofs.Common.{rules, ◌≡◌, true, false, refl, true≢false}
+use Rattle.std.proofs.Common.{rules, ◌≡◌, true, false, refl, true≢false, Contains}
 use Rattle.bimap.specs.Test.{Answers}
 use Rattle.bimap.proofs.Tested.{MayTest_by, IsKept-by, may_call, answers_as}
-use Rattle.bimap.proofs.Histories.{step_insert, step_put, step_insert_with, step_retain}
+use Rattle.bimap.proofs.Histories.{right_contains_left, right_contains_right, step_insert, step_put, step_insert_with, step_retain}
 use Rattle.bimap.proofs.runs.perform.Goals as goal
 
 pub retain-requires : goal.retain-requires
@@ -27,3 +27,11 @@ returns-in-Retain-clause-step g c =
 pub returns-in-Ok-insert_with-clause-step : goal.returns-in-Ok-insert_with-clause-step
 returns-in-Ok-insert_with-clause-step g c =
     rw c.in-InsertWith.is (step_insert_with g.L.PartialEq.eq g.R.PartialEq.eq (Answers g.F.Fn c.args.test.now) _ _ _ _ c.in-InsertWith.policy c.in-Ok-insert_with.answer c.in-Ok-insert_with.ensures.put)
+
+pub returns-in-ContainsLeft-clause-right : goal.returns-in-ContainsLeft-clause-right
+returns-in-ContainsLeft-clause-right g c =
+    rw c.in-ContainsLeft.is (right_contains_left g.L.PartialEq.eq g.R.PartialEq.eq (Contains (g.B.Bijection.holding c.args.bimap.now).pairs) g.row.K.Denot c.in-ContainsLeft.left _ c.contains_left.ensures)
+
+pub returns-in-ContainsRight-clause-right : goal.returns-in-ContainsRight-clause-right
+returns-in-ContainsRight-clause-right g c =
+    rw c.in-ContainsRight.is (right_contains_right g.L.PartialEq.eq g.R.PartialEq.eq (Contains (g.B.Bijection.holding c.args.bimap.now).pairs) g.row.K.Denot c.in-ContainsRight.right _ c.contains_right.ensures)

@@ -1,6 +1,7 @@
-use Rattle.std.proofs.Common.{rules, ◌≡◌, ◌≤◌, ◌∙◌, suc, length, arith, Contains}
+use Rattle.std.proofs.Common.{rules, refl, ◌≡◌, ◌≤◌, ◌∙◌, suc, length, arith, Contains}
 use Rattle.bimap_base.specs.Sets.{LacksLeft}
 use Rattle.bimap_base.specs.Exchange.{IsRemoving}
+use Rattle.bimap_base.proofs.Members.{lacking}
 use Rattle.bimap_base.proofs.Removals.{removing_left, removing_shorter}
 use Rattle.bimap_base.proofs.Replacing.{lacks_equal_left, none_shares_left, exchanging}
 use Rattle.bimap_base.proofs.replace.replace_left.Goals.{else-ne-via-then-ne+else-contains_left, else-ne-via-else-ne}
@@ -20,7 +21,7 @@ returns g c =
     let held = g.B.Bijection.holding c.remove_by_left.new.self in
     let without = c.remove_by_left.ensures.without in
     let lacks : LacksLeft g.L.PartialEq.eq (Contains held.pairs) c.args.to = elim c.else-ne.branch [
-      | else-ne-via-then-ne+else-contains_left w ↦ λ q m. w.if-contains_left.ensures q ((without q).0 m).0
+      | else-ne-via-then-ne+else-contains_left w ↦ λ q m. lacking (Contains old.pairs) (λ (p : g.row.L.Denot × g.row.R.Denot). g.L.PartialEq.eq p.0 c.args.to) w.if-contains_left.ensures q ((without q).0 m).0
       | else-ne-via-else-ne w ↦ lacks_equal_left g.L.PartialEq.eq g.met.L.Eq.laws (Contains old.pairs) (Contains held.pairs) c.args.from.now c.args.to without w.if-ne.ensures
     ] in
     record {
@@ -34,4 +35,14 @@ returns g c =
       refused = tt;
       unchanged = tt;
       room = c.insert.ensures.room.had_place (omega (arith, shorter, g.met.B.Bijection.fits c.args.bimap.now, c.remove_by_left.ensures.room)) ∙ c.remove_by_left.ensures.room;
+    }
+
+pub returns-then-not-contains_left : goal.returns-then-not-contains_left
+returns-then-not-contains_left g c =
+    let old = g.B.Bijection.holding c.args.bimap.now in
+    record {
+      replaced = tt;
+      refused = (refl, lacking (Contains old.pairs) (λ (p : g.row.L.Denot × g.row.R.Denot). g.L.PartialEq.eq p.0 c.args.from.now) c.if-not-contains_left.ensures);
+      unchanged = refl;
+      room = refl;
     }

@@ -1,6 +1,7 @@
-use Rattle.std.proofs.Common.{rules, ◌≡◌, ◌≤◌, ◌∙◌, suc, length, arith, Contains}
+use Rattle.std.proofs.Common.{rules, refl, ◌≡◌, ◌≤◌, ◌∙◌, suc, length, arith, Contains}
 use Rattle.bimap_base.specs.Sets.{LacksRight}
 use Rattle.bimap_base.specs.Exchange.{IsRemoving}
+use Rattle.bimap_base.proofs.Members.{lacking}
 use Rattle.bimap_base.proofs.Removals.{removing_right, removing_shorter}
 use Rattle.bimap_base.proofs.Replacing.{lacks_equal_right, none_shares_right, exchanging}
 use Rattle.bimap_base.proofs.replace.replace_right.Goals.{else-ne-via-then-ne+else-contains_right, else-ne-via-else-ne}
@@ -20,7 +21,7 @@ returns g c =
     let held = g.B.Bijection.holding c.remove_by_right.new.self in
     let without = c.remove_by_right.ensures.without in
     let lacks : LacksRight g.R.PartialEq.eq (Contains held.pairs) c.args.to = elim c.else-ne.branch [
-      | else-ne-via-then-ne+else-contains_right w ↦ λ q m. w.if-contains_right.ensures q ((without q).0 m).0
+      | else-ne-via-then-ne+else-contains_right w ↦ λ q m. lacking (Contains old.pairs) (λ (p : g.row.L.Denot × g.row.R.Denot). g.R.PartialEq.eq p.1 c.args.to) w.if-contains_right.ensures q ((without q).0 m).0
       | else-ne-via-else-ne w ↦ lacks_equal_right g.R.PartialEq.eq g.met.R.Eq.laws (Contains old.pairs) (Contains held.pairs) c.args.from.now c.args.to without w.if-ne.ensures
     ] in
     record {
@@ -34,4 +35,14 @@ returns g c =
       refused = tt;
       unchanged = tt;
       room = c.insert.ensures.room.had_place (omega (arith, shorter, g.met.B.Bijection.fits c.args.bimap.now, c.remove_by_right.ensures.room)) ∙ c.remove_by_right.ensures.room;
+    }
+
+pub returns-then-not-contains_right : goal.returns-then-not-contains_right
+returns-then-not-contains_right g c =
+    let old = g.B.Bijection.holding c.args.bimap.now in
+    record {
+      replaced = tt;
+      refused = (refl, lacking (Contains old.pairs) (λ (p : g.row.L.Denot × g.row.R.Denot). g.R.PartialEq.eq p.1 c.args.from.now) c.if-not-contains_right.ensures);
+      unchanged = refl;
+      room = refl;
     }

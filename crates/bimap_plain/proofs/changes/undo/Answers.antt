@@ -1,9 +1,9 @@
-use Rattle.std.proofs.Common.{rules, ◌≡◌, true, List, refl, sym, ap, ◌∙◌, subst, arith, Contains}
+use Rattle.std.proofs.Common.{◌≡◌, true, List, sym, ◌∙◌, subst, arith, Contains}
 use Rattle.bimap_base.specs.Sets.{IsWithoutLeft}
 use Rattle.bimap_base.specs.Answer.{IsBoth}
 use Rattle.bimap_base.specs.Undoing.{IsUndone}
-use Rattle.bimap_base.specs.declared.overwritten.Overwritten.TheVariants.{Left, Right, Pair, Both}
-use Rattle.bimap_plain.proofs.Undone.{names_one, one_back, two_back, one_apart, two_apart}
+use Rattle.bimap_base.proofs.Fits.{names_one}
+use Rattle.bimap_plain.proofs.Undone.{one_back, two_back, one_apart, two_apart}
 use Rattle.bimap_plain.proofs.changes.undo.Goals as goal
 
 pub push_reserved-requires-in-Some-take_left : goal.push_reserved-requires-in-Some-take_left

@@ -1,5 +1,5 @@
 use Rattle.std.proofs.Common.{◌≡◌, ◌++◌}
-use Rattle.bimap_btree.specs.Held.{holding}
+use Rattle.bimap_kinds.specs.Held.{holding}
 use Rattle.bimap_btree_tests.proofs.tests.callers.taken_by_loop.Given as goal
 
 abbrev pub invariant-loop-pair : goal.invariant-loop-pair

@@ -1,6 +1,7 @@
 use Rattle.std.proofs.Common.{◌≡◌, ◌∙◌, ap, refl, arith, Contains, ◌++◌, ◌∷◌, [], length, length-append}
 use Rattle.bimap_undo.specs.declared.entry.Entry.TheVariants.{Removed}
 use Rattle.bimap_undo.specs.Marks.{marked, IsChange}
+use Rattle.bimap.proofs.Members.{lacking}
 use Rattle.bimap.proofs.Removals.{lacks_left, removing_left}
 use Rattle.bimap_undo.proofs.Paths.{keeps_push, marks_push}
 use Rattle.bimap_undo.proofs.undoable.Undoable.remove_by_left.Goals as goal
@@ -9,8 +10,8 @@ pub returns-then-not-contains_left : goal.returns-then-not-contains_left
 returns-then-not-contains_left g c =
     rw (← c.self.view_is)
     (record {
-      found = c.if-not-contains_left.ensures;
-      without = lacks_left g.L.PartialEq.eq (Contains (g.B.Bijection.holding c.self.inside.bimap).pairs) c.args.left.now c.if-not-contains_left.ensures;
+      found = (lacking (Contains (g.B.Bijection.holding c.self.inside.bimap).pairs) (λ (p : g.row.L.Denot × g.row.R.Denot). g.L.PartialEq.eq p.0 c.args.left.now) c.if-not-contains_left.ensures);
+      without = lacks_left g.L.PartialEq.eq (Contains (g.B.Bijection.holding c.self.inside.bimap).pairs) c.args.left.now (lacking (Contains (g.B.Bijection.holding c.self.inside.bimap).pairs) (λ (p : g.row.L.Denot × g.row.R.Denot). g.L.PartialEq.eq p.0 c.args.left.now) c.if-not-contains_left.ensures);
       recorded = refl;
       kept = λ mark within A b. b;
       room = refl;
@@ -46,7 +47,7 @@ returns-in_default g c =
       recorded = tt;
       kept = tt;
       room = refl;
-      refused = c.if-not-contains_left.ensures;
+      refused = c.if-not-contains_left.ensures.0 refl;
       unchanged = ap (marked (g.B.Bijection.holding c.self.inside.bimap)) c.reserve.ensures.items;
     })
 

@@ -1,6 +1,7 @@
 use Rattle.std.proofs.Common.{◌≡◌, ◌∙◌, ap, refl, arith, Contains, ◌++◌, ◌∷◌, [], length, length-append}
 use Rattle.bimap_undo.specs.declared.entry.Entry.TheVariants.{Removed}
 use Rattle.bimap_undo.specs.Marks.{marked, IsChange}
+use Rattle.bimap.proofs.Members.{lacking}
 use Rattle.bimap.proofs.Removals.{lacks_right, removing_right}
 use Rattle.bimap_undo.proofs.Paths.{keeps_push, marks_push}
 use Rattle.bimap_undo.proofs.undoable.Undoable.remove_by_right.Goals as goal
@@ -9,8 +10,8 @@ pub returns-then-not-contains_right : goal.returns-then-not-contains_right
 returns-then-not-contains_right g c =
     rw (← c.self.view_is)
     (record {
-      found = c.if-not-contains_right.ensures;
-      without = lacks_right g.R.PartialEq.eq (Contains (g.B.Bijection.holding c.self.inside.bimap).pairs) c.args.right.now c.if-not-contains_right.ensures;
+      found = (lacking (Contains (g.B.Bijection.holding c.self.inside.bimap).pairs) (λ (p : g.row.L.Denot × g.row.R.Denot). g.R.PartialEq.eq p.1 c.args.right.now) c.if-not-contains_right.ensures);
+      without = lacks_right g.R.PartialEq.eq (Contains (g.B.Bijection.holding c.self.inside.bimap).pairs) c.args.right.now (lacking (Contains (g.B.Bijection.holding c.self.inside.bimap).pairs) (λ (p : g.row.L.Denot × g.row.R.Denot). g.R.PartialEq.eq p.1 c.args.right.now) c.if-not-contains_right.ensures);
       recorded = refl;
       kept = λ mark within A b. b;
       room = refl;
@@ -46,7 +47,7 @@ returns-in_default g c =
       recorded = tt;
       kept = tt;
       room = refl;
-      refused = c.if-not-contains_right.ensures;
+      refused = c.if-not-contains_right.ensures.0 refl;
       unchanged = ap (marked (g.B.Bijection.holding c.self.inside.bimap)) c.reserve.ensures.items;
     })
 

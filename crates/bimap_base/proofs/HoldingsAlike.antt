@@ -1,0 +1,83 @@
+-- What is said of a holding is said of one with the same members, as many of them and the same room.
+use Rattle.std.proofs.Common.{◌≡◌, ◌∙◌, Bool, Option, length, sym}
+use Rattle.std.specs.Prelude.{Contains, Result, OnErr}
+use Rattle.std.specs.Borrow.{Bor}
+use Rattle.bimap_base.specs.Sets.{IsSameSet}
+use Rattle.bimap_base.specs.Holding.{Holding, IsFull, IsFoundByLeft, IsFoundByRight, IsRemovalByLeft, IsRemovalByRight, IsRoomAfter, IsInsertionUnder, IsUndoing}
+use Rattle.bimap_base.specs.declared.overwritten.Overwritten.{Overwritten}
+use Rattle.bimap_base.specs.declared.policy.Policy.{Policy}
+use Rattle.bimap_base.specs.declared.refusal.NotInsertedWith.{NotInsertedWith}
+use Rattle.bimap_base.specs.declared.refusal.UndoStopped.{UndoStopped}
+use Rattle.bimap_base.proofs.Results.{IfSome-then, IfNone-then, IfOk-then, IfErr-then, OnOk-then, OnErr-then}
+use Rattle.bimap_base.proofs.SetsAlike.{LacksLeft-same, LacksRight-same, IsWithoutLeft-same, IsWithoutRight-same, SomeShares-back, IsAnswer-same, IsAllowed-same, IsRefusalUnder-same, IsWithPut-same, IsUndone-same}
+
+module _ {L R : Type 0} where
+  pub record AreAlike (h k : Holding L R) : Type 0 where
+    pub members : IsSameSet (Contains h.pairs) (Contains k.pairs)
+    pub long : length k.pairs ≡ length h.pairs
+    pub room : k.room ≡ h.room
+
+  module _ (h k : Holding L R) (like : AreAlike h k) where
+    pub full_alike : IsFull h → IsFull k
+    full_alike full = like.long ∙ full ∙ sym like.room
+
+    pub found_left_alike : (same : L → L → Bool) (left : L) (result : Option (Bor R)) → IsFoundByLeft same h left result → IsFoundByLeft same k left result
+    found_left_alike same left result f = record {
+      found = IfSome-then result (λ right w. (w.0, (like.members (w.0, right.now)).0 w.1, w.2)) f.found;
+      none = IfNone-then result (LacksLeft-same (Contains h.pairs) (Contains k.pairs) like.members same left) f.none;
+    }
+
+    pub found_right_alike : (same : R → R → Bool) (right : R) (result : Option (Bor L)) → IsFoundByRight same h right result → IsFoundByRight same k right result
+    found_right_alike same right result f = record {
+      found = IfSome-then result (λ left w. (w.0, (like.members (left.now, w.0)).0 w.1, w.2)) f.found;
+      none = IfNone-then result (LacksRight-same (Contains h.pairs) (Contains k.pairs) like.members same right) f.none;
+    }
+
+    module _ (h' k' : Holding L R) (after : AreAlike h' k') where
+      pub removal_left_alike : (same : L → L → Bool) (left : L) (result : Option (L × R)) → IsRemovalByLeft same h left result h' → IsRemovalByLeft same k left result k'
+      removal_left_alike same left result r = record {
+        removed = IfSome-then result (λ p w. ((like.members p).0 w.0, w.1)) r.removed;
+        none = IfNone-then result (LacksLeft-same (Contains h.pairs) (Contains k.pairs) like.members same left) r.none;
+        without = IsWithoutLeft-same (Contains h.pairs) (Contains k.pairs) like.members same (Contains h'.pairs) (Contains k'.pairs) left after.members r.without;
+        room = after.room ∙ r.room ∙ sym like.room;
+      }
+
+      pub removal_right_alike : (same : R → R → Bool) (right : R) (result : Option (L × R)) → IsRemovalByRight same h right result h' → IsRemovalByRight same k right result k'
+      removal_right_alike same right result r = record {
+        removed = IfSome-then result (λ p w. ((like.members p).0 w.0, w.1)) r.removed;
+        none = IfNone-then result (LacksRight-same (Contains h.pairs) (Contains k.pairs) like.members same right) r.none;
+        without = IsWithoutRight-same (Contains h.pairs) (Contains k.pairs) like.members same (Contains h'.pairs) (Contains k'.pairs) right after.members r.without;
+        room = after.room ∙ r.room ∙ sym like.room;
+      }
+
+      module _ (same_left : L → L → Bool) (same_right : R → R → Bool) where
+        room_alike : (pair : L × R) → IsRoomAfter same_left same_right h pair h' → IsRoomAfter same_left same_right k pair k'
+        room_alike pair r = record {
+          not_lower = rw (like.room, after.room) r.not_lower;
+          had_place = λ free. after.room ∙ r.had_place (rw (sym like.room, sym like.long) free) ∙ sym like.room;
+          strikes = λ some. after.room ∙ r.strikes (SomeShares-back (Contains h.pairs) (Contains k.pairs) like.members same_left same_right pair some) ∙ sym like.room;
+        }
+
+        -- where an `Err` left the very holding, it left the very other
+        pub insertion_alike : (pair : L × R) (policy : Policy) (result : Result (Overwritten L R) (NotInsertedWith L R)) → OnErr result (k' ≡ k) → IsInsertionUnder same_left same_right h pair policy result h' → IsInsertionUnder same_left same_right k pair policy result k'
+        insertion_alike pair policy result unchanged i = record {
+          allowed = OnOk-then result (IsAllowed-same (Contains h.pairs) (Contains k.pairs) like.members same_left same_right pair policy) i.allowed;
+          answer = IfOk-then result (IsAnswer-same (Contains h.pairs) (Contains k.pairs) like.members same_left same_right pair) i.answer;
+          put = OnOk-then result (IsWithPut-same (Contains h.pairs) (Contains k.pairs) like.members same_left same_right (Contains h'.pairs) (Contains k'.pairs) pair after.members) i.put;
+          refused = IfErr-then result (λ e. IsRefusalUnder-same (Contains h.pairs) (Contains k.pairs) like.members same_left same_right (IsFull h) (IsFull k) pair policy e full_alike) i.refused;
+          unchanged = unchanged;
+          room = room_alike pair i.room;
+        }
+
+        pub undoing_alike : (left : L) (answer : Overwritten L R) (result : Result (L × R) (UndoStopped L R)) → OnErr result (k' ≡ k) → IsUndoing same_left same_right h left answer result h' → IsUndoing same_left same_right k left answer result k'
+        undoing_alike left answer result unchanged u = record {
+          taken = IfOk-then result (λ p w. ((like.members p).0 w.0, w.1)) u.taken;
+          undone = OnOk-then result (IsUndone-same (Contains h.pairs) (Contains k.pairs) like.members same_left same_right (Contains h'.pairs) (Contains k'.pairs) left answer after.members) u.undone;
+          handed_back = u.handed_back;
+          both = u.both;
+          full = OnErr-then result full_alike u.full;
+          unchanged = unchanged;
+          not_lower = rw (like.room, after.room) u.not_lower;
+          had_place = λ free. after.room ∙ u.had_place (rw (sym like.room, sym like.long) free) ∙ sym like.room;
+          not_both = λ never. after.room ∙ u.not_both never ∙ sym like.room;
+        }

@@ -1,0 +1,48 @@
+//! A side of a store by the order of its keys.
+ghost use Rattle.std.specs.Prelude.{◌≡◌};
+
+use crate::keys::Keys;
+use crate::meter::Meter;
+use crate::side::Side;
+use std::cmp::Ordering;
+use std::marker::PhantomData;
+
+/// The keys of a side, as an ordered index compares them.
+#[derive_where(Clone, Copy; S)]
+pub struct ByOrder<K, S> {
+    // By value, so that a comparison follows no reference to it.
+    side: S,
+    of: PhantomData<K>,
+}
+
+impl<K, S: Copy> ByOrder<K, S> {
+    /// The keys of this side. It takes no memory.
+    pub fn new(side: S) -> Self
+        ensures { result.side ≡ side }
+    {
+        ByOrder {
+            side,
+            of: PhantomData,
+        }
+    }
+}
+
+impl<K: Ord, S: Side<K>> Keys for ByOrder<K, S> {
+    type Key = K;
+
+    ghost key_at = { λ s. S.key_at s.side };
+
+    ghost order = { K.cmp };
+
+    ghost total = { K.total };
+
+    fn compare<M: Meter>(&self, place: usize, key: &K, meter: &mut M) -> Ordering {
+        meter.compared();
+        self.side.key(place).cmp(key)
+    }
+
+    fn compare_places<M: Meter>(&self, a: usize, b: usize, meter: &mut M) -> Ordering {
+        meter.compared();
+        self.side.key(a).cmp(self.side.key(b))
+    }
+}

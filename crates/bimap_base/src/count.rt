@@ -1,0 +1,65 @@
+//! A meter that keeps no number at run time, for the calls that are handed none.
+ghost use Rattle.std.specs.Prelude.{◌≡◌, ℕ, ◌+◌};
+ghost use Rattle.std.specs.Coded.{coded_ℕ};
+ghost use base.Fml.{ftrue};
+
+use crate::meter::Meter;
+use std::marker::Model;
+
+// A number that only contracts see.
+#[derive(Drop)]
+pub struct Tally {
+    pub ghost number: { ℕ } by { coded_ℕ },
+}
+
+impl Model for Tally {
+    ghost also_owns = { λ _. ftrue };
+}
+
+impl Tally {
+    fn new() -> Tally
+        ensures { result.number ≡ 0 }
+    {
+        Tally {}
+    }
+
+    fn more(&self) -> Tally
+        ensures { result.number ≡ self.now.number + 1 }
+    {
+        Tally {}
+    }
+}
+
+/// A meter whose numbers only contracts see. It takes no bytes.
+#[derive(Drop)]
+pub struct Count {
+    compared: Tally,
+    touched: Tally,
+}
+
+impl Count {
+    /// Both numbers are 0.
+    pub fn new() -> Self
+        ensures compared { result.compared.number ≡ 0 }
+        ensures touched { result.touched.number ≡ 0 }
+    {
+        Count {
+            compared: Tally::new(),
+            touched: Tally::new(),
+        }
+    }
+}
+
+impl Meter for Count {
+    ghost comparisons = { λ s. s.compared.number };
+
+    ghost touches = { λ s. s.touched.number };
+
+    fn compared(&mut self) {
+        self.compared = self.compared.more();
+    }
+
+    fn touched(&mut self) {
+        self.touched = self.touched.more();
+    }
+}

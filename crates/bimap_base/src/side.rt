@@ -1,0 +1,66 @@
+//! The two sides of a store, as the keys of its places. It knows no index.
+ghost use Rattle.std.specs.Prelude.{◌≡◌, ℕ, Option, Some, IsSome};
+ghost use Rattle.bimap_base.specs.Slots.{left_at, right_at};
+
+use crate::pairs::Pairs;
+
+/// Live places, each with a key.
+pub trait Side<K>: Copy {
+    /// The key of a place, where it is live.
+    ghost key_at: { Self → ℕ → Option K };
+
+    /// The key of a place, in constant time.
+    fn key(&self, place: usize) -> &K
+        requires { IsSome (key_at self.now place) }
+        ensures { key_at self.now place ≡ Some result.now };
+}
+
+/// The lefts of a store.
+#[derive_where(Clone, Copy)]
+pub struct LeftSide<'a, L, R> {
+    pairs: &'a Pairs<L, R>,
+}
+
+/// The rights of a store.
+#[derive_where(Clone, Copy)]
+pub struct RightSide<'a, L, R> {
+    pairs: &'a Pairs<L, R>,
+}
+
+impl<'a, L, R> LeftSide<'a, L, R> {
+    /// The lefts of this store. It takes no memory.
+    pub fn new(pairs: &'a Pairs<L, R>) -> Self
+        ensures { result.pairs.now ≡ pairs.now }
+    {
+        LeftSide { pairs }
+    }
+}
+
+impl<'a, L, R> RightSide<'a, L, R> {
+    /// The rights of this store. It takes no memory.
+    pub fn new(pairs: &'a Pairs<L, R>) -> Self
+        ensures { result.pairs.now ≡ pairs.now }
+    {
+        RightSide { pairs }
+    }
+}
+
+impl<'a, L, R> Side<L> for LeftSide<'a, L, R> {
+    ghost key_at = { λ s. left_at s.pairs.now };
+
+    fn key(&self, place: usize) -> &L {
+        let pairs = self.pairs;
+        let (left, _) = pairs.held(place);
+        left
+    }
+}
+
+impl<'a, L, R> Side<R> for RightSide<'a, L, R> {
+    ghost key_at = { λ s. right_at s.pairs.now };
+
+    fn key(&self, place: usize) -> &R {
+        let pairs = self.pairs;
+        let (_, right) = pairs.held(place);
+        right
+    }
+}

@@ -1,0 +1,14 @@
+pub mod Places
+pub mod Inserting
+pub mod Inserted
+pub mod Removing
+pub mod Linking
+pub mod Retaining
+pub mod Reserving
+pub mod Permuted
+pub mod Undoing
+pub mod Shrinking
+pub mod OneOut
+pub mod Ascending
+pub mod InTurn
+pub mod Below

@@ -1,0 +1,62 @@
+use Rattle.std.proofs.Common.{◌∙◌, None, ap, arith, length, refl}
+use Rattle.std.proofs.lemmas.List.{length-set}
+use Rattle.bimap_base.proofs.Walked.{count_walked}
+use Rattle.bimap_core.proofs.Ascending.{order_walk, count_listed, rank_live, pair_at_rank, walked_without}
+use Rattle.bimap_core.proofs.InTurn.{start, may, passed, refused, ended}
+use Rattle.bimap_core.proofs.Retaining.{tested_at}
+use Rattle.bimap_core.proofs.retain_in_turn.Table+L+R+Ordered+J.retain_in_turn.Goals as goal
+
+pub loop-rank-init : goal.loop-rank-init
+loop-rank-init g c = record { going = start g.F.FnMut c.args.f _; room = refl }
+
+pub place_at-place-requires : goal.place_at-place-requires
+place_at-place-requires g c =
+    let t = c.loop-rank.self in
+    let walk = order_walk (λ p. p.0) g.met.L.Ord.total g.met.L.Ord.matches_eq t.pairs t.left.places t.left_listing in
+    omega (arith, c.loop-rank-test.true, c.len.ensures.value, count_listed t.pairs t.left.places walk)
+
+pub keeps_at-requires : goal.keeps_at-requires
+keeps_at-requires g c p has =
+    let t = c.loop-rank.self in
+    let walk = order_walk (λ p. p.0) g.met.L.Ord.total g.met.L.Ord.matches_eq t.pairs t.left.places t.left_listing in
+    let count = count_walked t.pairs t.left.places walk in
+    may g.F.FnMut c.args.f c.loop-rank.f _ _ c.loop-rank.rank c.loop-rank.invariant.going p
+    (pair_at_rank t.pairs t.left.places walk c.loop-rank.rank c.place_at-place.result c.place_at-place.ensures.place p has)
+    (omega arith) c.requires
+
+pub loop-rank-preserved-then-keeps_at : goal.loop-rank-preserved-then-keeps_at
+loop-rank-preserved-then-keeps_at g c =
+    let t = c.loop-rank.self in
+    let walk = order_walk (λ p. p.0) g.met.L.Ord.total g.met.L.Ord.matches_eq t.pairs t.left.places t.left_listing in
+    let count = count_walked t.pairs t.left.places walk in
+    let place = c.place_at-place.result in
+    let here = rank_live t.pairs t.left.places walk c.loop-rank.rank place c.place_at-place.ensures.place in
+    record {
+      going = passed g.F.FnMut c.args.f c.loop-rank.f _ _ c.loop-rank.rank c.loop-rank.invariant.going here.0
+          (pair_at_rank t.pairs t.left.places walk c.loop-rank.rank place c.place_at-place.ensures.place here.0 here.1)
+          (omega arith) c.keeps_at.new.f (tested_at g.F.FnMut _ here.0 c.loop-rank.f _ c.keeps_at.new.f here.1 c.if-keeps_at.ensures.tested);
+      room = c.loop-rank.invariant.room;
+    }
+
+pub loop-rank-preserved : goal.loop-rank-preserved
+loop-rank-preserved g c =
+    let t = c.loop-rank.self in
+    let n = c.take.new.self in
+    let walk = order_walk (λ p. p.0) g.met.L.Ord.total g.met.L.Ord.matches_eq t.pairs t.left.places t.left_listing in
+    let count = count_walked t.pairs t.left.places walk in
+    let place = c.place_at-place.result in
+    let p = c.take.result in
+    let has = c.take.ensures.was in
+    record {
+      going = refused g.F.FnMut c.args.f c.loop-rank.f _ _ c.loop-rank.rank c.loop-rank.invariant.going p
+          (pair_at_rank t.pairs t.left.places walk c.loop-rank.rank place c.place_at-place.ensures.place p has)
+          (omega arith) c.keeps_at.new.f (tested_at g.F.FnMut _ p c.loop-rank.f _ c.keeps_at.new.f has c.if-keeps_at.ensures.tested) _
+          (walked_without g.met.L.Eq.laws g.met.R.Eq.laws (λ p. p.0) g.met.L.Ord.total g.met.L.Ord.matches_eq t.pairs n.pairs t.left.places n.left.places t.left_listing n.left_listing t.apart place p has c.take.ensures.pairs);
+      room = ap length c.take.ensures.pairs ∙ length-set t.pairs place None ∙ c.loop-rank.invariant.room;
+    }
+
+pub returns-clause-kept : goal.returns-clause-kept
+returns-clause-kept g c =
+    let t = c.loop-rank.self in
+    let walk = order_walk (λ p. p.0) g.met.L.Ord.total g.met.L.Ord.matches_eq t.pairs t.left.places t.left_listing in
+    ended g.F.FnMut c.args.f c.loop-rank.f _ _ c.loop-rank.rank c.loop-rank.invariant.going (omega (arith, c.loop-rank-test.false, c.len.ensures.value, count_walked t.pairs t.left.places walk))

@@ -1,0 +1,41 @@
+use Rattle.std.proofs.Common.{arith, sym, subst}
+use Rattle.std.proofs.lemmas.Grind.{merely}
+use Rattle.bimap_base.specs.Sets.{IsApart}
+use Rattle.bimap_base.specs.Slots.{left_at, right_at}
+use Rattle.bimap_base.specs.Places.{pairs_in, packed}
+use Rattle.bimap_index.proofs.Packing.{packed_side}
+use Rattle.bimap_core.proofs.Places.{fits_in}
+use Rattle.bimap_core.proofs.Shrinking.{pairs_packed, long_packed, places_fit}
+use Rattle.bimap_core.proofs.table.Table.pack.Goals as goal
+
+pub packed-requires : goal.packed-requires
+packed-requires g c =
+    let map = c.args.self.now in
+    let listing = g.met.I.Index.settled map.left (left_at map.pairs) map.left_listing in
+    places_fit map.pairs c.args.to c.requires (λ p. p.0) (g.I.Index.places map.left) (g.met.I.Index.listed map.left (left_at map.pairs) listing) (g.met.I.Index.distinct map.left (left_at map.pairs) listing)
+
+pub packed-requires-2 : goal.packed-requires-2
+packed-requires-2 g c =
+    let map = c.args.self.now in
+    let listing = g.met.J.Index.settled map.right (right_at map.pairs) map.right_listing in
+    places_fit map.pairs c.args.to c.requires (λ p. p.1) (g.J.Index.places map.right) (g.met.J.Index.listed map.right (right_at map.pairs) listing) (g.met.J.Index.distinct map.right (right_at map.pairs) listing)
+
+pub invariant_of-self-2 : goal.invariant_of-self-2
+invariant_of-self-2 g c =
+    let map = c.args.self.now in
+    let slots = map.pairs in
+    let to = c.args.to in
+    let left = g.met.I.Index.settled map.left (left_at slots) map.left_listing in
+    let right = g.met.J.Index.settled map.right (right_at slots) map.right_listing in
+    let long = long_packed slots to c.requires in
+    rw c.in_ok-pack.ensures.ok record {
+      left_listing = merely (c.adopt.ensures.listing to (left_at slots) _ c.in_ok-left.ensures left (packed_side (λ p. p.0) slots to));
+      right_listing = merely (c.adopt-2.ensures.listing to (right_at slots) _ c.in_ok-right.ensures right (packed_side (λ p. p.1) slots to));
+      left_cells = omega (arith, long, c.adopt.ensures.cells to c.in_ok-left.ensures);
+      right_cells = omega (arith, long, c.adopt-2.ensures.cells to c.in_ok-right.ensures);
+      apart = subst (λ z. IsApart g.L.PartialEq.eq g.R.PartialEq.eq z) (sym (pairs_packed (pairs_in slots) to)) map.apart;
+      fits = fits_in (packed (pairs_in slots) to);
+    }
+
+pub returns-clause-pairs : goal.returns-clause-pairs
+returns-clause-pairs g c = rw c.in_ok-pack.ensures.ok (pairs_packed (pairs_in c.args.self.now.pairs) c.args.to)

@@ -1,0 +1,45 @@
+use Rattle.std.proofs.Common.{arith, Some}
+use Rattle.std.specs.Prelude.{slice_set}
+use Rattle.std.proofs.lemmas.Grind.{merely}
+use Rattle.std.proofs.lemmas.List.{length-set}
+use Rattle.bimap_core.proofs.Places.{fits_in, apart_set, left_unequal, right_unequal}
+use Rattle.bimap_core.proofs.Linking.{may_put}
+use Rattle.bimap_core.proofs.table.Table.put_new.Goals as goal
+
+pub relink-requires-clause-may : goal.relink-requires-clause-may
+unfolding may_put
+relink-requires-clause-may g c =
+    let map = c.args.self.now in
+    let slots = map.pairs in
+    let place = c.put-place.result in
+    let pair : g.row.L.Denot × g.row.R.Denot = (c.args.left, c.args.right) in
+    let alone = c.requires.alone place c.put-place.ensures.was_free in
+    rw (c.new.ensures, c.put-place.ensures.now) (c.args.left, may_put (λ p. p.0) g.L.PartialEq.eq slots place g.I.Index.is_listing map.left pair c.put-place.ensures.there (λ other q away i. left_unequal _ _ (alone other q away i)) c.put-place.ensures.was_free (g.met.I.Index.settled _ _ map.left_listing), c.spot_for-left_spot.ensures)
+
+pub relink-requires-2-clause-may : goal.relink-requires-2-clause-may
+unfolding may_put
+relink-requires-2-clause-may g c =
+    let map = c.args.self.now in
+    let slots = map.pairs in
+    let place = c.put-place.result in
+    let pair : g.row.L.Denot × g.row.R.Denot = (c.args.left, c.args.right) in
+    let alone = c.requires.alone place c.put-place.ensures.was_free in
+    rw (c.new-2.ensures, c.put-place.ensures.now) (c.args.right, may_put (λ p. p.1) g.R.PartialEq.eq slots place g.J.Index.is_listing map.right pair c.put-place.ensures.there (λ other q away i. right_unequal _ _ (alone other q away i)) c.put-place.ensures.was_free (g.met.J.Index.settled _ _ map.right_listing), c.spot_for-right_spot.ensures)
+
+pub invariant_of-self : goal.invariant_of-self
+invariant_of-self g c =
+    let map = c.args.self.now in
+    let slots = map.pairs in
+    let place = c.put-place.result in
+    let pair : g.row.L.Denot × g.row.R.Denot = (c.args.left, c.args.right) in
+    let inside = c.put-place.ensures.there in
+    let left = rw (c.new.ensures, c.put-place.ensures.now) at c.relink.ensures.listing in
+    let right = rw (c.new-2.ensures, c.put-place.ensures.now) at c.relink-2.ensures.listing in
+    rw c.put-place.ensures.now record {
+      left_listing = merely left;
+      right_listing = merely right;
+      left_cells = omega (arith, length-set slots place (Some pair), map.left_cells, c.relink.ensures.cells);
+      right_cells = omega (arith, length-set slots place (Some pair), map.right_cells, c.relink-2.ensures.cells);
+      apart = apart_set g.L.PartialEq.eq g.R.PartialEq.eq g.met.L.Eq.laws g.met.R.Eq.laws slots place pair inside (c.requires.alone place c.put-place.ensures.was_free) map.apart;
+      fits = fits_in (slice_set slots place (Some pair));
+    }

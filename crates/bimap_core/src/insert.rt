@@ -1,0 +1,73 @@
+//! Insertions. Each key is searched once, and the answer is decided before anything changes.
+ghost use Rattle.std.specs.Prelude.{◌≡◌, ◌+◌, ◌*◌, ◌≤◌, None, IsSome, MatchBool, OnErr, length};
+ghost use Rattle.bimap_base.specs.Holding.{IsInsertionUnder};
+
+use crate::table::Table;
+use bimap_base::{Meter, NotInsertedWith, OnHeld, Overwritten, Policy};
+use bimap_index::Index;
+
+// Whether a value is held, and the policy keeps it.
+fn keeps(held: Option<usize>, side: OnHeld) -> bool
+    ensures { MatchBool result (IsSome held × (side ≡ OnHeld.Refuse)) (side ≡ OnHeld.Refuse → held ≡ None) }
+{
+    held.is_some() && side.refuses()
+}
+
+impl<L: Eq, R: Eq, I: Index<L>, J: Index<R>> Table<L, R, I, J> {
+    ghost use Rattle.bimap_core.specs.Store.{holding_of};
+
+    /// Inserts a pair where the policy lets it overwrite what it shares a value with.
+    ///
+    /// It takes memory only where it strikes none and no place is free. An `Err` hands the pair back, and nothing has
+    /// changed.
+    pub fn insert_with<M: Meter>(
+        &mut self,
+        left: L,
+        right: R,
+        policy: Policy,
+        meter: &mut M,
+    ) -> Result<Overwritten<L, R>, NotInsertedWith<L, R>>
+        ensures answer { IsInsertionUnder L.eq R.eq (holding_of self.old.pairs) (left, right) policy result (holding_of self.new.pairs) }
+        ensures slots { OnErr result (self.new.pairs ≡ self.old.pairs) }
+        ensures places { OnErr result (I.places self.new.left ≡ I.places self.old.left) }
+        ensures comparisons { M.comparisons meter.new ≤ M.comparisons meter.old + 3 * I.effort (length (I.places self.old.left)) + 5 * J.effort (length (J.places self.old.right)) }
+        ensures touches { M.touches meter.new ≤ M.touches meter.old + 200 * (I.effort (length (I.places self.old.left)) + 1) + 200 * (J.effort (length (J.places self.old.right)) + 1) }
+    {
+        let mut left_spot = self.left.spot();
+        let by_left = self.seek_left(&left, &mut left_spot, meter);
+        if keeps(by_left, policy.left) {
+            return Err(NotInsertedWith::LeftHeld(left, right));
+        }
+        let mut right_spot = self.right.spot();
+        let by_right = self.seek_right_beside(by_left, &right, &mut right_spot, meter);
+        if keeps(by_right, policy.right) {
+            return Err(NotInsertedWith::RightHeld(left, right));
+        }
+        match (by_left, by_right) {
+            (None, None) => {
+                if self.make_room().is_err() {
+                    return Err(NotInsertedWith::Memory(left, right));
+                }
+                let _place = self.put(left, right, &left_spot, &right_spot, meter);
+                Ok(Overwritten::Neither)
+            }
+            (Some(place), None) => {
+                let (old_left, old_right) = self.swap_right(place, left, right, &right_spot, meter);
+                Ok(Overwritten::Left(old_left, old_right))
+            }
+            (None, Some(place)) => {
+                let (old_left, old_right) = self.swap_left(place, left, right, &left_spot, meter);
+                Ok(Overwritten::Right(old_left, old_right))
+            }
+            (Some(place), Some(other)) => {
+                if place == other {
+                    let (old_left, old_right) = self.swap_equal(place, left, right);
+                    return Ok(Overwritten::Pair(old_left, old_right));
+                }
+                let second = self.take(other, meter);
+                let first = self.swap_right(place, left, right, &right_spot, meter);
+                Ok(Overwritten::Both(first, second))
+            }
+        }
+    }
+}

@@ -1,0 +1,16 @@
+//! A bimap over any two indexes: the store, one index for each side, and what they keep together.
+#![tactic(auto)]
+
+mod copy;
+mod insert;
+mod pack;
+mod ranks;
+mod remove;
+mod retain;
+mod retain_in_turn;
+mod room;
+mod table;
+mod undo;
+mod write;
+
+pub use table::Table;

@@ -1,0 +1,47 @@
+//! Removals. They take no memory.
+ghost use Rattle.std.specs.Prelude.{◌≡◌, ◌+◌, ◌*◌, ◌≤◌, length};
+ghost use Rattle.bimap_base.specs.Holding.{IsRemovalByLeft, IsRemovalByRight};
+
+use crate::table::Table;
+use bimap_base::{LeftSide, Meter, RightSide};
+use bimap_index::Index;
+
+impl<L: Eq, R: Eq, I: Index<L>, J: Index<R>> Table<L, R, I, J> {
+    ghost use Rattle.bimap_core.specs.Store.{holding_of};
+
+    /// Takes out the pair of a left, or answers `None` where it is not held. The room stays.
+    pub fn remove_by_left<M: Meter>(&mut self, left: &L, meter: &mut M) -> Option<(L, R)>
+        ensures answer { IsRemovalByLeft L.eq (holding_of self.old.pairs) left.now result (holding_of self.new.pairs) }
+        ensures comparisons { M.comparisons meter.new ≤ M.comparisons meter.old + I.effort (length (I.places self.old.left)) + J.effort (length (J.places self.old.right)) }
+        ensures touches { M.touches meter.new ≤ M.touches meter.old + 64 * (I.effort (length (I.places self.old.left)) + 1) + 64 * (J.effort (length (J.places self.old.right)) + 1) }
+    {
+        match self
+            .left
+            .unlink_key(LeftSide::new(&self.pairs), left, meter)
+        {
+            None => None,
+            Some(place) => {
+                self.right.unlink(RightSide::new(&self.pairs), place, meter);
+                Some(self.pairs.take(place))
+            }
+        }
+    }
+
+    /// Takes out the pair of a right, or answers `None` where it is not held. The room stays.
+    pub fn remove_by_right<M: Meter>(&mut self, right: &R, meter: &mut M) -> Option<(L, R)>
+        ensures answer { IsRemovalByRight R.eq (holding_of self.old.pairs) right.now result (holding_of self.new.pairs) }
+        ensures comparisons { M.comparisons meter.new ≤ M.comparisons meter.old + I.effort (length (I.places self.old.left)) + J.effort (length (J.places self.old.right)) }
+        ensures touches { M.touches meter.new ≤ M.touches meter.old + 64 * (I.effort (length (I.places self.old.left)) + 1) + 64 * (J.effort (length (J.places self.old.right)) + 1) }
+    {
+        match self
+            .right
+            .unlink_key(RightSide::new(&self.pairs), right, meter)
+        {
+            None => None,
+            Some(place) => {
+                self.left.unlink(LeftSide::new(&self.pairs), place, meter);
+                Some(self.pairs.take(place))
+            }
+        }
+    }
+}

@@ -1,0 +1,129 @@
+//! The store and its two indexes.
+ghost use Rattle.std.specs.Prelude.{◌≡◌, ◌+◌, ◌*◌, ◌≤◌, [], None, length, IfSome, IfNone};
+ghost use Rattle.std.proofs.Props.{props};
+ghost use Rattle.bimap_base.specs.Holding.{IsFoundByLeft, IsFoundByRight};
+ghost use Rattle.bimap_base.specs.Places.{pairs_in, IsFoundAt};
+ghost use Rattle.bimap_base.specs.Sets.{IsApart};
+ghost use Rattle.bimap_base.specs.Slots.{left_at, right_at, IsLive};
+
+use bimap_base::{LeftSide, Meter, Pairs, RightSide};
+use bimap_index::Index;
+use std::alloc::Global;
+
+/// Pairs, each found by its left and by its right. No two of them share a value.
+#[derive(Drop)]
+pub struct Table<L: Eq, R: Eq, I: Index<L>, J: Index<R>> {
+    pub pairs: Pairs<L, R>,
+    pub left: I,
+    pub right: J,
+    ghost left_listing: { ∥ I.is_listing left (left_at pairs) ∥₁ },
+    ghost right_listing: { ∥ J.is_listing right (right_at pairs) ∥₁ },
+    ghost left_cells: { length pairs ≤ I.cells left },
+    ghost right_cells: { length pairs ≤ J.cells right },
+    /// No two of the pairs held share a value.
+    pub ghost apart: { IsApart L.eq R.eq (pairs_in pairs) } by { Prim.hlevel props },
+    /// There is a place for each pair held.
+    pub ghost fits: { length (pairs_in pairs) ≤ length pairs },
+}
+
+impl<L: Eq, R: Eq, I: Index<L>, J: Index<R>> Table<L, R, I, J> {
+    ghost use Rattle.bimap_core.specs.Store.{holding_of};
+
+    /// The table of these indexes, which list nothing.
+    pub fn new(alloc: Global, left: I, right: J) -> Self
+        requires left { I.is_listing left (λ _. None) }
+        requires right { J.is_listing right (λ _. None) }
+        ensures { result.pairs ≡ [] }
+    {
+        Table {
+            pairs: Pairs::new(alloc),
+            left,
+            right,
+        }
+    }
+
+    /// The number of pairs.
+    pub fn len(&self) -> usize
+        ensures { result ≡ length (holding_of self.now.pairs).pairs }
+    {
+        self.pairs.len()
+    }
+
+    /// The number of places for pairs.
+    pub fn room(&self) -> usize
+        ensures { result ≡ (holding_of self.now.pairs).room }
+    {
+        self.pairs.places()
+    }
+
+    /// The partner of a left, or `None` where it is not held.
+    pub fn get_by_left<M: Meter>(&self, left: &L, meter: &mut M) -> Option<&R>
+        ensures answer { IsFoundByLeft L.eq (holding_of self.now.pairs) left.now result }
+        ensures comparisons { M.comparisons meter.new ≤ M.comparisons meter.old + I.effort (length (I.places self.now.left)) }
+        ensures touches { M.touches meter.new ≤ M.touches meter.old + I.effort (length (I.places self.now.left)) }
+    {
+        match self.left.find(LeftSide::new(&self.pairs), left, meter) {
+            Some(place) => match self.pairs.at(place) {
+                Some((_, right)) => Some(right),
+                None => unreachable!(),
+            },
+            None => None,
+        }
+    }
+
+    /// The partner of a right, or `None` where it is not held.
+    pub fn get_by_right<M: Meter>(&self, right: &R, meter: &mut M) -> Option<&L>
+        ensures answer { IsFoundByRight R.eq (holding_of self.now.pairs) right.now result }
+        ensures comparisons { M.comparisons meter.new ≤ M.comparisons meter.old + J.effort (length (J.places self.now.right)) }
+        ensures touches { M.touches meter.new ≤ M.touches meter.old + J.effort (length (J.places self.now.right)) }
+    {
+        match self.right.find(RightSide::new(&self.pairs), right, meter) {
+            Some(place) => match self.pairs.at(place) {
+                Some((left, _)) => Some(left),
+                None => unreachable!(),
+            },
+            None => None,
+        }
+    }
+
+    // The place of an equal left, and a spot for the left.
+    pub(crate) fn seek_left<M: Meter>(
+        &self,
+        left: &L,
+        spot: &mut I::Spot,
+        meter: &mut M,
+    ) -> Option<usize>
+        ensures found { IsFoundAt (λ p. p.0) L.eq self.now.pairs left.now result }
+        ensures leads { IfNone result (I.leads self.now.left (left_at self.now.pairs) left.now spot.new) }
+        ensures is_for { I.is_for self.now.left left.now spot.new }
+        ensures comparisons { M.comparisons meter.new ≤ M.comparisons meter.old + I.effort (length (I.places self.now.left)) }
+        ensures touches { M.touches meter.new ≤ M.touches meter.old + I.effort (length (I.places self.now.left)) }
+    {
+        self.left
+            .seek(LeftSide::new(&self.pairs), left, spot, meter)
+    }
+
+    // The same for a right, where the place of the equal left, if any, is known: its right is asked first.
+    pub(crate) fn seek_right_beside<M: Meter>(
+        &self,
+        by_left: Option<usize>,
+        right: &R,
+        spot: &mut J::Spot,
+        meter: &mut M,
+    ) -> Option<usize>
+        requires { IfSome by_left (IsLive self.now.pairs) }
+        ensures found { IsFoundAt (λ p. p.1) R.eq self.now.pairs right.now result }
+        ensures leads { IfNone result (J.leads self.now.right (right_at self.now.pairs) right.now spot.new) }
+        ensures is_for { (result ≡ by_left → ⊥) → J.is_for self.now.right right.now spot.new }
+        ensures comparisons { M.comparisons meter.new ≤ M.comparisons meter.old + 2 * J.effort (length (J.places self.now.right)) }
+        ensures touches { M.touches meter.new ≤ M.touches meter.old + J.effort (length (J.places self.now.right)) }
+    {
+        let rights = RightSide::new(&self.pairs);
+        if let Some(place) = by_left {
+            if self.right.is_known(rights, place, right, meter) {
+                return Some(place);
+            }
+        }
+        self.right.seek(rights, right, spot, meter)
+    }
+}

@@ -1,0 +1,153 @@
+//! Writes at one place: the store and what changes of the indexes, together. It decides nothing.
+ghost use Rattle.std.specs.Prelude.{◌≡◌, ◌<◌, ◌≤◌, ◌+◌, ◌*◌, ℕ, true, length, Some, None, IsSomeAnd, OnOk, OnErr, max, slice_set};
+ghost use Rattle.bimap_base.specs.Slots.{pair_at, left_at, right_at, IsLive, pair_count};
+
+use crate::table::Table;
+use bimap_base::{LeftSide, Meter, NoMemory, RightSide};
+use bimap_index::Index;
+
+impl<L: Eq, R: Eq, I: Index<L>, J: Index<R>> Table<L, R, I, J> {
+    ghost use Rattle.bimap_core.specs.Store.{IsAloneAt};
+
+    // Puts a pair in the place of one that is equal to it on both sides. No index changes.
+    pub(crate) fn swap_equal(&mut self, place: usize, left: L, right: R) -> (L, R)
+        requires same_left { IsSomeAnd (pair_at self.old.pairs place) (λ p. L.eq p.0 left ≡ true) }
+        requires same_right { IsSomeAnd (pair_at self.old.pairs place) (λ p. R.eq p.1 right ≡ true) }
+        requires alone { IsAloneAt L.eq R.eq self.old.pairs place (left, right) }
+        ensures was { pair_at self.old.pairs place ≡ Some result }
+        ensures pairs { self.new.pairs ≡ slice_set self.old.pairs place (Some (left, right)) }
+    {
+        self.pairs.swap_in(place, left, right)
+    }
+
+    // Puts a pair in the place of one with an equal left. The right index alone is relinked.
+    pub(crate) fn swap_right<M: Meter>(
+        &mut self,
+        place: usize,
+        left: L,
+        right: R,
+        spot: &J::Spot,
+        meter: &mut M,
+    ) -> (L, R)
+        requires same_left { IsSomeAnd (pair_at self.old.pairs place) (λ p. L.eq p.0 left ≡ true) }
+        requires spot { J.is_for self.old.right right spot.now }
+        requires alone { IsAloneAt L.eq R.eq self.old.pairs place (left, right) }
+        ensures was { pair_at self.old.pairs place ≡ Some result }
+        ensures pairs { self.new.pairs ≡ slice_set self.old.pairs place (Some (left, right)) }
+        ensures comparisons { M.comparisons meter.new ≤ M.comparisons meter.old + 2 * J.effort (length (J.places self.old.right)) }
+        ensures touches { M.touches meter.new ≤ M.touches meter.old + 128 * (J.effort (length (J.places self.old.right)) + 1) }
+    {
+        self.right.unlink(RightSide::new(&self.pairs), place, meter);
+        let old = self.pairs.swap_in(place, left, right);
+        self.right
+            .relink(RightSide::new(&self.pairs), place, spot, meter);
+        old
+    }
+
+    // Puts a pair in the place of one with an equal right. The left index alone is relinked.
+    pub(crate) fn swap_left<M: Meter>(
+        &mut self,
+        place: usize,
+        left: L,
+        right: R,
+        spot: &I::Spot,
+        meter: &mut M,
+    ) -> (L, R)
+        requires same_right { IsSomeAnd (pair_at self.old.pairs place) (λ p. R.eq p.1 right ≡ true) }
+        requires spot { I.is_for self.old.left left spot.now }
+        requires alone { IsAloneAt L.eq R.eq self.old.pairs place (left, right) }
+        ensures was { pair_at self.old.pairs place ≡ Some result }
+        ensures pairs { self.new.pairs ≡ slice_set self.old.pairs place (Some (left, right)) }
+        ensures comparisons { M.comparisons meter.new ≤ M.comparisons meter.old + 2 * I.effort (length (I.places self.old.left)) }
+        ensures touches { M.touches meter.new ≤ M.touches meter.old + 128 * (I.effort (length (I.places self.old.left)) + 1) }
+    {
+        self.left.unlink(LeftSide::new(&self.pairs), place, meter);
+        let old = self.pairs.swap_in(place, left, right);
+        self.left
+            .relink(LeftSide::new(&self.pairs), place, spot, meter);
+        old
+    }
+
+    // Takes out a pair.
+    pub(crate) fn take<M: Meter>(&mut self, place: usize, meter: &mut M) -> (L, R)
+        requires { IsLive self.old.pairs place }
+        ensures was { pair_at self.old.pairs place ≡ Some result }
+        ensures pairs { self.new.pairs ≡ slice_set self.old.pairs place None }
+        ensures right_spots { (key : R) (spot : J.Spot) → J.is_for self.old.right key spot → J.is_for self.new.right key spot }
+        ensures right_effort { J.effort (length (J.places self.new.right)) ≤ J.effort (length (J.places self.old.right)) }
+        ensures comparisons { M.comparisons meter.new ≤ M.comparisons meter.old + I.effort (length (I.places self.old.left)) + J.effort (length (J.places self.old.right)) }
+        ensures touches { M.touches meter.new ≤ M.touches meter.old + 64 * (I.effort (length (I.places self.old.left)) + 1) + 64 * (J.effort (length (J.places self.old.right)) + 1) }
+    {
+        self.left.unlink(LeftSide::new(&self.pairs), place, meter);
+        self.right.unlink(RightSide::new(&self.pairs), place, meter);
+        self.pairs.take(place)
+    }
+
+    // Puts a pair that shares with none into a free place, along the spots of its values, and answers which.
+    pub(crate) fn put<M: Meter>(
+        &mut self,
+        left: L,
+        right: R,
+        left_spot: &I::Spot,
+        right_spot: &J::Spot,
+        meter: &mut M,
+    ) -> usize
+        requires free { pair_count self.old.pairs < length self.old.pairs }
+        requires left { I.leads self.old.left (left_at self.old.pairs) left left_spot.now }
+        requires right { J.leads self.old.right (right_at self.old.pairs) right right_spot.now }
+        requires alone { (place : ℕ) → pair_at self.old.pairs place ≡ None → IsAloneAt L.eq R.eq self.old.pairs place (left, right) }
+        ensures there { result < length self.old.pairs }
+        ensures was_free { pair_at self.old.pairs result ≡ None }
+        ensures pairs { self.new.pairs ≡ slice_set self.old.pairs result (Some (left, right)) }
+        ensures comparisons { M.comparisons meter.new ≡ M.comparisons meter.old }
+        ensures touches { M.touches meter.new ≤ M.touches meter.old + 64 * (I.effort (length (I.places self.old.left)) + 1) + 64 * (J.effort (length (J.places self.old.right)) + 1) }
+    {
+        let place = self.pairs.put(left, right);
+        self.left
+            .link(LeftSide::new(&self.pairs), place, left_spot, meter);
+        self.right
+            .link(RightSide::new(&self.pairs), place, right_spot, meter);
+        place
+    }
+
+    // Makes places up to a number, and cells for them. A refusal may leave more cells.
+    pub(crate) fn grow(&mut self, to: usize) -> Result<(), NoMemory>
+        ensures ok { OnOk result (length self.new.pairs ≡ max to (length self.old.pairs)) }
+        ensures grows { length self.old.pairs ≤ length self.new.pairs }
+        ensures kept { (place : ℕ) → pair_at self.new.pairs place ≡ pair_at self.old.pairs place }
+        ensures count { pair_count self.new.pairs ≡ pair_count self.old.pairs }
+        ensures left_spots { (key : L) (spot : I.Spot) → I.leads self.old.left (left_at self.old.pairs) key spot → I.leads self.new.left (left_at self.new.pairs) key spot }
+        ensures right_spots { (key : R) (spot : J.Spot) → J.leads self.old.right (right_at self.old.pairs) key spot → J.leads self.new.right (right_at self.new.pairs) key spot }
+        ensures left_places { I.places self.new.left ≡ I.places self.old.left }
+        ensures right_places { J.places self.new.right ≡ J.places self.old.right }
+        ensures err { OnErr result (self.new.pairs ≡ self.old.pairs) }
+    {
+        self.left.grow(to)?;
+        self.right.grow(to)?;
+        self.pairs.grow(to)
+    }
+
+    // Makes sure that a place is free. The places double, from four on.
+    pub(crate) fn make_room(&mut self) -> Result<(), NoMemory>
+        ensures ok { OnOk result (pair_count self.new.pairs < length self.new.pairs) }
+        ensures grows { length self.old.pairs ≤ length self.new.pairs }
+        ensures had_place { pair_count self.old.pairs < length self.old.pairs → self.new.pairs ≡ self.old.pairs }
+        ensures kept { (place : ℕ) → pair_at self.new.pairs place ≡ pair_at self.old.pairs place }
+        ensures count { pair_count self.new.pairs ≡ pair_count self.old.pairs }
+        ensures left_spots { (key : L) (spot : I.Spot) → I.leads self.old.left (left_at self.old.pairs) key spot → I.leads self.new.left (left_at self.new.pairs) key spot }
+        ensures right_spots { (key : R) (spot : J.Spot) → J.leads self.old.right (right_at self.old.pairs) key spot → J.leads self.new.right (right_at self.new.pairs) key spot }
+        ensures left_places { I.places self.new.left ≡ I.places self.old.left }
+        ensures right_places { J.places self.new.right ≡ J.places self.old.right }
+        ensures full { OnErr result (pair_count self.old.pairs ≡ length self.old.pairs) }
+        ensures err { OnErr result (self.new.pairs ≡ self.old.pairs) }
+    {
+        let places = self.pairs.places();
+        if self.pairs.len() < places {
+            return Ok(());
+        }
+        match places.checked_mul(2) {
+            Some(twice) => self.grow(twice.max(4)),
+            None => Err(NoMemory),
+        }
+    }
+}

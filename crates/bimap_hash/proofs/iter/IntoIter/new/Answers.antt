@@ -1,6 +1,0 @@
-use Rattle.std.proofs.Common.{◌∙◌, sym}
-use Rattle.bimap_hash.proofs.Places.{length-pairs_in}
-use Rattle.bimap_hash.proofs.iter.IntoIter.new.Goals as goal
-
-pub invariant_of-result : goal.invariant_of-result
-invariant_of-result g c = c.len-left.ensures.value ∙ sym (length-pairs_in c.args.pairs)

@@ -1,3 +1,0 @@
-pub mod Capacity
-pub mod Held
-pub mod Numbered

@@ -1,0 +1,5 @@
+pub mod Ascending
+pub mod ByPlace
+pub mod Grown
+pub mod Packing
+pub mod Placed

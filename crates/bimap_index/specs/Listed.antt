@@ -1,0 +1,41 @@
+-- What an index is asked and told of the keys of places. A side is a function from places to keys: a place without a pair has none.
+use Rattle.std.specs.Prelude.{◌≡◌, ℕ, Bool, true, false, List, Option, Some, None, IfSome, IsSomeAnd}
+use Rattle.bimap_base.specs.Slots.{pair_at}
+use Rattle.bimap_base.specs.Places.{pairs_in, packed}
+
+module _ {K : Type 0} where
+  -- the place has an equal key, if one is told, and no other place has one
+  pub record IsFoundBy (key_at : ℕ → Option K) (same : K → K → Bool) (key : K) (found : Option ℕ) : Type 0 where
+    pub here : IfSome found (λ place. IsSomeAnd (key_at place) (λ k. same k key ≡ true))
+    pub elsewhere : (place : ℕ) (k : K) → (found ≡ Some place → ⊥) → key_at place ≡ Some k → same k key ≡ false
+
+  -- no other place has an equal key
+  abbrev pub IsAbsentElsewhere : (ℕ → Option K) → (K → K → Bool) → K → ℕ → Type 0
+  IsAbsentElsewhere key_at same key place =
+      (other : ℕ) (k : K) → (other ≡ place → ⊥) → key_at other ≡ Some k → same k key ≡ false
+
+  -- the side but for one place: there the first one has no key
+  pub record IsWithout (f g : ℕ → Option K) (place : ℕ) : Type 0 where
+    pub free : f place ≡ None
+    pub others : (q : ℕ) → (q ≡ place → ⊥) → g q ≡ f q
+
+  -- both have a key that is equal, or none
+  abbrev pub IsAlike : (K → K → Bool) → Option K → Option K → Type 0
+  IsAlike same None None = Unit {0}
+  IsAlike same None (Some l) = ⊥
+  IsAlike same (Some k) None = ⊥
+  IsAlike same (Some k) (Some l) = same k l ≡ true
+
+  -- a place that isn't listed has this key, which no other place has: it may be listed
+  pub record MayLink {X : Type 0} (IsListing : X → (ℕ → Option K) → Type 0) (same : K → K → Bool) (index : X) (g : ℕ → Option K) (place : ℕ) (key : K) : Type 0 where
+    pub f : ℕ → Option K
+    pub listing : IsListing index f
+    pub without : IsWithout f g place
+    pub live : g place ≡ Some key
+    pub absent : IsAbsentElsewhere g same key place
+
+  -- the keys of g are those of f, moved in the order of their places to the first of so many
+  pub record IsPackedSide (f g : ℕ → Option K) (places : ℕ) : Type 0 where
+    pub keys : List (Option K)
+    pub before : (place : ℕ) → f place ≡ pair_at keys place
+    pub after : (place : ℕ) → g place ≡ pair_at (packed (pairs_in keys) places) place

@@ -1,0 +1,172 @@
+//! A hashed index of a side, with its builder. It knows numbers and places, and no chain.
+ghost use Rattle.std.specs.Prelude.{◌≡◌, ◌≤◌, [], length};
+ghost use Rattle.std.specs.declared.cmp.Ordering.TheVariants.{Less};
+ghost use Rattle.std.specs.List.{fold};
+ghost use Rattle.std.proofs.Common.{ap};
+ghost use Rattle.bimap_base.specs.Numbered.{number_by};
+ghost use Rattle.bimap_base.specs.Places.{pairs_in, packed};
+ghost use Rattle.bimap_index.specs.ByHash.{ListsByHash, places_from};
+ghost use Rattle.bimap_index.specs.HashLaws.{hash_listed, hash_distinct, hash_by_place, hash_in_order, hash_respects, hash_settled};
+
+use crate::index::Index;
+use crate::made::{CopiedIndex, DefaultIndex, EmptyIndex, PackedIndex};
+use bimap_base::{ByHash, Meter, NoMemory, Side, Spread};
+use bimap_chain::Hashed;
+use std::alloc::Global;
+use std::hash::{BuildHasher, BuildHasherDefault, FoldHasher, Hash};
+
+/// A hashed index and the builder that numbers its keys.
+#[derive(Drop)]
+pub struct HashIndex<B> {
+    hashed: Hashed,
+    builder: B,
+}
+
+impl<B> HashIndex<B> {
+    /// An index that lists no place, with this builder. It takes no memory.
+    pub fn new(alloc: Global, builder: B) -> Self
+        ensures hashed { result.hashed ≡ [] }
+        ensures builder { result.builder ≡ builder }
+    {
+        HashIndex {
+            hashed: Hashed::new(alloc),
+            builder,
+        }
+    }
+
+    /// The builder that numbers the keys.
+    pub fn builder(&self) -> &B
+        ensures { result.now ≡ self.now.builder }
+    {
+        &self.builder
+    }
+}
+
+impl<K: Eq + Hash, B: BuildHasher> Index<K> for HashIndex<B> {
+    type Spot = u64;
+
+    ghost is_listing = { λ h. ListsByHash K.eq (number_by B.Hasher.finish B.Hasher.write B.build_hasher K.hash_input h.builder) h.hashed };
+
+    ghost leads = { λ h f key spot. spot ≡ number_by B.Hasher.finish B.Hasher.write B.build_hasher K.hash_input h.builder key };
+
+    ghost is_for = { λ h key spot. spot ≡ number_by B.Hasher.finish B.Hasher.write B.build_hasher K.hash_input h.builder key };
+
+    ghost places = { λ h. places_from 0 h.hashed };
+
+    ghost walk_order = { λ h k l. Less };
+
+    ghost cells = { λ h. length h.hashed };
+
+    ghost effort = { λ n. 0 };
+
+    fn spot(&self) -> u64 {
+        0
+    }
+
+    fn spot_for(&self, key: &K) -> u64 {
+        self.builder.hash_one(key)
+    }
+
+    fn find<S: Side<K>, M: Meter>(&self, side: S, key: &K, _meter: &mut M) -> Option<usize> {
+        self.hashed.find(&ByHash::new(side, &self.builder), key)
+    }
+
+    fn seek<S: Side<K>, M: Meter>(
+        &self,
+        side: S,
+        key: &K,
+        spot: &mut u64,
+        _meter: &mut M,
+    ) -> Option<usize> {
+        let spread = ByHash::new(side, &self.builder);
+        let number = spread.hash_key(key);
+        *spot = number;
+        self.hashed.find_under(&spread, number, key)
+    }
+
+    fn is_known<S: Side<K>, M: Meter>(
+        &self,
+        _side: S,
+        _place: usize,
+        _key: &K,
+        _meter: &mut M,
+    ) -> bool {
+        false
+    }
+
+    fn link<S: Side<K>, M: Meter>(&mut self, _side: S, place: usize, spot: &u64, _meter: &mut M) {
+        self.hashed.insert_under(place, *spot);
+    }
+
+    fn relink<S: Side<K>, M: Meter>(&mut self, _side: S, place: usize, spot: &u64, _meter: &mut M) {
+        self.hashed.insert_under(place, *spot);
+    }
+
+    fn unlink<S: Side<K>, M: Meter>(&mut self, _side: S, place: usize, _meter: &mut M) {
+        self.hashed.remove(place);
+    }
+
+    fn unlink_key<S: Side<K>, M: Meter>(
+        &mut self,
+        side: S,
+        key: &K,
+        _meter: &mut M,
+    ) -> Option<usize> {
+        let place = self.hashed.find(&ByHash::new(side, &self.builder), key)?;
+        self.hashed.remove(place);
+        Some(place)
+    }
+
+    fn grow(&mut self, to: usize) -> Result<(), NoMemory> {
+        self.hashed.grow_to(to)
+    }
+
+    fn clear(&mut self) {
+        self.hashed.clear();
+    }
+
+    ghost listed = { λ h. hash_listed K.eq (number_by B.Hasher.finish B.Hasher.write B.build_hasher K.hash_input h.builder) h.hashed };
+
+    ghost distinct = { λ h. hash_distinct K.eq (number_by B.Hasher.finish B.Hasher.write B.build_hasher K.hash_input h.builder) h.hashed };
+
+    ghost in_order = { λ h. hash_in_order K.eq (number_by B.Hasher.finish B.Hasher.write B.build_hasher K.hash_input h.builder) h.hashed };
+
+    ghost respects = { λ h. hash_respects K.eq (number_by B.Hasher.finish B.Hasher.write B.build_hasher K.hash_input h.builder) K.Eq.laws (λ x y e. ap (λ w. B.Hasher.finish (fold B.Hasher.write (B.build_hasher h.builder) w)) (K.respects_eq x y e)) h.hashed };
+
+    ghost settled = { λ h. hash_settled K.eq (number_by B.Hasher.finish B.Hasher.write B.build_hasher K.hash_input h.builder) h.hashed };
+}
+
+impl<K: Eq + Hash, B: BuildHasher + Default> EmptyIndex<K> for HashIndex<B> {
+    fn empty(alloc: Global) -> Self {
+        HashIndex::new(alloc, B::default())
+    }
+}
+
+impl<K: Eq + Hash> DefaultIndex<K> for HashIndex<BuildHasherDefault<FoldHasher>> {}
+
+impl<K: Eq + Hash, B: BuildHasher + Clone> CopiedIndex<K> for HashIndex<B> {
+    ghost finds_as = { λ h copy. B.is_clone h.builder copy.builder };
+
+    ghost is_infallible = { λ h. B.is_infallible h.builder };
+
+    fn copied(&self, alloc: Global) -> Result<Self, NoMemory> {
+        let builder = self.builder.clone()?;
+        Ok(HashIndex::new(alloc, builder))
+    }
+}
+
+impl<K: Eq + Hash, B: BuildHasher> PackedIndex<K> for HashIndex<B> {
+    type Packed = Hashed;
+
+    ghost is_packed = { λ h to new. (length (pairs_in h.hashed) ≤ to) × (new ≡ packed (pairs_in h.hashed) to) };
+
+    fn packed(&self, to: usize) -> Result<Hashed, NoMemory> {
+        self.hashed.packed(to)
+    }
+
+    fn adopt(&mut self, packed: Hashed) {
+        self.hashed = packed;
+    }
+
+    ghost by_place = { λ h. hash_by_place K.eq (number_by B.Hasher.finish B.Hasher.write B.build_hasher K.hash_input h.builder) h.hashed };
+}

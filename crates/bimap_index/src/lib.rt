@@ -1,0 +1,14 @@
+//! What a bimap asks of an index of one side, and the two kinds of index: by order and by hash.
+//!
+//! An index lists places of a store by their keys. It is passed the side, by which it compares or numbers them, and keeps
+//! no key.
+#![tactic(auto)]
+
+mod hash_index;
+mod index;
+mod made;
+mod ordered;
+
+pub use hash_index::HashIndex;
+pub use index::Index;
+pub use made::{CopiedIndex, DefaultIndex, EmptyIndex, PackedIndex};

@@ -1,0 +1,63 @@
+//! Indexes made from nothing, from another one, and for a store that was packed.
+ghost use Rattle.std.specs.Prelude.{◌≡◌, ◌≤◌, ◌<◌, ℕ, Option, None, IfOk, IfErr, length};
+ghost use Rattle.std.specs.List.{AllPairs};
+ghost use Rattle.bimap_index.specs.Listed.{IsPackedSide};
+
+use crate::index::Index;
+use bimap_base::NoMemory;
+use std::alloc::Global;
+
+/// An index that is made from nothing.
+pub trait EmptyIndex<K: Eq>: Index<K> {
+    /// An index that lists no place and has no cells. It takes no memory.
+    fn empty(alloc: Global) -> Self
+        ensures listing { Self.is_listing result (λ _. None) }
+        ensures cells { Self.cells result ≡ 0 };
+}
+
+/// The index of a side for which none is named: the ordered one, or the hashed one with the default builder.
+pub trait DefaultIndex<K: Eq>: EmptyIndex<K> {}
+
+/// An index that is made like another one.
+pub trait CopiedIndex<K: Eq>: Index<K> {
+    /// The second finds keys as a copy of the first does: by clones of what it finds them by.
+    ghost finds_as: { Self → Self → Type 0 };
+
+    /// Its copy asks for no memory.
+    ghost is_infallible: { Self → Type 0 };
+
+    /// An index that lists no place and has no cells, and finds keys as this one does. It takes no memory but what a clone
+    /// of the way to find takes, and where that is refused there is none.
+    fn copied(&self, alloc: Global) -> Result<Self, NoMemory>
+        ensures listing { IfOk result (λ index. Self.is_listing index (λ _. None)) }
+        ensures cells { IfOk result (λ index. Self.cells index ≡ 0) }
+        ensures finds { IfOk result (λ index. finds_as self.now index) }
+        ensures err { IfErr result (λ _. ¬ is_infallible self.now) };
+}
+
+/// An index that is walked in the order of places, and can follow a store whose pairs are moved to its first places.
+///
+/// `packed` takes all memory and changes nothing, and `adopt` takes none: so a store and two indexes are packed together,
+/// or not at all.
+pub trait PackedIndex<K: Eq>: Index<K> {
+    /// What the index is to list.
+    type Packed: Drop;
+
+    /// It is what the index is to list in a store packed to so many places.
+    ghost is_packed: { Self → ℕ → Self.Packed → Type 0 };
+
+    /// What the index is to list in a store packed to `to` places, in time in proportion to its cells. It looks at no key.
+    /// A refusal makes nothing.
+    fn packed(&self, to: usize) -> Result<Self::Packed, NoMemory>
+        requires { length (Self.places self.now) ≤ to }
+        ensures { IfOk result (λ packed. is_packed self.now to packed) };
+
+    /// Lists that, in place of what it lists. It takes no memory.
+    fn adopt(&mut self, packed: Self::Packed)
+        requires { (to : ℕ) × is_packed self.old to packed }
+        ensures listing { (to : ℕ) (f g : ℕ → Option K) → is_packed self.old to packed → Self.is_listing self.old f → IsPackedSide f g to → Self.is_listing self.new g }
+        ensures cells { (to : ℕ) → is_packed self.old to packed → Self.cells self.new ≡ to };
+
+    /// The walk goes by ascending places.
+    ghost by_place: { (index : Self) (f : ℕ → Option K) → Self.is_listing index f → AllPairs (λ a b. a < b) (Self.places index) };
+}

@@ -1,0 +1,130 @@
+//! The ordered index as an index of a side. It knows places and routes, and no node.
+ghost use Rattle.std.specs.Prelude.{◌≡◌, ⊤, length};
+ghost use Rattle.bimap_base.specs.Digits.{most_height};
+ghost use Rattle.bimap_base.specs.Keyed.{standing};
+ghost use Rattle.bimap_tree.specs.Route.{IsRoute};
+ghost use Rattle.bimap_index.specs.ByOrder.{ListsByOrder};
+ghost use Rattle.bimap_index.specs.OrderLaws.{order_listed, order_distinct, order_in_order, order_respects, order_settled};
+
+use crate::index::Index;
+use crate::made::{CopiedIndex, DefaultIndex, EmptyIndex};
+use bimap_base::{ByOrder, Keys, Meter, NoMemory, Side};
+use bimap_tree::{Ordered, Route};
+use std::alloc::Global;
+use std::cmp::Ordering;
+
+impl<K: Ord> Index<K> for Ordered {
+    type Spot = Route;
+
+    ghost is_listing = { λ o. ListsByOrder K.cmp o.places };
+
+    ghost leads = { λ o f key spot. IsRoute o (λ q. standing f K.cmp key q) spot };
+
+    ghost is_for = { λ o key spot. ⊤ };
+
+    ghost places = { λ o. o.places };
+
+    ghost walk_order = { λ o. K.cmp };
+
+    ghost cells = { λ o. length o.nodes };
+
+    ghost effort = { most_height };
+
+    fn spot(&self) -> Route {
+        Route::new()
+    }
+
+    fn spot_for(&self, _key: &K) -> Route {
+        Route::new()
+    }
+
+    fn find<S: Side<K>, M: Meter>(&self, side: S, key: &K, meter: &mut M) -> Option<usize> {
+        self.find(&ByOrder::new(side), key, meter)
+    }
+
+    fn seek<S: Side<K>, M: Meter>(
+        &self,
+        side: S,
+        key: &K,
+        spot: &mut Route,
+        meter: &mut M,
+    ) -> Option<usize> {
+        self.find_route(&ByOrder::new(side), key, spot, meter)
+    }
+
+    fn is_known<S: Side<K>, M: Meter>(
+        &self,
+        side: S,
+        place: usize,
+        key: &K,
+        meter: &mut M,
+    ) -> bool {
+        matches!(
+            ByOrder::new(side).compare(place, key, meter),
+            Ordering::Equal
+        )
+    }
+
+    fn link<S: Side<K>, M: Meter>(&mut self, side: S, place: usize, spot: &Route, meter: &mut M) {
+        self.insert_at(&ByOrder::new(side), spot, place, meter);
+    }
+
+    fn relink<S: Side<K>, M: Meter>(
+        &mut self,
+        side: S,
+        place: usize,
+        _spot: &Route,
+        meter: &mut M,
+    ) {
+        self.insert(&ByOrder::new(side), place, meter);
+    }
+
+    fn unlink<S: Side<K>, M: Meter>(&mut self, side: S, place: usize, meter: &mut M) {
+        self.remove(&ByOrder::new(side), place, meter);
+    }
+
+    fn unlink_key<S: Side<K>, M: Meter>(
+        &mut self,
+        side: S,
+        key: &K,
+        meter: &mut M,
+    ) -> Option<usize> {
+        self.remove_key(&ByOrder::new(side), key, meter)
+    }
+
+    fn grow(&mut self, to: usize) -> Result<(), NoMemory> {
+        self.grow(to)
+    }
+
+    fn clear(&mut self) {
+        self.clear();
+    }
+
+    ghost listed = { λ o. order_listed K.cmp K.eq K.total K.matches_eq o.places };
+
+    ghost distinct = { λ o. order_distinct K.cmp K.eq K.total K.matches_eq o.places };
+
+    ghost in_order = { λ o. order_in_order K.cmp K.eq K.total K.matches_eq o.places };
+
+    ghost respects = { λ o. order_respects K.cmp K.eq K.total K.matches_eq o.places };
+
+    ghost settled = { λ o. order_settled K.cmp K.eq K.total K.matches_eq o.places };
+}
+
+impl<K: Ord> EmptyIndex<K> for Ordered {
+    fn empty(alloc: Global) -> Self {
+        Ordered::new(alloc)
+    }
+}
+
+impl<K: Ord> DefaultIndex<K> for Ordered {}
+
+impl<K: Ord> CopiedIndex<K> for Ordered {
+    ghost finds_as = { λ o copy. ⊤ };
+
+    ghost is_infallible = { λ o. ⊤ };
+
+    fn copied(&self, alloc: Global) -> Result<Self, NoMemory> {
+        Ok(Ordered::new(alloc))
+    }
+}

@@ -1,0 +1,159 @@
+-- The walk of a table by an index of it, and what is said of the pairs that it gives. Once for both sides: `key` is the side.
+use Rattle.std.proofs.Common.{◌≡◌, ◌≢◌, ◌↔◌, ◌≤◌, ◌+◌, ◌∙◌, ℕ, Bool, List, [], ◌∷◌, ◌++◌, length, Option, Some, None, IsSome, refl, sym, ap, subst, arith, get_or, Contains}
+use Rattle.std.specs.Prelude.{Result, Ok, Err, OnOk, OnErr, max, min}
+use denote.Param.Members.{Mut}
+use denote.Ref.{Bor}
+use Rattle.std.proofs.lemmas.List.{get_or_default}
+use Rattle.std.proofs.lemmas.List.Sorted.{IsPermutation-trans}
+use Rattle.std.specs.List.{All, AllPairs}
+use Rattle.std.specs.Option.{option_map}
+use Rattle.std.specs.Cmp.{IsEquivalence, IsTotalOrder}
+use Rattle.std.specs.Ordering.{eq_by_cmp}
+use Rattle.std.specs.declared.cmp.Ordering.{Ordering}
+use Rattle.std.specs.declared.cmp.Ordering.TheVariants.{Less}
+use Rattle.bimap_base.specs.Capacity.{IsReservation, IsShrink}
+use Rattle.bimap_base.specs.Exchange.{IsRemoving}
+use Rattle.bimap_base.specs.Holding.{Holding, IsRetention}
+use Rattle.bimap_base.specs.Kept.{MayTest}
+use Rattle.bimap_base.specs.declared.refusal.NoMemory.{NoMemory}
+use Rattle.bimap_base.specs.PairsAt.{pairs_at}
+use Rattle.bimap_base.specs.Places.{pairs_in}
+use Rattle.bimap_base.specs.Sets.{IsApart}
+use Rattle.bimap_base.specs.Slots.{pair_at, left_at, right_at, IsLive}
+use Rattle.bimap_base.proofs.HoldingsAlike.{AreAlike}
+use Rattle.bimap_base.proofs.Walked.{IsWalk, walk_of, walked, long_walked, listed_long, pairs_walked}
+use Rattle.bimap_base.proofs.Results.{OnErr-then}
+use Rattle.bimap_index.specs.ByOrder.{ListsByOrder}
+use Rattle.bimap_index.specs.ByHash.{ListsByHash, places_from}
+use Rattle.bimap_index.specs.HashLaws.{hash_settled, hash_listed, hash_distinct, hash_by_place}
+use Rattle.bimap_index.proofs.Placed.{pairs_by_place}
+use Rattle.bimap_core.proofs.Ascending.{order_walk, order_ascends}
+use Rattle.bimap_core.proofs.Permuted.{walk_permuted}
+use Rattle.bimap_core.specs.Store.{holding_of}
+use Rattle.bimap_kinds.specs.Sorted.{IsByRight}
+
+-- the holding of a store whose pairs are walked by these places
+abbrev pub walked_by : {L R : Type 0} → List (Option (L × R)) → List ℕ → Holding L R
+walked_by slots places = record { pairs = pairs_at slots places; room = length slots }
+
+-- an index lists the places of a walk
+pub the_walk : {P K X : Type 0} (key : P → K) (IsListing : X → (ℕ → Option K) → Type 0) (places : X → List ℕ)
+    → ((index : X) (f : ℕ → Option K) → IsListing index f → (p : ℕ) → Contains (places index) p ↔ IsSome (f p))
+    → ((index : X) (f : ℕ → Option K) → IsListing index f → AllPairs (λ a b. a ≢ b) (places index))
+    → ((index : X) (f : ℕ → Option K) → ∥ IsListing index f ∥₁ → IsListing index f)
+    → (slots : List (Option P)) (index : X) → ∥ IsListing index (λ place. option_map key (pair_at slots place)) ∥₁ → IsWalk slots (places index)
+the_walk key IsListing places listed distinct settled slots index listing =
+    let lists = settled index (λ place. option_map key (pair_at slots place)) listing in
+    walk_of key slots (places index) (listed index _ lists) (distinct index _ lists)
+
+module _ {L R : Type 0} (slots : List (Option (L × R))) (places : List ℕ) (walk : IsWalk slots places) where
+  pub alike : AreAlike (holding_of slots) (walked_by slots places)
+  alike = record { members = walked slots places walk; long = long_walked slots places walk; room = refl }
+
+  -- an index lists as many places as a walk gives pairs
+  pub as_many : (places' : List ℕ) → IsWalk slots places' → length places' ≡ length (pairs_at slots places)
+  as_many places' walk' = listed_long slots places' walk' ∙ sym (long_walked slots places walk)
+
+  -- each listed place has a pair
+  pub all_live : All (IsLive slots) places
+  all_live k d inside = (walk.live (get_or places k d)).0 (k, inside, get_or_default places k (get_or places k d) d inside)
+
+  pub ordered : (order : L → L → Ordering) → AllPairs (λ a b. (k l : L) → left_at slots a ≡ Some k → left_at slots b ≡ Some l → order k l ≡ Less) places → AllPairs (λ p q. order p.0 q.0 ≡ Less) (pairs_at slots places)
+  ordered order all = pairs_walked slots places walk (λ a b. (k l : L) → left_at slots a ≡ Some k → left_at slots b ≡ Some l → order k l ≡ Less) (λ p q. order p.0 q.0 ≡ Less) (λ a b p q s i j. s p.0 q.0 (ap (option_map (λ x. x.0)) i) (ap (option_map (λ x. x.0)) j)) all
+
+  -- the pairs of a store without the one are those of a walk without it
+  pub removing_walked : (slots' : List (Option (L × R))) (places' : List ℕ) → IsWalk slots' places' → (p : L × R) → IsRemoving (pairs_in slots) p (pairs_in slots') → IsRemoving (pairs_at slots places) p (pairs_at slots' places')
+  removing_walked slots' places' walk' p h =
+      record {
+        member = (walked slots places walk p).0 h.member;
+        without = λ q. let v = walked slots places walk q in let w = walked slots' places' walk' q in (λ c. let o = (h.without q).0 (w.1 c) in (v.0 o.0, o.1), λ o. w.0 ((h.without q).1 (v.1 o.0, o.1)));
+      }
+
+  -- a reservation and a shrink are the same of the pairs in the order of a walk, which stays
+  module _ (slots' : List (Option (L × R))) (places' : List ℕ) (same : pairs_at slots' places' ≡ pairs_at slots places) where
+    same_but_room : (holding_of slots' ≡ holding_of slots) → walked_by slots' places' ≡ walked_by slots places
+    same_but_room e i = record { pairs = same i; room = (e i).room }
+
+    pub reservation_walked : (more : ℕ) (r : Result (Unit {0}) NoMemory) → IsReservation (holding_of slots) more r (holding_of slots') → IsReservation (walked_by slots places) more r (walked_by slots' places')
+    reservation_walked more r h =
+        let long = long_walked slots places walk in
+        record {
+          ok = subst (λ n. OnOk r (length slots' ≡ max (length slots) (n + more))) (sym long) h.ok;
+          pairs = same;
+          had_room = λ fits. h.had_room (subst (λ n. n + more ≤ length slots) long fits);
+          unchanged = OnErr-then r same_but_room h.unchanged;
+        }
+
+    pub shrink_walked : (least : ℕ) (r : Result (Unit {0}) NoMemory) → IsShrink (holding_of slots) least r (holding_of slots') → IsShrink (walked_by slots places) least r (walked_by slots' places')
+    shrink_walked least r h =
+        let long = long_walked slots places walk in
+        record {
+          ok = subst (λ n. OnOk r (length slots' ≡ max n (min least (length slots)))) (sym long) h.ok;
+          pairs = same;
+          was_so = λ so. h.was_so (subst (λ n. max n (min least (length slots)) ≡ length slots) long so);
+          unchanged = OnErr-then r same_but_room h.unchanged;
+        }
+
+  -- where the store has no pair, a walk gives none
+  pub none_walked : pairs_in slots ≡ [] → pairs_at slots places ≡ []
+  none_walked none = by (pairs_at slots places) (long_walked slots places walk ∙ ap length none)
+    where
+      by : (xs : List (L × R)) → length xs ≡ 0 → xs ≡ []
+      by [] e = refl
+      by (x ∷ xs) e = absurd (omega (arith, e))
+
+-- places that kept their pairs, walked in the same order
+pub pairs_kept : {P : Type 0} (old new : List (Option P)) (places places' : List ℕ) → ((place : ℕ) → pair_at new place ≡ pair_at old place) → places' ≡ places → pairs_at new places' ≡ pairs_at old places
+pairs_kept {P} old new places places' kept same = ap (pairs_at new) same ∙ each places
+  where
+    each : (places : List ℕ) → pairs_at new places ≡ pairs_at old places
+    each [] = refl
+    each (p ∷ ps) = by (pair_at old p) refl (each ps)
+      where
+        by : (o : Option P) → pair_at old p ≡ o → pairs_at new ps ≡ pairs_at old ps → pairs_at new (p ∷ ps) ≡ pairs_at old (p ∷ ps)
+        by None e rest = rw (kept p, e) rest
+        by (Some x) e rest = rw (kept p, e) (ap (λ xs. x ∷ xs) rest)
+
+-- nothing changed where an `Err` left the store and the listed places
+pub unchanged_walked : {T E L R : Type 0} (r : Result T E) (slots slots' : List (Option (L × R))) (places places' : List ℕ) → OnErr r (slots' ≡ slots) → OnErr r (places' ≡ places) → OnErr r (walked_by slots' places' ≡ walked_by slots places)
+unchanged_walked (Ok x) slots slots' places places' e f = tt
+unchanged_walked (Err x) slots slots' places places' e f = λ i. record { pairs = pairs_at (e i) (f i); room = length (e i) }
+
+-- what `retain` leaves, in the order of a walk
+module _ {F L R : Type 0} (g : Mut F (Bor L × (Bor R × Unit {0})) Bool) {same_left : L → L → Bool} {same_right : R → R → Bool} (equal_left : IsEquivalence same_left) (equal_right : IsEquivalence same_right)
+    (slots : List (Option (L × R))) (places : List ℕ) (walk : IsWalk slots places) (apart : IsApart same_left same_right (pairs_in slots)) where
+  pub may_test_walked : (f : F) → MayTest g f (pairs_at slots places) → MayTest g f (pairs_in slots)
+  may_test_walked f may =
+      record { at = λ ps bs later left right rest moved calls. may.at ps bs later left right rest (IsPermutation-trans (pairs_at slots places) (pairs_in slots) (ps ++ (left.now, right.now) ∷ rest) (walk_permuted equal_left equal_right slots places walk apart) moved) calls }
+
+  pub retention_walked : (f : F) (slots' : List (Option (L × R))) (places' : List ℕ) → IsWalk slots' places' → IsRetention g (holding_of slots) f (holding_of slots') → IsRetention g (walked_by slots places) f (walked_by slots' places')
+  retention_walked f slots' places' walk' h =
+      record {
+        kept = record {
+          order = h.kept.order;
+          answers = h.kept.answers;
+          last = h.kept.last;
+          each_once = IsPermutation-trans (pairs_at slots places) (pairs_in slots) h.kept.order (walk_permuted equal_left equal_right slots places walk apart) h.kept.each_once;
+          calls = h.kept.calls;
+          kept = λ q. let w = walked slots' places' walk' q in (λ c. (h.kept.kept q).0 (w.1 c), λ c. w.0 ((h.kept.kept q).1 c));
+        };
+        room = h.room;
+      }
+
+-- a hashed index is walked in the order of the store
+pub hash_walk : {P K : Type 0} (key : P → K) {same : K → K → Bool} {number : K → ℕ} (slots : List (Option P)) (numbers : List (Option ℕ)) → ∥ ListsByHash same number numbers (λ place. option_map key (pair_at slots place)) ∥₁ → pairs_at slots (places_from 0 numbers) ≡ pairs_in slots
+hash_walk {P} {K} key {same} {number} slots numbers h =
+    let side : ℕ → Option K = λ place. option_map key (pair_at slots place) in
+    let listing = hash_settled same number numbers side h in
+    let walk = walk_of key slots (places_from 0 numbers) (hash_listed same number numbers side listing) (hash_distinct same number numbers side listing) in
+    pairs_by_place slots (places_from 0 numbers) (hash_by_place same number numbers side listing) walk.live
+
+-- the walk by an ordered right
+pub sorted_walk : {L R : Type 0} {order : R → R → Ordering} {same : R → R → Bool} → IsTotalOrder order → ((x y : R) → same x y ≡ eq_by_cmp order x y) → (slots : List (Option (L × R))) (places : List ℕ) → IsWalk slots places → (places' : List ℕ) → ∥ ListsByOrder order places' (right_at slots) ∥₁ → IsByRight order (pairs_at slots places) (pairs_at slots places')
+sorted_walk {L} {R} {order} {same} total agrees slots places walk places' h =
+    let walk' = order_walk (λ p. p.1) total agrees slots places' h in
+    record {
+      same = λ p. let v = walked slots places walk p in let w = walked slots places' walk' p in (λ c. w.0 (v.1 c), λ c. v.0 (w.1 c));
+      ascends = order_ascends (λ p. p.1) total agrees slots places' h;
+      count = long_walked slots places' walk' ∙ sym (long_walked slots places walk);
+    }

@@ -1,0 +1,14 @@
+use Rattle.bimap_base.specs.Slots.{right_at}
+use Rattle.bimap_index.specs.OrderLaws.{order_settled}
+use Rattle.bimap_kinds.proofs.Walk.{the_walk, sorted_walk}
+use Rattle.bimap_kinds.proofs.walks_ordered.BijectiveMap+L+R+I+Ordered.right_range.Goals as goal
+
+pub range-requires-clause-ascends : goal.range-requires-clause-ascends
+range-requires-clause-ascends g c =
+    let table = c.args.self.now.table in
+    rw (c.new-rights.ensures, c.new.ensures) (order_settled g.R.Ord.cmp g.R.PartialEq.eq g.met.R.Ord.total g.met.R.Ord.matches_eq table.right.places (right_at table.pairs) table.right_listing).up
+
+pub returns-clause-sorted : goal.returns-clause-sorted
+returns-clause-sorted g c =
+    let table = c.args.self.now.table in
+    sorted_walk g.met.R.Ord.total g.met.R.Ord.matches_eq table.pairs (g.I.Index.places table.left) (the_walk (λ p. p.0) g.I.Index.is_listing g.I.Index.places g.met.I.Index.listed g.met.I.Index.distinct g.met.I.Index.settled table.pairs table.left table.left_listing) table.right.places table.right_listing

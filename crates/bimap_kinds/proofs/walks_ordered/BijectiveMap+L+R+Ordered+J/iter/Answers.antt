@@ -1,0 +1,8 @@
+use Rattle.bimap_core.proofs.Ascending.{order_walk}
+use Rattle.bimap_kinds.proofs.Walk.{all_live}
+use Rattle.bimap_kinds.proofs.walks_ordered.BijectiveMap+L+R+Ordered+J.iter.Goals as goal
+
+pub iter-requires : goal.iter-requires
+iter-requires g c =
+    let table = c.args.self.now.table in
+    all_live table.pairs table.left.places (order_walk (λ p. p.0) g.met.L.Ord.total g.met.L.Ord.matches_eq table.pairs table.left.places table.left_listing)

@@ -1,0 +1,74 @@
+//! Every bimap as a bijection, by calls of its own.
+ghost use Rattle.std.specs.Prelude.{Contains};
+ghost use Rattle.bimap_base.specs.Holding.{IsUndoing};
+ghost use Rattle.bimap_base.specs.Undoing.{IsUndoable};
+ghost use Rattle.bimap_kinds.specs.Held.{holding};
+
+use crate::map::BijectiveMap;
+use bimap_base::{Bijection, NoMemory, NotInsertedWith, Overwritten, Policy, UndoStopped};
+use bimap_index::Index;
+
+impl<L: Eq + Drop, R: Eq + Drop, I: Index<L>, J: Index<R>> Bijection<L, R>
+    for BijectiveMap<L, R, I, J> {
+    ghost holding = { holding };
+
+    ghost apart = { λ b. b.apart };
+
+    ghost fits = { λ b. b.fits };
+
+    fn len(&self) -> usize {
+        BijectiveMap::len(self)
+    }
+
+    fn capacity(&self) -> usize {
+        BijectiveMap::capacity(self)
+    }
+
+    fn get_by_left(&self, left: &L) -> Option<&R> {
+        BijectiveMap::get_by_left(self, left)
+    }
+
+    fn get_by_right(&self, right: &R) -> Option<&L> {
+        BijectiveMap::get_by_right(self, right)
+    }
+
+    fn insert_with(
+        &mut self,
+        left: L,
+        right: R,
+        policy: Policy,
+    ) -> Result<Overwritten<L, R>, NotInsertedWith<L, R>> {
+        BijectiveMap::insert_with(self, left, right, policy)
+    }
+
+    fn remove_by_left(&mut self, left: &L) -> Option<(L, R)> {
+        BijectiveMap::remove_by_left(self, left)
+    }
+
+    fn remove_by_right(&mut self, right: &R) -> Option<(L, R)> {
+        BijectiveMap::remove_by_right(self, right)
+    }
+
+    fn retain<F: FnMut(&L, &R) -> bool>(&mut self, f: F) {
+        self.retain_by_place(f)
+    }
+
+    fn clear(&mut self) {
+        BijectiveMap::clear(self)
+    }
+
+    fn reserve(&mut self, more: usize) -> Result<(), NoMemory> {
+        BijectiveMap::reserve(self, more)
+    }
+
+    fn undo_insert(
+        &mut self,
+        left: &L,
+        answer: Overwritten<L, R>,
+    ) -> Result<(L, R), UndoStopped<L, R>>
+        requires { IsUndoable L.eq R.eq (Contains (holding self.old).pairs) left.now answer }
+        ensures { IsUndoing L.eq R.eq (holding self.old) left.now answer result (holding self.new) }
+    {
+        BijectiveMap::undo_insert(self, left, answer)
+    }
+}

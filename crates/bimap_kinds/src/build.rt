@@ -1,0 +1,52 @@
+//! Many pairs put in at once. It doesn't know how one is.
+ghost use Rattle.std.specs.Prelude.{List, Contains, [], OnOk, IfOk, IfErr};
+ghost use Rattle.std.specs.Iterator.{IsFiniteIterable};
+ghost use Rattle.bimap_base.specs.Extension.{IsExtension, IsExtensionStopped, IsRefusedNext};
+
+use crate::map::BijectiveMap;
+use bimap_base::ExtendStopped;
+use bimap_index::{EmptyIndex, Index};
+use std::alloc::Global;
+
+impl<L: Eq + Drop, R: Eq + Drop, I: Index<L>, J: Index<R>> BijectiveMap<L, R, I, J> {
+    ghost use Rattle.bimap_kinds.specs.Held.{holding};
+
+    /// Inserts each item in order. A later one may strike earlier ones.
+    ///
+    /// Nothing is reserved by a size hint. An `Err` hands the refused item back: those before it stay, and no more are
+    /// asked for. Time is that of an insertion for each item.
+    pub fn extend<A: IntoIterator<Item = (L, R)>>(
+        &mut self,
+        items: A,
+    ) -> Result<(), ExtendStopped<L, R>>
+        requires { IsFiniteIterable A.into_iter_gives A.IntoIter.can_next A.IntoIter.remaining items }
+        ensures extended { OnOk result (IsExtension L.eq R.eq (A.into_iter_gives items) A.IntoIter.next_gives (holding self.old) (holding self.new)) }
+        ensures stopped { IfErr result (λ e. IsExtensionStopped L.eq R.eq (A.into_iter_gives items) A.IntoIter.next_gives (holding self.old) e (holding self.new)) }
+    {
+        bimap_base::extend(self, items)
+    }
+}
+
+impl<L: Eq + Drop, R: Eq + Drop, I: EmptyIndex<L> + Drop, J: EmptyIndex<R> + Drop> BijectiveMap<
+    L,
+    R,
+    I,
+    J,
+> {
+    ghost use Rattle.bimap_kinds.specs.Held.{holding};
+
+    /// A bimap of the items, each inserted in order. A later one may strike earlier ones.
+    ///
+    /// Nothing is reserved by a size hint. An `Err` hands the refused item back, and there is no bimap. Time is that of
+    /// `extend`.
+    pub fn from_iter<A: IntoIterator<Item = (L, R)>>(
+        alloc: Global,
+        items: A,
+    ) -> Result<Self, ExtendStopped<L, R>>
+        requires { IsFiniteIterable A.into_iter_gives A.IntoIter.can_next A.IntoIter.remaining items }
+        ensures extended { IfOk result (λ bimap. IsExtension L.eq R.eq (A.into_iter_gives items) A.IntoIter.next_gives (record { pairs = []; room = 0 }) (holding bimap)) }
+        ensures stopped { IfErr result (λ e. (taken : List (L × R)) × IsRefusedNext L.eq R.eq (A.into_iter_gives items) A.IntoIter.next_gives (Contains []) taken e) }
+    {
+        bimap_base::from_iter(BijectiveMap::empty(alloc), items)
+    }
+}

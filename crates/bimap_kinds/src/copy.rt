@@ -1,0 +1,32 @@
+//! A copy of the whole.
+ghost use Rattle.std.specs.Prelude.{◌≤◌, IfOk};
+ghost use Rattle.bimap_base.specs.Copies.{AreClonesEqual, IsCopy};
+
+use crate::map::BijectiveMap;
+use bimap_base::{Count, NoMemory};
+use bimap_index::CopiedIndex;
+
+impl<
+    L: Eq + Clone + Drop,
+    R: Eq + Clone + Drop,
+    I: CopiedIndex<L> + Drop,
+    J: CopiedIndex<R> + Drop,
+> BijectiveMap<L, R, I, J> {
+    ghost use Rattle.bimap_kinds.specs.Held.{holding};
+
+    /// A bimap of the clones of the pairs, which equals this one, with clones of the builders of hashed sides. Each clone of
+    /// a value has to equal it.
+    ///
+    /// Memory for the whole capacity is taken at once, beside what the clones take. Where some is refused, there is no
+    /// copy. Time is that of an insertion for each pair.
+    pub fn clone(&self) -> Result<Self, NoMemory>
+        requires { AreClonesEqual L.is_clone R.is_clone L.eq R.eq (holding self.now).pairs }
+        ensures pairs { IfOk result (λ copy. IsCopy L.is_clone R.is_clone L.eq R.eq (holding self.now).pairs (holding copy).pairs) }
+        ensures room { IfOk result (λ copy. (holding self.now).room ≤ (holding copy).room) }
+    {
+        match self.table.clone(&mut Count::new()) {
+            Ok(table) => Ok(BijectiveMap { table }),
+            Err(refused) => Err(refused),
+        }
+    }
+}

@@ -1,0 +1,51 @@
+//! The text of a bimap. It knows walks, and no place.
+ghost use Rattle.std.specs.Iterator.{IsFinite};
+
+use crate::map::BijectiveMap;
+use bimap_index::{HashIndex, Index};
+use bimap_tree::Ordered;
+use std::fmt;
+use std::hash::{BuildHasher, Hash};
+
+/// The pairs by ascending left, as `{'a' <> 1, 'b' <> 2}`.
+impl<L: Ord + fmt::Debug + Drop, R: Eq + fmt::Debug + Drop, J: Index<R>> fmt::Debug
+    for BijectiveMap<L, R, Ordered, J> {
+    fn fmt<W: fmt::Write>(&self, f: &mut fmt::Formatter<W>) -> fmt::Result {
+        write_pairs(self.iter(), f)
+    }
+}
+
+/// The pairs in an open order, as `{'a' <> 1, 'b' <> 2}`.
+impl<
+    L: Eq + Hash + fmt::Debug + Drop,
+    R: Eq + fmt::Debug + Drop,
+    LS: BuildHasher,
+    J: Index<R>,
+> fmt::Debug for BijectiveMap<L, R, HashIndex<LS>, J> {
+    fn fmt<W: fmt::Write>(&self, f: &mut fmt::Formatter<W>) -> fmt::Result {
+        write_pairs(self.iter(), f)
+    }
+}
+
+// Writes the pairs of a walk.
+fn write_pairs<
+    'a,
+    L: fmt::Debug + 'a,
+    R: fmt::Debug + 'a,
+    A: Iterator<Item = (&'a L, &'a R)> + Drop,
+    W: fmt::Write,
+>(walk: A, f: &mut fmt::Formatter<W>) -> fmt::Result
+    requires can { A.can_next walk }
+    requires ends { IsFinite (A.remaining walk) }
+{
+    f.write_str("{")?;
+    let mut is_first = true;
+    for (left, right) in walk {
+        if !is_first {
+            f.write_str(", ")?;
+        }
+        is_first = false;
+        write!(f, "{left:?} <> {right:?}")?;
+    }
+    f.write_str("}")
+}

@@ -1,0 +1,272 @@
+//! The ends of an ordered side, and the pairs by their rank on it. Nothing here takes memory.
+ghost use Rattle.std.specs.Prelude.{◌≡◌, suc, ◌+◌, ◌-◌, ◌*◌, ◌≤◌, ◌++◌, length, take, drop, slice_get, option_map, count_by, IfSome};
+ghost use Rattle.std.specs.Ordering.{is_lt};
+ghost use Rattle.std.specs.Map.Iter.{TakesFirst, TakesLast, deref_pair};
+ghost use Rattle.bimap_base.specs.Digits.{most_height};
+ghost use Rattle.bimap_base.specs.Exchange.{IsRemoving};
+
+use crate::map::BijectiveMap;
+use bimap_base::{Count, Meter};
+use bimap_index::Index;
+use bimap_tree::Ordered;
+
+impl<L: Ord, R: Eq, J: Index<R>> BijectiveMap<L, R, Ordered, J> {
+    ghost use Rattle.bimap_kinds.specs.Held.{holding};
+
+    /// The pair with the least left, or `None` where no pair is held, in time logarithmic in the length.
+    pub fn first_by_left(&self) -> Option<(&L, &R)>
+        ensures { option_map deref_pair result ≡ slice_get (holding self.now).pairs 0 }
+    {
+        self.first_by_left_metered(&mut Count::new())
+    }
+
+    /// The pair with the greatest left, or `None` where no pair is held, in time logarithmic in the length.
+    pub fn last_by_left(&self) -> Option<(&L, &R)>
+        ensures { option_map deref_pair result ≡ slice_get (holding self.now).pairs (length (holding self.now).pairs - 1) }
+    {
+        self.last_by_left_metered(&mut Count::new())
+    }
+
+    /// The pair with exactly so many lefts below its own, or `None` from the length on, in time logarithmic in the length.
+    pub fn pair_at_left_rank(&self, rank: usize) -> Option<(&L, &R)>
+        ensures { option_map deref_pair result ≡ slice_get (holding self.now).pairs rank }
+    {
+        self.pair_at_left_rank_metered(rank, &mut Count::new())
+    }
+
+    /// How many lefts are below this one, which need not be held: the rank of its pair, where it is. In time logarithmic in
+    /// the length.
+    pub fn left_rank(&self, left: &L) -> usize
+        ensures { result ≡ count_by (λ p. is_lt (L.cmp p.0 left.now)) (holding self.now).pairs }
+    {
+        self.left_rank_metered(left, &mut Count::new())
+    }
+
+    /// Takes out the pair with the least left, or answers `None` where no pair is held. The room stays.
+    pub fn pop_first_by_left(&mut self) -> Option<(L, R)>
+        ensures taken { TakesFirst (λ p. p) (holding self.old).pairs result (holding self.new).pairs }
+        ensures room { (holding self.new).room ≡ (holding self.old).room }
+    {
+        self.pop_first_by_left_metered(&mut Count::new())
+    }
+
+    /// Takes out the pair with the greatest left, or answers `None` where no pair is held. The room stays.
+    pub fn pop_last_by_left(&mut self) -> Option<(L, R)>
+        ensures taken { TakesLast (λ p. p) (holding self.old).pairs result (holding self.new).pairs }
+        ensures room { (holding self.new).room ≡ (holding self.old).room }
+    {
+        self.pop_last_by_left_metered(&mut Count::new())
+    }
+
+    /// The same as `first_by_left`, counted. It compares nothing.
+    pub fn first_by_left_metered<M: Meter>(&self, meter: &mut M) -> Option<(&L, &R)>
+        ensures pair { option_map deref_pair result ≡ slice_get (holding self.now).pairs 0 }
+        ensures comparisons { M.comparisons meter.new ≡ M.comparisons meter.old }
+        ensures touches { M.touches meter.new ≤ M.touches meter.old + 2 * most_height (length (holding self.now).pairs) }
+    {
+        self.pair_at_left_rank_metered(0, meter)
+    }
+
+    /// The same as `last_by_left`, counted. It compares nothing.
+    pub fn last_by_left_metered<M: Meter>(&self, meter: &mut M) -> Option<(&L, &R)>
+        ensures pair { option_map deref_pair result ≡ slice_get (holding self.now).pairs (length (holding self.now).pairs - 1) }
+        ensures comparisons { M.comparisons meter.new ≡ M.comparisons meter.old }
+        ensures touches { M.touches meter.new ≤ M.touches meter.old + 2 * most_height (length (holding self.now).pairs) }
+    {
+        self.pair_at_left_rank_metered(self.len().saturating_sub(1), meter)
+    }
+
+    /// The same as `pair_at_left_rank`, counted. It compares nothing.
+    pub fn pair_at_left_rank_metered<M: Meter>(
+        &self,
+        rank: usize,
+        meter: &mut M,
+    ) -> Option<(&L, &R)>
+        ensures pair { option_map deref_pair result ≡ slice_get (holding self.now).pairs rank }
+        ensures comparisons { M.comparisons meter.new ≡ M.comparisons meter.old }
+        ensures touches { M.touches meter.new ≤ M.touches meter.old + 2 * most_height (length (holding self.now).pairs) }
+    {
+        self.table.pair_at_left_rank(rank, meter)
+    }
+
+    /// The same as `left_rank`, counted.
+    pub fn left_rank_metered<M: Meter>(&self, left: &L, meter: &mut M) -> usize
+        ensures rank { result ≡ count_by (λ p. is_lt (L.cmp p.0 left.now)) (holding self.now).pairs }
+        ensures comparisons { M.comparisons meter.new ≤ M.comparisons meter.old + most_height (length (holding self.now).pairs) }
+        ensures touches { M.touches meter.new ≤ M.touches meter.old + 2 * most_height (length (holding self.now).pairs) }
+    {
+        self.table.left_rank(left, meter)
+    }
+
+    /// The same as `pop_first_by_left`, counted.
+    pub fn pop_first_by_left_metered<M: Meter>(&mut self, meter: &mut M) -> Option<(L, R)>
+        ensures taken { TakesFirst (λ p. p) (holding self.old).pairs result (holding self.new).pairs }
+        ensures room { (holding self.new).room ≡ (holding self.old).room }
+        ensures comparisons { M.comparisons meter.new ≤ M.comparisons meter.old + most_height (length (holding self.old).pairs) + J.effort (length (holding self.old).pairs) }
+        ensures touches { M.touches meter.new ≤ M.touches meter.old + 66 * (most_height (length (holding self.old).pairs) + 1) + 64 * (J.effort (length (holding self.old).pairs) + 1) }
+    {
+        self.take_at_left_rank(0, meter)
+    }
+
+    /// The same as `pop_last_by_left`, counted.
+    pub fn pop_last_by_left_metered<M: Meter>(&mut self, meter: &mut M) -> Option<(L, R)>
+        ensures taken { TakesLast (λ p. p) (holding self.old).pairs result (holding self.new).pairs }
+        ensures room { (holding self.new).room ≡ (holding self.old).room }
+        ensures comparisons { M.comparisons meter.new ≤ M.comparisons meter.old + most_height (length (holding self.old).pairs) + J.effort (length (holding self.old).pairs) }
+        ensures touches { M.touches meter.new ≤ M.touches meter.old + 66 * (most_height (length (holding self.old).pairs) + 1) + 64 * (J.effort (length (holding self.old).pairs) + 1) }
+    {
+        let last = self.len().saturating_sub(1);
+        self.take_at_left_rank(last, meter)
+    }
+
+    // Takes out the pair of a rank, or answers `None` from the length on.
+    fn take_at_left_rank<M: Meter>(&mut self, rank: usize, meter: &mut M) -> Option<(L, R)>
+        ensures pair { result ≡ slice_get (holding self.old).pairs rank }
+        ensures rest { (holding self.new).pairs ≡ take rank (holding self.old).pairs ++ drop (suc rank) (holding self.old).pairs }
+        ensures room { (holding self.new).room ≡ (holding self.old).room }
+        ensures comparisons { M.comparisons meter.new ≤ M.comparisons meter.old + most_height (length (holding self.old).pairs) + J.effort (length (holding self.old).pairs) }
+        ensures touches { M.touches meter.new ≤ M.touches meter.old + 66 * (most_height (length (holding self.old).pairs) + 1) + 64 * (J.effort (length (holding self.old).pairs) + 1) }
+    {
+        self.table.take_at_left_rank(rank, meter)
+    }
+}
+
+impl<L: Eq, R: Ord, I: Index<L>> BijectiveMap<L, R, I, Ordered> {
+    ghost use Rattle.bimap_kinds.specs.Held.{holding, by_right};
+    ghost use Rattle.bimap_kinds.specs.Sorted.{IsByRight};
+
+    /// The pair with the least right, or `None` where no pair is held, in time logarithmic in the length.
+    pub fn first_by_right(&self) -> Option<(&L, &R)>
+        ensures pair { option_map deref_pair result ≡ slice_get (by_right self.now) 0 }
+        ensures sorted { IsByRight R.cmp (holding self.now).pairs (by_right self.now) }
+    {
+        self.first_by_right_metered(&mut Count::new())
+    }
+
+    /// The pair with the greatest right, or `None` where no pair is held, in time logarithmic in the length.
+    pub fn last_by_right(&self) -> Option<(&L, &R)>
+        ensures pair { option_map deref_pair result ≡ slice_get (by_right self.now) (length (by_right self.now) - 1) }
+        ensures sorted { IsByRight R.cmp (holding self.now).pairs (by_right self.now) }
+    {
+        self.last_by_right_metered(&mut Count::new())
+    }
+
+    /// The pair with exactly so many rights below its own, or `None` from the length on, in time logarithmic in the length.
+    pub fn pair_at_right_rank(&self, rank: usize) -> Option<(&L, &R)>
+        ensures pair { option_map deref_pair result ≡ slice_get (by_right self.now) rank }
+        ensures sorted { IsByRight R.cmp (holding self.now).pairs (by_right self.now) }
+    {
+        self.pair_at_right_rank_metered(rank, &mut Count::new())
+    }
+
+    /// How many rights are below this one, which need not be held: the rank of its pair, where it is. In time logarithmic in
+    /// the length.
+    pub fn right_rank(&self, right: &R) -> usize
+        ensures rank { result ≡ count_by (λ p. is_lt (R.cmp p.1 right.now)) (by_right self.now) }
+        ensures sorted { IsByRight R.cmp (holding self.now).pairs (by_right self.now) }
+    {
+        self.right_rank_metered(right, &mut Count::new())
+    }
+
+    /// Takes out the pair with the least right, or answers `None` where no pair is held. The room stays.
+    pub fn pop_first_by_right(&mut self) -> Option<(L, R)>
+        ensures taken { TakesFirst (λ p. p) (by_right self.old) result (by_right self.new) }
+        ensures sorted { IsByRight R.cmp (holding self.old).pairs (by_right self.old) }
+        ensures removed { IfSome result (λ p. IsRemoving (holding self.old).pairs p (holding self.new).pairs) }
+        ensures room { (holding self.new).room ≡ (holding self.old).room }
+    {
+        self.pop_first_by_right_metered(&mut Count::new())
+    }
+
+    /// Takes out the pair with the greatest right, or answers `None` where no pair is held. The room stays.
+    pub fn pop_last_by_right(&mut self) -> Option<(L, R)>
+        ensures taken { TakesLast (λ p. p) (by_right self.old) result (by_right self.new) }
+        ensures sorted { IsByRight R.cmp (holding self.old).pairs (by_right self.old) }
+        ensures removed { IfSome result (λ p. IsRemoving (holding self.old).pairs p (holding self.new).pairs) }
+        ensures room { (holding self.new).room ≡ (holding self.old).room }
+    {
+        self.pop_last_by_right_metered(&mut Count::new())
+    }
+
+    /// The same as `first_by_right`, counted. It compares nothing.
+    pub fn first_by_right_metered<M: Meter>(&self, meter: &mut M) -> Option<(&L, &R)>
+        ensures pair { option_map deref_pair result ≡ slice_get (by_right self.now) 0 }
+        ensures sorted { IsByRight R.cmp (holding self.now).pairs (by_right self.now) }
+        ensures comparisons { M.comparisons meter.new ≡ M.comparisons meter.old }
+        ensures touches { M.touches meter.new ≤ M.touches meter.old + 2 * most_height (length (holding self.now).pairs) }
+    {
+        self.pair_at_right_rank_metered(0, meter)
+    }
+
+    /// The same as `last_by_right`, counted. It compares nothing.
+    pub fn last_by_right_metered<M: Meter>(&self, meter: &mut M) -> Option<(&L, &R)>
+        ensures pair { option_map deref_pair result ≡ slice_get (by_right self.now) (length (by_right self.now) - 1) }
+        ensures sorted { IsByRight R.cmp (holding self.now).pairs (by_right self.now) }
+        ensures comparisons { M.comparisons meter.new ≡ M.comparisons meter.old }
+        ensures touches { M.touches meter.new ≤ M.touches meter.old + 2 * most_height (length (holding self.now).pairs) }
+    {
+        self.pair_at_right_rank_metered(self.len().saturating_sub(1), meter)
+    }
+
+    /// The same as `pair_at_right_rank`, counted. It compares nothing.
+    pub fn pair_at_right_rank_metered<M: Meter>(
+        &self,
+        rank: usize,
+        meter: &mut M,
+    ) -> Option<(&L, &R)>
+        ensures pair { option_map deref_pair result ≡ slice_get (by_right self.now) rank }
+        ensures sorted { IsByRight R.cmp (holding self.now).pairs (by_right self.now) }
+        ensures comparisons { M.comparisons meter.new ≡ M.comparisons meter.old }
+        ensures touches { M.touches meter.new ≤ M.touches meter.old + 2 * most_height (length (holding self.now).pairs) }
+    {
+        self.table.pair_at_right_rank(rank, meter)
+    }
+
+    /// The same as `right_rank`, counted.
+    pub fn right_rank_metered<M: Meter>(&self, right: &R, meter: &mut M) -> usize
+        ensures rank { result ≡ count_by (λ p. is_lt (R.cmp p.1 right.now)) (by_right self.now) }
+        ensures sorted { IsByRight R.cmp (holding self.now).pairs (by_right self.now) }
+        ensures comparisons { M.comparisons meter.new ≤ M.comparisons meter.old + most_height (length (holding self.now).pairs) }
+        ensures touches { M.touches meter.new ≤ M.touches meter.old + 2 * most_height (length (holding self.now).pairs) }
+    {
+        self.table.right_rank(right, meter)
+    }
+
+    /// The same as `pop_first_by_right`, counted.
+    pub fn pop_first_by_right_metered<M: Meter>(&mut self, meter: &mut M) -> Option<(L, R)>
+        ensures taken { TakesFirst (λ p. p) (by_right self.old) result (by_right self.new) }
+        ensures sorted { IsByRight R.cmp (holding self.old).pairs (by_right self.old) }
+        ensures removed { IfSome result (λ p. IsRemoving (holding self.old).pairs p (holding self.new).pairs) }
+        ensures room { (holding self.new).room ≡ (holding self.old).room }
+        ensures comparisons { M.comparisons meter.new ≤ M.comparisons meter.old + I.effort (length (holding self.old).pairs) + most_height (length (holding self.old).pairs) }
+        ensures touches { M.touches meter.new ≤ M.touches meter.old + 64 * (I.effort (length (holding self.old).pairs) + 1) + 66 * (most_height (length (holding self.old).pairs) + 1) }
+    {
+        self.take_at_right_rank(0, meter)
+    }
+
+    /// The same as `pop_last_by_right`, counted.
+    pub fn pop_last_by_right_metered<M: Meter>(&mut self, meter: &mut M) -> Option<(L, R)>
+        ensures taken { TakesLast (λ p. p) (by_right self.old) result (by_right self.new) }
+        ensures sorted { IsByRight R.cmp (holding self.old).pairs (by_right self.old) }
+        ensures removed { IfSome result (λ p. IsRemoving (holding self.old).pairs p (holding self.new).pairs) }
+        ensures room { (holding self.new).room ≡ (holding self.old).room }
+        ensures comparisons { M.comparisons meter.new ≤ M.comparisons meter.old + I.effort (length (holding self.old).pairs) + most_height (length (holding self.old).pairs) }
+        ensures touches { M.touches meter.new ≤ M.touches meter.old + 64 * (I.effort (length (holding self.old).pairs) + 1) + 66 * (most_height (length (holding self.old).pairs) + 1) }
+    {
+        let last = self.len().saturating_sub(1);
+        self.take_at_right_rank(last, meter)
+    }
+
+    // Takes out the pair of a rank, or answers `None` from the length on.
+    fn take_at_right_rank<M: Meter>(&mut self, rank: usize, meter: &mut M) -> Option<(L, R)>
+        ensures pair { result ≡ slice_get (by_right self.old) rank }
+        ensures rest { (by_right self.new) ≡ take rank (by_right self.old) ++ drop (suc rank) (by_right self.old) }
+        ensures sorted { IsByRight R.cmp (holding self.old).pairs (by_right self.old) }
+        ensures removed { IfSome result (λ p. IsRemoving (holding self.old).pairs p (holding self.new).pairs) }
+        ensures room { (holding self.new).room ≡ (holding self.old).room }
+        ensures comparisons { M.comparisons meter.new ≤ M.comparisons meter.old + I.effort (length (holding self.old).pairs) + most_height (length (holding self.old).pairs) }
+        ensures touches { M.touches meter.new ≤ M.touches meter.old + 64 * (I.effort (length (holding self.old).pairs) + 1) + 66 * (most_height (length (holding self.old).pairs) + 1) }
+    {
+        self.table.take_at_right_rank(rank, meter)
+    }
+}

@@ -1,0 +1,23 @@
+//! Bimaps of any two kinds of index: ordered or hashed on either side.
+#![tactic(auto)]
+
+mod bijection;
+mod build;
+mod compare_hashed;
+mod compare_ordered;
+mod copy;
+mod debug;
+mod ends;
+mod hashers;
+mod insert;
+mod look_up;
+mod make;
+mod map;
+mod remove;
+mod retain;
+mod room;
+mod undo;
+mod walks_hashed;
+mod walks_ordered;
+
+pub use map::{BiBTreeHashMap, BiBTreeMap, BiHashBTreeMap, BiHashMap, BijectiveMap};

@@ -1,0 +1,67 @@
+//! Empty bimaps of each kind.
+ghost use Rattle.std.specs.Prelude.{◌≡◌, [], None, IfOk, IsOk};
+
+use crate::map::BijectiveMap;
+use bimap_base::NoMemory;
+use bimap_core::Table;
+use bimap_index::{DefaultIndex, EmptyIndex, Index};
+use std::alloc::Global;
+
+impl<L: Eq, R: Eq, I: Index<L>, J: Index<R>> BijectiveMap<L, R, I, J> {
+    ghost use Rattle.bimap_kinds.specs.Held.{holding};
+
+    // The empty bimap over two indexes that list nothing.
+    pub(crate) fn over(alloc: Global, left: I, right: J) -> Self
+        requires left { I.is_listing left (λ _. None) }
+        requires right { J.is_listing right (λ _. None) }
+        ensures pairs { (holding result).pairs ≡ [] }
+        ensures room { (holding result).room ≡ 0 }
+    {
+        BijectiveMap {
+            table: Table::new(alloc, left, right),
+        }
+    }
+}
+
+impl<L: Eq, R: Eq, I: EmptyIndex<L>, J: EmptyIndex<R>> BijectiveMap<L, R, I, J> {
+    ghost use Rattle.bimap_kinds.specs.Held.{holding};
+
+    /// The empty bimap without places, also of a kind that names builders of its own. It takes no memory, and constant time.
+    pub fn empty(alloc: Global) -> Self
+        ensures pairs { (holding result).pairs ≡ [] }
+        ensures room { (holding result).room ≡ 0 }
+    {
+        BijectiveMap::over(alloc, I::empty(alloc), J::empty(alloc))
+    }
+}
+
+impl<L: Eq, R: Eq, I: DefaultIndex<L>, J: DefaultIndex<R>> BijectiveMap<L, R, I, J> {
+    ghost use Rattle.bimap_kinds.specs.Held.{holding};
+
+    /// The empty bimap, without places. It takes no memory, and constant time.
+    pub fn new(alloc: Global) -> Self
+        ensures pairs { (holding result).pairs ≡ [] }
+        ensures room { (holding result).room ≡ 0 }
+    {
+        Self::empty(alloc)
+    }
+
+    /// The empty bimap of exactly this capacity, in time in proportion to it. At 0 it takes no memory. A refusal makes
+    /// nothing.
+    pub fn with_capacity(alloc: Global, capacity: usize) -> Result<Self, NoMemory>
+    where
+        L: Drop,
+        R: Drop,
+        I: Drop,
+        J: Drop,
+        ensures pairs { IfOk result (λ bimap. (holding bimap).pairs ≡ []) }
+        ensures room { IfOk result (λ bimap. (holding bimap).room ≡ capacity) }
+        ensures none { capacity ≡ 0 → IsOk result }
+    {
+        let mut bimap = BijectiveMap::empty(alloc);
+        match bimap.reserve(capacity) {
+            Ok(()) => Ok(bimap),
+            Err(refused) => Err(refused),
+        }
+    }
+}

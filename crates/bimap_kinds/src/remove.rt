@@ -1,0 +1,54 @@
+//! Removals. None takes memory, and the room stays.
+ghost use Rattle.std.specs.Prelude.{◌≡◌, ◌+◌, ◌*◌, ◌≤◌, [], length};
+ghost use Rattle.bimap_base.specs.Holding.{IsRemovalByLeft, IsRemovalByRight};
+
+use crate::map::BijectiveMap;
+use bimap_base::{Count, Meter};
+use bimap_index::Index;
+
+impl<L: Eq, R: Eq, I: Index<L>, J: Index<R>> BijectiveMap<L, R, I, J> {
+    ghost use Rattle.bimap_kinds.specs.Held.{holding};
+
+    /// Takes out the pair of a left, or answers `None` where it is not held, by one search a side.
+    pub fn remove_by_left(&mut self, left: &L) -> Option<(L, R)>
+        ensures { IsRemovalByLeft L.eq (holding self.old) left.now result (holding self.new) }
+    {
+        self.remove_by_left_metered(left, &mut Count::new())
+    }
+
+    /// Takes out the pair of a right, or answers `None` where it is not held, by one search a side.
+    pub fn remove_by_right(&mut self, right: &R) -> Option<(L, R)>
+        ensures { IsRemovalByRight R.eq (holding self.old) right.now result (holding self.new) }
+    {
+        self.remove_by_right_metered(right, &mut Count::new())
+    }
+
+    /// Drops all pairs, in time in proportion to the capacity. The room stays.
+    pub fn clear(&mut self)
+    where
+        L: Drop,
+        R: Drop,
+        ensures pairs { (holding self.new).pairs ≡ [] }
+        ensures room { (holding self.new).room ≡ (holding self.old).room }
+    {
+        self.table.clear();
+    }
+
+    /// The same as `remove_by_left`, counted.
+    pub fn remove_by_left_metered<M: Meter>(&mut self, left: &L, meter: &mut M) -> Option<(L, R)>
+        ensures answer { IsRemovalByLeft L.eq (holding self.old) left.now result (holding self.new) }
+        ensures comparisons { M.comparisons meter.new ≤ M.comparisons meter.old + I.effort (length (holding self.old).pairs) + J.effort (length (holding self.old).pairs) }
+        ensures touches { M.touches meter.new ≤ M.touches meter.old + 64 * (I.effort (length (holding self.old).pairs) + 1) + 64 * (J.effort (length (holding self.old).pairs) + 1) }
+    {
+        self.table.remove_by_left(left, meter)
+    }
+
+    /// The same as `remove_by_right`, counted.
+    pub fn remove_by_right_metered<M: Meter>(&mut self, right: &R, meter: &mut M) -> Option<(L, R)>
+        ensures answer { IsRemovalByRight R.eq (holding self.old) right.now result (holding self.new) }
+        ensures comparisons { M.comparisons meter.new ≤ M.comparisons meter.old + I.effort (length (holding self.old).pairs) + J.effort (length (holding self.old).pairs) }
+        ensures touches { M.touches meter.new ≤ M.touches meter.old + 64 * (I.effort (length (holding self.old).pairs) + 1) + 64 * (J.effort (length (holding self.old).pairs) + 1) }
+    {
+        self.table.remove_by_right(right, meter)
+    }
+}

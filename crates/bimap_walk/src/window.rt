@@ -1,0 +1,76 @@
+//! The places of a window of ranks, one at a time from either end. It knows no pair.
+ghost use Rattle.std.specs.Prelude.{◌≡◌, ◌≤◌, length};
+ghost use Rattle.std.specs.List.{between};
+ghost use Rattle.std.specs.Map.Iter.{TakesFirst, TakesLast};
+
+use bimap_base::Count;
+use bimap_tree::{Batch, Ordered};
+
+// The ranks from `front` up to `back`, and the next places of either end.
+#[derive(Clone, Copy, Drop)]
+pub(crate) struct Window {
+    front: usize,
+    back: usize,
+    ahead: Batch,
+    behind: Batch,
+}
+
+impl Window {
+    ghost use Rattle.bimap_walk.specs.Windows.{IsWindow, places_in};
+
+    pub(crate) fn new(index: &Ordered, front: usize, back: usize) -> Self
+        requires ordered { front ≤ back }
+        requires within { back ≤ length index.now.places }
+        ensures window { IsWindow index.now.places result }
+        ensures places { places_in index.now.places result ≡ between front back index.now.places }
+    {
+        let batch = Batch::new(index);
+        Window {
+            front,
+            back,
+            ahead: batch,
+            behind: batch,
+        }
+    }
+
+    // The number of places left.
+    pub(crate) fn len(&self, index: &Ordered) -> usize
+        requires { IsWindow index.now.places self.now }
+        ensures { result ≡ length (places_in index.now.places self.now) }
+    {
+        let _ = index;
+        self.back - self.front
+    }
+
+    // The first place left. One descent serves sixteen calls.
+    pub(crate) fn first(&mut self, index: &Ordered) -> Option<usize>
+        requires { IsWindow index.now.places self.old }
+        ensures window { IsWindow index.now.places self.new }
+        ensures takes { TakesFirst (λ place. place) (places_in index.now.places self.old) result (places_in index.now.places self.new) }
+    {
+        if self.front == self.back {
+            return None;
+        }
+        let rank = self.front;
+        let place = self.ahead.place(index, rank, rank, &mut Count::new());
+        self.front += 1;
+        Some(place)
+    }
+
+    // The last place left. One descent serves sixteen calls.
+    pub(crate) fn last(&mut self, index: &Ordered) -> Option<usize>
+        requires { IsWindow index.now.places self.old }
+        ensures window { IsWindow index.now.places self.new }
+        ensures takes { TakesLast (λ place. place) (places_in index.now.places self.old) result (places_in index.now.places self.new) }
+    {
+        if self.front == self.back {
+            return None;
+        }
+        self.back -= 1;
+        let rank = self.back;
+        Some(
+            self.behind
+                .place(index, rank, rank.saturating_sub(15), &mut Count::new()),
+        )
+    }
+}
