@@ -1,4 +1,4 @@
-//! Tests of the ordered bimap alone: what no clause says of it.
+//! Tests of what only a bimap with an ordered side has, and no clause says.
 #![tactic(auto)]
 
 #[cfg(test)]

@@ -1,26 +1,40 @@
-//! What tests ask of a kind of bimap beyond the interface, and the list of the kinds.
+//! What tests ask of a bimap beyond the interface, and the list of the kinds.
+ghost use Rattle.std.specs.Prelude.{◌≡◌, []};
 ghost use Rattle.bimap.specs.Copies.{AreClonesEqual};
+ghost use Rattle.bimap_base.specs.Same.{same};
 
-use bimap::{BiBTreeMap, BiHashMap, Bijection, NoMemory};
+use crate::walks::{LeftIndex, RightIndex, TakenIndex};
+use bimap::{Bijection, BijectiveMap, ExtendStopped, NoMemory};
+use bimap_index::EmptyIndex;
 use std::alloc::{AllocError, Global};
-use std::hash::{BuildHasher, Hash};
 
-/// A kind of bimap, which tests make and walk.
+/// A kind of bimap, which tests make and take apart.
 pub trait Kind<L: Eq + Drop, R: Eq + Drop>: Bijection<L, R> + Drop {
     /// The empty bimap. It takes no memory.
-    fn empty(alloc: Global) -> Self;
+    fn empty(alloc: Global) -> Self
+        ensures { (Self.holding result).pairs ≡ [] };
 
-    /// Gives its free places back, if the kind can.
-    fn shrink(&mut self) -> Result<(), NoMemory>;
+    /// The pairs, by an owning walk. The empty bimap is left.
+    fn take_apart(&mut self, alloc: Global) -> Result<Vec<(L, R)>, AllocError>;
 
-    /// Begins an owning walk, and gives it up after so many steps. It answers how many pairs that gave.
-    fn give_up(self, steps: usize) -> usize;
+    /// Begins an owning walk, and gives it up after so many steps. It answers how many pairs that gave. The empty bimap is
+    /// left.
+    fn give_up(&mut self, alloc: Global, steps: usize) -> usize;
 }
 
-/// A kind of bimap over values that are copied.
+/// A kind of bimap of values that are copied, which tests make of items.
 pub trait CopyKind<L: Copy + Eq + Drop, R: Copy + Eq + Drop>: Kind<L, R> {
-    /// The pairs, by a walk.
-    fn walk(&self, alloc: Global) -> Result<Vec<(L, R)>, AllocError>;
+    /// The bimap of the items, by its own call.
+    fn built(alloc: Global, items: &[(L, R)]) -> Result<Self, ExtendStopped<L, R>>;
+
+    /// Adds the items, by its own call.
+    fn add(&mut self, items: &[(L, R)]) -> Result<(), ExtendStopped<L, R>>;
+}
+
+/// A bimap of values that are copied, which is walked, copied and compared by its own calls.
+pub trait Walked<L: Copy + Eq + Drop, R: Copy + Eq + Drop>: Bijection<L, R> + Drop {
+    /// Whether the pairs are walked by ascending left.
+    fn ascends() -> bool;
 
     /// The pairs by a walk from after so many steps on, and those by a copy of the walk that was made there.
     fn walk_twice(
@@ -35,43 +49,53 @@ pub trait CopyKind<L: Copy + Eq + Drop, R: Copy + Eq + Drop>: Kind<L, R> {
     /// The rights, by their walk.
     fn walk_rights(&self, alloc: Global) -> Result<Vec<R>, AllocError>;
 
-    /// The pairs, by an owning walk.
-    fn take_apart(self, alloc: Global) -> Result<Vec<(L, R)>, AllocError>;
-
-    /// A copy, by its own call.
+    /// A copy.
     fn copied(&self) -> Result<Self, NoMemory>
         requires { AreClonesEqual L.is_clone R.is_clone L.eq R.eq (Self.holding self.now).pairs };
 
-    /// Whether the two are equal, by their own call.
-    fn equals(&self, other: &Self) -> bool;
+    /// Whether the two are equal.
+    fn equals(&self, other: &Self) -> bool
+        ensures { result ≡ same L.eq R.eq (Self.holding self.now).pairs (Self.holding other.now).pairs };
+
+    /// The pairs, by a walk.
+    final fn walk(&self, alloc: Global) -> Result<Vec<(L, R)>, AllocError> {
+        let (pairs, _) = self.walk_twice(alloc, 0)?;
+        Ok(pairs)
+    }
 }
 
-impl<L: Ord + Drop, R: Ord + Drop> Kind<L, R> for BiBTreeMap<L, R> {
+impl<L: Eq + Drop, R: Eq + Drop, I: TakenIndex<L>, J: EmptyIndex<R> + Drop> Kind<L, R>
+    for BijectiveMap<L, R, I, J> {
     fn empty(alloc: Global) -> Self {
-        BiBTreeMap::new(alloc)
+        BijectiveMap::empty(alloc)
     }
 
-    fn shrink(&mut self) -> Result<(), NoMemory> {
-        Ok(())
+    fn take_apart(&mut self, alloc: Global) -> Result<Vec<(L, R)>, AllocError> {
+        I::take_apart(self, alloc)
     }
 
-    fn give_up(self, steps: usize) -> usize {
-        let mut walk = self.into_iter();
-        let mut given = 0usize;
-        for _ in 0..steps {
-            if walk.next().is_some() {
-                given = given.saturating_add(1);
-            }
-        }
-        given
+    fn give_up(&mut self, alloc: Global, steps: usize) -> usize {
+        I::give_up(self, alloc, steps)
     }
 }
 
-impl<L: Ord + Copy + Drop, R: Ord + Copy + Drop> CopyKind<L, R> for BiBTreeMap<L, R> {
-    fn walk(&self, alloc: Global) -> Result<Vec<(L, R)>, AllocError> {
-        self.iter()
-            .map(|(left, right)| (*left, *right))
-            .collect(alloc)
+impl<L: Copy + Eq + Drop, R: Copy + Eq + Drop, I: TakenIndex<L>, J: EmptyIndex<R> + Drop> CopyKind<
+    L,
+    R,
+> for BijectiveMap<L, R, I, J> {
+    fn built(alloc: Global, items: &[(L, R)]) -> Result<Self, ExtendStopped<L, R>> {
+        BijectiveMap::from_iter(alloc, items.iter().copied())
+    }
+
+    fn add(&mut self, items: &[(L, R)]) -> Result<(), ExtendStopped<L, R>> {
+        self.extend(items.iter().copied())
+    }
+}
+
+impl<L: Copy + Eq + Drop, R: Copy + Eq + Drop, I: LeftIndex<L>, J: RightIndex<R>> Walked<L, R>
+    for BijectiveMap<L, R, I, J> {
+    fn ascends() -> bool {
+        I::ascends()
     }
 
     fn walk_twice(
@@ -79,27 +103,15 @@ impl<L: Ord + Copy + Drop, R: Ord + Copy + Drop> CopyKind<L, R> for BiBTreeMap<L
         alloc: Global,
         steps: usize,
     ) -> Result<(Vec<(L, R)>, Vec<(L, R)>), AllocError> {
-        let mut walk = self.iter();
-        for _ in 0..steps {
-            let _ = walk.next();
-        }
-        let copy = walk.clone()?;
-        Ok((
-            walk.map(|(left, right)| (*left, *right)).collect(alloc)?,
-            copy.map(|(left, right)| (*left, *right)).collect(alloc)?,
-        ))
+        I::walk_twice(self, alloc, steps)
     }
 
     fn walk_lefts(&self, alloc: Global) -> Result<Vec<L>, AllocError> {
-        self.left_values().copied().collect(alloc)
+        I::walk_lefts(self, alloc)
     }
 
     fn walk_rights(&self, alloc: Global) -> Result<Vec<R>, AllocError> {
-        self.right_values().copied().collect(alloc)
-    }
-
-    fn take_apart(self, alloc: Global) -> Result<Vec<(L, R)>, AllocError> {
-        self.into_iter().collect(alloc)
+        J::rights(self, alloc)
     }
 
     fn copied(&self) -> Result<Self, NoMemory> {
@@ -107,92 +119,45 @@ impl<L: Ord + Copy + Drop, R: Ord + Copy + Drop> CopyKind<L, R> for BiBTreeMap<L
     }
 
     fn equals(&self, other: &Self) -> bool {
-        self == other
+        I::are_equal(self, other)
     }
 }
 
-impl<
-    L: Eq + Hash + Drop,
-    R: Eq + Hash + Drop,
-    LS: BuildHasher + Default + Clone + Drop,
-    RS: BuildHasher + Default + Clone + Drop,
-> Kind<L, R> for BiHashMap<L, R, LS, RS> {
-    fn empty(alloc: Global) -> Self {
-        BiHashMap::with_hashers(alloc, LS::default(), RS::default())
-    }
-
-    fn shrink(&mut self) -> Result<(), NoMemory> {
-        self.shrink_to_fit()
-    }
-
-    fn give_up(self, steps: usize) -> usize {
-        let mut walk = self.into_iter();
-        let mut given = 0usize;
-        for _ in 0..steps {
-            if walk.next().is_some() {
-                given = given.saturating_add(1);
-            }
-        }
-        given
-    }
-}
-
-impl<
-    L: Eq + Hash + Copy + Drop,
-    R: Eq + Hash + Copy + Drop,
-    LS: BuildHasher + Default + Clone + Drop,
-    RS: BuildHasher + Default + Clone + Drop,
-> CopyKind<L, R> for BiHashMap<L, R, LS, RS> {
-    fn walk(&self, alloc: Global) -> Result<Vec<(L, R)>, AllocError> {
-        self.iter()
-            .map(|(left, right)| (*left, *right))
-            .collect(alloc)
-    }
-
-    fn walk_twice(
-        &self,
-        alloc: Global,
-        steps: usize,
-    ) -> Result<(Vec<(L, R)>, Vec<(L, R)>), AllocError> {
-        let mut walk = self.iter();
-        for _ in 0..steps {
-            let _ = walk.next();
-        }
-        let copy = walk.clone()?;
-        Ok((
-            walk.map(|(left, right)| (*left, *right)).collect(alloc)?,
-            copy.map(|(left, right)| (*left, *right)).collect(alloc)?,
-        ))
-    }
-
-    fn walk_lefts(&self, alloc: Global) -> Result<Vec<L>, AllocError> {
-        self.left_values().copied().collect(alloc)
-    }
-
-    fn walk_rights(&self, alloc: Global) -> Result<Vec<R>, AllocError> {
-        self.right_values().copied().collect(alloc)
-    }
-
-    fn take_apart(self, alloc: Global) -> Result<Vec<(L, R)>, AllocError> {
-        self.into_iter().collect(alloc)
-    }
-
-    fn copied(&self) -> Result<Self, NoMemory> {
-        self.clone()
-    }
-
-    fn equals(&self, other: &Self) -> bool {
-        self == other
-    }
-}
-
-/// Calls a test over each kind of bimap of these values: `over_each_kind!(TEST, LEFT, RIGHT, RUNTIME)`. A further kind is one
-/// further line here.
+/// Calls a test over each kind of bimap of these values: `over_each_kind!(TEST, LEFT, RIGHT, RUNTIME)`, with a further `?` where it
+/// answers a `Result`.
 #[macro_export]
 macro_rules! over_each_kind {
-    ($test:ident, $left:ty, $right:ty, $rt:expr) => {{
-        $test::<bimap::BiBTreeMap<$left, $right>>($rt, $rt.alloc())?;
-        $test::<bimap::BiHashMap<$left, $right>>($rt, $rt.alloc())?;
-        $test::<$crate::Crowded<$left, $right>>($rt, $rt.alloc())?;
+    ($test:ident, $left:ty, $right:ty, $rt:expr $(, $try:tt)?) => {{
+        $crate::over_four_kinds!($test, $left, $right, $rt $(, $try)?);
+        $test::<$crate::Crowded<$left, $right>>($rt, $rt.alloc()) $($try)?;
+    }};
+}
+
+/// The same without the crowded kind. A further kind is one further line here and in `with_each_kind`.
+#[macro_export]
+macro_rules! over_four_kinds {
+    ($test:ident, $left:ty, $right:ty, $rt:expr $(, $try:tt)?) => {{
+        $test::<bimap::BiBTreeMap<$left, $right>>($rt, $rt.alloc()) $($try)?;
+        $test::<bimap::BiHashMap<$left, $right>>($rt, $rt.alloc()) $($try)?;
+        $test::<bimap::BiBTreeHashMap<$left, $right>>($rt, $rt.alloc()) $($try)?;
+        $test::<bimap::BiHashBTreeMap<$left, $right>>($rt, $rt.alloc()) $($try)?;
+    }};
+}
+
+/// Makes a call with the empty bimap of each kind: `with_each_kind!(BIMAP: (LEFT, RIGHT) in ALLOCATOR => CALL)`, where the call
+/// hands on BIMAP.
+#[macro_export]
+macro_rules! with_each_kind {
+    ($bimap:ident: ($left:ty, $right:ty) in $alloc:expr => $call:expr) => {{
+        let $bimap = bimap::BiBTreeMap::<$left, $right>::new($alloc);
+        $call;
+        let $bimap = bimap::BiHashMap::<$left, $right>::new($alloc);
+        $call;
+        let $bimap = bimap::BiBTreeHashMap::<$left, $right>::new($alloc);
+        $call;
+        let $bimap = bimap::BiHashBTreeMap::<$left, $right>::new($alloc);
+        $call;
+        let $bimap = $crate::crowded::<$left, $right>($alloc);
+        $call;
     }};
 }

@@ -8,11 +8,13 @@ mod tagged;
 #[cfg(test)]
 mod tests;
 mod trails;
+mod walks;
 mod zero;
 
-pub use kind::{CopyKind, Kind};
+pub use kind::{CopyKind, Kind, Walked};
 pub use policies::{KEEP_LEFT, KEEP_RIGHT, ONCE, OVERWRITE};
-pub use shown::shows;
+pub use shown::{holds, shows};
 pub use tagged::{Tagged, with_tag};
 pub use trails::insert_all;
+pub use walks::{LeftIndex, RightIndex, TakenIndex};
 pub use zero::{Crowded, Zero, crowded};

@@ -1,4 +1,11 @@
-//! Rows of calls with what they must answer, each over the ordered bimap, the hashed one, and a hashed one whose keys all have one hash number.
+//! Rows of calls with what they must answer, each over every kind of bimap.
+//!
+//! A test that calls over the kinds is proved anew at each of them, so there is one for each pair of types.
+use crate::{CopyKind, Kind, Tagged, Walked, over_each_kind};
+use std::alloc::Global;
+use std::process::Abort;
+use std::test::Fail;
+
 mod examples;
 mod insertions;
 mod items;
@@ -8,3 +15,40 @@ mod runs;
 mod tour;
 mod undo_runs;
 mod undone;
+
+fn letters<B: CopyKind<char, u32> + Walked<char, u32>>(
+    rt: &impl Abort,
+    alloc: Global,
+) -> Result<(), Fail> {
+    insertions::all::<B>(rt, alloc)?;
+    items::letters::<B>(rt, alloc)?;
+    items_under::all::<B>(rt, alloc);
+    replaced::values::<B>(rt, alloc)?;
+    runs::all::<B>(rt, alloc)?;
+    undo_runs::all::<B>(rt, alloc)?;
+    undone::all::<B>(rt, alloc)
+}
+
+#[test]
+fn each_kind_answers_as_the_rows_say(rt: HostRuntime) -> Result<(), Fail> {
+    over_each_kind!(letters, char, u32, &rt, ?);
+    Ok(())
+}
+
+fn tagged_pairs<B: Kind<Tagged, Tagged>>(rt: &impl Abort, alloc: Global) -> Result<(), Fail> {
+    items_under::hands_back::<B>(rt, alloc);
+    runs::hands_back::<B>(rt, alloc);
+    replaced::tags::<B>(rt, alloc)
+}
+
+fn tagged_lefts<B: Kind<Tagged, u32>>(rt: &impl Abort, alloc: Global) -> Result<(), Fail> {
+    replaced::left_struck::<B>(rt, alloc);
+    undone::exact_values::<B>(rt, alloc)
+}
+
+#[test]
+fn each_kind_keeps_the_very_values(rt: HostRuntime) -> Result<(), Fail> {
+    over_each_kind!(tagged_pairs, Tagged, Tagged, &rt, ?);
+    over_each_kind!(tagged_lefts, Tagged, u32, &rt, ?);
+    Ok(())
+}

@@ -1,4 +1,4 @@
-//! Tests of the hashed bimap alone, under several builders: what no clause says of it.
+//! Tests of what only a bimap with a hashed side has, and no clause says.
 #![tactic(auto)]
 
 #[cfg(test)]

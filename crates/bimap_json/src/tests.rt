@@ -3,4 +3,3 @@ mod json;
 mod json_hashed;
 mod json_types;
 mod json_under;
-mod shown;

@@ -5,7 +5,6 @@ mod index;
 mod insertions;
 mod items;
 mod runs;
-mod subject;
 mod undo_runs;
 mod undone;
 mod within;

@@ -1,6 +1,6 @@
 //! Insertions under a policy into a bimap with a record, one by one, and all or none.
-use bimap::{BiBTreeMap, BiHashMap, Bijection, NotInsertedWith, Policy};
-use bimap_calls::{KEEP_LEFT, KEEP_RIGHT, ONCE, OVERWRITE, crowded, shows};
+use bimap::{Bijection, NotInsertedWith, Policy};
+use bimap_calls::{KEEP_LEFT, KEEP_RIGHT, Kind, ONCE, OVERWRITE, over_each_kind, shows};
 use bimap_plain::Plain;
 use bimap_undo::{CopyLeft, Undoable};
 use std::alloc::Global;
@@ -79,7 +79,7 @@ fn is_all_or_none<B: Bijection<L, R> + Drop, L: CopyLeft + Copy + Drop, R: Eq + 
     before: &[(L, R)],
     policy: Policy,
     items: &[(L, R)],
-    answer: Result<(), (usize, NotInsertedWith<L, R>)>,
+    answer: &Result<(), (usize, NotInsertedWith<L, R>)>,
     held: &[(L, R)],
     mark: usize,
 ) -> bool {
@@ -93,7 +93,7 @@ fn is_all_or_none<B: Bijection<L, R> + Drop, L: CopyLeft + Copy + Drop, R: Eq + 
     let inserted = undoable.insert_all(items.iter().copied(), policy);
     let is_answered = match (inserted, answer) {
         (Ok(()), Ok(())) => true,
-        (Err(refused), Err((taken, why))) => refused.taken == taken && refused.why == why,
+        (Err(refused), Err((taken, why))) => refused.taken == *taken && refused.why == *why,
         (_, _) => false,
     };
     if !(is_answered && shows(undoable.held(), held) && undoable.mark() == mark) {
@@ -107,45 +107,11 @@ fn all_or_none<B: Bijection<char, u32> + Drop>(
     rt: &impl Abort,
     alloc: Global,
     empty: B,
-    (policy, items, answer, held, mark): Row,
+    (policy, items, answer, held, mark): &Row,
 ) {
     let before = [('a', 1), ('b', 2)];
-    let is_so = is_all_or_none(alloc, empty, &before, policy, items, answer, held, mark);
+    let is_so = is_all_or_none(alloc, empty, &before, *policy, items, answer, held, *mark);
     assert!(rt; is_so, "{items:?}");
-}
-
-#[test]
-fn all_items_are_put_in(rt: HostRuntime) {
-    let alloc = rt.alloc();
-    for row in rows_taken() {
-        all_or_none(&rt, alloc, Plain::new(alloc), row);
-    }
-    for row in rows_taken() {
-        all_or_none(&rt, alloc, BiBTreeMap::<char, u32>::new(alloc), row);
-    }
-    for row in rows_taken() {
-        all_or_none(&rt, alloc, BiHashMap::<char, u32>::new(alloc), row);
-    }
-    for row in rows_taken() {
-        all_or_none(&rt, alloc, crowded::<char, u32>(alloc), row);
-    }
-}
-
-#[test]
-fn where_one_is_refused_none_is_put_in(rt: HostRuntime) {
-    let alloc = rt.alloc();
-    for row in rows_refused() {
-        all_or_none(&rt, alloc, Plain::new(alloc), row);
-    }
-    for row in rows_refused() {
-        all_or_none(&rt, alloc, BiBTreeMap::<char, u32>::new(alloc), row);
-    }
-    for row in rows_refused() {
-        all_or_none(&rt, alloc, BiHashMap::<char, u32>::new(alloc), row);
-    }
-    for row in rows_refused() {
-        all_or_none(&rt, alloc, crowded::<char, u32>(alloc), row);
-    }
 }
 
 // Whether the list is refused at this number, and these pairs are held as before it.
@@ -187,19 +153,12 @@ fn keeps_marks<B: Bijection<L, R> + Drop, L: CopyLeft + Copy + Drop, R: Eq + Cop
     is_first_kept_out && is_last_kept_out && shows(undoable.held(), first_held)
 }
 
+// A refused list keeps the marks of before.
 fn older_marks<B: Bijection<char, u32> + Drop>(rt: &impl Abort, alloc: Global, empty: B) {
     let items = [('b', 2), ('c', 3), ('b', 3)];
     let first = (('a', 1), [('a', 1)].as_slice());
     let second = (('a', 2), [('a', 2)].as_slice());
     assert!(rt; keeps_marks(alloc, empty, first, second, &items));
-}
-
-#[test]
-fn a_refused_list_keeps_the_marks(rt: HostRuntime) {
-    let alloc = rt.alloc();
-    older_marks(&rt, alloc, BiBTreeMap::<char, u32>::new(alloc));
-    older_marks(&rt, alloc, BiHashMap::<char, u32>::new(alloc));
-    older_marks(&rt, alloc, crowded::<char, u32>(alloc));
 }
 
 // Whether an insertion under a policy answers this, and leaves this many changes recorded.
@@ -239,6 +198,7 @@ fn are_inserted_with<B: Bijection<L, R> + Drop, L: CopyLeft + Copy + Drop, R: Eq
     is_at_3 && shows(undoable.held(), at_1)
 }
 
+// Insertions under policies are recorded.
 fn one_by_one<B: Bijection<char, u32> + Drop>(
     rt: &impl Abort,
     alloc: Global,
@@ -261,10 +221,29 @@ fn one_by_one<B: Bijection<char, u32> + Drop>(
     Ok(())
 }
 
+fn rows<B: Kind<char, u32>>(rt: &impl Abort, alloc: Global) -> Result<(), Fail> {
+    for row in rows_taken() {
+        all_or_none(rt, alloc, B::empty(alloc), &row);
+    }
+    for row in rows_refused() {
+        all_or_none(rt, alloc, B::empty(alloc), &row);
+    }
+    older_marks(rt, alloc, B::empty(alloc));
+    one_by_one(rt, alloc, B::empty(alloc))
+}
+
 #[test]
-fn insertions_under_policies_are_recorded(rt: HostRuntime) -> Result<(), Fail> {
-    let alloc = rt.alloc();
-    one_by_one(&rt, alloc, BiBTreeMap::<char, u32>::new(alloc))?;
-    one_by_one(&rt, alloc, BiHashMap::<char, u32>::new(alloc))?;
-    one_by_one(&rt, alloc, crowded::<char, u32>(alloc))
+fn all_items_are_put_in_or_none(rt: HostRuntime) -> Result<(), Fail> {
+    over_each_kind!(rows, char, u32, &rt, ?);
+    Ok(())
+}
+
+#[test]
+fn all_items_are_put_into_a_plain_bimap_or_none(rt: HostRuntime) {
+    for row in rows_taken() {
+        all_or_none(&rt, rt.alloc(), Plain::new(rt.alloc()), &row);
+    }
+    for row in rows_refused() {
+        all_or_none(&rt, rt.alloc(), Plain::new(rt.alloc()), &row);
+    }
 }

@@ -1,8 +1,7 @@
-//! Rows of calls with the answers that they must give, over the ordered bimap, the hashed one, a hashed one whose keys all
-//! have one hash number, and one that is looked through one by one.
+//! Rows of calls with the answers that they must give, over each kind of bimap, and one that is looked through one by one.
 
-use bimap::{BiBTreeMap, BiHashMap, Bijection, NoRoom};
-use bimap_calls::{crowded, shows};
+use bimap::{Bijection, NoRoom};
+use bimap_calls::{Kind, over_each_kind, shows};
 use bimap_famine::Famine;
 use bimap_plain::Plain;
 use bimap_undo::{CopyLeft, Operation, Undoable, there_and_back};
@@ -89,16 +88,6 @@ fn back_to_marks<B: Bijection<L, R> + Drop, L: CopyLeft + Copy + Drop, R: Eq + C
     assert_eq!(rt; (undoable.mark(), undoable.held().len()), (0, 0));
 }
 
-#[test]
-fn goes_back_to_marks(rt: HostRuntime) {
-    let alloc = rt.alloc();
-    back_to_marks(&rt, alloc, Plain::new(alloc), &OF_INSERTIONS);
-    back_to_marks(&rt, alloc, BiBTreeMap::new(alloc), &OF_INSERTIONS);
-    let hashed: BiHashMap<char, i32> = BiHashMap::new(alloc);
-    back_to_marks(&rt, alloc, hashed, &OF_INSERTIONS);
-    back_to_marks(&rt, alloc, crowded::<char, i32>(alloc), &OF_INSERTIONS);
-}
-
 fn without_the_record<B: Bijection<L, R> + Drop, L: CopyLeft + Copy + Drop, R: Eq + Copy + Drop>(
     rt: &impl Abort,
     alloc: Global,
@@ -109,17 +98,6 @@ fn without_the_record<B: Bijection<L, R> + Drop, L: CopyLeft + Copy + Drop, R: E
     let mut undoable = Undoable::new(alloc, empty);
     assert_eq!(rt; first_wrong(&mut undoable, rows), None);
     assert!(rt; shows(&undoable.into_inner(), held));
-}
-
-#[test]
-fn gives_the_bimap_without_the_record(rt: HostRuntime) {
-    let alloc = rt.alloc();
-    let rows = &OF_INSERTIONS[..5];
-    without_the_record(&rt, alloc, Plain::new(alloc), rows, &[('a', 2)]);
-    without_the_record(&rt, alloc, BiBTreeMap::new(alloc), rows, &[('a', 2)]);
-    let hashed: BiHashMap<char, i32> = BiHashMap::new(alloc);
-    without_the_record(&rt, alloc, hashed, rows, &[('a', 2)]);
-    without_the_record(&rt, alloc, crowded::<char, i32>(alloc), rows, &[('a', 2)]);
 }
 
 fn back_from_removals<B: Bijection<L, R> + Drop, L: CopyLeft + Copy + Drop, R: Eq + Copy + Drop>(
@@ -140,18 +118,6 @@ fn back_from_removals<B: Bijection<L, R> + Drop, L: CopyLeft + Copy + Drop, R: E
     drop(famine);
     assert!(rt; stands(&undoable, pairs, 0));
     Ok(())
-}
-
-#[test]
-fn takes_removals_back_without_memory(rt: HostRuntime) -> Result<(), Fail> {
-    let alloc = rt.alloc();
-    let pairs = [('a', 1), ('b', 2)];
-    back_from_removals(&rt, alloc, Plain::new(alloc), &pairs, &OF_REMOVALS)?;
-    back_from_removals(&rt, alloc, BiBTreeMap::new(alloc), &pairs, &OF_REMOVALS)?;
-    let hashed: BiHashMap<char, i32> = BiHashMap::new(alloc);
-    back_from_removals(&rt, alloc, hashed, &pairs, &OF_REMOVALS)?;
-    let crowded = crowded::<char, i32>(alloc);
-    back_from_removals(&rt, alloc, crowded, &pairs, &OF_REMOVALS)
 }
 
 /// Inserts a pair under a famine that eases, and answers how often it was refused, or `None` where a refusal changed
@@ -215,16 +181,6 @@ fn refused_insertions<B: Bijection<L, R> + Drop, L: CopyLeft + Copy + Drop, R: E
     Ok(())
 }
 
-#[test]
-fn a_refused_insertion_changes_nothing(rt: HostRuntime) -> Result<(), Fail> {
-    let alloc = rt.alloc();
-    refused_insertions(&rt, alloc, Plain::new(alloc), &OF_INSERTIONS)?;
-    refused_insertions(&rt, alloc, BiBTreeMap::new(alloc), &OF_INSERTIONS)?;
-    let hashed: BiHashMap<char, i32> = BiHashMap::new(alloc);
-    refused_insertions(&rt, alloc, hashed, &OF_INSERTIONS)?;
-    refused_insertions(&rt, alloc, crowded::<char, i32>(alloc), &OF_INSERTIONS)
-}
-
 fn refused_copies_and_removals<B: Bijection<String, i32> + Drop>(
     rt: &impl Abort,
     alloc: Global,
@@ -251,15 +207,6 @@ fn refused_copies_and_removals<B: Bijection<String, i32> + Drop>(
     assert_eq!(rt; undoable.remove_by_left(&held), Ok(true));
     assert_eq!(rt; (undoable.mark(), undoable.held().len()), (1, 0));
     Ok(())
-}
-
-#[test]
-fn a_refused_copy_or_removal_changes_nothing(rt: HostRuntime) -> Result<(), Fail> {
-    let alloc = rt.alloc();
-    refused_copies_and_removals(&rt, alloc, Plain::<String, i32>::new(alloc))?;
-    refused_copies_and_removals(&rt, alloc, BiBTreeMap::<String, i32>::new(alloc))?;
-    refused_copies_and_removals(&rt, alloc, BiHashMap::<String, i32>::new(alloc))?;
-    refused_copies_and_removals(&rt, alloc, crowded::<String, i32>(alloc))
 }
 
 #[test]
@@ -295,13 +242,59 @@ fn there_and_again<B: Bijection<L, R> + Drop, L: CopyLeft + Copy + Drop, R: Eq +
     Ok(())
 }
 
+// Each test of rows, over what this makes.
+macro_rules! rows {
+    ($rt:expr, $alloc:expr, $empty:expr) => {{
+        back_to_marks($rt, $alloc, $empty, &OF_INSERTIONS);
+        without_the_record($rt, $alloc, $empty, &OF_INSERTIONS[..5], &[('a', 2)]);
+        there_and_again($rt, $alloc, $empty, ('a', 1), &OF_INSERTIONS)?;
+    }};
+}
+
+// The same of those that refuse memory.
+macro_rules! rows_without_memory {
+    ($rt:expr, $alloc:expr, $empty:expr) => {{
+        back_from_removals($rt, $alloc, $empty, &[('a', 1), ('b', 2)], &OF_REMOVALS)?;
+        refused_insertions($rt, $alloc, $empty, &OF_INSERTIONS)?;
+    }};
+}
+
+fn goes_back<B: Kind<char, i32>>(rt: &impl Abort, alloc: Global) -> Result<(), Fail> {
+    rows!(rt, alloc, B::empty(alloc));
+    Ok(())
+}
+
 #[test]
-fn goes_there_and_back(rt: HostRuntime) -> Result<(), Fail> {
+fn goes_back_to_marks(rt: HostRuntime) -> Result<(), Fail> {
     let alloc = rt.alloc();
-    there_and_again(&rt, alloc, Plain::new(alloc), ('a', 1), &OF_INSERTIONS)?;
-    there_and_again(&rt, alloc, BiBTreeMap::new(alloc), ('a', 1), &OF_INSERTIONS)?;
-    let hashed: BiHashMap<char, i32> = BiHashMap::new(alloc);
-    there_and_again(&rt, alloc, hashed, ('a', 1), &OF_INSERTIONS)?;
-    let crowded = crowded::<char, i32>(alloc);
-    there_and_again(&rt, alloc, crowded, ('a', 1), &OF_INSERTIONS)
+    over_each_kind!(goes_back, char, i32, &rt, ?);
+    rows!(&rt, alloc, Plain::new(alloc));
+    Ok(())
+}
+
+fn goes_back_without_memory<B: Kind<char, i32>>(
+    rt: &impl Abort,
+    alloc: Global,
+) -> Result<(), Fail> {
+    rows_without_memory!(rt, alloc, B::empty(alloc));
+    Ok(())
+}
+
+#[test]
+fn a_refused_insertion_changes_nothing(rt: HostRuntime) -> Result<(), Fail> {
+    let alloc = rt.alloc();
+    over_each_kind!(goes_back_without_memory, char, i32, &rt, ?);
+    rows_without_memory!(&rt, alloc, Plain::new(alloc));
+    Ok(())
+}
+
+fn refused<B: Kind<String, i32>>(rt: &impl Abort, alloc: Global) -> Result<(), Fail> {
+    refused_copies_and_removals(rt, alloc, B::empty(alloc))
+}
+
+#[test]
+fn a_refused_copy_or_removal_changes_nothing(rt: HostRuntime) -> Result<(), Fail> {
+    let alloc = rt.alloc();
+    over_each_kind!(refused, String, i32, &rt, ?);
+    refused_copies_and_removals(&rt, alloc, Plain::<String, i32>::new(alloc))
 }

@@ -3,3 +3,4 @@ mod ledger;
 mod looks;
 mod meter;
 mod metered;
+mod metered_ends;

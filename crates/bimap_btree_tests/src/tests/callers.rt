@@ -5,7 +5,7 @@ ghost use Rattle.bimap_kinds.specs.Held.{holding};
 ghost use Rattle.bimap_kinds.specs.Held.{by_right};
 
 use super::filled;
-use bimap_kinds::BiBTreeMap;
+use bimap::BiBTreeMap;
 use std::alloc::{AllocError, Global};
 
 fn rights_by_loop(alloc: Global, bimap: &BiBTreeMap<char, u32>) -> Result<Vec<u32>, AllocError>
@@ -67,7 +67,7 @@ const PAIRS: [(char, u32); 3] = [('a', 3), ('b', 1), ('c', 2)];
 
 #[test]
 fn callers_know_what_they_walked(rt: HostRuntime) {
-    let map = filled(rt.alloc(), &PAIRS);
+    let map: BiBTreeMap<char, u32> = filled(rt.alloc(), &PAIRS);
     assert!(&rt; are(rights_by_loop(rt.alloc(), &map), &[3, 1, 2]));
     assert!(&rt; are(rights_by_chain(rt.alloc(), &map), &[3, 1, 2]));
     assert!(&rt; are(sorted_rights(rt.alloc(), &map), &[1, 2, 3]));

@@ -1,28 +1,34 @@
-//! Equality, order, hashes and texts of whole bimaps.
+//! Equality, order, hashes and texts of whole bimaps whose left is ordered.
 ghost use Rattle.std.specs.Prelude.{◌≡◌, nat_eq};
 ghost use Rattle.bimap_base.specs.Same.{same};
 ghost use Rattle.bimap_kinds.specs.Held.{holding};
 
-use super::Seats;
-use super::built::made;
-use bimap_kinds::BiBTreeMap;
-use std::alloc::Global;
+use super::{Hashed, filled};
+use bimap::BijectiveMap;
+use bimap_index::{EmptyIndex, Index};
+use bimap_tree::Ordered;
+use std::alloc::{AllocError, Global};
 use std::cmp::Ordering;
 use std::collections::HashSet;
+use std::fmt::Debug;
 use std::hash::Hash;
+use std::process::Abort;
 use std::test::Fail;
 
+/// A bimap of an ordered left, whatever the right is.
+type ByLeft<R, J> = BijectiveMap<char, R, Ordered, J>;
+
 // What one learns who writes `==`.
-fn are_equal(first: &Seats, second: &Seats) -> bool
-    ensures { result ≡ same nat_eq nat_eq (holding first.now).pairs (holding second.now).pairs }
+fn are_equal<R: Eq + Drop, J: Index<R>>(first: &ByLeft<R, J>, second: &ByLeft<R, J>) -> bool
+    ensures { result ≡ same nat_eq R.eq (holding first.now).pairs (holding second.now).pairs }
 {
     first == second
 }
 
 /// Two lists of items, and how the bimap of the first stands to that of the second.
-type Row = (&'static [(char, u32)], &'static [(char, u32)], Ordering);
+type Row<R> = (&'static [(char, R)], &'static [(char, R)], Ordering);
 
-const ORDERED: [Row; 10] = [
+const ORDERED: [Row<u32>; 10] = [
     (&[], &[], Ordering::Equal),
     (&[], &[('a', 1)], Ordering::Less),
     (&[], &[('a', 1), ('b', 2)], Ordering::Less),
@@ -44,63 +50,64 @@ const ORDERED: [Row; 10] = [
 ];
 
 // Whether the first stands so to the second, by each comparison.
-fn stands_so(first: &Seats, second: &Seats, answer: Ordering) -> bool {
+fn stands_so<R: Ord + Drop, J: Index<R>>(
+    first: &ByLeft<R, J>,
+    second: &ByLeft<R, J>,
+    answer: Ordering,
+) -> bool {
     first.cmp(second) == answer
         && first.partial_cmp(second) == Some(answer)
         && are_equal(first, second) == (answer == Ordering::Equal)
 }
 
 // The same from either side, and whether the first stands to itself as equal.
-fn stand_so(first: &Seats, second: &Seats, answer: Ordering) -> bool {
+fn stand_so<R: Ord + Drop, J: Index<R>>(
+    first: &ByLeft<R, J>,
+    second: &ByLeft<R, J>,
+    answer: Ordering,
+) -> bool {
     stands_so(first, second, answer)
         && stands_so(second, first, answer.reverse())
         && stands_so(first, first, Ordering::Equal)
 }
 
-// The number of the first row that does not hold.
-fn first_wrong(alloc: Global, rows: &[Row]) -> Result<Option<usize>, Fail> {
+fn are_ordered<R: Ord + Copy + Drop, J: EmptyIndex<R> + Drop>(
+    rt: &impl Abort,
+    alloc: Global,
+    rows: &[Row<R>],
+) {
     for (number, (items, others, answer)) in rows.iter().enumerate() {
-        let first = made(alloc, items)?;
-        let second = made(alloc, others)?;
-        if !stand_so(&first, &second, *answer) {
-            return Ok(Some(number));
-        }
+        let first: ByLeft<R, J> = filled(alloc, items);
+        let second: ByLeft<R, J> = filled(alloc, others);
+        assert!(rt; stand_so(&first, &second, *answer), "{number}");
     }
-    Ok(None)
 }
 
 #[test]
-fn orders_by_left_and_then_by_right(rt: HostRuntime) -> Result<(), Fail> {
-    assert_eq!(&rt; first_wrong(rt.alloc(), &ORDERED)?, None);
-    Ok(())
+fn orders_by_left_and_then_by_right(rt: HostRuntime) {
+    beside_each!(&rt, are_ordered, u32, &ORDERED);
 }
 
-/// Items, and the text of their bimap.
-type Text = (&'static [(char, u32)], &'static str);
-
-const PRINTED: [Text; 3] = [
-    (&[], "{}"),
-    (&[('a', 1)], "{'a' <> 1}"),
-    (&[('b', 2), ('a', 1)], "{'a' <> 1, 'b' <> 2}"),
-];
-
-fn prints(alloc: Global, map: &Seats, text: &str) -> Result<bool, Fail> {
-    Ok(format!(in alloc; "{map:?}")?.as_str() == text)
-}
-
-// The number of the first row whose text is another.
-fn first_misprint(alloc: Global, rows: &[Text]) -> Result<Option<usize>, Fail> {
-    for (number, (items, text)) in rows.iter().enumerate() {
-        if !prints(alloc, &made(alloc, items)?, text)? {
-            return Ok(Some(number));
-        }
-    }
-    Ok(None)
+// What `{:?}` prints of a bimap of these items.
+fn text_of<R: Copy + Eq + Debug + Drop, J: EmptyIndex<R> + Drop>(
+    alloc: Global,
+    items: &[(char, R)],
+) -> Result<String, AllocError> {
+    let bimap: ByLeft<R, J> = filled(alloc, items);
+    format!(in alloc; "{bimap:?}")
 }
 
 #[test]
-fn prints_its_pairs(rt: HostRuntime) -> Result<(), Fail> {
-    assert_eq!(&rt; first_misprint(rt.alloc(), &PRINTED)?, None);
+fn prints_its_pairs_by_ascending_left(rt: HostRuntime) -> Result<(), Fail> {
+    let alloc = rt.alloc();
+    for (items, text) in [
+        ([].as_slice(), "{}"),
+        (&[('a', 1)], "{'a' <> 1}"),
+        (&[('b', 2), ('a', 1)], "{'a' <> 1, 'b' <> 2}"),
+    ] {
+        assert_eq!(rt; text_of::<u32, Ordered>(alloc, items)?.as_str(), text);
+        assert_eq!(rt; text_of::<u32, Hashed>(alloc, items)?.as_str(), text);
+    }
     Ok(())
 }
 
@@ -113,12 +120,6 @@ fn count_of<T: Eq + Hash + Drop>(alloc: Global, values: Vec<T>) -> Result<usize,
     Ok(set.len())
 }
 
-type Digits = BiBTreeMap<u32, char>;
-
-fn digits(alloc: Global, pairs: &[(u32, char)]) -> Result<Digits, Fail> {
-    Ok(BiBTreeMap::from_iter(alloc, pairs.iter().copied())?)
-}
-
 const ONE: &[(u32, char)] = &[(0, '0')];
 
 // The second item strikes the first.
@@ -128,10 +129,13 @@ const THREE: &[(u32, char)] = &[(0, '0'), (0, '1'), (1, '0')];
 const TURNED: &[(u32, char)] = &[(1, '0'), (0, '1'), (0, '0')];
 
 // How many different bimaps there are of so many lists of items.
-fn members(alloc: Global, lists: &[&[(u32, char)]]) -> Result<usize, Fail> {
-    let mut all = Vec::new(alloc);
+fn members<R: Ord + Hash + Copy + Drop, J: EmptyIndex<R> + Drop>(
+    alloc: Global,
+    lists: &[&[(u32, R)]],
+) -> Result<usize, Fail> {
+    let mut all: Vec<BijectiveMap<u32, R, Ordered, J>> = Vec::new(alloc);
     for items in lists {
-        all.push(digits(alloc, items)?).map_err(|_| "no memory")?;
+        all.push(filled(alloc, items)).map_err(|_| "no memory")?;
     }
     count_of(alloc, all)
 }
@@ -139,34 +143,7 @@ fn members(alloc: Global, lists: &[&[(u32, char)]]) -> Result<usize, Fail> {
 #[test]
 fn equal_bimaps_are_one_member_of_a_set(rt: HostRuntime) -> Result<(), Fail> {
     let lists = [&[], ONE, THREE, TURNED, THREE];
-    assert_eq!(&rt; members(rt.alloc(), &lists)?, 3);
-    Ok(())
-}
-
-fn is_same(first: &Digits, second: &Digits) -> bool {
-    first == second
-}
-
-// Whether two lists of items make equal bimaps.
-fn are_alike(alloc: Global, items: &[(u32, char)], others: &[(u32, char)]) -> Result<bool, Fail> {
-    Ok(is_same(&digits(alloc, items)?, &digits(alloc, others)?))
-}
-
-#[test]
-fn equality_forgets_what_was_struck(rt: HostRuntime) -> Result<(), Fail> {
-    assert!(&rt; are_alike(rt.alloc(), TURNED, ONE)?);
-    assert!(&rt; !are_alike(rt.alloc(), THREE, ONE)?);
-    Ok(())
-}
-
-fn right_of(map: &Digits, left: u32) -> Option<char> {
-    map.get_by_left(&left).copied()
-}
-
-#[test]
-fn what_was_struck_is_gone(rt: HostRuntime) -> Result<(), Fail> {
-    let three = digits(rt.alloc(), THREE)?;
-    assert!(&rt; three.len() == 2);
-    assert!(&rt; right_of(&three, 0) == Some('1') && right_of(&three, 1) == Some('0'));
+    assert_eq!(&rt; members::<char, Ordered>(rt.alloc(), &lists)?, 3);
+    assert_eq!(&rt; members::<char, Hashed>(rt.alloc(), &lists)?, 3);
     Ok(())
 }

@@ -5,10 +5,9 @@ ghost use Rattle.std.specs.Cmp.{partial_order_from_own_ties};
 ghost use Rattle.std.specs.Cmp.Rules.{comparing};
 ghost use Rattle.std.specs.Ordering.{nat_cmp, on, as_partial_cmp};
 
-use bimap_base::Overwritten;
+use bimap::btree::Iter;
+use bimap::{BiBTreeMap, Overwritten};
 use bimap_famine::Famine;
-use bimap_kinds::BiBTreeMap;
-use bimap_walk::by_rank::Iter;
 use std::alloc::Global;
 use std::cell::Cell;
 use std::cmp::Ordering;

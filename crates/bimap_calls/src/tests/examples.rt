@@ -1,12 +1,13 @@
 //! The Rust crate's own examples.
-use crate::{crowded, shows};
-use bimap::{BiBTreeMap, BiMap, Bijection, Overwritten};
+use crate::{Kind, over_each_kind};
+use bimap::Overwritten;
+use std::alloc::Global;
 use std::process::Abort;
 
-fn symbols_of_elements<B: Bijection<&'static str, &'static str> + Drop>(
-    rt: &impl Abort,
-    mut bimap: B,
-) {
+type Text = &'static str;
+
+fn symbols_of_elements<B: Kind<Text, Text>>(rt: &impl Abort, alloc: Global) {
+    let mut bimap = B::empty(alloc);
     for (element, symbol) in [
         ("hydrogen", "H"),
         ("carbon", "C"),
@@ -27,15 +28,11 @@ fn symbols_of_elements<B: Bijection<&'static str, &'static str> + Drop>(
 
 #[test]
 fn elements_and_symbols(rt: HostRuntime) {
-    symbols_of_elements(
-        &rt,
-        BiBTreeMap::<&'static str, &'static str>::new(rt.alloc()),
-    );
-    symbols_of_elements(&rt, BiMap::<&'static str, &'static str>::new(rt.alloc()));
-    symbols_of_elements(&rt, crowded::<&'static str, &'static str>(rt.alloc()));
+    over_each_kind!(symbols_of_elements, Text, Text, &rt);
 }
 
-fn positions_of_letters<B: Bijection<char, u8> + Drop>(rt: &impl Abort, mut bimap: B) {
+fn positions_of_letters<B: Kind<char, u8>>(rt: &impl Abort, alloc: Global) {
+    let mut bimap = B::empty(alloc);
     for position in 1..=26u8 {
         let letter = char::from(b'A' + (position - 1));
         assert!(rt; bimap.insert(letter, position) == Ok(Overwritten::Neither));
@@ -47,7 +44,5 @@ fn positions_of_letters<B: Bijection<char, u8> + Drop>(rt: &impl Abort, mut bima
 
 #[test]
 fn letters_of_the_alphabet_and_their_positions(rt: HostRuntime) {
-    positions_of_letters(&rt, BiBTreeMap::<char, u8>::new(rt.alloc()));
-    positions_of_letters(&rt, BiMap::<char, u8>::new(rt.alloc()));
-    positions_of_letters(&rt, crowded::<char, u8>(rt.alloc()));
+    over_each_kind!(positions_of_letters, char, u8, &rt);
 }

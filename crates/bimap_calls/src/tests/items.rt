@@ -1,50 +1,138 @@
 //! Items put in one after the other.
-use crate::{Crowded, Zero, crowded, shows};
-use bimap::{BiBTreeMap, BiHashMap};
+ghost use Rattle.std.specs.Iterator.{YieldsFirst, item_count};
+
+use crate::{CopyKind, Walked, holds, over_each_kind, shows, with_each_kind};
+use bimap::BijectiveMap;
+use bimap_index::EmptyIndex;
+use std::alloc::Global;
+use std::process::Abort;
+use std::test::Fail;
 
 /// Items, with the pairs that are held after them.
-const ROWS: [(&[(char, u32)], &[(char, u32)]); 4] = [
+type Row<L, R> = (&'static [(L, R)], &'static [(L, R)]);
+
+const LETTERS: [Row<char, u32>; 6] = [
     (&[], &[]),
+    (&[('a', 1)], &[('a', 1)]),
     (&[('a', 1), ('b', 1), ('b', 2)], &[('b', 2)]),
     (
         &[('a', 1), ('b', 2), ('c', 3), ('b', 2), ('a', 4), ('b', 3)],
         &[('a', 4), ('b', 3)],
     ),
     (&[('a', 1), ('b', 2), ('c', 2)], &[('a', 1), ('c', 2)]),
+    (&[('b', 2), ('a', 1)], &[('a', 1), ('b', 2)]),
 ];
 
-#[test]
-fn a_later_item_strikes_earlier_ones(rt: HostRuntime) {
-    for (items, held) in ROWS {
-        let ordered = BiBTreeMap::from_iter(rt.alloc(), items.iter().copied());
-        assert!(&rt; shows(&ordered.expect(&rt, "memory"), held), "{held:?}");
-        let hashed: Result<BiHashMap<char, u32>, _> = BiHashMap::from_iter(
-            rt.alloc(),
-            items.iter().copied(),
-        );
-        assert!(&rt; shows(&hashed.expect(&rt, "memory"), held), "{held:?}");
-        let crowded: Result<Crowded<char, u32>, _> = BiHashMap::from_iter_with_hashers(
-            rt.alloc(),
-            Zero,
-            Zero,
-            items.iter().copied(),
-        );
-        assert!(&rt; shows(&crowded.expect(&rt, "memory"), held), "{held:?}");
+const DIGITS: [Row<u32, char>; 2] = [
+    (&[(0, '0'), (0, '1'), (1, '0')], &[(0, '1'), (1, '0')]),
+    (&[(1, '0'), (0, '1'), (0, '0')], &[(0, '0')]),
+];
+
+fn built<L: Copy + Ord + Drop, R: Copy + Ord + Drop, B: CopyKind<L, R> + Walked<L, R>>(
+    rt: &impl Abort,
+    alloc: Global,
+    rows: &[Row<L, R>],
+) -> Result<(), Fail> {
+    for (number, (items, held)) in rows.iter().enumerate() {
+        let bimap = B::built(alloc, items).ok().ok_or("no memory")?;
+        assert!(rt; holds(alloc, &bimap, held)?, "{number}");
     }
+    Ok(())
+}
+
+pub(super) fn letters<B: CopyKind<char, u32> + Walked<char, u32>>(
+    rt: &impl Abort,
+    alloc: Global,
+) -> Result<(), Fail> {
+    built::<char, u32, B>(rt, alloc, &LETTERS)?;
+    added(rt, alloc, B::empty(alloc))
+}
+
+fn digits<B: CopyKind<u32, char> + Walked<u32, char>>(
+    rt: &impl Abort,
+    alloc: Global,
+) -> Result<(), Fail> {
+    built::<u32, char, B>(rt, alloc, &DIGITS)
 }
 
 #[test]
-fn items_are_added_to_those_held(rt: HostRuntime) {
-    let first = [('a', 3), ('b', 2)];
-    let more = [('c', 3), ('b', 1), ('a', 4)];
+fn a_later_item_strikes_earlier_ones(rt: HostRuntime) -> Result<(), Fail> {
+    over_each_kind!(digits, u32, char, &rt, ?);
+    Ok(())
+}
+
+// Items are added to those held.
+fn added<B: CopyKind<char, u32> + Walked<char, u32>>(
+    rt: &impl Abort,
+    alloc: Global,
+    mut bimap: B,
+) -> Result<(), Fail> {
     let held = [('a', 4), ('b', 1), ('c', 3)];
-    let mut ordered: BiBTreeMap<char, u32> = BiBTreeMap::new(rt.alloc());
-    assert!(&rt; ordered.extend(first).is_ok() && ordered.extend(more).is_ok());
-    assert!(&rt; shows(&ordered, &held));
-    let mut hashed: BiHashMap<char, u32> = BiHashMap::new(rt.alloc());
-    assert!(&rt; hashed.extend(first).is_ok() && hashed.extend(more).is_ok());
-    assert!(&rt; shows(&hashed, &held));
-    let mut crowded: Crowded<char, u32> = crowded(rt.alloc());
-    assert!(&rt; crowded.extend(first).is_ok() && crowded.extend(more).is_ok());
-    assert!(&rt; shows(&crowded, &held));
+    bimap.add(&[('a', 3), ('b', 2)]).ok().ok_or("no memory")?;
+    for more in [[('c', 3), ('b', 1), ('a', 4)].as_slice(), &[]] {
+        bimap.add(more).ok().ok_or("no memory")?;
+        assert!(rt; holds(alloc, &bimap, &held)?);
+    }
+    Ok(())
+}
+
+// Items whose iterator says nothing of how many they are, or too much.
+#[derive(Drop)]
+struct Hinted<'a, L, R> {
+    items: &'a [(L, R)],
+    is_bounded: bool,
+}
+
+impl<'a, L: Copy, R: Copy> Iterator for Hinted<'a, L, R> {
+    type Item = (L, R);
+
+    ghost next_gives = { YieldsFirst (λ s. s.items.now) };
+
+    ghost remaining = { item_count (λ s. s.items.now) };
+
+    fn next(&mut self) -> Option<(L, R)> {
+        let (first, others) = self.items.split_first()?;
+        self.items = others;
+        Some(*first)
+    }
+
+    fn size_hint(&self) -> (usize, Option<usize>) {
+        let _len = self.items.len();
+        (0, self.is_bounded.then_some(usize::MAX))
+    }
+}
+
+/// Items, with the pairs that are held after them, and a left that is struck.
+type Moved<L, R> = (&'static [(L, R)], &'static [(L, R)], L);
+
+const MOVED: Moved<char, u32> = (&[('a', 1), ('b', 2), ('c', 2)], &[('a', 1), ('c', 2)], 'b');
+
+fn no_hint<
+    L: Copy + Eq + Drop,
+    R: Copy + Eq + Drop,
+    I: EmptyIndex<L> + Drop,
+    J: EmptyIndex<R> + Drop,
+>(
+    rt: &impl Abort,
+    alloc: Global,
+    mut bimap: BijectiveMap<L, R, I, J>,
+    (items, held, struck): Moved<L, R>,
+) -> Result<(), Fail> {
+    for is_bounded in [true, false] {
+        bimap.clear();
+        assert!(rt; bimap.extend(Hinted { items, is_bounded }).is_ok());
+        assert!(rt; shows(&bimap, held) && bimap.get_by_left(&struck).is_none());
+        let hinted = Hinted { items, is_bounded };
+        let made: Result<BijectiveMap<L, R, I, J>, _> = BijectiveMap::from_iter(alloc, hinted);
+        let made = made.ok().ok_or("no memory")?;
+        assert!(rt; shows(&made, held) && made.get_by_left(&struck).is_none());
+    }
+    Ok(())
+}
+
+#[test]
+fn no_hint_is_trusted(rt: HostRuntime) -> Result<(), Fail> {
+    let alloc = rt.alloc();
+    with_each_kind!(bimap: (char, u32) in alloc => no_hint(&rt, alloc, bimap, MOVED)?);
+    Ok(())
 }

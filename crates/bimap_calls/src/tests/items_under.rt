@@ -1,9 +1,6 @@
 //! Items put in under a policy, until one is refused.
-use crate::{KEEP_LEFT, KEEP_RIGHT, ONCE, OVERWRITE, Tagged, crowded, shows, with_tag};
-use bimap::{
-    BiBTreeMap, BiHashMap, Bijection, ItemRefused, NotInsertedWith, Policy, extend_with,
-    from_iter_with,
-};
+use crate::{KEEP_LEFT, KEEP_RIGHT, Kind, ONCE, OVERWRITE, Tagged, shows, with_tag};
+use bimap::{Bijection, ItemRefused, NotInsertedWith, Policy, extend_with, from_iter_with};
 use bimap_plain::Plain;
 use std::alloc::Global;
 use std::process::Abort;
@@ -35,12 +32,15 @@ fn extended<B: Bijection<char, u32> + Drop>(
     assert!(rt; shows(&bimap, held), "{items:?} {policy:?}");
 }
 
-fn made<B: Bijection<char, u32> + Drop>(
+fn made<B: Kind<char, u32>>(
     rt: &impl Abort,
-    collected: Result<B, Refused>,
+    alloc: Global,
+    items: &[(char, u32)],
+    policy: Policy,
     answer: &Result<(), Refused>,
     held: &[(char, u32)],
 ) {
+    let collected = from_iter_with(B::empty(alloc), items.iter().copied(), policy);
     match (collected, answer) {
         (Ok(bimap), Ok(())) => assert!(rt; shows(&bimap, held)),
         (Err(refused), Err(wanted)) => assert!(rt; refused == *wanted),
@@ -48,60 +48,16 @@ fn made<B: Bijection<char, u32> + Drop>(
     }
 }
 
-fn from_none(
-    rt: &impl Abort,
-    alloc: Global,
-    items: &[(char, u32)],
-    policy: Policy,
-    answer: Result<(), Refused>,
-    held: &[(char, u32)],
-) {
-    let items_of = items.iter().copied();
-    let ordered = BiBTreeMap::<char, u32>::new(alloc);
-    made(rt, from_iter_with(ordered, items_of, policy), &answer, held);
-    let hashed = BiHashMap::<char, u32>::new(alloc);
-    made(
-        rt,
-        from_iter_with(hashed, items.iter().copied(), policy),
-        &answer,
-        held,
-    );
-    let crowd = crowded::<char, u32>(alloc);
-    made(
-        rt,
-        from_iter_with(crowd, items.iter().copied(), policy),
-        &answer,
-        held,
-    );
-    extended(
-        rt,
-        BiBTreeMap::<char, u32>::new(alloc),
-        items,
-        policy,
-        &answer,
-        held,
-    );
-    extended(
-        rt,
-        BiHashMap::<char, u32>::new(alloc),
-        items,
-        policy,
-        &answer,
-        held,
-    );
-    extended(
-        rt,
-        crowded::<char, u32>(alloc),
-        items,
-        policy,
-        &answer,
-        held,
-    );
+fn from_none<B: Kind<char, u32>>(rt: &impl Abort, alloc: Global, rows: &[Row]) {
+    for (policy, items, answer, held) in rows {
+        made::<B>(rt, alloc, items, *policy, answer, held);
+        extended(rt, B::empty(alloc), items, *policy, answer, held);
+    }
 }
 
-#[test]
-fn each_value_once(rt: HostRuntime) {
-    let rows: [Row; 4] = [
+// Each value once.
+fn rows_once() -> [Row; 4] {
+    [
         (ONCE, &[], Ok(()), &[]),
         (ONCE, &[('a', 1), ('b', 2)], Ok(()), &[('a', 1), ('b', 2)]),
         (
@@ -116,15 +72,12 @@ fn each_value_once(rt: HostRuntime) {
             refused(1, NotInsertedWith::LeftHeld('a', 1)),
             &[('a', 1)],
         ),
-    ];
-    for (policy, items, answer, held) in rows {
-        from_none(&rt, rt.alloc(), items, policy, answer, held);
-    }
+    ]
 }
 
-#[test]
-fn one_side_once_or_none(rt: HostRuntime) {
-    let rows: [Row; 5] = [
+// The values of one side once, or of none.
+fn rows_of_one_side() -> [Row; 5] {
+    [
         (
             KEEP_LEFT,
             &[('a', 1), ('b', 1), ('c', 2), ('b', 3), ('d', 4)],
@@ -155,10 +108,7 @@ fn one_side_once_or_none(rt: HostRuntime) {
             Ok(()),
             &[('a', 2), ('c', 1)],
         ),
-    ];
-    for (policy, items, answer, held) in rows {
-        from_none(&rt, rt.alloc(), items, policy, answer, held);
-    }
+    ]
 }
 
 fn added_to_those_held<B: Bijection<char, u32> + Drop>(rt: &impl Abort, mut bimap: B) {
@@ -169,11 +119,10 @@ fn added_to_those_held<B: Bijection<char, u32> + Drop>(rt: &impl Abort, mut bima
     assert!(rt; shows(&bimap, &[('a', 1), ('b', 2), ('c', 3)]));
 }
 
-#[test]
-fn those_held_before_are_asked_too(rt: HostRuntime) {
-    added_to_those_held(&rt, BiBTreeMap::<char, u32>::new(rt.alloc()));
-    added_to_those_held(&rt, BiHashMap::<char, u32>::new(rt.alloc()));
-    added_to_those_held(&rt, crowded::<char, u32>(rt.alloc()));
+pub(super) fn all<B: Kind<char, u32>>(rt: &impl Abort, alloc: Global) {
+    from_none::<B>(rt, alloc, &rows_once());
+    from_none::<B>(rt, alloc, &rows_of_one_side());
+    added_to_those_held(rt, B::empty(alloc));
 }
 
 // An item that finds no place, where none can be added.
@@ -188,7 +137,8 @@ fn an_item_finds_no_memory(rt: HostRuntime) {
     assert!(&rt; shows(&bimap, &[('c', 3), ('b', 2)]));
 }
 
-fn hands_back<B: Bijection<Tagged, Tagged> + Drop>(rt: &impl Abort, mut bimap: B) {
+pub(super) fn hands_back<B: Kind<Tagged, Tagged>>(rt: &impl Abort, alloc: Global) {
+    let mut bimap = B::empty(alloc);
     let items = [
         (with_tag('a', 1), with_tag('x', 1)),
         (with_tag('b', 2), with_tag('x', 2)),
@@ -207,11 +157,4 @@ fn hands_back<B: Bijection<Tagged, Tagged> + Drop>(rt: &impl Abort, mut bimap: B
     assert!(rt; held.is_some_and(|right| right.tag == 2));
     let held = bimap.get_by_right(&with_tag('x', 9));
     assert!(rt; held.is_some_and(|left| left.tag == 2));
-}
-
-#[test]
-fn the_very_item_is_handed_back(rt: HostRuntime) {
-    hands_back(&rt, BiBTreeMap::<Tagged, Tagged>::new(rt.alloc()));
-    hands_back(&rt, BiHashMap::<Tagged, Tagged>::new(rt.alloc()));
-    hands_back(&rt, crowded::<Tagged, Tagged>(rt.alloc()));
 }

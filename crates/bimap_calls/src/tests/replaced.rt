@@ -1,6 +1,7 @@
 //! Values that take the place of others.
-use crate::{Tagged, crowded, shows, with_tag};
-use bimap::{BiBTreeMap, BiHashMap, Bijection, NotReplaced, replace_left, replace_right};
+use crate::{Kind, Tagged, shows, with_tag};
+use bimap::{Bijection, NotReplaced, Overwritten, replace_left, replace_right};
+use std::alloc::Global;
 use std::process::Abort;
 use std::test::Fail;
 
@@ -54,13 +55,6 @@ fn lefts_replaced<B: Bijection<char, u32> + Drop>(
     Ok(())
 }
 
-#[test]
-fn lefts_are_replaced(rt: HostRuntime) -> Result<(), Fail> {
-    lefts_replaced(&rt, BiBTreeMap::<char, u32>::new(rt.alloc()))?;
-    lefts_replaced(&rt, BiHashMap::<char, u32>::new(rt.alloc()))?;
-    lefts_replaced(&rt, crowded::<char, u32>(rt.alloc()))
-}
-
 fn rights_replaced<B: Bijection<char, u32> + Drop>(
     rt: &impl Abort,
     mut bimap: B,
@@ -83,13 +77,6 @@ fn rights_replaced<B: Bijection<char, u32> + Drop>(
         assert!(rt; shows(&bimap, held), "{from} {to}");
     }
     Ok(())
-}
-
-#[test]
-fn rights_are_replaced(rt: HostRuntime) -> Result<(), Fail> {
-    rights_replaced(&rt, BiBTreeMap::<char, u32>::new(rt.alloc()))?;
-    rights_replaced(&rt, BiHashMap::<char, u32>::new(rt.alloc()))?;
-    rights_replaced(&rt, crowded::<char, u32>(rt.alloc()))
 }
 
 // The tag of what was answered, where it was.
@@ -136,9 +123,40 @@ fn tags_replaced<B: Bijection<Tagged, Tagged> + Drop>(
     Ok(())
 }
 
-#[test]
-fn an_equal_value_takes_the_place(rt: HostRuntime) -> Result<(), Fail> {
-    tags_replaced(&rt, BiBTreeMap::<Tagged, Tagged>::new(rt.alloc()))?;
-    tags_replaced(&rt, BiHashMap::<Tagged, Tagged>::new(rt.alloc()))?;
-    tags_replaced(&rt, crowded::<Tagged, Tagged>(rt.alloc()))
+pub(super) fn left_struck<B: Kind<Tagged, u32>>(rt: &impl Abort, alloc: Global) {
+    let mut bimap = B::empty(alloc);
+    assert!(rt; bimap.insert(with_tag('a', 1), 99) == Ok(Overwritten::Neither));
+    match bimap.insert(with_tag('a', 2), 100) {
+        Ok(Overwritten::Left(struck, right)) => assert_eq!(rt; (struck.tag, right), (1, 99)),
+        _ => assert!(rt; false, "a is held"),
+    }
+    assert_eq!(rt; bimap.get_by_right(&100).map(|left| left.tag), Some(2));
+    assert_eq!(rt; bimap.len(), 1);
+}
+
+fn pair_struck<B: Bijection<Tagged, Tagged> + Drop>(rt: &impl Abort, mut bimap: B) {
+    let first = bimap.insert(with_tag('a', 1), with_tag('x', 1));
+    assert!(rt; first == Ok(Overwritten::Neither));
+    match bimap.insert(with_tag('a', 2), with_tag('x', 2)) {
+        Ok(Overwritten::Pair(left, right)) => assert_eq!(rt; (left.tag, right.tag), (1, 1)),
+        _ => assert!(rt; false, "both are held"),
+    }
+    let (left, right) = (with_tag('a', 9), with_tag('x', 9));
+    assert_eq!(rt; bimap.get_by_left(&left).map(|found| found.tag), Some(2));
+    assert_eq!(rt; bimap.get_by_right(&right).map(|found| found.tag), Some(2));
+    match bimap.remove_by_left(&left) {
+        Some((left, right)) => assert_eq!(rt; (left.tag, right.tag), (2, 2)),
+        None => assert!(rt; false, "a is held"),
+    }
+}
+
+pub(super) fn values<B: Kind<char, u32>>(rt: &impl Abort, alloc: Global) -> Result<(), Fail> {
+    lefts_replaced(rt, B::empty(alloc))?;
+    rights_replaced(rt, B::empty(alloc))
+}
+
+pub(super) fn tags<B: Kind<Tagged, Tagged>>(rt: &impl Abort, alloc: Global) -> Result<(), Fail> {
+    tags_replaced(rt, B::empty(alloc))?;
+    pair_struck(rt, B::empty(alloc));
+    Ok(())
 }

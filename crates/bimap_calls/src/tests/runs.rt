@@ -1,8 +1,6 @@
 //! Lists of calls with the replies that they must give.
-use crate::{ONCE, Tagged, crowded, shows, with_tag};
-use bimap::{
-    BiBTreeMap, BiHashMap, Bijection, Call, OnHeld, Overwritten, Policy, Reply, perform, run,
-};
+use crate::{Kind, ONCE, Tagged, shows, with_tag};
+use bimap::{Bijection, Call, OnHeld, Overwritten, Policy, Reply, perform, run};
 use bimap_plain::Plain;
 use std::alloc::Global;
 use std::process::Abort;
@@ -53,14 +51,6 @@ fn each_call<B: Bijection<char, u32> + Drop>(
     Ok(())
 }
 
-#[test]
-fn each_call_replies(rt: HostRuntime) -> Result<(), Fail> {
-    let alloc = rt.alloc();
-    each_call(&rt, alloc, BiBTreeMap::<char, u32>::new(alloc))?;
-    each_call(&rt, alloc, BiHashMap::<char, u32>::new(alloc))?;
-    each_call(&rt, alloc, crowded::<char, u32>(alloc))
-}
-
 fn another_left<B: Bijection<char, u32> + Drop>(
     rt: &impl Abort,
     alloc: Global,
@@ -85,14 +75,6 @@ fn another_left<B: Bijection<char, u32> + Drop>(
     assert!(rt; replies.ok() == Some(wanted));
     assert!(rt; shows(&bimap, &[('b', 1)]));
     Ok(())
-}
-
-#[test]
-fn a_pair_gives_its_right_to_another_left(rt: HostRuntime) -> Result<(), Fail> {
-    let alloc = rt.alloc();
-    another_left(&rt, alloc, BiBTreeMap::<char, u32>::new(alloc))?;
-    another_left(&rt, alloc, BiHashMap::<char, u32>::new(alloc))?;
-    another_left(&rt, alloc, crowded::<char, u32>(alloc))
 }
 
 fn policy(left: OnHeld, right: OnHeld) -> Policy {
@@ -132,14 +114,6 @@ fn each_policy<B: Bijection<char, u32> + Drop>(
     assert!(rt; replies_of(alloc, &mut bimap, calls) == Some(wanted));
     assert!(rt; shows(&bimap, &[('a', 2), ('d', 4)]));
     Ok(())
-}
-
-#[test]
-fn policies_in_a_run(rt: HostRuntime) -> Result<(), Fail> {
-    let alloc = rt.alloc();
-    each_policy(&rt, alloc, BiBTreeMap::<char, u32>::new(alloc))?;
-    each_policy(&rt, alloc, BiHashMap::<char, u32>::new(alloc))?;
-    each_policy(&rt, alloc, crowded::<char, u32>(alloc))
 }
 
 // Where no place can be added, each insertion that strikes nothing is refused, and the run goes on.
@@ -213,14 +187,8 @@ fn performed<B: Bijection<char, u32> + Drop>(rt: &impl Abort, mut bimap: B) {
     }
 }
 
-#[test]
-fn one_call_at_a_time(rt: HostRuntime) {
-    performed(&rt, BiBTreeMap::<char, u32>::new(rt.alloc()));
-    performed(&rt, BiHashMap::<char, u32>::new(rt.alloc()));
-    performed(&rt, crowded::<char, u32>(rt.alloc()));
-}
-
-fn hands_back<B: Bijection<Tagged, Tagged> + Drop>(rt: &impl Abort, mut bimap: B) {
+pub(super) fn hands_back<B: Kind<Tagged, Tagged>>(rt: &impl Abort, alloc: Global) {
+    let mut bimap = B::empty(alloc);
     let all = |_: &u32, _: &Tagged, _: &Tagged| true;
     let first: Call<Tagged, Tagged, u32> = Call::Insert(with_tag('a', 1), with_tag('x', 1));
     assert!(rt; perform(&mut bimap, first, &all) == Reply::Inserted(Overwritten::Neither));
@@ -235,9 +203,10 @@ fn hands_back<B: Bijection<Tagged, Tagged> + Drop>(rt: &impl Abort, mut bimap: B
     }
 }
 
-#[test]
-fn one_call_hands_back_the_very_values(rt: HostRuntime) {
-    hands_back(&rt, BiBTreeMap::<Tagged, Tagged>::new(rt.alloc()));
-    hands_back(&rt, BiHashMap::<Tagged, Tagged>::new(rt.alloc()));
-    hands_back(&rt, crowded::<Tagged, Tagged>(rt.alloc()));
+pub(super) fn all<B: Kind<char, u32>>(rt: &impl Abort, alloc: Global) -> Result<(), Fail> {
+    each_call(rt, alloc, B::empty(alloc))?;
+    another_left(rt, alloc, B::empty(alloc))?;
+    each_policy(rt, alloc, B::empty(alloc))?;
+    performed(rt, B::empty(alloc));
+    Ok(())
 }

@@ -1,6 +1,6 @@
 //! Trails of insertions that are undone.
-use crate::{crowded, insert_all, shows};
-use bimap::{BiBTreeMap, BiHashMap, Bijection, Overwritten, undo_run};
+use crate::{Kind, insert_all, shows};
+use bimap::{Bijection, Overwritten, undo_run};
 use bimap_plain::Plain;
 use std::alloc::Global;
 use std::process::Abort;
@@ -28,14 +28,6 @@ fn three_insertions<B: Bijection<char, u32> + Drop>(
     Ok(())
 }
 
-#[test]
-fn insertions_are_undone(rt: HostRuntime) -> Result<(), Fail> {
-    let alloc = rt.alloc();
-    three_insertions(&rt, alloc, BiBTreeMap::<char, u32>::new(alloc))?;
-    three_insertions(&rt, alloc, BiHashMap::<char, u32>::new(alloc))?;
-    three_insertions(&rt, alloc, crowded::<char, u32>(alloc))
-}
-
 fn two_that_strike_two<B: Bijection<char, u32> + Drop>(
     rt: &impl Abort,
     alloc: Global,
@@ -56,12 +48,9 @@ fn two_that_strike_two<B: Bijection<char, u32> + Drop>(
     Ok(())
 }
 
-#[test]
-fn insertions_that_struck_two_are_undone(rt: HostRuntime) -> Result<(), Fail> {
-    let alloc = rt.alloc();
-    two_that_strike_two(&rt, alloc, BiBTreeMap::<char, u32>::new(alloc))?;
-    two_that_strike_two(&rt, alloc, BiHashMap::<char, u32>::new(alloc))?;
-    two_that_strike_two(&rt, alloc, crowded::<char, u32>(alloc))
+pub(super) fn all<B: Kind<char, u32>>(rt: &impl Abort, alloc: Global) -> Result<(), Fail> {
+    three_insertions(rt, alloc, B::empty(alloc))?;
+    two_that_strike_two(rt, alloc, B::empty(alloc))
 }
 
 // An undo that needs a place more, where none can be added: the entry comes back, and those before it.

@@ -1,10 +1,15 @@
 //! Single insertions that are undone.
-use crate::{crowded, shows};
-use bimap::{BiBTreeMap, BiHashMap, Bijection, Overwritten};
+use crate::{Kind, Tagged, Walked, holds, over_each_kind, with_tag};
+use bimap::{Bijection, Overwritten};
+use std::alloc::Global;
 use std::process::Abort;
 use std::test::Fail;
 
-fn what_may_be<B: Bijection<char, u32> + Drop>(rt: &impl Abort, mut bimap: B) {
+fn what_may_be<B: Walked<char, u32>>(
+    rt: &impl Abort,
+    alloc: Global,
+    mut bimap: B,
+) -> Result<(), Fail> {
     for (left, right) in [('a', 2), ('c', 5)] {
         assert!(rt; bimap.insert(left, right) == Ok(Overwritten::Neither));
     }
@@ -24,77 +29,66 @@ fn what_may_be<B: Bijection<char, u32> + Drop>(rt: &impl Abort, mut bimap: B) {
             "{left} {answer:?}"
         );
     }
-    assert!(rt; shows(&bimap, &[('a', 2), ('c', 5)]));
-}
-
-#[test]
-fn what_may_be_undone(rt: HostRuntime) {
-    what_may_be(&rt, BiBTreeMap::<char, u32>::new(rt.alloc()));
-    what_may_be(&rt, BiHashMap::<char, u32>::new(rt.alloc()));
-    what_may_be(&rt, crowded::<char, u32>(rt.alloc()));
-}
-
-fn both_put_back<B: Bijection<char, u32> + Drop>(rt: &impl Abort, mut bimap: B) {
-    for (left, right) in [('a', 1), ('b', 2)] {
-        assert!(rt; bimap.insert(left, right) == Ok(Overwritten::Neither));
-    }
-    let answer = Overwritten::Both(('a', 1), ('b', 2));
-    assert!(rt; bimap.insert('a', 2) == Ok(answer));
-    assert!(rt; bimap.can_undo_insert(&'a', &answer));
-    assert!(rt; bimap.undo_insert(&'a', answer) == Ok(('a', 2)));
-    assert!(rt; shows(&bimap, &[('a', 1), ('b', 2)]));
-}
-
-#[test]
-fn an_insertion_that_struck_two_is_undone(rt: HostRuntime) {
-    both_put_back(&rt, BiBTreeMap::<char, u32>::new(rt.alloc()));
-    both_put_back(&rt, BiHashMap::<char, u32>::new(rt.alloc()));
-    both_put_back(&rt, crowded::<char, u32>(rt.alloc()));
-}
-
-// Equal by its letter alone.
-#[derive(Clone, Copy, Drop)]
-#[derive_where(Debug, Eq, Hash, Ord, PartialEq, PartialOrd)]
-struct Noted {
-    letter: char,
-    #[derive_where(skip)]
-    note: u32,
-}
-
-fn exact_values<B: Bijection<Noted, u32> + Drop>(
-    rt: &impl Abort,
-    mut bimap: B,
-) -> Result<(), Fail> {
-    let first = Noted {
-        letter: 'a',
-        note: 1,
-    };
-    let second = Noted {
-        letter: 'a',
-        note: 2,
-    };
-    bimap.insert(first, 1).ok().ok_or("no memory")?;
-    let answer = bimap.insert(second, 1).ok().ok_or("no memory")?;
-    let Overwritten::Pair(struck, 1) = answer else {
-        return Err("another answer".into());
-    };
-    assert_eq!(rt; struck.note, 1);
-    assert!(rt; bimap.can_undo_insert(&first, &answer));
-    let (left, right) = bimap.undo_insert(&first, answer).ok().ok_or("no memory")?;
-    assert_eq!(rt; (left.note, right), (2, 1));
-    assert_eq!(rt; bimap.get_by_right(&1).map(|left| left.note), Some(1));
+    assert!(rt; holds(alloc, &bimap, &[('a', 2), ('c', 5)])?);
     Ok(())
 }
 
-#[test]
-fn an_undo_gives_the_exact_values_back(rt: HostRuntime) -> Result<(), Fail> {
-    exact_values(&rt, BiBTreeMap::<Noted, u32>::new(rt.alloc()))?;
-    exact_values(&rt, BiHashMap::<Noted, u32>::new(rt.alloc()))?;
-    exact_values(&rt, crowded::<Noted, u32>(rt.alloc()))
+// Undoes an insertion of this pair that gave this answer, after which these pairs are held.
+fn put_back<B: Walked<char, u32>>(
+    rt: &impl Abort,
+    alloc: Global,
+    bimap: &mut B,
+    pair: (char, u32),
+    answer: Overwritten<char, u32>,
+    held: &[(char, u32)],
+) -> Result<(), Fail> {
+    assert!(rt; bimap.can_undo_insert(&pair.0, &answer));
+    assert!(rt; bimap.undo_insert(&pair.0, answer) == Ok(pair));
+    assert!(rt; holds(alloc, bimap, held)?, "{held:?}");
+    Ok(())
 }
 
-/// Undoes an insertion over two pairs, where this many further pairs are held.
+pub(super) fn both_put_back<B: Walked<char, u32>>(
+    rt: &impl Abort,
+    alloc: Global,
+    mut bimap: B,
+) -> Result<(), Fail> {
+    let two = [('a', 1), ('b', 2)];
+    for (left, right) in two {
+        assert!(rt; bimap.insert(left, right) == Ok(Overwritten::Neither));
+    }
+    let both = Overwritten::Both(('a', 1), ('b', 2));
+    assert!(rt; bimap.insert('a', 2) == Ok(both));
+    put_back(rt, alloc, &mut bimap, ('a', 2), both, &two)?;
+    let neither = Overwritten::Neither;
+    put_back(rt, alloc, &mut bimap, ('b', 2), neither, &[('a', 1)])?;
+    let left = Overwritten::Left('c', 1);
+    put_back(rt, alloc, &mut bimap, ('a', 1), left, &[('c', 1)])
+}
+
+pub(super) fn exact_values<B: Kind<Tagged, u32>>(
+    rt: &impl Abort,
+    alloc: Global,
+) -> Result<(), Fail> {
+    let mut bimap = B::empty(alloc);
+    bimap.insert(with_tag('a', 1), 1).ok().ok_or("no memory")?;
+    let answer = bimap.insert(with_tag('a', 2), 1).ok().ok_or("no memory")?;
+    let Overwritten::Pair(struck, 1) = answer else {
+        return Err("another answer".into());
+    };
+    assert_eq!(rt; struck.tag, 1);
+    let key = with_tag('a', 9);
+    assert!(rt; bimap.can_undo_insert(&key, &answer));
+    let (left, right) = bimap.undo_insert(&key, answer).ok().ok_or("no memory")?;
+    assert_eq!(rt; (left.tag, right), (2, 1));
+    assert_eq!(rt; bimap.get_by_right(&1).map(|left| left.tag), Some(1));
+    Ok(())
+}
+
+/// Undoes an insertion over two pairs in a full bimap, where this many further pairs are held.
 fn undone_among<B: Bijection<u32, u32> + Drop>(rt: &impl Abort, mut bimap: B, further: u32) {
+    let held = further as usize + 1;
+    assert!(rt; bimap.reserve(held) == Ok(()) && bimap.capacity() == held);
     assert!(rt; bimap.insert(1000, 2000) == Ok(Overwritten::Neither));
     for at in 0..further {
         assert!(rt; bimap.insert(at, at) == Ok(Overwritten::Neither), "{at}");
@@ -117,14 +111,21 @@ fn undone_among<B: Bijection<u32, u32> + Drop>(rt: &impl Abort, mut bimap: B, fu
     assert_eq!(rt; bimap.len() as u64, further as u64 + 2);
 }
 
-// With each number of further pairs, so some of the ordered bimaps are full, and each of the hashed ones is.
+fn in_full<B: Kind<u32, u32>>(rt: &impl Abort, alloc: Global) {
+    for further in 0..100u32 {
+        undone_among(rt, B::empty(alloc), further);
+    }
+}
+
+pub(super) fn all<B: Kind<char, u32> + Walked<char, u32>>(
+    rt: &impl Abort,
+    alloc: Global,
+) -> Result<(), Fail> {
+    what_may_be(rt, alloc, B::empty(alloc))?;
+    both_put_back(rt, alloc, B::empty(alloc))
+}
+
 #[test]
 fn an_undo_over_two_pairs_in_a_full_bimap(rt: HostRuntime) {
-    for further in 0..100u32 {
-        undone_among(&rt, BiBTreeMap::<u32, u32>::new(rt.alloc()), further);
-        let mut hashed: BiHashMap<u32, u32> = BiHashMap::new(rt.alloc());
-        assert!(&rt; hashed.reserve(further as usize + 1).is_ok());
-        assert_eq!(&rt; hashed.capacity(), further as usize + 1);
-        undone_among(&rt, hashed, further);
-    }
+    over_each_kind!(in_full, u32, u32, &rt);
 }

@@ -4,7 +4,7 @@ ghost use Rattle.std.specs.Cmp.Rules.{comparing, hashing};
 ghost use Rattle.std.specs.Hash as fed;
 ghost use Rattle.std.specs.Prelude.{◌==◌};
 
-use bimap_kinds::BiHashMap;
+use bimap::BiHashMap;
 use std::alloc::Global;
 use std::cell::Cell;
 use std::hash::{BuildHasher, Hash, Hasher};

@@ -1,186 +1,23 @@
-//! Many items at once, and walks.
-ghost use Rattle.std.specs.Iterator.{at_most};
-ghost use Rattle.std.specs.Prelude.{length};
-
-use super::{THREE, Zero, crowded, holds, plain, put_all};
-use bimap_base::ExtendStopped;
-use bimap_kinds::BiHashMap;
-use bimap_walk::by_place::Iter;
+//! Walks of a bimap whose left is hashed, how many steps are left, to the end and after it, and what it prints.
+use super::put_all;
+use bimap::hash::Iter;
+use bimap::{BiHashBTreeMap, BiHashMap, BijectiveMap};
+use bimap_calls::shows;
+use bimap_index::{HashIndex, Index};
 use std::alloc::{AllocError, Global};
-use std::hash::BuildHasher;
+use std::fmt::Debug;
+use std::hash::{BuildHasherDefault, FoldHasher};
+use std::process::Abort;
+use std::test::Fail;
 
-fn is_built<LS: BuildHasher, RS: BuildHasher>(
-    made: Result<BiHashMap<char, u32, LS, RS>, ExtendStopped<char, u32>>,
-    held: &[(char, u32)],
-) -> bool
-where
-    LS: Drop,
-    RS: Drop,
-{
-    match made {
-        Ok(map) => holds(&map, held),
-        Err(_) => false,
-    }
-}
+/// A bimap of a hashed left, whatever the right is.
+type ByPlace<R, J> = BijectiveMap<char, R, HashIndex<BuildHasherDefault<FoldHasher>>, J>;
 
-const ITEMS: [(char, u32); 6] = [('a', 1), ('b', 2), ('c', 3), ('b', 2), ('a', 4), ('b', 3)];
+const THREE: [(char, u32); 3] = [('a', 1), ('b', 2), ('c', 3)];
 
-#[test]
-fn later_items_strike_earlier_ones(rt: HostRuntime) {
-    let alloc = rt.alloc();
-    let made: Result<BiHashMap<char, u32>, _> = BiHashMap::from_iter(
-        alloc,
-        [('a', 1), ('b', 1), ('b', 2)],
-    );
-    assert!(&rt; is_built(made, &[('b', 2)]));
-    let made: Result<BiHashMap<char, u32>, _> = BiHashMap::from_iter(alloc, ITEMS);
-    assert!(&rt; is_built(made, &[('a', 4), ('b', 3)]));
-    let made = BiHashMap::from_iter_with_hashers(alloc, Zero, Zero, ITEMS);
-    assert!(&rt; is_built(made, &[('a', 4), ('b', 3)]));
-}
+type Walk<'a, R> = Iter<'a, char, R>;
 
-fn lacks_the_second<LS: BuildHasher, RS: BuildHasher>(map: &BiHashMap<char, u32, LS, RS>) -> bool {
-    map.len() == 2 && map.get_by_left(&'b').is_none() && map.get_by_left(&'c') == Some(&2)
-}
-
-#[test]
-fn a_later_right_strikes_an_earlier_left(rt: HostRuntime) {
-    let made: Result<BiHashMap<char, u32>, _> = BiHashMap::from_iter(
-        rt.alloc(),
-        [('a', 1), ('b', 2), ('c', 2)],
-    );
-    assert!(&rt; made.is_ok_and(|map| lacks_the_second(&map)));
-}
-
-// Items with a hint that is true and of no use.
-#[derive(Drop)]
-struct Hinted<'a> {
-    items: &'a [(char, u32)],
-    is_bounded: bool,
-}
-
-impl Iterator for Hinted<'_> {
-    type Item = (char, u32);
-
-    ghost remaining = { λ s. at_most (length s.items.now) };
-
-    fn next(&mut self) -> Option<(char, u32)> {
-        let (first, rest) = self.items.split_first()?;
-        self.items = rest;
-        Some(*first)
-    }
-
-    fn size_hint(&self) -> (usize, Option<usize>) {
-        if self.is_bounded {
-            (0, Some(usize::MAX))
-        } else {
-            (0, None)
-        }
-    }
-}
-
-const HINTED: [(char, u32); 3] = [('a', 1), ('b', 2), ('c', 2)];
-
-fn extends_by_hinted<LS: BuildHasher, RS: BuildHasher>(
-    map: &mut BiHashMap<char, u32, LS, RS>,
-    items: &[(char, u32)],
-    is_bounded: bool,
-) -> bool {
-    map.extend(Hinted { items, is_bounded }).is_ok() && holds(map, &[('a', 1), ('c', 2)])
-}
-
-#[test]
-fn no_hint_is_trusted(rt: HostRuntime) {
-    for is_bounded in [true, false] {
-        let items = HINTED.as_slice();
-        let made: Result<BiHashMap<char, u32>, _> = BiHashMap::from_iter(
-            rt.alloc(),
-            Hinted { items, is_bounded },
-        );
-        assert!(&rt; is_built(made, &[('a', 1), ('c', 2)]));
-        assert!(&rt; extends_by_hinted(&mut plain(rt.alloc()), items, is_bounded));
-    }
-}
-
-fn extends<LS: BuildHasher, RS: BuildHasher>(map: &mut BiHashMap<char, u32, LS, RS>) -> bool {
-    put_all(map, &[('a', 3), ('b', 2)]);
-    map.extend([('c', 3), ('b', 1), ('a', 4)]).is_ok()
-        && holds(map, &[('a', 4), ('b', 1), ('c', 3)])
-}
-
-#[test]
-fn an_extension_strikes_too(rt: HostRuntime) {
-    assert!(&rt; extends(&mut plain(rt.alloc())));
-    assert!(&rt; extends(&mut crowded(rt.alloc())));
-}
-
-// Whether a walk gives these, in any order.
-fn gives_pairs<LS: BuildHasher, RS: BuildHasher>(
-    alloc: Global,
-    map: &BiHashMap<char, u32, LS, RS>,
-    sorted: &[(char, u32)],
-) -> Result<bool, AllocError> {
-    let mut pairs = map
-        .iter()
-        .map(|(l, r)| (*l, *r))
-        .collect::<Vec<(char, u32)>>(alloc)?;
-    pairs.sort_unstable();
-    Ok(pairs.as_slice() == sorted)
-}
-
-fn gives_lefts<LS: BuildHasher, RS: BuildHasher>(
-    alloc: Global,
-    map: &BiHashMap<char, u32, LS, RS>,
-    sorted: &[char],
-) -> Result<bool, AllocError> {
-    let mut lefts = map.left_values().copied().collect::<Vec<char>>(alloc)?;
-    lefts.sort_unstable();
-    Ok(lefts.as_slice() == sorted)
-}
-
-fn gives_rights<LS: BuildHasher, RS: BuildHasher>(
-    alloc: Global,
-    map: &BiHashMap<char, u32, LS, RS>,
-    sorted: &[u32],
-) -> Result<bool, AllocError> {
-    let mut rights = map.right_values().copied().collect::<Vec<u32>>(alloc)?;
-    rights.sort_unstable();
-    Ok(rights.as_slice() == sorted)
-}
-
-fn gives_owned<LS: BuildHasher, RS: BuildHasher>(
-    alloc: Global,
-    map: BiHashMap<char, u32, LS, RS>,
-    sorted: &[(char, u32)],
-) -> Result<bool, AllocError>
-where
-    LS: Drop,
-    RS: Drop,
-{
-    let mut owned = map.into_iter().collect::<Vec<(char, u32)>>(alloc)?;
-    owned.sort_unstable();
-    Ok(owned.as_slice() == sorted)
-}
-
-fn put_three<LS: BuildHasher, RS: BuildHasher>(map: &mut BiHashMap<char, u32, LS, RS>) {
-    put_all(map, &[('x', 9), ('a', 3), ('b', 2), ('c', 1)]);
-    let _ = map.remove_by_left(&'x');
-}
-
-const HELD: [(char, u32); 3] = [('a', 3), ('b', 2), ('c', 1)];
-
-#[test]
-fn walks_give_each_pair_once(rt: HostRuntime) {
-    let mut map = plain(rt.alloc());
-    put_three(&mut map);
-    assert!(&rt; map.iter().size_hint() == (3, Some(3)));
-    assert!(&rt; gives_pairs(rt.alloc(), &map, &HELD) == Ok(true));
-    assert!(&rt; gives_lefts(rt.alloc(), &map, &['a', 'b', 'c']) == Ok(true));
-    assert!(&rt; gives_rights(rt.alloc(), &map, &[1, 2, 3]) == Ok(true));
-    assert!(&rt; gives_owned(rt.alloc(), map, &HELD) == Ok(true));
-}
-
-fn ends_for_good(mut walk: Iter<'_, char, u32>) -> bool {
+fn ends_for_good<R>(mut walk: Walk<'_, R>) -> bool {
     walk.next().is_some()
         && walk.next().is_some()
         && walk.next().is_none()
@@ -189,39 +26,90 @@ fn ends_for_good(mut walk: Iter<'_, char, u32>) -> bool {
         && walk.size_hint() == (0, Some(0))
 }
 
-fn walks_to_the_end<LS: BuildHasher, RS: BuildHasher>(
-    map: &BiHashMap<char, u32, LS, RS>,
-) -> Result<bool, AllocError> {
+fn walks_to_the_end<R: Eq, J: Index<R>>(map: &ByPlace<R, J>) -> Result<bool, AllocError> {
     let mut walk = map.iter();
-    let begins = walk.len() == 3 && walk.next().is_some() && walk.len() == 2;
-    Ok(begins && ends_for_good(walk.clone()?) && walk.len() == 2)
+    let begins = walk.size_hint() == (3, Some(3)) && walk.len() == 3;
+    let goes_on = walk.next().is_some() && walk.len() == 2;
+    Ok(begins && goes_on && ends_for_good(walk.clone()?) && walk.len() == 2)
 }
 
-fn walks_either_side<LS: BuildHasher, RS: BuildHasher>(
-    map: &BiHashMap<char, u32, LS, RS>,
-) -> Result<bool, AllocError> {
+fn walks_lefts<R: Eq, J: Index<R>>(map: &ByPlace<R, J>) -> Result<bool, AllocError> {
     let mut lefts = map.left_values();
-    let mut rights = map.right_values();
-    let by_left = lefts.len() == 3 && lefts.next().is_some() && lefts.clone()?.len() == 2;
-    let by_right = rights.len() == 3 && rights.next().is_some() && rights.clone()?.len() == 2;
-    Ok(by_left && by_right)
+    Ok(lefts.len() == 3 && lefts.next().is_some() && lefts.clone()?.len() == 2)
 }
 
-fn is_walked_by_value<LS: BuildHasher, RS: BuildHasher>(map: BiHashMap<char, u32, LS, RS>) -> bool
-where
-    LS: Drop,
-    RS: Drop,
-{
+fn walks_rights(map: &BiHashMap<char, u32>) -> Result<bool, AllocError> {
+    let mut rights = map.right_values();
+    Ok(rights.len() == 3 && rights.next().is_some() && rights.clone()?.len() == 2)
+}
+
+fn is_walked_by_value<R: Eq + Drop, J: Index<R> + Drop>(map: ByPlace<R, J>) -> bool {
     let mut owned = map.into_iter();
     owned.len() == 3 && owned.next().is_some() && owned.size_hint() == (2, Some(2))
 }
 
+fn is_walked<R: Eq + Copy + Drop, J: Index<R> + Drop>(
+    rt: &impl Abort,
+    mut map: ByPlace<R, J>,
+    pairs: [(char, R); 3],
+) {
+    for (left, right) in pairs {
+        let _ = map.insert(left, right);
+    }
+    assert!(rt; walks_to_the_end(&map) == Ok(true));
+    assert!(rt; walks_lefts(&map) == Ok(true));
+    assert!(rt; shows(&map, &pairs));
+    assert!(rt; is_walked_by_value(map));
+}
+
 #[test]
 fn a_walk_ends_for_good(rt: HostRuntime) {
-    let mut map = plain(rt.alloc());
+    let alloc = rt.alloc();
+    is_walked(&rt, BiHashMap::<char, u32>::new(alloc), THREE);
+    is_walked(&rt, BiHashBTreeMap::<char, u32>::new(alloc), THREE);
+    let mut map: BiHashMap<char, u32> = BiHashMap::new(alloc);
     put_all(&mut map, &THREE);
-    assert!(&rt; walks_to_the_end(&map) == Ok(true));
-    assert!(&rt; walks_either_side(&map) == Ok(true));
-    assert!(&rt; holds(&map, &THREE));
-    assert!(&rt; is_walked_by_value(map));
+    assert!(&rt; walks_rights(&map) == Ok(true));
+}
+
+// What `{:?}` prints of a bimap.
+fn text_of<R: Eq + Debug + Drop, J: Index<R>>(
+    alloc: Global,
+    map: &ByPlace<R, J>,
+) -> Result<String, AllocError> {
+    format!(in alloc; "{map:?}")
+}
+
+// The texts of the empty bimap, of one pair, and of two, which are printed in any order.
+fn is_printed<R: Eq + Copy + Debug + Drop, J: Index<R> + Drop>(
+    rt: &impl Abort,
+    alloc: Global,
+    mut map: ByPlace<R, J>,
+    pairs: [(char, R); 2],
+) -> Result<(), Fail> {
+    let texts = [
+        ["{}", "{}"],
+        ["{'a' <> 1}", "{'a' <> 1}"],
+        ["{'a' <> 1, 'b' <> 2}", "{'b' <> 2, 'a' <> 1}"],
+    ];
+    let mut rest = pairs.iter();
+    for [text, turned] in texts {
+        let printed = text_of(alloc, &map)?;
+        assert!(rt;
+            printed.as_str() == text || printed.as_str() == turned,
+            "{printed}"
+        );
+        if let Some((left, right)) = rest.next() {
+            let _ = map.insert(*left, *right);
+        }
+    }
+    Ok(())
+}
+
+#[test]
+fn prints_its_pairs(rt: HostRuntime) -> Result<(), Fail> {
+    let alloc = rt.alloc();
+    let two = [('a', 1), ('b', 2)];
+    is_printed(&rt, alloc, BiHashMap::<char, u32>::new(alloc), two)?;
+    is_printed(&rt, alloc, BiHashBTreeMap::<char, u32>::new(alloc), two)
 }

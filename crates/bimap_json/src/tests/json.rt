@@ -1,7 +1,7 @@
 //! JSON texts with the bimaps that they read as, and bimaps with the texts that they are written as.
-use crate::tests::shown::shows;
 use bimap::value::{JsonFault, JsonKey, JsonObject, JsonValue, reread};
-use bimap::{BiBTreeMap, BiHashMap, Bijection, NoMemory};
+use bimap::{Bijection, NoMemory};
+use bimap_calls::{over_four_kinds, shows};
 use bimap_famine::Famine;
 use serde_json::Value;
 use std::alloc::{AllocError, Global};
@@ -69,8 +69,7 @@ fn three_pairs<B: JsonObject<char, u8> + Drop>(rt: &impl Abort, alloc: Global) {
 
 #[test]
 fn what_is_written_reads_back(rt: HostRuntime) {
-    three_pairs::<BiBTreeMap<char, u8>>(&rt, rt.alloc());
-    three_pairs::<BiHashMap<char, u8>>(&rt, rt.alloc());
+    over_four_kinds!(three_pairs, char, u8, &rt);
 }
 
 // Entries are taken in ascending byte order of their keys, and each is put in as `insert` does.
@@ -92,8 +91,7 @@ fn entries_in_order<B: JsonObject<char, u8> + Drop>(rt: &impl Abort, alloc: Glob
 
 #[test]
 fn a_later_entry_strikes_earlier_ones(rt: HostRuntime) {
-    entries_in_order::<BiBTreeMap<char, u8>>(&rt, rt.alloc());
-    entries_in_order::<BiHashMap<char, u8>>(&rt, rt.alloc());
+    over_four_kinds!(entries_in_order, char, u8, &rt);
 }
 
 fn faulty_entries<B: JsonObject<char, u8> + Drop>(rt: &impl Abort, alloc: Global) {
@@ -126,8 +124,7 @@ fn faulty_entries<B: JsonObject<char, u8> + Drop>(rt: &impl Abort, alloc: Global
 
 #[test]
 fn the_first_faulty_entry_is_named(rt: HostRuntime) {
-    faulty_entries::<BiBTreeMap<char, u8>>(&rt, rt.alloc());
-    faulty_entries::<BiHashMap<char, u8>>(&rt, rt.alloc());
+    over_four_kinds!(faulty_entries, char, u8, &rt);
 }
 
 /// Writes a bimap under a famine that eases, and answers the text and how often it was refused, or `None` where a
@@ -202,6 +199,6 @@ fn refused_in_turn<B: JsonObject<String, char> + Drop>(
 
 #[test]
 fn refused_memory_changes_nothing(rt: HostRuntime) -> Result<(), Fail> {
-    refused_in_turn::<BiBTreeMap<String, char>>(&rt, rt.alloc())?;
-    refused_in_turn::<BiHashMap<String, char>>(&rt, rt.alloc())
+    over_four_kinds!(refused_in_turn, String, char, &rt, ?);
+    Ok(())
 }

@@ -1,49 +1,20 @@
 //! The hashed bimap in JSON under builders of one's own.
-use crate::tests::shown::shows;
+use bimap::Overwritten;
 use bimap::value::{JsonFault, from_value_with_hashers, hash_to_value};
-use bimap::{BiHashMap, Overwritten};
+use bimap_calls::{Crowded, Zero, crowded, shows};
 use bimap_famine::Famine;
 use serde_json::Value;
 use std::alloc::Global;
-use std::hash::{BuildHasher, Hasher};
 use std::test::Fail;
 
-// A hasher that forgets all that it is given, so that all keys have one number.
-#[derive(Clone, Copy, Drop)]
-struct Zero;
-
-impl Hasher for Zero {
-    ghost write = { λ s _. s };
-
-    ghost finish = { λ _. 0 };
-
-    fn finish(&self) -> u64 {
-        0
-    }
-
-    fn write(&mut self, _bytes: &[u8]) {}
-}
-
-impl BuildHasher for Zero {
-    type Hasher = Zero;
-
-    ghost build_hasher = { λ s. s };
-
-    fn build_hasher(&self) -> Zero {
-        *self
-    }
-}
-
-type Crowded = BiHashMap<char, u8, Zero, Zero>;
-
-fn read(alloc: Global, value: &Value) -> Result<Crowded, JsonFault> {
+fn read(alloc: Global, value: &Value) -> Result<Crowded<char, u8>, JsonFault> {
     from_value_with_hashers(alloc, Zero, Zero, value)
 }
 
 #[test]
 fn builders_of_ones_own(rt: HostRuntime) -> Result<(), Fail> {
     let alloc = rt.alloc();
-    let mut bimap: Crowded = BiHashMap::with_hashers(alloc, Zero, Zero);
+    let mut bimap = crowded::<char, u8>(alloc);
     for (left, right) in [('A', 1), ('B', 2)] {
         assert!(rt; bimap.insert(left, right) == Ok(Overwritten::Neither));
     }

@@ -1,8 +1,9 @@
 //! Each type that has JSON, on both sides, to the ends of its range.
 use crate::Seat;
 use crate::tests::json::{read, written};
+use bimap::Bijection;
 use bimap::value::{JsonFault, JsonKey, JsonObject, JsonValue};
-use bimap::{BiBTreeMap, BiHashMap, Bijection};
+use bimap_calls::over_four_kinds;
 use std::alloc::Global;
 use std::process::Abort;
 use std::test::Fail;
@@ -87,14 +88,10 @@ fn small_numbers<B: JsonObject<u8, u8> + Drop>(rt: &impl Abort, alloc: Global) {
 
 #[test]
 fn numbers_of_eight_bits(rt: HostRuntime) {
-    small_numbers::<BiBTreeMap<u8, u8>>(&rt, rt.alloc());
-    small_numbers::<BiHashMap<u8, u8>>(&rt, rt.alloc());
+    over_four_kinds!(small_numbers, u8, u8, &rt);
 }
 
-fn wide_numbers<B: JsonObject<u32, u32> + Drop, C: JsonObject<u64, u64> + Drop>(
-    rt: &impl Abort,
-    alloc: Global,
-) {
+fn wide_numbers<B: JsonObject<u32, u32> + Drop>(rt: &impl Abort, alloc: Global) {
     twice::<u32, B>(
         rt,
         alloc,
@@ -102,23 +99,23 @@ fn wide_numbers<B: JsonObject<u32, u32> + Drop, C: JsonObject<u64, u64> + Drop>(
     );
     no_keys::<u32, B>(rt, alloc, &["{\"4294967296\":1}", "{\"-1\":1}"]);
     no_values::<u32, B>(rt, alloc, &["{\"1\":4294967296}", "{\"1\":-1}"]);
+}
+
+fn widest_numbers<B: JsonObject<u64, u64> + Drop>(rt: &impl Abort, alloc: Global) {
     let most = "{\"18446744073709551615\":18446744073709551615}";
-    twice::<u64, C>(rt, alloc, &[(7, "{\"7\":7}"), (u64::MAX, most)]);
-    is_written_as::<u64, u64, C>(rt, alloc, u64::MAX, 0, "{\"18446744073709551615\":0}");
-    no_keys::<u64, C>(rt, alloc, &["{\"18446744073709551616\":1}", "{\"-1\":1}"]);
-    no_values::<u64, C>(rt, alloc, &["{\"1\":18446744073709551616}", "{\"1\":-1}"]);
+    twice::<u64, B>(rt, alloc, &[(7, "{\"7\":7}"), (u64::MAX, most)]);
+    is_written_as::<u64, u64, B>(rt, alloc, u64::MAX, 0, "{\"18446744073709551615\":0}");
+    no_keys::<u64, B>(rt, alloc, &["{\"18446744073709551616\":1}", "{\"-1\":1}"]);
+    no_values::<u64, B>(rt, alloc, &["{\"1\":18446744073709551616}", "{\"1\":-1}"]);
 }
 
 #[test]
 fn unsigned_numbers(rt: HostRuntime) {
-    wide_numbers::<BiBTreeMap<u32, u32>, BiBTreeMap<u64, u64>>(&rt, rt.alloc());
-    wide_numbers::<BiHashMap<u32, u32>, BiHashMap<u64, u64>>(&rt, rt.alloc());
+    over_four_kinds!(wide_numbers, u32, u32, &rt);
+    over_four_kinds!(widest_numbers, u64, u64, &rt);
 }
 
-fn signs<B: JsonObject<i32, i32> + Drop, C: JsonObject<i64, i64> + Drop>(
-    rt: &impl Abort,
-    alloc: Global,
-) {
+fn signs<B: JsonObject<i32, i32> + Drop>(rt: &impl Abort, alloc: Global) {
     let rows = [
         (7, "{\"7\":7}"),
         (-1, "{\"-1\":-1}"),
@@ -143,28 +140,31 @@ fn signs<B: JsonObject<i32, i32> + Drop, C: JsonObject<i64, i64> + Drop>(
     let two: B = read(rt, alloc, "{\"-1\":1,\"2\":1}").expect(rt, "pairs");
     assert_eq!(rt; two.len(), 1);
     assert_eq!(rt; two.get_by_right(&1), Some(&2));
+}
+
+fn wide_signs<B: JsonObject<i64, i64> + Drop>(rt: &impl Abort, alloc: Global) {
     let rows = [
         (7, "{\"7\":7}"),
         (i64::MIN, "{\"-9223372036854775808\":-9223372036854775808}"),
         (i64::MAX, "{\"9223372036854775807\":9223372036854775807}"),
     ];
-    twice::<i64, C>(rt, alloc, &rows);
+    twice::<i64, B>(rt, alloc, &rows);
     let keys = [
         "{\"9223372036854775808\":1}",
         "{\"-9223372036854775809\":1}",
     ];
-    no_keys::<i64, C>(rt, alloc, &keys);
+    no_keys::<i64, B>(rt, alloc, &keys);
     let values = [
         "{\"1\":9223372036854775808}",
         "{\"1\":-9223372036854775809}",
     ];
-    no_values::<i64, C>(rt, alloc, &values);
+    no_values::<i64, B>(rt, alloc, &values);
 }
 
 #[test]
 fn signed_numbers(rt: HostRuntime) {
-    signs::<BiBTreeMap<i32, i32>, BiBTreeMap<i64, i64>>(&rt, rt.alloc());
-    signs::<BiHashMap<i32, i32>, BiHashMap<i64, i64>>(&rt, rt.alloc());
+    over_four_kinds!(signs, i32, i32, &rt);
+    over_four_kinds!(wide_signs, i64, i64, &rt);
 }
 
 fn characters<B: JsonObject<char, char> + Drop>(rt: &impl Abort, alloc: Global) {
@@ -181,8 +181,7 @@ fn characters<B: JsonObject<char, char> + Drop>(rt: &impl Abort, alloc: Global) 
 
 #[test]
 fn single_characters(rt: HostRuntime) {
-    characters::<BiBTreeMap<char, char>>(&rt, rt.alloc());
-    characters::<BiHashMap<char, char>>(&rt, rt.alloc());
+    over_four_kinds!(characters, char, char, &rt);
 }
 
 fn words<B: JsonObject<String, String> + Drop>(rt: &impl Abort, alloc: Global) -> Result<(), Fail> {
@@ -209,10 +208,9 @@ fn an_empty_word<B: JsonObject<String, u8> + Drop>(rt: &impl Abort, alloc: Globa
 
 #[test]
 fn texts(rt: HostRuntime) -> Result<(), Fail> {
-    an_empty_word::<BiBTreeMap<String, u8>>(&rt, rt.alloc());
-    an_empty_word::<BiHashMap<String, u8>>(&rt, rt.alloc());
-    words::<BiBTreeMap<String, String>>(&rt, rt.alloc())?;
-    words::<BiHashMap<String, String>>(&rt, rt.alloc())
+    over_four_kinds!(an_empty_word, String, u8, &rt);
+    over_four_kinds!(words, String, String, &rt, ?);
+    Ok(())
 }
 
 fn unlike_sides<B: JsonObject<u32, i64> + Drop>(rt: &impl Abort, alloc: Global) {
@@ -221,8 +219,7 @@ fn unlike_sides<B: JsonObject<u32, i64> + Drop>(rt: &impl Abort, alloc: Global) 
 
 #[test]
 fn sides_of_two_types(rt: HostRuntime) {
-    unlike_sides::<BiBTreeMap<u32, i64>>(&rt, rt.alloc());
-    unlike_sides::<BiHashMap<u32, i64>>(&rt, rt.alloc());
+    over_four_kinds!(unlike_sides, u32, i64, &rt);
 }
 
 fn seats<B: JsonObject<Seat, Seat> + Drop>(rt: &impl Abort, alloc: Global) {
@@ -237,6 +234,5 @@ fn seats<B: JsonObject<Seat, Seat> + Drop>(rt: &impl Abort, alloc: Global) {
 
 #[test]
 fn a_side_of_ones_own(rt: HostRuntime) {
-    seats::<BiBTreeMap<Seat, Seat>>(&rt, rt.alloc());
-    seats::<BiHashMap<Seat, Seat>>(&rt, rt.alloc());
+    over_four_kinds!(seats, Seat, Seat, &rt);
 }

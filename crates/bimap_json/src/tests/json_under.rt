@@ -1,22 +1,12 @@
 //! JSON texts with what is read of them under a policy.
 ghost use Rattle.std.specs.Prelude.{◌≡◌, []};
 
-use crate::tests::shown::shows;
 use bimap::value::{JsonFault, read_into_with};
-use bimap::{BiBTreeMap, BiHashMap, Bijection, OnHeld, Policy};
+use bimap::{Bijection, Policy};
+use bimap_calls::{KEEP_LEFT, ONCE, shows, with_each_kind};
 use serde_json::Value;
 use std::alloc::Global;
 use std::process::Abort;
-
-const ONCE: Policy = Policy {
-    left: OnHeld::Refuse,
-    right: OnHeld::Refuse,
-};
-
-const KEEP_LEFT: Policy = Policy {
-    left: OnHeld::Refuse,
-    right: OnHeld::Overwrite,
-};
 
 /// A text and a policy, with the fault or the pairs that are held.
 type Row = (
@@ -83,21 +73,6 @@ fn reads<B: Bijection<char, u8> + Drop>(
 fn the_first_entry_kept_out_is_named(rt: HostRuntime) {
     let alloc = rt.alloc();
     for (text, policy, wanted) in ROWS {
-        reads(
-            &rt,
-            alloc,
-            BiBTreeMap::<char, u8>::new(alloc),
-            text,
-            policy,
-            wanted,
-        );
-        reads(
-            &rt,
-            alloc,
-            BiHashMap::<char, u8>::new(alloc),
-            text,
-            policy,
-            wanted,
-        );
+        with_each_kind!(it: (char, u8) in alloc => reads(&rt, alloc, it, text, policy, wanted));
     }
 }

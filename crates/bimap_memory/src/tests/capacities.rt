@@ -1,10 +1,9 @@
-//! The hashed bimap's room where memory is refused.
-use super::FIVE;
-use bimap::hash::BiHashMap;
-use bimap::{NoMemory, NoRoom, Overwritten};
-use bimap_calls::shows;
+//! The room where memory is refused.
+use bimap::{BiHashMap, Bijection, NoMemory, NoRoom, Overwritten};
+use bimap_calls::{Kind, over_each_kind, shows};
 use bimap_famine::Famine;
 use std::alloc::{AllocError, Global};
+use std::process::Abort;
 use std::test::Fail;
 
 const TWO: [(u32, u32); 2] = [(1, 11), (2, 12)];
@@ -71,24 +70,36 @@ fn a_refused_capacity_makes_nothing(rt: HostRuntime) -> Result<(), Fail> {
     Ok(())
 }
 
+// Whether ten places are filled without memory, and no more are made.
+fn fills_the_room<B: Bijection<u32, u32>>(bimap: &mut B) -> bool {
+    for at in 0..10u32 {
+        if bimap.insert(at, at) != Ok(Overwritten::Neither) {
+            return false;
+        }
+    }
+    let full = NoRoom {
+        left: 10,
+        right: 10,
+    };
+    bimap.insert(10, 10) == Err(full)
+        && bimap.reserve(1) == Err(NoMemory)
+        && bimap.reserve(usize::MAX) == Err(NoMemory)
+}
+
+fn reserved<B: Kind<u32, u32>>(rt: &impl Abort, alloc: Global) -> Result<(), Fail> {
+    let mut bimap = B::empty(alloc);
+    assert!(rt; bimap.reserve(10) == Ok(()));
+    let famine = Famine::begin(alloc, 0)?;
+    let fills = fills_the_room(&mut bimap);
+    drop(famine);
+    assert!(rt; fills);
+    assert!(rt; bimap.len() == 10 && bimap.capacity() == 10);
+    Ok(())
+}
+
 #[test]
 fn a_reserved_room_needs_no_memory(rt: HostRuntime) -> Result<(), Fail> {
-    let mut map: BiHashMap<u32, u32> = BiHashMap::new(rt.alloc());
-    assert!(rt; map.reserve(10) == Ok(()));
-    let famine = Famine::begin(rt.alloc(), 0)?;
-    let mut all = true;
-    for at in 0..10u32 {
-        all = map.insert(at, at) == Ok(Overwritten::Neither) && all;
-    }
-    let full = map.insert(10, 10)
-        == Err(NoRoom {
-            left: 10,
-            right: 10,
-        });
-    let refused = map.reserve(1) == Err(NoMemory) && map.reserve(usize::MAX) == Err(NoMemory);
-    drop(famine);
-    assert!(rt; all && full && refused);
-    assert!(rt; map.len() == 10 && map.capacity() == 10);
+    over_each_kind!(reserved, u32, u32, &rt, ?);
     Ok(())
 }
 
@@ -106,63 +117,5 @@ fn what_leaves_the_room_needs_no_memory(rt: HostRuntime) -> Result<(), Fail> {
     drop(famine);
     assert!(rt; fits && struck && same && nothing);
     assert!(rt; map.capacity() == 1 && shows(&map, &[(1, 2)]));
-    Ok(())
-}
-
-// Whether a stop hands back the item after those taken, which stay.
-#[test]
-fn a_stopped_extension_of_the_hashed_keeps_what_was_taken(rt: HostRuntime) -> Result<(), Fail> {
-    let mut famine = Famine::begin(rt.alloc(), 200)?;
-    let mut stops = [0u64; 5];
-    let mut done = false;
-    let mut right = true;
-    for _ in 0..200u32 {
-        let mut map: BiHashMap<u32, u32> = BiHashMap::new(rt.alloc());
-        match map.extend(FIVE) {
-            Ok(()) => {
-                done = shows(&map, &FIVE);
-                break;
-            }
-            Err(stopped) => {
-                right = right
-                    && FIVE.get(stopped.taken) == Some(&(stopped.left, stopped.right))
-                    && shows(&map, FIVE.get(..stopped.taken).unwrap_or(&[]))
-                    && map.capacity() == stopped.taken;
-                if let Some(count) = stops.get_mut(stopped.taken) {
-                    *count = count.saturating_add(1);
-                }
-            }
-        }
-        drop(map);
-        famine.ease()?;
-    }
-    drop(famine);
-    assert!(rt; right && done);
-    assert!(rt; stops[0] >= 5 && stops[4] >= 5, "{stops:?}");
-    Ok(())
-}
-
-#[test]
-fn a_refused_hashed_bimap_of_items_hands_back_the_next(rt: HostRuntime) -> Result<(), Fail> {
-    let mut famine = Famine::begin(rt.alloc(), 200)?;
-    let mut met = 0u64;
-    let mut done = false;
-    let mut right = true;
-    for _ in 0..200u32 {
-        let made: Result<BiHashMap<u32, u32>, _> = BiHashMap::from_iter(rt.alloc(), FIVE);
-        match made {
-            Ok(map) => {
-                done = shows(&map, &FIVE);
-                break;
-            }
-            Err(stopped) => {
-                right = right && FIVE.get(stopped.taken) == Some(&(stopped.left, stopped.right));
-                met = met.saturating_add(1);
-            }
-        }
-        famine.ease()?;
-    }
-    drop(famine);
-    assert!(rt; right && done && met >= 10, "{met}");
     Ok(())
 }

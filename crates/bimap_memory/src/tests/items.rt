@@ -1,8 +1,7 @@
 //! Each growth of `extend` and of `from_iter` refused.
 use super::FIVE;
-use super::subject::Subject;
-use bimap::{BiBTreeMap, BiHashMap, ExtendStopped};
-use bimap_calls::{Crowded, shows};
+use bimap::{BiHashMap, Bijection, ExtendStopped};
+use bimap_calls::{CopyKind, Crowded, over_each_kind, shows};
 use bimap_famine::Famine;
 use std::alloc::{AllocError, Global};
 use std::process::Abort;
@@ -29,7 +28,7 @@ fn note(outcome: &mut Outcome, stopped: &ExtendStopped<u32, u32>, stands: bool) 
     }
 }
 
-fn extended<B: Subject<u32, u32>>(alloc: Global) -> Result<Outcome, AllocError> {
+fn extended<B: CopyKind<u32, u32>>(alloc: Global) -> Result<Outcome, AllocError> {
     let mut famine = Famine::begin(alloc, 200)?;
     let mut outcome = Outcome {
         stops: [0; 5],
@@ -43,7 +42,8 @@ fn extended<B: Subject<u32, u32>>(alloc: Global) -> Result<Outcome, AllocError> 
                 return Ok(outcome);
             }
             Err(stopped) => {
-                let stands = shows(&bimap, FIVE.get(..stopped.taken).unwrap_or(&[]));
+                let stands = shows(&bimap, FIVE.get(..stopped.taken).unwrap_or(&[]))
+                    && bimap.capacity() == stopped.taken;
                 note(&mut outcome, &stopped, stands);
             }
         }
@@ -53,7 +53,7 @@ fn extended<B: Subject<u32, u32>>(alloc: Global) -> Result<Outcome, AllocError> 
     Err(AllocError)
 }
 
-fn built<B: Subject<u32, u32>>(alloc: Global) -> Result<Outcome, AllocError> {
+fn built<B: CopyKind<u32, u32>>(alloc: Global) -> Result<Outcome, AllocError> {
     let mut famine = Famine::begin(alloc, 200)?;
     let mut outcome = Outcome {
         stops: [0; 5],
@@ -72,34 +72,18 @@ fn built<B: Subject<u32, u32>>(alloc: Global) -> Result<Outcome, AllocError> {
     Err(AllocError)
 }
 
-// The first and the fifth want three growths each.
-fn is_right(rt: &impl Abort, outcome: &Outcome) {
+// The first and the fifth want so many growths each.
+fn is_right(rt: &impl Abort, outcome: &Outcome, growths: u64) {
     assert!(rt; outcome.right);
     assert!(rt;
-        outcome.stops[0] >= 3 && outcome.stops[4] >= 3,
+        outcome.stops[0] >= growths && outcome.stops[4] >= growths,
         "{:?}",
         outcome.stops
     );
 }
 
-#[test]
-fn a_stopped_extension_keeps_what_was_taken(rt: HostRuntime) -> Result<(), Fail> {
-    is_right(&rt, &extended::<BiBTreeMap<u32, u32>>(rt.alloc())?);
-    is_right(&rt, &extended::<BiHashMap<u32, u32>>(rt.alloc())?);
-    is_right(&rt, &extended::<Crowded<u32, u32>>(rt.alloc())?);
-    Ok(())
-}
-
-#[test]
-fn a_refused_bimap_of_items_hands_back_the_next(rt: HostRuntime) -> Result<(), Fail> {
-    is_right(&rt, &built::<BiBTreeMap<u32, u32>>(rt.alloc())?);
-    is_right(&rt, &built::<BiHashMap<u32, u32>>(rt.alloc())?);
-    is_right(&rt, &built::<Crowded<u32, u32>>(rt.alloc())?);
-    Ok(())
-}
-
 // Three items of which two strike a pair: all have a place.
-fn within_the_room<B: Subject<u32, u32>>(rt: &impl Abort, alloc: Global) -> Result<(), Fail> {
+fn within_the_room<B: CopyKind<u32, u32>>(rt: &impl Abort, alloc: Global) -> Result<(), Fail> {
     let mut bimap = B::empty(alloc);
     bimap.add(&[(1, 3), (2, 2)]).ok().ok_or("no memory")?;
     let famine = Famine::begin(alloc, 0)?;
@@ -110,9 +94,24 @@ fn within_the_room<B: Subject<u32, u32>>(rt: &impl Abort, alloc: Global) -> Resu
     Ok(())
 }
 
+fn refused_in_turn<B: CopyKind<u32, u32>>(rt: &impl Abort, alloc: Global) -> Result<(), Fail> {
+    is_right(rt, &extended::<B>(alloc)?, 3);
+    is_right(rt, &built::<B>(alloc)?, 3);
+    within_the_room::<B>(rt, alloc)
+}
+
 #[test]
-fn an_extension_within_the_room_needs_no_memory(rt: HostRuntime) -> Result<(), Fail> {
-    within_the_room::<BiBTreeMap<u32, u32>>(&rt, rt.alloc())?;
-    within_the_room::<BiHashMap<u32, u32>>(&rt, rt.alloc())?;
-    within_the_room::<Crowded<u32, u32>>(&rt, rt.alloc())
+fn a_refused_item_is_handed_back(rt: HostRuntime) -> Result<(), Fail> {
+    over_each_kind!(refused_in_turn, u32, u32, &rt, ?);
+    Ok(())
+}
+
+// Two hashed indexes grow twice each, and the store once.
+#[test]
+fn each_growth_of_the_hashed_is_refused(rt: HostRuntime) -> Result<(), Fail> {
+    is_right(&rt, &extended::<BiHashMap<u32, u32>>(rt.alloc())?, 5);
+    is_right(&rt, &built::<BiHashMap<u32, u32>>(rt.alloc())?, 5);
+    is_right(&rt, &extended::<Crowded<u32, u32>>(rt.alloc())?, 5);
+    is_right(&rt, &built::<Crowded<u32, u32>>(rt.alloc())?, 5);
+    Ok(())
 }

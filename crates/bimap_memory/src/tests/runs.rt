@@ -1,7 +1,6 @@
 //! Runs under a famine that eases: each request for memory is refused in turn.
-use super::subject::Subject;
-use bimap::{BiBTreeMap, BiHashMap, Call, Overwritten, Reply, RunRefused, run};
-use bimap_calls::{Crowded, shows};
+use bimap::{Call, Overwritten, Reply, RunRefused, run};
+use bimap_calls::{Kind, over_each_kind, shows};
 use bimap_famine::Famine;
 use std::alloc::{AllocError, Global};
 use std::process::Abort;
@@ -74,7 +73,7 @@ struct Outcome {
 
 /// Runs the seven calls on one empty bimap after the other while a famine eases. `None` is a refusal that changed
 /// something, or calls that were not all handed back.
-fn tried<B: Subject<char, u32>>(alloc: Global) -> Result<Option<Outcome>, AllocError> {
+fn tried<B: Kind<char, u32>>(alloc: Global) -> Result<Option<Outcome>, AllocError> {
     let mut lists = Vec::with_capacity(alloc, TRIES)?;
     for _ in 0..TRIES {
         lists.push(seven_calls(alloc)?)?;
@@ -109,7 +108,7 @@ fn tried<B: Subject<char, u32>>(alloc: Global) -> Result<Option<Outcome>, AllocE
 }
 
 /// The runs are refused at first, then each reply is right for what is held, and in the end all memory is found.
-fn right_under_a_famine<B: Subject<char, u32>>(rt: &impl Abort, alloc: Global) -> Result<(), Fail> {
+fn right_under_a_famine<B: Kind<char, u32>>(rt: &impl Abort, alloc: Global) -> Result<(), Fail> {
     let outcome = tried::<B>(alloc)?.ok_or("a refusal changed something")?;
     assert!(rt; outcome.refused > 0);
     let right = right_replies(alloc)?;
@@ -127,7 +126,6 @@ fn right_under_a_famine<B: Subject<char, u32>>(rt: &impl Abort, alloc: Global) -
 
 #[test]
 fn each_request_of_a_run_is_refused_in_turn(rt: HostRuntime) -> Result<(), Fail> {
-    right_under_a_famine::<BiBTreeMap<char, u32>>(&rt, rt.alloc())?;
-    right_under_a_famine::<BiHashMap<char, u32>>(&rt, rt.alloc())?;
-    right_under_a_famine::<Crowded<char, u32>>(&rt, rt.alloc())
+    over_each_kind!(right_under_a_famine, char, u32, &rt, ?);
+    Ok(())
 }

@@ -2,11 +2,11 @@
 ghost use Rattle.std.specs.Prelude.{List};
 ghost use Rattle.bimap.specs.Trail.{Leads};
 
-use bimap::{BiBTreeMap, BiHashMap, Bijection, Overwritten, undo_run};
-use bimap_calls::{crowded, insert_all, shows};
+use bimap::{Bijection, Overwritten, undo_run};
+use bimap_calls::{CopyKind, Walked, insert_all, over_each_kind, shows};
 use bimap_famine::Famine;
 use std::alloc::Global;
-use std::hash::BuildHasher;
+use std::process::Abort;
 use std::test::Fail;
 
 /// Insertions, the entries that are left where the undoing of two pairs finds no place, and the pairs that are then held.
@@ -79,35 +79,42 @@ fn is_refused_in_turn(met: Option<u64>) -> bool {
     met.is_some_and(|met| met >= 3)
 }
 
-// A copy has no free place.
-fn is_right_ordered(alloc: Global, row: &Row<'_, char, u32>) -> Result<bool, Fail> {
-    let mut bimap: BiBTreeMap<char, u32> = BiBTreeMap::new(alloc);
-    bimap.extend(PAIRS)?;
+// A bimap of the same pairs with no free place.
+fn packed<B: CopyKind<char, u32> + Walked<char, u32>>(alloc: Global, bimap: &B) -> Result<B, Fail> {
+    let pairs = bimap.walk(alloc)?;
+    let mut packed = B::empty(alloc);
+    packed.reserve(pairs.len())?;
+    packed.add(pairs.as_slice()).ok().ok_or("no memory")?;
+    Ok(packed)
+}
+
+fn is_right<B: CopyKind<char, u32> + Walked<char, u32>>(
+    alloc: Global,
+    row: &Row<'_, char, u32>,
+) -> Result<bool, Fail> {
+    let mut bimap = B::empty(alloc);
+    bimap.add(&PAIRS).ok().ok_or("no memory")?;
     let entries = insert_all(alloc, &mut bimap, row.insertions)?;
-    let mut packed = bimap.clone()?;
+    let mut packed = packed(alloc, &bimap)?;
+    if packed.capacity() != bimap.len() || !bimap.equals(&packed) {
+        return Ok(false);
+    }
     let met = refusals(alloc, &mut packed, entries, &PAIRS, row)?;
     Ok(is_refused_in_turn(met))
 }
 
-fn is_right_hashed<LS: BuildHasher + Drop, RS: BuildHasher + Drop>(
+fn are_right<B: CopyKind<char, u32> + Walked<char, u32>>(
+    rt: &impl Abort,
     alloc: Global,
-    mut bimap: BiHashMap<char, u32, LS, RS>,
-    row: &Row<'_, char, u32>,
-) -> Result<bool, Fail> {
-    bimap.extend(PAIRS)?;
-    let entries = insert_all(alloc, &mut bimap, row.insertions)?;
-    bimap.shrink_to_fit()?;
-    let met = refusals(alloc, &mut bimap, entries, &PAIRS, row)?;
-    Ok(is_refused_in_turn(met))
+) -> Result<(), Fail> {
+    for row in ROWS.iter() {
+        assert!(rt; is_right::<B>(alloc, row)?);
+    }
+    Ok(())
 }
 
 #[test]
 fn a_stopped_run_leaves_what_is_not_undone(rt: HostRuntime) -> Result<(), Fail> {
-    let alloc = rt.alloc();
-    for row in ROWS.iter() {
-        assert!(&rt; is_right_ordered(alloc, row)?);
-        assert!(&rt; is_right_hashed(alloc, BiHashMap::<char, u32>::new(alloc), row)?);
-        assert!(&rt; is_right_hashed(alloc, crowded::<char, u32>(alloc), row)?);
-    }
+    over_each_kind!(are_right, char, u32, &rt, ?);
     Ok(())
 }

@@ -1,14 +1,13 @@
 //! Insertions that are undone where memory is refused.
-use super::subject::Subject;
-use bimap::{BiBTreeMap, BiHashMap, Overwritten, UndoStopped, undo_run};
-use bimap_calls::{Crowded, insert_all, shows};
+use bimap::{Bijection, Overwritten, UndoStopped, undo_run};
+use bimap_calls::{CopyKind, insert_all, over_each_kind, shows};
 use bimap_famine::Famine;
 use std::alloc::Global;
 use std::process::Abort;
 use std::test::Fail;
 
 // On the bimap that made it, a trail is undone whole: its places are there.
-fn trail<B: Subject<char, u32>>(rt: &impl Abort, alloc: Global) -> Result<(), Fail> {
+fn trail<B: CopyKind<char, u32>>(rt: &impl Abort, alloc: Global) -> Result<(), Fail> {
     let pairs = [('a', 1), ('b', 2), ('c', 3), ('d', 4)];
     let mut bimap = B::empty(alloc);
     bimap.add(&pairs).ok().ok_or("no memory")?;
@@ -19,21 +18,14 @@ fn trail<B: Subject<char, u32>>(rt: &impl Abort, alloc: Global) -> Result<(), Fa
         ('e', Overwritten::Neither),
     ]?;
     assert_eq!(rt; entries, wanted);
-    let places = bimap.places();
+    let places = bimap.capacity();
     let famine = Famine::begin(alloc, 0)?;
     let undone = undo_run(&mut bimap, entries).is_ok();
     drop(famine);
     assert!(rt; undone);
     assert!(rt; shows(&bimap, &pairs));
-    assert!(rt; bimap.places() == places);
+    assert!(rt; bimap.capacity() == places);
     Ok(())
-}
-
-#[test]
-fn a_trail_is_undone_without_memory(rt: HostRuntime) -> Result<(), Fail> {
-    trail::<BiBTreeMap<char, u32>>(&rt, rt.alloc())?;
-    trail::<BiHashMap<char, u32>>(&rt, rt.alloc())?;
-    trail::<Crowded<char, u32>>(&rt, rt.alloc())
 }
 
 const PAIRS: [(char, u32); 8] = [
@@ -48,7 +40,7 @@ const PAIRS: [(char, u32); 8] = [
 ];
 
 // Undoes the insertion of 'a' with this answer, if that may be.
-fn undo<B: Subject<char, u32>>(
+fn undo<B: Bijection<char, u32>>(
     bimap: &mut B,
     answer: Overwritten<char, u32>,
 ) -> Option<Result<(char, u32), UndoStopped<char, u32>>> {
@@ -60,11 +52,11 @@ fn undo<B: Subject<char, u32>>(
 
 // Undoes an insertion that struck two pairs, with so many pairs held, under a famine that eases. It answers how often
 // that was refused, or `None` where a refusal changed something.
-fn refusals<B: Subject<char, u32>>(alloc: Global, held: usize) -> Result<Option<u64>, Fail> {
+fn refusals<B: CopyKind<char, u32>>(alloc: Global, held: usize) -> Result<Option<u64>, Fail> {
     let pairs = PAIRS.get(..held).ok_or("so many")?;
     let mut bimap = B::empty(alloc);
     bimap.add(pairs).ok().ok_or("no memory")?;
-    let places = bimap.places();
+    let places = bimap.capacity();
     let answer = Overwritten::Both(('a', 1), ('b', 2));
     let mut famine = Famine::begin(alloc, 60)?;
     for refusals in 0..60u64 {
@@ -79,7 +71,7 @@ fn refusals<B: Subject<char, u32>>(alloc: Global, held: usize) -> Result<Option<
             Some(Err(stopped)) => {
                 if stopped != (UndoStopped { answer })
                     || !shows(&bimap, pairs)
-                    || bimap.places() != places
+                    || bimap.capacity() != places
                 {
                     return Ok(None);
                 }
@@ -92,7 +84,7 @@ fn refusals<B: Subject<char, u32>>(alloc: Global, held: usize) -> Result<Option<
 }
 
 // The room is four places and then eight, and only where it is full is memory asked for, three times.
-fn refused_in_turn<B: Subject<char, u32>>(rt: &impl Abort, alloc: Global) -> Result<(), Fail> {
+fn refused_in_turn<B: CopyKind<char, u32>>(rt: &impl Abort, alloc: Global) -> Result<(), Fail> {
     for held in 1..=8usize {
         let met = refusals::<B>(alloc, held)?;
         let is_right = if held == 4 || held == 8 {
@@ -105,9 +97,13 @@ fn refused_in_turn<B: Subject<char, u32>>(rt: &impl Abort, alloc: Global) -> Res
     Ok(())
 }
 
+fn all<B: CopyKind<char, u32>>(rt: &impl Abort, alloc: Global) -> Result<(), Fail> {
+    trail::<B>(rt, alloc)?;
+    refused_in_turn::<B>(rt, alloc)
+}
+
 #[test]
 fn a_refused_undo_changes_nothing(rt: HostRuntime) -> Result<(), Fail> {
-    refused_in_turn::<BiBTreeMap<char, u32>>(&rt, rt.alloc())?;
-    refused_in_turn::<BiHashMap<char, u32>>(&rt, rt.alloc())?;
-    refused_in_turn::<Crowded<char, u32>>(&rt, rt.alloc())
+    over_each_kind!(all, char, u32, &rt, ?);
+    Ok(())
 }

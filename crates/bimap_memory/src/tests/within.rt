@@ -1,7 +1,6 @@
 //! Calls that take no memory, with every request refused.
-use super::subject::Subject;
-use bimap::{BiBTreeMap, BiHashMap, Bijection, NotInserted, Overwritten};
-use bimap_calls::{Crowded, shows};
+use bimap::{Bijection, NotInserted, Overwritten};
+use bimap_calls::{CopyKind, over_each_kind, shows};
 use bimap_famine::Famine;
 use std::alloc::Global;
 use std::process::Abort;
@@ -27,7 +26,7 @@ fn all_undone<B: Bijection<char, u32>>(bimap: &mut B) -> bool {
         && bimap.undo_insert(&'d', answer) == Ok(('d', 5))
 }
 
-fn never_refused<B: Subject<char, u32>>(rt: &impl Abort, alloc: Global) -> Result<(), Fail> {
+fn never_refused<B: CopyKind<char, u32>>(rt: &impl Abort, alloc: Global) -> Result<(), Fail> {
     let mut bimap = B::empty(alloc);
     bimap.add(&[('a', 1), ('b', 2)]).ok().ok_or("no memory")?;
     let famine = Famine::begin(alloc, 0)?;
@@ -39,14 +38,7 @@ fn never_refused<B: Subject<char, u32>>(rt: &impl Abort, alloc: Global) -> Resul
     Ok(())
 }
 
-#[test]
-fn what_has_a_place_is_never_refused(rt: HostRuntime) -> Result<(), Fail> {
-    never_refused::<BiBTreeMap<char, u32>>(&rt, rt.alloc())?;
-    never_refused::<BiHashMap<char, u32>>(&rt, rt.alloc())?;
-    never_refused::<Crowded<char, u32>>(&rt, rt.alloc())
-}
-
-fn made_of_nothing<B: Subject<char, u32>>(rt: &impl Abort, alloc: Global) -> Result<(), Fail> {
+fn made_of_nothing<B: CopyKind<char, u32>>(rt: &impl Abort, alloc: Global) -> Result<(), Fail> {
     let famine = Famine::begin(alloc, 0)?;
     let bimap = B::empty(alloc);
     let empty = shows(&bimap, &[]);
@@ -55,9 +47,13 @@ fn made_of_nothing<B: Subject<char, u32>>(rt: &impl Abort, alloc: Global) -> Res
     Ok(())
 }
 
+fn all<B: CopyKind<char, u32>>(rt: &impl Abort, alloc: Global) -> Result<(), Fail> {
+    made_of_nothing::<B>(rt, alloc)?;
+    never_refused::<B>(rt, alloc)
+}
+
 #[test]
-fn an_empty_bimap_takes_no_memory(rt: HostRuntime) -> Result<(), Fail> {
-    made_of_nothing::<BiBTreeMap<char, u32>>(&rt, rt.alloc())?;
-    made_of_nothing::<BiHashMap<char, u32>>(&rt, rt.alloc())?;
-    made_of_nothing::<Crowded<char, u32>>(&rt, rt.alloc())
+fn what_has_a_place_is_never_refused(rt: HostRuntime) -> Result<(), Fail> {
+    over_each_kind!(all, char, u32, &rt, ?);
+    Ok(())
 }

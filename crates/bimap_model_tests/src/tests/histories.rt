@@ -3,8 +3,8 @@ use super::calls::{
     Pair, clear, insert, insert_no_overwrite, insert_with, remove_by_left, remove_by_right, retain,
     show_the_same, undo_insert,
 };
-use bimap::{OnHeld, Overwritten, Policy};
-use bimap_calls::{CopyKind, over_each_kind};
+use bimap::{Bijection, OnHeld, Overwritten, Policy};
+use bimap_calls::{Kind, Walked, over_each_kind};
 use bimap_model::{Dice, Exact, Model, Noted, exact_pair};
 use std::alloc::{AllocError, Global};
 use std::process::Abort;
@@ -43,7 +43,7 @@ fn answer(dice: &mut Dice, names: u32) -> Overwritten<Exact, Exact> {
 }
 
 // Inserts a pair, and takes that back at once.
-fn there_and_back<B: CopyKind<Noted, Noted>>(
+fn there_and_back<B: Bijection<Noted, Noted>>(
     bimap: &mut B,
     model: &mut Model,
     both: Pair,
@@ -57,7 +57,7 @@ fn there_and_back<B: CopyKind<Noted, Noted>>(
 }
 
 // One call of chance.
-fn call<B: CopyKind<Noted, Noted>>(
+fn call<B: Bijection<Noted, Noted>>(
     bimap: &mut B,
     model: &mut Model,
     dice: &mut Dice,
@@ -86,7 +86,7 @@ fn call<B: CopyKind<Noted, Noted>>(
 }
 
 // Whether a walk gives the pairs of the model, each once.
-fn walks_the_same<B: CopyKind<Noted, Noted>>(
+fn walks_the_same<B: Walked<Noted, Noted>>(
     alloc: Global,
     bimap: &B,
     model: &Model,
@@ -102,7 +102,7 @@ fn walks_the_same<B: CopyKind<Noted, Noted>>(
 }
 
 // The first call of a history at which the two do not agree, or its length where a walk in the end shows other pairs.
-fn first_wrong<B: CopyKind<Noted, Noted>>(
+fn first_wrong<B: Kind<Noted, Noted> + Walked<Noted, Noted>>(
     alloc: Global,
     seed: u32,
 ) -> Result<Option<u32>, AllocError> {
@@ -120,7 +120,10 @@ fn first_wrong<B: CopyKind<Noted, Noted>>(
     Ok((!walks_the_same(alloc, &bimap, &model)?).then_some(CALLS))
 }
 
-fn all_agree<B: CopyKind<Noted, Noted>>(rt: &impl Abort, alloc: Global) -> Result<(), Fail> {
+fn all_agree<B: Kind<Noted, Noted> + Walked<Noted, Noted>>(
+    rt: &impl Abort,
+    alloc: Global,
+) -> Result<(), Fail> {
     for seed in 0..HISTORIES {
         assert_eq!(rt; first_wrong::<B>(alloc, seed)?, None, "history {seed}");
     }
@@ -129,6 +132,6 @@ fn all_agree<B: CopyKind<Noted, Noted>>(rt: &impl Abort, alloc: Global) -> Resul
 
 #[test]
 fn each_bimap_agrees_with_its_model(rt: HostRuntime) -> Result<(), Fail> {
-    over_each_kind!(all_agree, Noted, Noted, &rt);
+    over_each_kind!(all_agree, Noted, Noted, &rt, ?);
     Ok(())
 }

@@ -1,0 +1,127 @@
+//! The walks by an ordered side, over several batches of sixteen, from both ends, with a copy made on the way.
+use bimap::{BiBTreeHashMap, BiBTreeMap, BiHashBTreeMap, Bijection, BijectiveMap};
+use bimap_index::Index;
+use bimap_tree::Ordered;
+use std::alloc::{AllocError, Global};
+use std::process::Abort;
+use std::test::Fail;
+
+const PAIRS: u32 = 50;
+
+// So many steps are made from either end before the copy: to the ends of batches, beside them, and to the end of all.
+const STEPS: [u32; 10] = [0, 1, 7, 8, 9, 15, 16, 17, 24, 25];
+
+// A greater left has a smaller right: the rights are those from `PAIRS` on.
+fn fill<B: Bijection<u32, u32>>(bimap: &mut B) {
+    for left in 0..PAIRS {
+        let right = (2 * PAIRS - 1).wrapping_sub(left);
+        drop(bimap.insert(left, right));
+    }
+}
+
+// Makes so many steps from either end, and answers the numbers that the walk then gives from its front, and those that a
+// copy of it gives from its back.
+macro_rules! rest {
+    ($walk:expr, $number:expr, $steps:expr, $alloc:expr) => {{
+        let mut walk = $walk;
+        for _ in 0..$steps {
+            let _ = walk.next();
+            let _ = walk.next_back();
+        }
+        let mut copy = walk.clone()?;
+        let mut back = Vec::new($alloc);
+        for _ in 0..PAIRS {
+            if let Some(item) = copy.next_back() {
+                back.push($number(item))?;
+            }
+        }
+        Rest {
+            front: walk.map($number).collect($alloc)?,
+            back,
+        }
+    }};
+}
+
+// What a walk gives from its front, and its copy from its back.
+#[derive(Drop)]
+struct Rest {
+    front: Vec<u32>,
+    back: Vec<u32>,
+}
+
+// Whether these are the numbers from `first` on, without so many at either end.
+fn is_middle(rest: &Rest, first: u32, steps: u32) -> bool {
+    let mut wanted = first.wrapping_add(steps);
+    for number in rest.front.iter() {
+        if *number != wanted {
+            return false;
+        }
+        wanted = wanted.wrapping_add(1);
+    }
+    for number in rest.back.iter() {
+        wanted = wanted.wrapping_sub(1);
+        if *number != wanted {
+            return false;
+        }
+    }
+    let length = (PAIRS as usize)
+        .saturating_sub(steps as usize)
+        .saturating_sub(steps as usize);
+    rest.front.len() == length && rest.back.len() == length
+}
+
+fn left_of<R>((left, _): (&u32, &R)) -> u32 {
+    *left
+}
+
+fn right_of<L>((_, right): (&L, &u32)) -> u32 {
+    *right
+}
+
+fn value(number: &u32) -> u32 {
+    *number
+}
+
+// Whether the walks in the order of the lefts give the middle.
+fn by_left<R: Eq + Drop, J: Index<R>>(
+    alloc: Global,
+    bimap: &BijectiveMap<u32, R, Ordered, J>,
+    steps: u32,
+) -> Result<bool, AllocError> {
+    let pairs = rest!(bimap.iter(), left_of, steps, alloc);
+    let lefts = rest!(bimap.left_values(), value, steps, alloc);
+    let range = rest!(bimap.left_range(0..PAIRS), left_of, steps, alloc);
+    Ok(is_middle(&pairs, 0, steps) && is_middle(&lefts, 0, steps) && is_middle(&range, 0, steps))
+}
+
+// Whether the walks in the order of the rights do.
+fn by_right<L: Eq + Drop, I: Index<L>>(
+    alloc: Global,
+    bimap: &BijectiveMap<L, u32, I, Ordered>,
+    steps: u32,
+) -> Result<bool, AllocError> {
+    let rights = rest!(bimap.right_values(), value, steps, alloc);
+    let range = rest!(bimap.right_range(PAIRS..), right_of, steps, alloc);
+    Ok(is_middle(&rights, PAIRS, steps) && is_middle(&range, PAIRS, steps))
+}
+
+fn give_the_middle(rt: &impl Abort, alloc: Global) -> Result<(), Fail> {
+    let mut ordered: BiBTreeMap<u32, u32> = BiBTreeMap::new(alloc);
+    let mut lefts_ordered: BiBTreeHashMap<u32, u32> = BiBTreeHashMap::new(alloc);
+    let mut rights_ordered: BiHashBTreeMap<u32, u32> = BiHashBTreeMap::new(alloc);
+    fill(&mut ordered);
+    fill(&mut lefts_ordered);
+    fill(&mut rights_ordered);
+    for steps in STEPS {
+        assert!(rt; by_left(alloc, &ordered, steps)?, "{steps}");
+        assert!(rt; by_right(alloc, &ordered, steps)?, "{steps}");
+        assert!(rt; by_left(alloc, &lefts_ordered, steps)?, "{steps}");
+        assert!(rt; by_right(alloc, &rights_ordered, steps)?, "{steps}");
+    }
+    Ok(())
+}
+
+#[test]
+fn a_walk_and_its_copy_meet_at_any_batch(rt: HostRuntime) -> Result<(), Fail> {
+    give_the_middle(&rt, rt.alloc())
+}

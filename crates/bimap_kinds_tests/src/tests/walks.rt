@@ -1,0 +1,112 @@
+//! Walks: each pair once, copies that are made on the way, and bimaps under unlike builders.
+use bimap::{BiHashMap, Bijection};
+use bimap_calls::{CopyKind, Kind, Walked, holds};
+use std::alloc::Global;
+use std::hash::RandomState;
+use std::process::Abort;
+use std::test::Fail;
+
+const HELD: [(char, u32); 3] = [('a', 3), ('b', 2), ('c', 1)];
+
+pub(super) fn gives_each_once<B: CopyKind<char, u32> + Walked<char, u32>>(
+    rt: &impl Abort,
+    alloc: Global,
+) -> Result<(), Fail> {
+    let mut bimap = B::empty(alloc);
+    bimap.add(&[('x', 9)]).ok().ok_or("no memory")?;
+    bimap.add(&HELD).ok().ok_or("no memory")?;
+    assert!(rt; bimap.remove_by_left(&'x') == Some(('x', 9)));
+    assert!(rt; holds(alloc, &bimap, &HELD)?);
+    let mut lefts = bimap.walk_lefts(alloc)?;
+    lefts.sort_unstable();
+    assert_eq!(rt; lefts.as_slice(), ['a', 'b', 'c'].as_slice());
+    let mut rights = bimap.walk_rights(alloc)?;
+    rights.sort_unstable();
+    assert_eq!(rt; rights.as_slice(), [1, 2, 3].as_slice());
+    let mut owned = bimap.take_apart(alloc)?;
+    owned.sort_unstable();
+    assert_eq!(rt; owned.as_slice(), HELD.as_slice());
+    Ok(())
+}
+
+// A walk by an ordered side reads sixteen places at a time. It is given up on before, at and after the ends of these.
+const LENGTHS: [u32; 6] = [0, 1, 15, 16, 17, 50];
+
+const STEPS: [usize; 7] = [0, 1, 7, 15, 16, 17, 33];
+
+// So many pairs, in no order.
+fn filled<B: Kind<u32, u32>>(alloc: Global, pairs: u32) -> Result<B, Fail> {
+    let mut bimap = B::empty(alloc);
+    for at in 0..pairs {
+        let name = at.wrapping_mul(0x9e37_79b1);
+        bimap.insert(name, at).ok().ok_or("no memory")?;
+    }
+    Ok(bimap)
+}
+
+pub(super) fn walks_alike<B: Kind<u32, u32> + Walked<u32, u32>>(
+    rt: &impl Abort,
+    alloc: Global,
+) -> Result<(), Fail> {
+    for length in LENGTHS {
+        let bimap = filled::<B>(alloc, length)?;
+        let whole = bimap.walk(alloc)?;
+        assert!(rt; whole.len() as u64 == length as u64, "{length}");
+        for steps in STEPS {
+            let (on, copy) = bimap.walk_twice(alloc, steps)?;
+            let rest = whole.as_slice().get(steps..).unwrap_or(&[]);
+            assert!(rt; on.as_slice() == rest, "{length} {steps}");
+            assert!(rt; copy.as_slice() == rest, "{length} {steps}");
+        }
+    }
+    Ok(())
+}
+
+// The same pairs, from either end.
+fn put_up<B: Bijection<u32, u32>>(bimap: &mut B) {
+    for at in 0..40u32 {
+        drop(bimap.insert(at, at ^ 1));
+    }
+}
+
+fn put_down<B: Bijection<u32, u32>>(bimap: &mut B) {
+    for at in (0..40u32).rev() {
+        drop(bimap.insert(at, at ^ 1));
+    }
+}
+
+type Random = BiHashMap<u32, u32, RandomState, RandomState>;
+
+// Whether two bimaps are equal, whichever is asked.
+fn are_equal(first: &Random, second: &Random) -> bool {
+    first == second && second == first
+}
+
+fn are_unlike(first: &Random, second: &Random) -> bool {
+    first != second && second != first
+}
+
+#[test]
+fn equality_is_of_the_pairs_alone(rt: HostRuntime) -> Result<(), Fail> {
+    let alloc = rt.alloc();
+    let mut first: Random = BiHashMap::with_hashers(
+        alloc,
+        RandomState::new(&rt)?,
+        RandomState::new(&rt)?,
+    );
+    let mut second: Random = BiHashMap::with_hashers(
+        alloc,
+        RandomState::new(&rt)?,
+        RandomState::new(&rt)?,
+    );
+    put_up(&mut first);
+    put_down(&mut second);
+    assert!(&rt; first.len() == 40 && are_equal(&first, &second));
+    drop(second.insert(7, 99));
+    assert!(&rt; are_unlike(&first, &second));
+    drop(second.insert(7, 6));
+    assert!(&rt; are_equal(&first, &second));
+    drop(second.remove_by_right(&0));
+    assert!(&rt; are_unlike(&first, &second));
+    Ok(())
+}

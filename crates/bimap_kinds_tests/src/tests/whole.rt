@@ -1,0 +1,83 @@
+//! Equality and copies of whole bimaps.
+use bimap::{Bijection, Overwritten};
+use bimap_calls::{CopyKind, Walked, holds};
+use std::alloc::Global;
+use std::process::Abort;
+use std::test::Fail;
+
+/// Two lists of items, and whether their bimaps are equal.
+type Row<L, R> = (&'static [(L, R)], &'static [(L, R)], bool);
+
+const LETTERS: [Row<char, u32>; 9] = [
+    (&[], &[], true),
+    (&[('a', 1)], &[('a', 1)], true),
+    (&[('a', 1), ('b', 2)], &[('b', 2), ('a', 1)], true),
+    (&[('a', 1), ('b', 2)], &[], false),
+    (&[('a', 1), ('b', 2)], &[('a', 1)], false),
+    (
+        &[('a', 1), ('b', 2)],
+        &[('a', 1), ('b', 2), ('c', 3)],
+        false,
+    ),
+    (&[('a', 1), ('b', 2)], &[('a', 1), ('b', 3)], false),
+    (&[('a', 1), ('b', 2)], &[('a', 2), ('b', 1)], false),
+    (
+        &[('a', 1), ('b', 2), ('c', 3), ('b', 2), ('a', 4), ('b', 3)],
+        &[('a', 4), ('b', 3)],
+        true,
+    ),
+];
+
+const DIGITS: [Row<u32, char>; 2] = [
+    (&[(1, '0'), (0, '1'), (0, '0')], &[(0, '0')], true),
+    (&[(0, '0'), (0, '1'), (1, '0')], &[(0, '0')], false),
+];
+
+fn compared<L: Copy + Eq + Drop, R: Copy + Eq + Drop, B: CopyKind<L, R> + Walked<L, R>>(
+    rt: &impl Abort,
+    alloc: Global,
+    rows: &[Row<L, R>],
+) -> Result<(), Fail> {
+    for (number, (items, others, answer)) in rows.iter().enumerate() {
+        let first = B::built(alloc, items).ok().ok_or("no memory")?;
+        let second = B::built(alloc, others).ok().ok_or("no memory")?;
+        assert!(rt; first.equals(&second) == *answer, "{number}");
+        assert!(rt; second.equals(&first) == *answer, "{number}");
+        assert!(rt; first.equals(&first), "{number}");
+    }
+    Ok(())
+}
+
+pub(super) fn digits<B: CopyKind<u32, char> + Walked<u32, char>>(
+    rt: &impl Abort,
+    alloc: Global,
+) -> Result<(), Fail> {
+    compared::<u32, char, B>(rt, alloc, &DIGITS)
+}
+
+// A copy and what it was made of go on apart.
+fn copied<B: CopyKind<char, u32> + Walked<char, u32>>(
+    rt: &impl Abort,
+    alloc: Global,
+) -> Result<(), Fail> {
+    let mut bimap = B::built(alloc, &[('a', 1), ('b', 2)])
+        .ok()
+        .ok_or("no memory")?;
+    let mut copy = bimap.copied().ok().ok_or("no memory")?;
+    assert!(rt; copy.equals(&bimap) && copy.capacity() >= bimap.capacity());
+    assert!(rt; bimap.insert('b', 5) == Ok(Overwritten::Left('b', 2)));
+    assert!(rt; copy.insert('a', 12) == Ok(Overwritten::Left('a', 1)));
+    assert!(rt; copy.remove_by_left(&'a') == Some(('a', 12)));
+    assert!(rt; bimap.remove_by_right(&2).is_none());
+    assert!(rt; holds(alloc, &bimap, &[('a', 1), ('b', 5)])?);
+    assert!(rt; holds(alloc, &copy, &[('b', 2)])?);
+    Ok(())
+}
+
+pub(super) fn letters<B: CopyKind<char, u32> + Walked<char, u32>>(
+    rt: &impl Abort,
+    alloc: Global,
+) -> Result<(), Fail> {
+    compared::<char, u32, B>(rt, alloc, &LETTERS)?;
+    copied::<B>(rt, alloc)
+}
