@@ -1,5 +1,5 @@
 -- A trail leads to any list of the same pairs, and so to the pairs of an equal bimap.
-use Rattle.std.proofs.Common.{◌≡◌, ◌×◌, ℕ, Bool, true, List, [], ◌∷◌, nat_eq, refl, sym, subst, ◌∙◌}
+use Rattle.std.proofs.Common.{◌≡◌, ℕ, Bool, true, List, [], ◌∷◌, nat_eq, sym, subst, ◌∙◌}
 use Rattle.std.specs.Prelude.{Contains}
 use Rattle.std.specs.Bool.{Decides}
 use Rattle.std.specs.Cmp.{nat_eq_equiv, partial_equiv_from_equiv, first_so, second_so, unsigned_Decides}
