@@ -6,12 +6,12 @@ use bimap_calls::shows;
 use bimap_index::{HashIndex, Index};
 use std::alloc::{AllocError, Global};
 use std::fmt::Debug;
-use std::hash::{BuildHasherDefault, FoldHasher};
+use std::hash::BuildHasher;
 use std::process::Abort;
 use std::test::Fail;
 
-/// A bimap of a hashed left, whatever the right is.
-type ByPlace<R, J> = BijectiveMap<char, R, HashIndex<BuildHasherDefault<FoldHasher>>, J>;
+/// A bimap of a hashed left, whatever its builder and the right are.
+type ByPlace<R, S, J> = BijectiveMap<char, R, HashIndex<S>, J>;
 
 const THREE: [(char, u32); 3] = [('a', 1), ('b', 2), ('c', 3)];
 
@@ -26,14 +26,18 @@ fn ends_for_good<R>(mut walk: Walk<'_, R>) -> bool {
         && walk.size_hint() == (0, Some(0))
 }
 
-fn walks_to_the_end<R: Eq, J: Index<R>>(map: &ByPlace<R, J>) -> Result<bool, AllocError> {
+fn walks_to_the_end<R: Eq, S: BuildHasher, J: Index<R>>(
+    map: &ByPlace<R, S, J>,
+) -> Result<bool, AllocError> {
     let mut walk = map.iter();
     let begins = walk.size_hint() == (3, Some(3)) && walk.len() == 3;
     let goes_on = walk.next().is_some() && walk.len() == 2;
     Ok(begins && goes_on && ends_for_good(walk.clone()?) && walk.len() == 2)
 }
 
-fn walks_lefts<R: Eq, J: Index<R>>(map: &ByPlace<R, J>) -> Result<bool, AllocError> {
+fn walks_lefts<R: Eq, S: BuildHasher, J: Index<R>>(
+    map: &ByPlace<R, S, J>,
+) -> Result<bool, AllocError> {
     let mut lefts = map.left_values();
     Ok(lefts.len() == 3 && lefts.next().is_some() && lefts.clone()?.len() == 2)
 }
@@ -43,48 +47,47 @@ fn walks_rights(map: &BiHashMap<char, u32>) -> Result<bool, AllocError> {
     Ok(rights.len() == 3 && rights.next().is_some() && rights.clone()?.len() == 2)
 }
 
-fn is_walked_by_value<R: Eq + Drop, J: Index<R> + Drop>(map: ByPlace<R, J>) -> bool {
+fn is_walked_by_value<R: Eq + Drop, S: BuildHasher + Drop, J: Index<R> + Drop>(
+    map: ByPlace<R, S, J>,
+) -> bool {
     let mut owned = map.into_iter();
     owned.len() == 3 && owned.next().is_some() && owned.size_hint() == (2, Some(2))
 }
 
-fn is_walked<R: Eq + Copy + Drop, J: Index<R> + Drop>(
+fn is_walked<S: BuildHasher + Drop, J: Index<u32> + Drop>(
     rt: &impl Abort,
-    mut map: ByPlace<R, J>,
-    pairs: [(char, R); 3],
+    mut map: ByPlace<u32, S, J>,
 ) {
-    for (left, right) in pairs {
-        let _ = map.insert(left, right);
-    }
+    put_all(&mut map, &THREE);
     assert!(rt; walks_to_the_end(&map) == Ok(true));
     assert!(rt; walks_lefts(&map) == Ok(true));
-    assert!(rt; shows(&map, &pairs));
+    assert!(rt; shows(&map, &THREE));
     assert!(rt; is_walked_by_value(map));
 }
 
 #[test]
 fn a_walk_ends_for_good(rt: HostRuntime) {
     let alloc = rt.alloc();
-    is_walked(&rt, BiHashMap::<char, u32>::new(alloc), THREE);
-    is_walked(&rt, BiHashBTreeMap::<char, u32>::new(alloc), THREE);
+    is_walked(&rt, BiHashMap::<char, u32>::new(alloc));
+    is_walked(&rt, BiHashBTreeMap::<char, u32>::new(alloc));
     let mut map: BiHashMap<char, u32> = BiHashMap::new(alloc);
     put_all(&mut map, &THREE);
     assert!(&rt; walks_rights(&map) == Ok(true));
 }
 
 // What `{:?}` prints of a bimap.
-fn text_of<R: Eq + Debug + Drop, J: Index<R>>(
+fn text_of<R: Eq + Debug + Drop, S: BuildHasher, J: Index<R>>(
     alloc: Global,
-    map: &ByPlace<R, J>,
+    map: &ByPlace<R, S, J>,
 ) -> Result<String, AllocError> {
     format!(in alloc; "{map:?}")
 }
 
 // The texts of the empty bimap, of one pair, and of two, which are printed in any order.
-fn is_printed<R: Eq + Copy + Debug + Drop, J: Index<R> + Drop>(
+fn is_printed<R: Eq + Copy + Debug + Drop, S: BuildHasher + Drop, J: Index<R> + Drop>(
     rt: &impl Abort,
     alloc: Global,
-    mut map: ByPlace<R, J>,
+    mut map: ByPlace<R, S, J>,
     pairs: [(char, R); 2],
 ) -> Result<(), Fail> {
     let texts = [
