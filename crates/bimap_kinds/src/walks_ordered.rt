@@ -18,7 +18,7 @@ use std::hash::{BuildHasher, Hash};
 use std::ops::RangeBounds;
 
 impl<L: Ord, R: Eq, J: Index<R>> BijectiveMap<L, R, Ordered, J> {
-    /// The pairs by ascending left. One descent serves sixteen steps, and no memory is taken.
+    /// The pairs by ascending left. A step takes one descent at most, and no memory.
     pub fn iter(&self) -> Iter<'_, L, R>
         ensures rest { result ≡ (holding self.now).pairs }
         ensures runs { ShowsInOrder (deref_pair {K = L} {X = R}) }
@@ -27,7 +27,7 @@ impl<L: Ord, R: Eq, J: Index<R>> BijectiveMap<L, R, Ordered, J> {
         by_rank::iter(&self.table.pairs, &self.table.left)
     }
 
-    /// The lefts, ascending. One descent serves sixteen steps, and no memory is taken.
+    /// The lefts, ascending. A step takes one descent at most, and no memory.
     pub fn left_values(&self) -> LeftValues<'_, L, R>
         ensures rest { result ≡ keys_of (holding self.now).pairs }
         ensures runs { ShowsInOrder (deref {X = L}) }
@@ -57,7 +57,7 @@ impl<L: Ord, R: Eq, J: Index<R>> BijectiveMap<L, R, Ordered, J> {
 }
 
 impl<L: Eq, R: Ord, I: Index<L>> BijectiveMap<L, R, I, Ordered> {
-    /// The rights, ascending. One descent serves sixteen steps, and no memory is taken.
+    /// The rights, ascending. A step takes one descent at most, and no memory.
     pub fn right_values(&self) -> RightValues<'_, L, R>
         ensures rest { result ≡ values_of (by_right self.now) }
         ensures sorted { IsByRight R.cmp (holding self.now).pairs (by_right self.now) }
@@ -89,7 +89,7 @@ impl<L: Eq, R: Ord, I: Index<L>> BijectiveMap<L, R, I, Ordered> {
 }
 
 impl<L: Ord, R: Eq + Hash, RS: BuildHasher> BijectiveMap<L, R, Ordered, HashIndex<RS>> {
-    /// The rights, by ascending left. One descent serves sixteen steps, and no memory is taken.
+    /// The rights, by ascending left. A step takes one descent at most, and no memory.
     pub fn right_values(&self) -> RightValues<'_, L, R>
         ensures rest { result ≡ values_of (holding self.now).pairs }
         ensures runs { ShowsInOrder (deref {X = R}) }

@@ -44,7 +44,7 @@ fn whole<'a, L, R>(pairs: &'a Pairs<L, R>, index: &'a Ordered) -> Ranks<'a, L, R
     Ranks::new(pairs, index, 0, index.len())
 }
 
-/// The pairs at the listed places, in the order of the index. One descent serves sixteen steps, and no memory is taken.
+/// The pairs at the listed places, in the order of the index. A step takes one descent at most, and no memory.
 pub fn iter<'a, L, R>(pairs: &'a Pairs<L, R>, index: &'a Ordered) -> Iter<'a, L, R>
     requires { All (IsLive pairs.now) index.now.places }
     ensures rest { result ≡ pairs_at pairs.now index.now.places }
@@ -76,8 +76,7 @@ pub fn right_values<'a, L, R>(pairs: &'a Pairs<L, R>, index: &'a Ordered) -> Rig
 
 /// The pairs of which one part lies in a range, in the order of the index that goes by it.
 ///
-/// It takes two searches, then one descent for sixteen steps, and no memory. A range that ends before it starts has no
-/// pair.
+/// It takes two searches, then one descent a step at most, and no memory. A range that ends before it starts has no pair.
 pub fn range<'a, L, R, P: Part<L, R>, K: Keys<Key = P::Value>, A: RangeBounds<P::Value>, M: Meter>(
     pairs: &'a Pairs<L, R>,
     index: &'a Ordered,

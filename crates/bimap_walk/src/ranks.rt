@@ -11,7 +11,7 @@ use bimap_base::Pairs;
 use bimap_tree::Ordered;
 use std::marker::Model;
 
-/// Pairs in the order of an index, from both ends. One descent serves sixteen steps, and no memory is taken.
+/// Pairs in the order of an index, from both ends. A step takes one descent at most, and no memory.
 #[derive(Drop)]
 pub struct Ranks<'a, L, R> {
     pairs: &'a Pairs<L, R>,
