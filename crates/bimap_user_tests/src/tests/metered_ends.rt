@@ -70,7 +70,10 @@ fn ranks_of_values_are_counted(rt: HostRuntime) -> Result<(), Fail> {
             assert!(&rt; rank as u64 == left.min(length) as u64);
             let none = bimap.right_rank_metered(&0, &mut by_right);
             assert_eq!(&rt; none, 0);
-            assert!(&rt; is_search(&by_left, height) && is_search(&by_right, height), "{length}");
+            assert!(&rt;
+                is_search(&by_left, height) && is_search(&by_right, height),
+                "{length}"
+            );
         }
     }
     Ok(())
