@@ -22,6 +22,27 @@ fn is_alone<L: Copy + Eq + Drop, R: Copy + Eq + Drop, I: Index<L>, J: Index<R>>(
         && !bimap.contains_right(&other_right)
 }
 
+// Whether a pair is handed back, since a value of it is held.
+fn is_occupied<L: Copy + Eq + Drop, R: Copy + Eq + Drop, I: Index<L>, J: Index<R>>(
+    bimap: &mut BijectiveMap<L, R, I, J>,
+    left: L,
+    right: R,
+) -> bool {
+    bimap.insert_no_overwrite(left, right) == Err(NotInserted::Occupied(left, right))
+}
+
+// Undoes an insertion of this left that gave this answer, if that may be, and answers the pair that was put in.
+fn taken_back<L: Copy + Eq + Drop, R: Copy + Eq + Drop, I: Index<L>, J: Index<R>>(
+    bimap: &mut BijectiveMap<L, R, I, J>,
+    left: L,
+    answer: Overwritten<L, R>,
+) -> Option<(L, R)> {
+    if !bimap.can_undo_insert(&left, &answer) {
+        return None;
+    }
+    bimap.undo_insert(&left, answer).ok()
+}
+
 fn own_calls<L: Copy + Eq + Drop, R: Copy + Eq + Drop, I: Index<L> + Drop, J: Index<R> + Drop>(
     rt: &impl Abort,
     mut bimap: BijectiveMap<L, R, I, J>,
@@ -32,18 +53,15 @@ fn own_calls<L: Copy + Eq + Drop, R: Copy + Eq + Drop, I: Index<L> + Drop, J: In
     for _ in 0..2u32 {
         assert!(rt; bimap.insert_no_overwrite(first.0, first.1) == Ok(()));
         assert!(rt; is_alone(&bimap, first, second));
-        for (left, right) in [(first.0, second.1), (second.0, first.1)] {
-            let answer = bimap.insert_no_overwrite(left, right);
-            assert!(rt; answer == Err(NotInserted::Occupied(left, right)));
-        }
+        assert!(rt; is_occupied(&mut bimap, first.0, second.1));
+        assert!(rt; is_occupied(&mut bimap, second.0, first.1));
         bimap.clear();
         assert!(rt; bimap.is_empty() && bimap.len() == 0);
     }
     let answer = Overwritten::Right(first.0, first.1);
     assert!(rt; bimap.insert(first.0, first.1) == Ok(Overwritten::Neither));
     assert!(rt; bimap.insert_with(second.0, first.1, KEEP_LEFT) == Ok(answer));
-    assert!(rt; bimap.can_undo_insert(&second.0, &answer));
-    assert!(rt; bimap.undo_insert(&second.0, answer) == Ok((second.0, first.1)));
+    assert!(rt; taken_back(&mut bimap, second.0, answer) == Some((second.0, first.1)));
     assert!(rt; bimap.remove_by_right(&first.1) == Some(first));
     assert!(rt; bimap.remove_by_left(&first.0).is_none());
 }

@@ -77,13 +77,13 @@ fn put_down<B: Bijection<u32, u32>>(bimap: &mut B) {
 
 type Random = BiHashMap<u32, u32, RandomState, RandomState>;
 
-// Whether two bimaps are equal, whichever is asked.
-fn are_equal(first: &Random, second: &Random) -> bool {
-    first == second && second == first
+// Whether two bimaps are equal, and whether they are not, whichever is asked.
+fn are_equal<B: Walked<u32, u32>>(first: &B, second: &B) -> bool {
+    first.equals(second) && second.equals(first)
 }
 
-fn are_unlike(first: &Random, second: &Random) -> bool {
-    first != second && second != first
+fn are_unlike<B: Walked<u32, u32>>(first: &B, second: &B) -> bool {
+    !first.equals(second) && !second.equals(first)
 }
 
 #[test]
