@@ -8,14 +8,6 @@ use bimap_tree::Ordered;
 use std::alloc::Global;
 use std::hash::{BuildHasherDefault, FoldHasher};
 
-// Calls a test of a bimap of one ordered side, beside either kind of index of the other side's values, with these pairs.
-macro_rules! beside_each {
-    ($rt:expr, $test:ident, $other:ty, $pairs:expr) => {{
-        $test::<$other, Ordered>($rt, $rt.alloc(), $pairs);
-        $test::<$other, Hashed>($rt, $rt.alloc(), $pairs);
-    }};
-}
-
 mod callers;
 mod compared;
 mod counting;

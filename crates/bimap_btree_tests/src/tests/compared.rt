@@ -85,7 +85,8 @@ fn are_ordered<R: Ord + Copy + Drop, J: EmptyIndex<R> + Drop>(
 
 #[test]
 fn orders_by_left_and_then_by_right(rt: HostRuntime) {
-    beside_each!(&rt, are_ordered, u32, &ORDERED);
+    are_ordered::<u32, Ordered>(&rt, rt.alloc(), &ORDERED);
+    are_ordered::<u32, Hashed>(&rt, rt.alloc(), &ORDERED);
 }
 
 // What `{:?}` prints of a bimap of these items.

@@ -1,20 +1,33 @@
 //! Walks and ranges by an ordered right: rows of items from either end, clones, and ends of ranges.
+ghost use Rattle.std.specs.Ordering.{nat_cmp};
+ghost use Rattle.std.specs.BTreeMap.Range.{IsLeBy, IsLtBy};
+
 use super::{FALLING, Hashed, THREE, filled, gives};
 use bimap::BijectiveMap;
 use bimap::btree::{RightRange, RightValues};
 use bimap_famine::Famine;
-use bimap_index::EmptyIndex;
+use bimap_index::{EmptyIndex, Index};
 use bimap_tree::Ordered;
 use std::alloc::{AllocError, Global};
-use std::ops::Bound;
+use std::ops::{Bound, RangeBounds};
 use std::process::Abort;
 use std::test::Fail;
 
-/// A bimap of an ordered right, whatever the left is.
+/// A bimap of numbers in order, whatever the left is.
 type ByRight<L, I> = BijectiveMap<L, u32, I, Ordered>;
 
+type Rights<'a, L> = RightValues<'a, L, u32>;
+
+// Calls a test beside either kind of index of the lefts, with these pairs.
+macro_rules! beside_each_left {
+    ($rt:expr, $test:ident, $pairs:expr) => {{
+        $test::<char, Ordered>($rt, $rt.alloc(), $pairs);
+        $test::<char, Hashed>($rt, $rt.alloc(), $pairs);
+    }};
+}
+
 // Whether a walk gives these rights, and none is left then.
-fn ends_after<L>(rights: &mut RightValues<'_, L, u32>, items: &[u32]) -> bool {
+fn ends_after<L>(rights: &mut Rights<'_, L>, items: &[u32]) -> bool {
     for right in items {
         if rights.next() != Some(right) {
             return false;
@@ -23,7 +36,7 @@ fn ends_after<L>(rights: &mut RightValues<'_, L, u32>, items: &[u32]) -> bool {
     rights.next().is_none() && rights.len() == 0
 }
 
-fn ends_back_after<L>(rights: &mut RightValues<'_, L, u32>, items: &[u32]) -> bool {
+fn ends_back_after<L>(rights: &mut Rights<'_, L>, items: &[u32]) -> bool {
     for right in items {
         if rights.next_back() != Some(right) {
             return false;
@@ -32,15 +45,24 @@ fn ends_back_after<L>(rights: &mut RightValues<'_, L, u32>, items: &[u32]) -> bo
     rights.next_back().is_none()
 }
 
+// Each walk is made in a function of its own, which the borrow checker covers.
+fn rights_are<L: Copy + Eq + Drop, I: Index<L>>(map: &ByRight<L, I>, items: &[u32]) -> bool {
+    let mut rights = map.right_values();
+    rights.size_hint() == (items.len(), Some(items.len())) && ends_after(&mut rights, items)
+}
+
+fn rights_are_back<L: Copy + Eq + Drop, I: Index<L>>(map: &ByRight<L, I>, items: &[u32]) -> bool {
+    ends_back_after(&mut map.right_values(), items)
+}
+
 fn rights_are_walked_alone<L: Copy + Eq + Drop, I: EmptyIndex<L> + Drop>(
     rt: &impl Abort,
     alloc: Global,
     three: [(L, u32); 3],
 ) {
     let map: ByRight<L, I> = filled(alloc, &three);
-    assert!(rt; map.right_values().size_hint() == (3, Some(3)));
-    assert!(rt; ends_after(&mut map.right_values(), &[1, 2, 3]));
-    assert!(rt; ends_back_after(&mut map.right_values(), &[3, 2, 1]));
+    assert!(rt; rights_are(&map, &[1, 2, 3]));
+    assert!(rt; rights_are_back(&map, &[3, 2, 1]));
 }
 
 // Whether the last pair left is this one, of so many.
@@ -52,17 +74,37 @@ fn last_in_range<L: Copy + Eq>(
     range.len() == len && range.next_back().map(|(left, right)| (*left, *right)) == item
 }
 
-fn a_range_from_its_end<L: Copy + Eq + Drop, I: EmptyIndex<L> + Drop>(
-    rt: &impl Abort,
-    alloc: Global,
-    [a, b, c, d]: [(L, u32); 4],
-) {
-    let map: ByRight<L, I> = filled(alloc, &[a, b, c, d]);
+fn ends_for_good<L: Copy + Eq + Drop, I: Index<L>>(
+    map: &ByRight<L, I>,
+    last: (L, u32),
+    first: (L, u32),
+) -> bool {
     let mut range = map.right_range(2..4);
-    assert!(rt; last_in_range(&mut range, 2, Some(b)));
-    assert!(rt; last_in_range(&mut range, 1, Some(c)));
-    assert!(rt; last_in_range(&mut range, 0, None));
-    assert!(rt; last_in_range(&mut range, 0, None));
+    last_in_range(&mut range, 2, Some(last))
+        && last_in_range(&mut range, 1, Some(first))
+        && last_in_range(&mut range, 0, None)
+        && last_in_range(&mut range, 0, None)
+}
+
+fn range_gives<L: Copy + Eq + Drop, I: Index<L>, A: RangeBounds<u32>>(
+    map: &ByRight<L, I>,
+    range: A,
+    items: &[(L, u32)],
+) -> bool
+    requires { A.is_forward range (IsLeBy nat_cmp) (IsLtBy nat_cmp) }
+{
+    let walk = map.right_range(range);
+    walk.size_hint() == (items.len(), Some(items.len())) && gives(walk, items)
+}
+
+fn range_gives_back<L: Copy + Eq + Drop, I: Index<L>, A: RangeBounds<u32>>(
+    map: &ByRight<L, I>,
+    range: A,
+    items: &[(L, u32)],
+) -> bool
+    requires { A.is_forward range (IsLeBy nat_cmp) (IsLtBy nat_cmp) }
+{
+    gives(map.right_range(range).rev(), items)
 }
 
 fn ranges<L: Copy + Eq + Drop, I: EmptyIndex<L> + Drop>(
@@ -71,11 +113,27 @@ fn ranges<L: Copy + Eq + Drop, I: EmptyIndex<L> + Drop>(
     [a, b, c, d]: [(L, u32); 4],
 ) {
     let map: ByRight<L, I> = filled(alloc, &[a, b, c, d]);
-    assert!(rt; gives(map.right_range(2..4), &[c, b]));
+    assert!(rt; ends_for_good(&map, b, c));
+    assert!(rt; range_gives(&map, 2..4, &[c, b]));
     let range = (Bound::Excluded(1), Bound::Included(3));
-    assert!(rt; map.right_range(range).size_hint() == (2, Some(2)));
-    assert!(rt; gives(map.right_range(range), &[c, b]));
-    assert!(rt; gives(map.right_range(..=2), &[d, c]));
+    assert!(rt; range_gives(&map, range, &[c, b]));
+    assert!(rt; range_gives(&map, ..=2, &[d, c]));
+}
+
+// The greatest right of all is held: what begins after it is empty, and what ends before it has the other.
+fn ranges_at_the_greatest<L: Copy + Eq + Drop, I: EmptyIndex<L> + Drop>(
+    rt: &impl Abort,
+    alloc: Global,
+    [a, greatest]: [(L, u32); 2],
+) {
+    let map: ByRight<L, I> = filled(alloc, &[greatest, a]);
+    let none: [(L, u32); 0] = [];
+    let after = (Bound::Excluded(u32::MAX), Bound::Unbounded);
+    assert!(rt; range_gives(&map, after, &none));
+    assert!(rt; range_gives_back(&map, after, &none));
+    assert!(rt; range_gives(&map, ..u32::MAX, &[a]));
+    assert!(rt; range_gives_back(&map, ..=u32::MAX, &[greatest, a]));
+    assert!(rt; range_gives(&map, u32::MAX.., &[greatest]));
 }
 
 fn ranges_of_none<L: Copy + Eq + Drop, I: EmptyIndex<L> + Drop>(
@@ -84,30 +142,27 @@ fn ranges_of_none<L: Copy + Eq + Drop, I: EmptyIndex<L> + Drop>(
     none: [(L, u32); 0],
 ) {
     let map: ByRight<L, I> = filled(alloc, &none);
-    assert!(rt; map.right_range(..).len() == 0);
-    assert!(rt; gives(map.right_range(3..), &none));
-    assert!(rt; gives(map.right_range(..).rev(), &none));
+    assert!(rt; range_gives(&map, 3.., &none));
+    assert!(rt; range_gives_back(&map, .., &none));
 }
 
 #[test]
 fn walks_and_ranges_of_an_ordered_right(rt: HostRuntime) {
-    beside_each!(&rt, rights_are_walked_alone, char, THREE);
-    beside_each!(&rt, a_range_from_its_end, char, FALLING);
-    beside_each!(&rt, ranges, char, FALLING);
-    beside_each!(&rt, ranges_of_none, char, []);
+    beside_each_left!(&rt, rights_are_walked_alone, THREE);
+    beside_each_left!(&rt, ranges, FALLING);
+    beside_each_left!(&rt, ranges_at_the_greatest, [('a', 1), ('b', u32::MAX)]);
+    beside_each_left!(&rt, ranges_of_none, []);
 }
 
-fn last_right<L>(rights: &mut RightValues<'_, L, u32>) -> Option<u32> {
+fn last_right<L>(rights: &mut Rights<'_, L>) -> Option<u32> {
     rights.next_back().copied()
 }
 
-fn copied_rights<'a, L>(
-    rights: &RightValues<'a, L, u32>,
-) -> Result<RightValues<'a, L, u32>, AllocError> {
+fn copied_rights<'a, L>(rights: &Rights<'a, L>) -> Result<Rights<'a, L>, AllocError> {
     rights.clone()
 }
 
-fn count_left<L>(rights: &RightValues<'_, L, u32>) -> usize {
+fn count_left<L>(rights: &Rights<'_, L>) -> usize {
     rights.len()
 }
 
