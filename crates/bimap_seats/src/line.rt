@@ -1,0 +1,82 @@
+//! What a line asks of the ledger, and the reply to it.
+use crate::seats::{guest_on, leave, move_to, row, seat_of, take};
+use bimap::{BiHashBTreeMap, NoRoom, NotInsertedWith, Overwritten};
+use std::alloc::{AllocError, Global};
+
+/// Guests by their names, each with the number of a seat.
+pub type Seats = BiHashBTreeMap<String, u32>;
+
+// Who lost a seat to a guest who has one now.
+fn seated(alloc: Global, lost: &Overwritten<String, u32>) -> Result<String, AllocError> {
+    match lost {
+        Overwritten::Neither => String::from_str(alloc, "seated"),
+        Overwritten::Pair(_, seat) => format!(in alloc; "stays on {seat}"),
+        Overwritten::Left(_, seat) => format!(in alloc; "seated, leaves {seat}"),
+        Overwritten::Right(guest, _) => format!(in alloc; "seated, {guest} has none"),
+        Overwritten::Both((_, seat), (guest, _)) => {
+            format!(in alloc; "seated, leaves {seat}, {guest} has none")
+        }
+    }
+}
+
+fn taken(alloc: Global, seats: &mut Seats, guest: &str, seat: u32) -> Result<String, AllocError> {
+    match take(seats, String::from_str(alloc, guest)?, seat) {
+        Ok(lost) => seated(alloc, &lost),
+        Err(NoRoom { .. }) => Err(AllocError),
+    }
+}
+
+fn moved(alloc: Global, seats: &mut Seats, guest: &str, seat: u32) -> Result<String, AllocError> {
+    match move_to(seats, String::from_str(alloc, guest)?, seat) {
+        Ok(lost) => seated(alloc, &lost),
+        Err(NotInsertedWith::Memory(_, _)) => Err(AllocError),
+        Err(_) => String::from_str(alloc, "that seat is taken"),
+    }
+}
+
+fn gone(alloc: Global, seats: &mut Seats, guest: &str) -> Result<String, AllocError> {
+    match leave(seats, &String::from_str(alloc, guest)?) {
+        Some((_, seat)) => format!(in alloc; "leaves {seat}"),
+        None => String::from_str(alloc, "has none"),
+    }
+}
+
+fn place(alloc: Global, seats: &Seats, guest: &str) -> Result<String, AllocError> {
+    match seat_of(seats, &String::from_str(alloc, guest)?) {
+        Some(seat) => format!(in alloc; "{seat}"),
+        None => String::from_str(alloc, "has none"),
+    }
+}
+
+fn sitter(alloc: Global, seats: &Seats, seat: u32) -> Result<String, AllocError> {
+    match guest_on(seats, &seat) {
+        Some(guest) => String::from_str(alloc, guest.as_str()),
+        None => String::from_str(alloc, "nobody"),
+    }
+}
+
+// How many guests sit on the seats of a row.
+fn sitters(alloc: Global, seats: &Seats, first: u32, end: u32) -> Result<String, AllocError> {
+    if first > end {
+        return String::from_str(alloc, "this is no row");
+    }
+    let held = row(seats, first, end).len();
+    format!(in alloc; "{held}")
+}
+
+/// The reply to a line: `take GUEST SEAT`, `move GUEST SEAT`, `leave GUEST`, `seat GUEST`, `guest SEAT` or
+/// `row FIRST END`. Of another line it says so.
+pub fn reply_to(alloc: Global, seats: &mut Seats, line: &str) -> Result<String, AllocError> {
+    let mut words = line.split(' ');
+    let (verb, first) = (words.next(), words.next().unwrap_or(""));
+    let second = words.next().map(|word| word.parse::<u32>());
+    match (verb, first.parse::<u32>(), second) {
+        (Some("take"), _, Some(Ok(seat))) => taken(alloc, seats, first, seat),
+        (Some("move"), _, Some(Ok(seat))) => moved(alloc, seats, first, seat),
+        (Some("row"), Ok(first), Some(Ok(end))) => sitters(alloc, seats, first, end),
+        (Some("guest"), Ok(seat), None) => sitter(alloc, seats, seat),
+        (Some("leave"), _, None) => gone(alloc, seats, first),
+        (Some("seat"), _, None) => place(alloc, seats, first),
+        _ => String::from_str(alloc, "this asks nothing"),
+    }
+}

@@ -1,0 +1,21 @@
+//! A ledger of guests and their seats. Each line of input asks something of it, and the reply says who lost a seat.
+#![tactic(auto)]
+
+mod line;
+mod seats;
+#[cfg(test)]
+mod tests;
+
+use line::{Seats, reply_to};
+use std::io;
+
+fn main(rt: HostRuntime) -> io::Result<()> {
+    let alloc = rt.alloc();
+    let mut seats: Seats = Seats::new(alloc);
+    for line in rt.lines(alloc) {
+        let reply = reply_to(alloc, &mut seats, line?.as_str())?;
+        println!(rt; "{reply}")?;
+    }
+    println!(rt; "{} seated", seats.len())?;
+    Ok(())
+}

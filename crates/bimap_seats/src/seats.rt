@@ -1,0 +1,86 @@
+//! Guests with their seats, one each. It names the facade alone, and has no proof of its own.
+ghost use Rattle.std.specs.Prelude.{◌≡◌, ◌≤◌, ◌&&◌, nat_le, nat_lt, Contains, IfOk, OnOk, OnErr};
+ghost use Rattle.std.specs.List.{filter};
+ghost use Rattle.bimap.specs.Answer.{IsAnswer};
+ghost use Rattle.bimap.specs.BTree.{holding, by_right};
+ghost use Rattle.bimap.specs.Holding.{IsFoundByLeft, IsFoundByRight, IsInsertion, IsRemovalByLeft};
+ghost use Rattle.bimap.specs.Sets.{IsWithPut, LacksRight};
+
+use bimap::btree::RightRange;
+use bimap::{BiHashBTreeMap, NoRoom, NotInsertedWith, OnHeld, Overwritten, Policy};
+use std::hash::Hash;
+
+/// Gives a guest a seat, whoever has it. It answers who lost which seat.
+///
+/// Takes memory only where nobody loses a seat and no place is free. A refusal changes nothing.
+pub fn take<G: Eq + Hash + Drop, S: Ord + Drop>(
+    seats: &mut BiHashBTreeMap<G, S>,
+    guest: G,
+    seat: S,
+) -> Result<Overwritten<G, S>, NoRoom<G, S>>
+    ensures { IsInsertion G.eq S.eq (holding seats.old) (guest, seat) result (holding seats.new) }
+{
+    seats.insert(guest, seat)
+}
+
+/// Gives a guest a seat that nobody has. A guest who has another seat leaves it, which is answered.
+///
+/// Takes memory as `take` does. A refusal changes nothing.
+pub fn move_to<G: Eq + Hash + Drop, S: Ord + Drop>(
+    seats: &mut BiHashBTreeMap<G, S>,
+    guest: G,
+    seat: S,
+) -> Result<Overwritten<G, S>, NotInsertedWith<G, S>>
+    ensures was_free { OnOk result (LacksRight S.eq (Contains (holding seats.old).pairs) seat) }
+    ensures left { IfOk result (IsAnswer G.eq S.eq (Contains (holding seats.old).pairs) (guest, seat)) }
+    ensures seated { OnOk result (IsWithPut G.eq S.eq (Contains (holding seats.old).pairs) (guest, seat) (Contains (holding seats.new).pairs)) }
+    ensures unchanged { OnErr result (holding seats.new ≡ holding seats.old) }
+{
+    let free = Policy {
+        left: OnHeld::Overwrite,
+        right: OnHeld::Refuse,
+    };
+    seats.insert_with(guest, seat, free)
+}
+
+/// Lets a guest go, and answers with which seat.
+pub fn leave<G: Eq + Hash + Drop, S: Ord + Drop>(
+    seats: &mut BiHashBTreeMap<G, S>,
+    guest: &G,
+) -> Option<(G, S)>
+    ensures { IsRemovalByLeft G.eq (holding seats.old) guest.now result (holding seats.new) }
+{
+    seats.remove_by_left(guest)
+}
+
+/// The seat of a guest, by the hash of the guest.
+pub fn seat_of<'a, G: Eq + Hash, S: Ord>(
+    seats: &'a BiHashBTreeMap<G, S>,
+    guest: &G,
+) -> Option<&'a S>
+    ensures { IsFoundByLeft G.eq (holding seats.now) guest.now result }
+{
+    seats.get_by_left(guest)
+}
+
+/// The guest on a seat, by one search in the order of the seats.
+pub fn guest_on<'a, G: Eq + Hash, S: Ord>(
+    seats: &'a BiHashBTreeMap<G, S>,
+    seat: &S,
+) -> Option<&'a G>
+    ensures { IsFoundByRight S.eq (holding seats.now) seat.now result }
+{
+    seats.get_by_right(seat)
+}
+
+/// The guests on the seats from the first to before the end, by ascending seat. It takes two searches, and no memory.
+pub fn row<G: Eq + Hash>(
+    seats: &BiHashBTreeMap<G, u32>,
+    first: u32,
+    end: u32,
+) -> RightRange<'_, G, u32>
+    requires { first ≤ end }
+    ensures { result ≡ filter (λ p. nat_le first p.1 && nat_lt p.1 end) (by_right seats.now) }
+{
+    seats.right_range(first..end)
+}
