@@ -11,6 +11,7 @@ mod counted;
 mod drops;
 mod empty;
 mod ends;
+mod exact;
 mod many;
 mod odd_values;
 mod ordered_walks;

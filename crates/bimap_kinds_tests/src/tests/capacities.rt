@@ -45,6 +45,27 @@ fn reserved<B: Bijection<char, u32> + Drop>(rt: &impl Abort, mut bimap: B) {
     reserve(rt, &mut bimap, &OF_TEN);
 }
 
+/// The capacity after each insertion: four places, and then twice as many.
+const CAPACITIES: [usize; 10] = [4, 4, 4, 4, 8, 8, 8, 8, 16, 16];
+
+fn grown<B: Bijection<char, u32> + Drop>(rt: &impl Abort, mut bimap: B) {
+    for at in 0..10u8 {
+        let (left, right) = (char::from(b'a' + at), at as u32);
+        let wanted = CAPACITIES.get(at as usize).copied();
+        assert!(rt;
+            bimap.insert(left, right) == Ok(Overwritten::Neither),
+            "{at}"
+        );
+        assert_eq!(rt; Some(bimap.capacity()), wanted, "{at}");
+        // One that strikes a pair takes no place.
+        assert!(rt;
+            bimap.insert(left, right) == Ok(Overwritten::Pair(left, right)),
+            "{at}"
+        );
+        assert_eq!(rt; Some(bimap.capacity()), wanted, "{at}");
+    }
+}
+
 fn refused<B: Bijection<char, u32> + Drop>(rt: &impl Abort, mut bimap: B) {
     assert!(rt; bimap.insert('a', 1) == Ok(Overwritten::Neither));
     let before = bimap.capacity();
@@ -56,6 +77,7 @@ fn refused<B: Bijection<char, u32> + Drop>(rt: &impl Abort, mut bimap: B) {
 
 pub(super) fn all<B: Kind<char, u32>>(rt: &impl Abort, alloc: Global) {
     reserved(rt, B::empty(alloc));
+    grown(rt, B::empty(alloc));
     refused(rt, B::empty(alloc));
 }
 

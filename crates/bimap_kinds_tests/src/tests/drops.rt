@@ -1,9 +1,11 @@
 //! Each value that a bimap was given is dropped once, and not before it is let go.
 use super::counted::{Counted, Ledger};
-use bimap::{BiHashMap, Bijection};
+use bimap::{BiHashMap, Bijection, BijectiveMap};
 use bimap_calls::{Kind, crowded, over_each_kind};
+use bimap_index::{EmptyIndex, HashIndex};
+use bimap_tree::Ordered;
 use std::alloc::{AllocError, Global};
-use std::hash::BuildHasher;
+use std::hash::{BuildHasher, BuildHasherDefault, FoldHasher};
 use std::process::Abort;
 use std::test::Fail;
 
@@ -169,6 +171,26 @@ fn given_up<B: Kind<Counted, Counted>>(
     Ok(())
 }
 
+// The same of one by an ordered left that was gone from both ends.
+fn given_up_at_both_ends<J: EmptyIndex<Counted> + Drop>(
+    rt: &impl Abort,
+    alloc: Global,
+    steps: usize,
+) -> Result<(), Fail> {
+    let mut bimap: BijectiveMap<Counted, Counted, Ordered, J> = BijectiveMap::empty(alloc);
+    let mut ledger = Ledger::new(alloc);
+    fill(&mut bimap, &mut ledger, 40)?;
+    let mut walk = bimap.into_iter();
+    for _ in 0..steps {
+        drop(walk.next());
+        drop(walk.next_back());
+    }
+    assert_eq!(rt; ledger.dropped(), Some(steps.saturating_mul(4)));
+    drop(walk);
+    assert!(rt; ledger.is_balanced(), "{steps}");
+    Ok(())
+}
+
 fn all<B: Kind<Counted, Counted>>(rt: &impl Abort, alloc: Global) -> Result<(), Fail> {
     struck(rt, alloc, B::empty(alloc))?;
     handed_back(rt, alloc, B::empty(alloc))?;
@@ -183,6 +205,10 @@ fn all<B: Kind<Counted, Counted>>(rt: &impl Abort, alloc: Global) -> Result<(), 
 #[test]
 fn each_value_is_dropped_once(rt: HostRuntime) -> Result<(), Fail> {
     over_each_kind!(all, Counted, Counted, &rt, ?);
+    for steps in [1, 8, 9, 20] {
+        given_up_at_both_ends::<Ordered>(&rt, rt.alloc(), steps)?;
+        given_up_at_both_ends::<HashIndex<BuildHasherDefault<FoldHasher>>>(&rt, rt.alloc(), steps)?;
+    }
     Ok(())
 }
 

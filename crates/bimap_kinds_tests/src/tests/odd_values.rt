@@ -1,4 +1,4 @@
-//! Values of no bytes, and texts.
+//! Values of no bytes, texts, and boxes.
 use bimap::{Bijection, Overwritten};
 use bimap_calls::{Kind, over_each_kind};
 use std::alloc::{AllocError, Global};
@@ -92,5 +92,33 @@ fn texts<B: Kind<String, String>>(rt: &impl Abort, alloc: Global) -> Result<(), 
 #[test]
 fn values_may_be_texts(rt: HostRuntime) -> Result<(), Fail> {
     over_each_kind!(texts, String, String, &rt, ?);
+    Ok(())
+}
+
+fn boxed(alloc: Global, of: u32) -> Result<Box<u32>, AllocError> {
+    Ok(Box::new(alloc, of)?)
+}
+
+// Boxes are equal by what is in them.
+fn boxes<B: Kind<Box<u32>, Box<u32>>>(rt: &impl Abort, alloc: Global) -> Result<(), Fail> {
+    let mut bimap = B::empty(alloc);
+    for (left, right, length) in [(1, 11, 1), (2, 12, 2), (3, 13, 3), (2, 11, 2), (4, 13, 2)] {
+        let (left, right) = (boxed(alloc, left)?, boxed(alloc, right)?);
+        bimap.insert(left, right).ok().ok_or("no memory")?;
+        assert_eq!(rt; bimap.len(), length);
+    }
+    let key = boxed(alloc, 2)?;
+    assert!(rt; bimap.get_by_left(&key).is_some_and(|right| **right == 11));
+    let key = boxed(alloc, 13)?;
+    assert!(rt; bimap.get_by_right(&key).is_some_and(|left| **left == 4));
+    let removed = bimap.remove_by_right(&key);
+    assert!(rt; removed == Some((boxed(alloc, 4)?, boxed(alloc, 13)?)));
+    assert_eq!(rt; bimap.give_up(alloc, 2), 1);
+    Ok(())
+}
+
+#[test]
+fn values_may_be_boxes(rt: HostRuntime) -> Result<(), Fail> {
+    over_each_kind!(boxes, Box<u32>, Box<u32>, &rt, ?);
     Ok(())
 }

@@ -1,8 +1,9 @@
 //! The walks by an ordered side, over several batches of sixteen, from both ends, with a copy made on the way.
 use bimap::{BiBTreeHashMap, BiBTreeMap, BiHashBTreeMap, Bijection, BijectiveMap};
-use bimap_index::Index;
+use bimap_index::{HashIndex, Index};
 use bimap_tree::Ordered;
 use std::alloc::{AllocError, Global};
+use std::hash::BuildHasher;
 use std::process::Abort;
 use std::test::Fail;
 
@@ -82,6 +83,11 @@ fn value(number: &u32) -> u32 {
     *number
 }
 
+// The left of a right.
+fn falling(right: &u32) -> u32 {
+    (2 * PAIRS - 1).wrapping_sub(*right)
+}
+
 // Whether the walks in the order of the lefts give the middle.
 fn by_left<R: Eq + Drop, J: Index<R>>(
     alloc: Global,
@@ -92,6 +98,16 @@ fn by_left<R: Eq + Drop, J: Index<R>>(
     let lefts = rest!(bimap.left_values(), value, steps, alloc);
     let range = rest!(bimap.left_range(0..PAIRS), left_of, steps, alloc);
     Ok(is_middle(&pairs, 0, steps) && is_middle(&lefts, 0, steps) && is_middle(&range, 0, steps))
+}
+
+// Whether the walk of hashed rights does, which goes by ascending left: they fall.
+fn rights_by_left<RS: BuildHasher>(
+    alloc: Global,
+    bimap: &BijectiveMap<u32, u32, Ordered, HashIndex<RS>>,
+    steps: u32,
+) -> Result<bool, AllocError> {
+    let rights = rest!(bimap.right_values(), falling, steps, alloc);
+    Ok(is_middle(&rights, 0, steps))
 }
 
 // Whether the walks in the order of the rights do.
@@ -116,9 +132,34 @@ fn give_the_middle(rt: &impl Abort, alloc: Global) -> Result<(), Fail> {
         assert!(rt; by_left(alloc, &ordered, steps)?, "{steps}");
         assert!(rt; by_right(alloc, &ordered, steps)?, "{steps}");
         assert!(rt; by_left(alloc, &lefts_ordered, steps)?, "{steps}");
+        assert!(rt; rights_by_left(alloc, &lefts_ordered, steps)?, "{steps}");
         assert!(rt; by_right(alloc, &rights_ordered, steps)?, "{steps}");
     }
+    assert!(rt; is_taken_from_both_ends(ordered));
+    assert!(rt; is_taken_from_both_ends(lefts_ordered));
     Ok(())
+}
+
+// Whether an owning walk gives each pair once, where each third step is made from the back.
+fn is_taken_from_both_ends<R: Eq + Drop, J: Index<R> + Drop>(
+    bimap: BijectiveMap<u32, R, Ordered, J>,
+) -> bool {
+    let mut walk = bimap.into_iter();
+    let (mut front, mut back) = (0u32, PAIRS);
+    for turn in 0..PAIRS {
+        let (given, wanted) = if turn % 3 == 0 {
+            back = back.wrapping_sub(1);
+            (walk.next_back(), back)
+        } else {
+            front = front.wrapping_add(1);
+            (walk.next(), front.wrapping_sub(1))
+        };
+        match given {
+            Some((left, _)) if left == wanted => {}
+            _ => return false,
+        }
+    }
+    walk.next().is_none() && walk.next_back().is_none()
 }
 
 #[test]

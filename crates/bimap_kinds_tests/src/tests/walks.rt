@@ -1,7 +1,7 @@
 //! Walks: each pair once, copies that are made on the way, and bimaps under unlike builders.
 use bimap::{BiHashMap, Bijection};
 use bimap_calls::{CopyKind, Kind, Walked, holds};
-use std::alloc::Global;
+use std::alloc::{AllocError, Global};
 use std::hash::RandomState;
 use std::process::Abort;
 use std::test::Fail;
@@ -35,13 +35,39 @@ const LENGTHS: [u32; 6] = [0, 1, 15, 16, 17, 50];
 const STEPS: [usize; 7] = [0, 1, 7, 15, 16, 17, 33];
 
 // So many pairs, in no order.
-fn filled<B: Kind<u32, u32>>(alloc: Global, pairs: u32) -> Result<B, Fail> {
-    let mut bimap = B::empty(alloc);
+fn scattered(alloc: Global, pairs: u32) -> Result<Vec<(u32, u32)>, AllocError> {
+    let mut items = Vec::new(alloc);
     for at in 0..pairs {
-        let name = at.wrapping_mul(0x9e37_79b1);
-        bimap.insert(name, at).ok().ok_or("no memory")?;
+        items.push((at.wrapping_mul(0x9e37_79b1), at))?;
+    }
+    Ok(items)
+}
+
+fn filled<B: Kind<u32, u32>>(alloc: Global, pairs: &[(u32, u32)]) -> Result<B, Fail> {
+    let mut bimap = B::empty(alloc);
+    for (left, right) in pairs {
+        bimap.insert(*left, *right).ok().ok_or("no memory")?;
     }
     Ok(bimap)
+}
+
+// Whether the walks of either side give the values of these pairs, that of the lefts in their order, and an owning walk
+// the pairs.
+fn sides_give<B: Kind<u32, u32> + Walked<u32, u32>>(
+    alloc: Global,
+    mut bimap: B,
+    pairs: &[(u32, u32)],
+) -> Result<bool, AllocError> {
+    let lefts: Vec<u32> = pairs.iter().map(|(left, _)| *left).collect(alloc)?;
+    let mut rights: Vec<u32> = pairs.iter().map(|(_, right)| *right).collect(alloc)?;
+    let mut walked = bimap.walk_rights(alloc)?;
+    rights.sort_unstable();
+    walked.sort_unstable();
+    Ok(
+        walked == rights
+            && bimap.walk_lefts(alloc)? == lefts
+            && bimap.take_apart(alloc)?.as_slice() == pairs,
+    )
 }
 
 pub(super) fn walks_alike<B: Kind<u32, u32> + Walked<u32, u32>>(
@@ -49,15 +75,18 @@ pub(super) fn walks_alike<B: Kind<u32, u32> + Walked<u32, u32>>(
     alloc: Global,
 ) -> Result<(), Fail> {
     for length in LENGTHS {
-        let bimap = filled::<B>(alloc, length)?;
+        let mut pairs = scattered(alloc, length)?;
+        let bimap = filled::<B>(alloc, pairs.as_slice())?;
+        pairs.sort_unstable();
+        assert!(rt; holds(alloc, &bimap, pairs.as_slice())?, "{length}");
         let whole = bimap.walk(alloc)?;
-        assert!(rt; whole.len() as u64 == length as u64, "{length}");
         for steps in STEPS {
             let (on, copy) = bimap.walk_twice(alloc, steps)?;
             let rest = whole.as_slice().get(steps..).unwrap_or(&[]);
             assert!(rt; on.as_slice() == rest, "{length} {steps}");
             assert!(rt; copy.as_slice() == rest, "{length} {steps}");
         }
+        assert!(rt; sides_give(alloc, bimap, whole.as_slice())?, "{length}");
     }
     Ok(())
 }
