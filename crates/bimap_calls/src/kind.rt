@@ -144,6 +144,15 @@ macro_rules! over_four_kinds {
     }};
 }
 
+/// The same over the two mixed kinds alone, in which either index stands on either side.
+#[macro_export]
+macro_rules! over_mixed_kinds {
+    ($test:ident, $left:ty, $right:ty, $rt:expr $(, $try:tt)?) => {{
+        $test::<bimap::BiBTreeHashMap<$left, $right>>($rt, $rt.alloc()) $($try)?;
+        $test::<bimap::BiHashBTreeMap<$left, $right>>($rt, $rt.alloc()) $($try)?;
+    }};
+}
+
 /// Makes a call with the empty bimap of each kind: `with_each_kind!(BIMAP: (LEFT, RIGHT) in ALLOCATOR => CALL)`, where the call
 /// hands on BIMAP.
 #[macro_export]

@@ -3,7 +3,7 @@ use crate::Seat;
 use crate::tests::json::{read, written};
 use bimap::Bijection;
 use bimap::value::{JsonFault, JsonKey, JsonObject, JsonValue};
-use bimap_calls::over_four_kinds;
+use bimap_calls::over_mixed_kinds;
 use std::alloc::Global;
 use std::process::Abort;
 use std::test::Fail;
@@ -88,7 +88,7 @@ fn small_numbers<B: JsonObject<u8, u8> + Drop>(rt: &impl Abort, alloc: Global) {
 
 #[test]
 fn numbers_of_eight_bits(rt: HostRuntime) {
-    over_four_kinds!(small_numbers, u8, u8, &rt);
+    over_mixed_kinds!(small_numbers, u8, u8, &rt);
 }
 
 fn wide_numbers<B: JsonObject<u32, u32> + Drop>(rt: &impl Abort, alloc: Global) {
@@ -111,8 +111,8 @@ fn widest_numbers<B: JsonObject<u64, u64> + Drop>(rt: &impl Abort, alloc: Global
 
 #[test]
 fn unsigned_numbers(rt: HostRuntime) {
-    over_four_kinds!(wide_numbers, u32, u32, &rt);
-    over_four_kinds!(widest_numbers, u64, u64, &rt);
+    over_mixed_kinds!(wide_numbers, u32, u32, &rt);
+    over_mixed_kinds!(widest_numbers, u64, u64, &rt);
 }
 
 fn signs<B: JsonObject<i32, i32> + Drop>(rt: &impl Abort, alloc: Global) {
@@ -163,8 +163,8 @@ fn wide_signs<B: JsonObject<i64, i64> + Drop>(rt: &impl Abort, alloc: Global) {
 
 #[test]
 fn signed_numbers(rt: HostRuntime) {
-    over_four_kinds!(signs, i32, i32, &rt);
-    over_four_kinds!(wide_signs, i64, i64, &rt);
+    over_mixed_kinds!(signs, i32, i32, &rt);
+    over_mixed_kinds!(wide_signs, i64, i64, &rt);
 }
 
 fn characters<B: JsonObject<char, char> + Drop>(rt: &impl Abort, alloc: Global) {
@@ -181,7 +181,7 @@ fn characters<B: JsonObject<char, char> + Drop>(rt: &impl Abort, alloc: Global) 
 
 #[test]
 fn single_characters(rt: HostRuntime) {
-    over_four_kinds!(characters, char, char, &rt);
+    over_mixed_kinds!(characters, char, char, &rt);
 }
 
 fn words<B: JsonObject<String, String> + Drop>(rt: &impl Abort, alloc: Global) -> Result<(), Fail> {
@@ -208,8 +208,8 @@ fn an_empty_word<B: JsonObject<String, u8> + Drop>(rt: &impl Abort, alloc: Globa
 
 #[test]
 fn texts(rt: HostRuntime) -> Result<(), Fail> {
-    over_four_kinds!(an_empty_word, String, u8, &rt);
-    over_four_kinds!(words, String, String, &rt, ?);
+    over_mixed_kinds!(an_empty_word, String, u8, &rt);
+    over_mixed_kinds!(words, String, String, &rt, ?);
     Ok(())
 }
 
@@ -219,7 +219,7 @@ fn unlike_sides<B: JsonObject<u32, i64> + Drop>(rt: &impl Abort, alloc: Global) 
 
 #[test]
 fn sides_of_two_types(rt: HostRuntime) {
-    over_four_kinds!(unlike_sides, u32, i64, &rt);
+    over_mixed_kinds!(unlike_sides, u32, i64, &rt);
 }
 
 fn seats<B: JsonObject<Seat, Seat> + Drop>(rt: &impl Abort, alloc: Global) {
@@ -234,5 +234,5 @@ fn seats<B: JsonObject<Seat, Seat> + Drop>(rt: &impl Abort, alloc: Global) {
 
 #[test]
 fn a_side_of_ones_own(rt: HostRuntime) {
-    over_four_kinds!(seats, Seat, Seat, &rt);
+    over_mixed_kinds!(seats, Seat, Seat, &rt);
 }

@@ -1,6 +1,6 @@
-//! Values of no bytes, texts, and boxes.
+//! Values of no bytes, texts, and boxes, under either index on either side.
 use bimap::{Bijection, Overwritten};
-use bimap_calls::{Kind, over_each_kind};
+use bimap_calls::{Kind, over_mixed_kinds};
 use std::alloc::{AllocError, Global};
 use std::process::Abort;
 use std::test::Fail;
@@ -34,9 +34,9 @@ fn nothing_on_the_right<B: Kind<u32, ()>>(rt: &impl Abort, alloc: Global) {
 
 #[test]
 fn values_may_have_no_bytes(rt: HostRuntime) {
-    over_each_kind!(nothing_on_both_sides, (), (), &rt);
-    over_each_kind!(nothing_on_the_left, (), u32, &rt);
-    over_each_kind!(nothing_on_the_right, u32, (), &rt);
+    over_mixed_kinds!(nothing_on_both_sides, (), (), &rt);
+    over_mixed_kinds!(nothing_on_the_left, (), u32, &rt);
+    over_mixed_kinds!(nothing_on_the_right, u32, (), &rt);
 }
 
 fn text(alloc: Global, of: &str) -> Result<String, AllocError> {
@@ -91,7 +91,7 @@ fn texts<B: Kind<String, String>>(rt: &impl Abort, alloc: Global) -> Result<(), 
 
 #[test]
 fn values_may_be_texts(rt: HostRuntime) -> Result<(), Fail> {
-    over_each_kind!(texts, String, String, &rt, ?);
+    over_mixed_kinds!(texts, String, String, &rt, ?);
     Ok(())
 }
 
@@ -119,6 +119,6 @@ fn boxes<B: Kind<Box<u32>, Box<u32>>>(rt: &impl Abort, alloc: Global) -> Result<
 
 #[test]
 fn values_may_be_boxes(rt: HostRuntime) -> Result<(), Fail> {
-    over_each_kind!(boxes, Box<u32>, Box<u32>, &rt, ?);
+    over_mixed_kinds!(boxes, Box<u32>, Box<u32>, &rt, ?);
     Ok(())
 }
