@@ -12,7 +12,6 @@ mod callers;
 mod compared;
 mod counting;
 mod left_walks;
-mod retained;
 mod right_walks;
 
 type Hashed = HashIndex<BuildHasherDefault<FoldHasher>>;

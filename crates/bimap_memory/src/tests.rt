@@ -1,7 +1,6 @@
 //! What stands after each refusal of memory, for each bimap.
 mod capacities;
 mod copies;
-mod exact;
 mod index;
 mod insertions;
 mod items;
