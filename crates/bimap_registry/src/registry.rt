@@ -23,21 +23,21 @@ use std::mem;
 /// Ids and names, each id with one name and each name with one id.
 pub type Registry = BiBTreeMap<u32, String>;
 
-/// The name of an id.
+/// The name of an id, by one search.
 pub fn name_of<'a>(registry: &'a Registry, id: &u32) -> Option<&'a String>
     ensures { IsFoundByLeft nat_eq (holding registry.now) id.now result }
 {
     registry.get_by_left(id)
 }
 
-/// The id of a name.
+/// The id of a name, by one search.
 pub fn id_of<'a>(registry: &'a Registry, name: &String) -> Option<&'a u32>
     ensures { IsFoundByRight string_eq (holding registry.now) name.now result }
 {
     registry.get_by_right(name)
 }
 
-/// All ids with their names, by ascending id.
+/// All ids with their names, by ascending id. A step takes one descent at most, and no memory.
 pub fn members(registry: &Registry) -> Iter<'_, u32, String>
     ensures all { result ≡ (holding registry.now).pairs }
     ensures ascending { AllPairs (λ p q. nat_cmp p.0 q.0 ≡ Less) result }
@@ -46,6 +46,8 @@ pub fn members(registry: &Registry) -> Iter<'_, u32, String>
 }
 
 /// Registers a name under an id, where neither is taken.
+///
+/// Takes memory only where no place is free. An `Err` hands both back, and changes nothing.
 pub fn register(
     registry: &mut Registry,
     id: u32,
@@ -57,6 +59,8 @@ pub fn register(
 }
 
 /// Gives the id of a name another name, and answers the old one.
+///
+/// Costs two look-ups, a removal and an insertion, and no memory. An `Err` hands the new name back, and changes nothing.
 pub fn rename(
     registry: &mut Registry,
     from: &String,
@@ -67,7 +71,7 @@ pub fn rename(
     replace_right(registry, from, to)
 }
 
-/// Gives the name of an id another id, and answers the old one.
+/// Gives the name of an id another id, and answers the old one, at the cost of `rename`.
 pub fn renumber(registry: &mut Registry, from: &u32, to: u32) -> Result<u32, NotReplaced<u32>>
     ensures { IsReplacementOfLeft nat_eq (holding registry.old) from.now to result (holding registry.new) }
 {
@@ -76,6 +80,9 @@ pub fn renumber(registry: &mut Registry, from: &u32, to: u32) -> Result<u32, Not
 
 /// Registers all of these in a registry with a record of its changes, or none: the first of which the id or the name is
 /// taken, by a member or by one before it, is handed back.
+///
+/// Costs one insertion a member, and takes memory for each and for its record. An `Err` leaves exactly the members of
+/// before; places that were made stay.
 pub fn register_recorded<I: IntoIterator<Item = (u32, String)>>(
     registry: &mut Undoable<Registry, u32, String>,
     members: I,
@@ -93,7 +100,9 @@ pub fn register_recorded<I: IntoIterator<Item = (u32, String)>>(
 }
 
 /// Registers all of these, or none: the first of which the id or the name is taken, by a member or by one before it, is
-/// handed back. Places that were made stay.
+/// handed back.
+///
+/// Costs what `register_recorded` costs, and leaves on an `Err` what that leaves.
 pub fn register_all<I: IntoIterator<Item = (u32, String)>>(
     alloc: Global,
     registry: &mut Registry,

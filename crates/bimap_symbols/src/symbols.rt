@@ -12,7 +12,7 @@ use std::alloc::{AllocError, Global};
 /// Why a name was given no number. Nothing has changed.
 #[derive(Clone, Copy, Debug, Eq, PartialEq)]
 pub enum NotInterned {
-    /// There is no number above those in use.
+    /// There is no number above those in use. Of when this is answered no clause says more.
     NoNumber,
     /// There was no memory.
     NoMemory,
@@ -39,14 +39,14 @@ impl Symbols {
         }
     }
 
-    /// The number of a name.
+    /// The number of a name, by one search.
     pub fn number_of(&self, name: &String) -> Option<&u32>
         ensures { IsFoundByLeft string_eq self.now.table.held name.now result }
     {
         self.table.held().get_by_left(name)
     }
 
-    /// The name of a number.
+    /// The name of a number, by one search.
     pub fn name_of(&self, number: &u32) -> Option<&String>
         ensures { IsFoundByRight nat_eq self.now.table.held number.now result }
     {
@@ -62,6 +62,9 @@ impl Symbols {
     }
 
     /// The number of a name: the one that it has, or else one above all in use. No symbol loses its meaning.
+    ///
+    /// Costs one search for a known name, which takes no memory; else an insertion too, which takes memory for the pair and
+    /// its record. An `Err` drops the name, and changes nothing.
     pub fn intern(&mut self, name: String) -> Result<u32, NotInterned>
         ensures known { IfOk result (λ number. HasLeft string_eq (Contains self.old.table.held.pairs) name → (l : _) × Contains self.old.table.held.pairs (l, number) × (string_eq l name ≡ true)) }
         ensures kept { HasLeft string_eq (Contains self.old.table.held.pairs) name → self.new ≡ self.old }
@@ -90,6 +93,8 @@ impl Symbols {
 
     /// Makes a name mean a number in the innermost scope, and answers whether it shadows: what the name or the number
     /// meant before has no meaning until the scope ends.
+    ///
+    /// Costs one insertion, and takes memory for the pair and its record. An `Err` hands both back, and changes nothing.
     pub fn define(&mut self, name: String, number: u32) -> Result<bool, NoRoom<String, u32>>
         ensures defined { IsRecordedInsertion string_eq nat_eq self.old.table (name, number) result self.new.table }
         ensures scopes { self.new.scopes ≡ self.old.scopes }
@@ -97,7 +102,7 @@ impl Symbols {
         self.table.insert(name, number)
     }
 
-    /// Opens a scope: its mark stands for what has a meaning now.
+    /// Opens a scope: its mark stands for what has a meaning now. Takes memory for the mark; an `Err` opens none.
     pub fn open(&mut self) -> Result<(), AllocError>
         ensures opened { OnOk result (self.new.scopes.items ≡ self.old.scopes.items ++ length self.old.table.entries ∷ []) }
         ensures outer { IsBefore string_eq nat_eq self.new.table (length self.new.table.entries) self.new.table.held.pairs }
@@ -109,7 +114,8 @@ impl Symbols {
         Ok(())
     }
 
-    /// Closes the innermost scope, where one is open: what its mark stands for has its meaning again.
+    /// Closes the innermost scope, where one is open: what its mark stands for has its meaning again. Costs one undoing a
+    /// change since, and takes no memory.
     pub fn close(&mut self) -> bool
         ensures closed { OnTrue result ((mark : _) × (self.old.scopes.items ≡ self.new.scopes.items ++ mark ∷ []) × IsReturn string_eq nat_eq self.old.table mark self.new.table) }
         ensures none_open { OnFalse result ((self.old.scopes.items ≡ []) ⊎ ((mark : _) × (self.old.scopes.items ≡ self.new.scopes.items ++ mark ∷ []) × (length self.old.table.entries < mark))) }
