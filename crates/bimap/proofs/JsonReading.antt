@@ -13,7 +13,7 @@ use Rattle.bimap_base.specs.declared.policy.OnHeld.TheVariants.{Refuse}
 use Rattle.bimap_base.specs.declared.policy.Policy.{Policy}
 use Rattle.bimap_base.proofs.Survivors.{items_none, items_push, not_split}
 use Rattle.bimap_base.proofs.Extending.{allowed_push}
-use Rattle.bimap.specs.JsonObjects.{Entry, HasEntries, ReadsAs, EachReadsAs, StopsAt, StopsUnder, IsReadInto, IsReadIntoUnder, ReadsObject, ReadsObjectUnder}
+use Rattle.bimap.specs.JsonObjects.{Entry, HasEntries, ReadsAs, EachReadsAs, StopsAt, StopsUnder, IsReadIntoUnder, ReadsObject, ReadsObjectUnder}
 use Rattle.bimap.specs.declared.value.object.JsonFault.{JsonFault}
 use Rattle.bimap.specs.declared.value.object.JsonFault.TheVariants.{NotAnObject, BadKey, BadValue, LeftHeld, RightHeld, Memory}
 

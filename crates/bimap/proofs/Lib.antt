@@ -2,6 +2,7 @@ pub use Rattle.bimap_base.proofs.Members
 pub use Rattle.bimap_base.proofs.Extending
 pub use Rattle.bimap_base.proofs.Survivors
 pub mod Histories
+pub mod LookUps
 pub mod Tested
 pub mod Trails
 pub mod JsonTexts

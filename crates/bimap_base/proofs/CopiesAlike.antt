@@ -1,12 +1,11 @@
 -- A copy of pairs is a copy of the same pairs in another order.
-use Rattle.std.proofs.Common.{◌≡◌, Bool, true, List, [], ◌∷◌, length, refl, sym, ◌∙◌, subst, inl, inr, arith}
+use Rattle.std.proofs.Common.{◌≡◌, Bool, List, [], ◌∷◌, length, sym, ◌∙◌, subst, inl, inr, arith}
 use Rattle.std.specs.Prelude.{Contains}
 use Rattle.std.specs.List.{AllZip}
 use Rattle.std.specs.Cmp.{IsEquivalence, first_so}
 use Rattle.std.proofs.lemmas.Bool.{or_left}
 use Rattle.bimap_base.specs.Copies.{IsPairClone, AreClonesEqual, IsCopy}
-use Rattle.bimap_base.specs.Same.{pair_eq}
-use Rattle.bimap_base.specs.Sets.{IsSameSet, shares, IsApart}
+use Rattle.bimap_base.specs.Sets.{IsSameSet, IsApart}
 use Rattle.bimap_base.proofs.Apart.{apart_unique}
 use Rattle.bimap_base.proofs.Copying.{source_of, image_of, equal_clone, apart_clones}
 use Rattle.bimap_base.proofs.Members.{head_in, more_in, cases_in, none_in}

@@ -1,5 +1,5 @@
 -- Items put in one after the other under a policy.
-use Rattle.std.proofs.Common.{◌≡◌, ◌↔◌, ◌∙◌, ℕ, suc, ◌+◌, ◌≤◌, Bool, List, [], ◌∷◌, ◌++◌, length, refl, subst, arith, inl, inr}
+use Rattle.std.proofs.Common.{◌↔◌, ◌∙◌, ◌+◌, ◌≤◌, Bool, List, [], ◌∷◌, ◌++◌, length, refl, subst, arith, inl, inr}
 use Rattle.std.specs.Prelude.{Contains}
 use Rattle.std.specs.Cmp.{IsEquivalence}
 use Rattle.std.proofs.lemmas.List.{length_push}

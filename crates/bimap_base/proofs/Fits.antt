@@ -4,7 +4,7 @@ use Rattle.std.specs.Prelude.{Contains, not}
 use Rattle.std.specs.Cmp.{IsEquivalence}
 use Rattle.std.proofs.lemmas.Bool.{or_left, or_right, not-true, not_from_false, false_from_ne_true}
 use Rattle.bimap_base.specs.Sets.{shares, IsApart, HasLeft}
-use Rattle.bimap_base.specs.Answer.{IsNamed, IsBoth}
+use Rattle.bimap_base.specs.Answer.{IsNamed, IsBoth, named_count}
 use Rattle.bimap_base.specs.Fitting.{Fits, FitsLeft, FitsRight}
 use Rattle.bimap_base.specs.Undoing.{IsUndoable, AreNamedApart}
 use Rattle.bimap_base.specs.declared.overwritten.Overwritten.{Overwritten}
@@ -15,13 +15,14 @@ use Rattle.bimap_base.proofs.Apart.{apart_unique}
 pub record NamesOne {L R : Type 0} (answer : Overwritten L R) (p : L × R) : Type 0 where
   pub only : (q : L × R) → IsNamed answer q → q ≡ p
   pub is : IsNamed answer p
+  pub one : named_count answer ≡ 1
   pub not_both : IsBoth answer → ⊥
   pub apart : (same_left : L → L → Bool) (same_right : R → R → Bool) → AreNamedApart same_left same_right answer
 
 pub names_one : {L R : Type 0} (answer : Overwritten L R) (l : L) (r : R) → (answer ≡ Left l r) ⊎ ((answer ≡ Right l r) ⊎ (answer ≡ Pair l r)) → NamesOne answer (l, r)
-names_one answer l r (inl e) = rw e (record { only = λ q n. n; is = refl; not_both = λ b. b; apart = λ f g. tt })
-names_one answer l r (inr (inl e)) = rw e (record { only = λ q n. n; is = refl; not_both = λ b. b; apart = λ f g. tt })
-names_one answer l r (inr (inr e)) = rw e (record { only = λ q n. n; is = refl; not_both = λ b. b; apart = λ f g. tt })
+names_one answer l r (inl e) = rw e (record { only = λ q n. n; is = refl; one = refl; not_both = λ b. b; apart = λ f g. tt })
+names_one answer l r (inr (inl e)) = rw e (record { only = λ q n. n; is = refl; one = refl; not_both = λ b. b; apart = λ f g. tt })
+names_one answer l r (inr (inr e)) = rw e (record { only = λ q n. n; is = refl; one = refl; not_both = λ b. b; apart = λ f g. tt })
 
 module _ {L R : Type 0} (same_left : L → L → Bool) (same_right : R → R → Bool) (lefts : IsEquivalence same_left) (rights : IsEquivalence same_right) where
   tie : (a b c : L) → same_left a c ≡ true → same_left b c ≡ true → same_left a b ≡ true

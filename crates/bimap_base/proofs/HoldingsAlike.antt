@@ -1,5 +1,5 @@
 -- What is said of a holding is said of one with the same members, as many of them and the same room.
-use Rattle.std.proofs.Common.{◌≡◌, ◌∙◌, Bool, Option, length, sym}
+use Rattle.std.proofs.Common.{◌≡◌, ◌∙◌, Bool, Option, length, sym, arith}
 use Rattle.std.specs.Prelude.{Contains, Result, OnErr}
 use Rattle.std.specs.Borrow.{Bor}
 use Rattle.bimap_base.specs.Sets.{IsSameSet}
@@ -8,7 +8,7 @@ use Rattle.bimap_base.specs.declared.overwritten.Overwritten.{Overwritten}
 use Rattle.bimap_base.specs.declared.policy.Policy.{Policy}
 use Rattle.bimap_base.specs.declared.refusal.NotInsertedWith.{NotInsertedWith}
 use Rattle.bimap_base.specs.declared.refusal.UndoStopped.{UndoStopped}
-use Rattle.bimap_base.proofs.Results.{IfSome-then, IfNone-then, IfOk-then, IfErr-then, OnOk-then, OnErr-then}
+use Rattle.bimap_base.proofs.Results.{MatchOption-then, IfSome-then, IfNone-then, IfOk-then, IfErr-then, OnOk-then, OnErr-then}
 use Rattle.bimap_base.proofs.SetsAlike.{LacksLeft-same, LacksRight-same, IsWithoutLeft-same, IsWithoutRight-same, SomeShares-back, IsAnswer-same, IsAllowed-same, IsRefusalUnder-same, IsWithPut-same, IsUndone-same}
 
 module _ {L R : Type 0} where
@@ -39,6 +39,7 @@ module _ {L R : Type 0} where
         removed = IfSome-then result (λ p w. ((like.members p).0 w.0, w.1)) r.removed;
         none = IfNone-then result (LacksLeft-same (Contains h.pairs) (Contains k.pairs) like.members same left) r.none;
         without = IsWithoutLeft-same (Contains h.pairs) (Contains k.pairs) like.members same (Contains h'.pairs) (Contains k'.pairs) left after.members r.without;
+        count = MatchOption-then result (λ e. after.long ∙ e ∙ sym like.long) (λ p e. omega (arith, after.long, e, like.long)) r.count;
         room = after.room ∙ r.room ∙ sym like.room;
       }
 
@@ -47,6 +48,7 @@ module _ {L R : Type 0} where
         removed = IfSome-then result (λ p w. ((like.members p).0 w.0, w.1)) r.removed;
         none = IfNone-then result (LacksRight-same (Contains h.pairs) (Contains k.pairs) like.members same right) r.none;
         without = IsWithoutRight-same (Contains h.pairs) (Contains k.pairs) like.members same (Contains h'.pairs) (Contains k'.pairs) right after.members r.without;
+        count = MatchOption-then result (λ e. after.long ∙ e ∙ sym like.long) (λ p e. omega (arith, after.long, e, like.long)) r.count;
         room = after.room ∙ r.room ∙ sym like.room;
       }
 
@@ -64,6 +66,7 @@ module _ {L R : Type 0} where
           allowed = OnOk-then result (IsAllowed-same (Contains h.pairs) (Contains k.pairs) like.members same_left same_right pair policy) i.allowed;
           answer = IfOk-then result (IsAnswer-same (Contains h.pairs) (Contains k.pairs) like.members same_left same_right pair) i.answer;
           put = OnOk-then result (IsWithPut-same (Contains h.pairs) (Contains k.pairs) like.members same_left same_right (Contains h'.pairs) (Contains k'.pairs) pair after.members) i.put;
+          count = IfOk-then result (λ answer e. omega (arith, after.long, e, like.long)) i.count;
           refused = IfErr-then result (λ e. IsRefusalUnder-same (Contains h.pairs) (Contains k.pairs) like.members same_left same_right (IsFull h) (IsFull k) pair policy e full_alike) i.refused;
           unchanged = unchanged;
           room = room_alike pair i.room;
@@ -73,6 +76,7 @@ module _ {L R : Type 0} where
         undoing_alike left answer result unchanged u = record {
           taken = IfOk-then result (λ p w. ((like.members p).0 w.0, w.1)) u.taken;
           undone = OnOk-then result (IsUndone-same (Contains h.pairs) (Contains k.pairs) like.members same_left same_right (Contains h'.pairs) (Contains k'.pairs) left answer after.members) u.undone;
+          count = OnOk-then result (λ e. omega (arith, after.long, e, like.long)) u.count;
           handed_back = u.handed_back;
           both = u.both;
           full = OnErr-then result full_alike u.full;

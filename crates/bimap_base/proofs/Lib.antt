@@ -1,6 +1,7 @@
 mod Fieldless
 pub mod Apart
 pub mod CopiesAlike
+pub mod Counts
 pub mod Copying
 pub mod Digits
 pub mod Extending

@@ -1,11 +1,11 @@
 -- Equality of sets of pairs, found by asking one of them for each pair of the other.
-use Rattle.std.proofs.Common.{◌≡◌, ◌↔◌, ◌⊎◌, inl, inr, ◌&&◌, Bool, true, false, List, [], ◌∷◌, ◌++◌, length, refl, sym, ap, ◌∙◌, subst, true≢false, append_assoc, append-nil}
+use Rattle.std.proofs.Common.{◌≡◌, ◌↔◌, inl, inr, ◌&&◌, Bool, true, false, List, [], ◌∷◌, ◌++◌, length, refl, sym, ap, ◌∙◌, subst, true≢false, append_assoc, append-nil}
 use Rattle.std.specs.Prelude.{Contains}
 use Rattle.std.specs.Cmp.{IsEquivalence, first_so, second_so}
 use Rattle.std.proofs.lemmas.Bool.{or_left, false_from_ne_true}
 use Rattle.std.proofs.lemmas.List.Elements.{Contains-append_right, Contains-push_cases}
-use Rattle.bimap_base.specs.Same.{pair_eq, same, HasEqual}
-use Rattle.bimap_base.specs.Sets.{shares, IsApart, LacksLeft}
+use Rattle.bimap_base.specs.Same.{same, HasEqual}
+use Rattle.bimap_base.specs.Sets.{IsApart, LacksLeft}
 use Rattle.bimap_base.proofs.Apart.{apart_unique}
 use Rattle.bimap_base.proofs.Members.{head_in, none_in}
 use Rattle.bimap_base.proofs.SameSets.{same_decides}

@@ -1,5 +1,5 @@
 -- The pairs of a store, moved to the first places of another.
-use Rattle.std.proofs.Common.{◌≡◌, ℕ, zero, suc, ◌+◌, ◌<◌, ◌≤◌, ◌-◌, Bool, true, false, List, [], ◌∷◌, ◌++◌, length, map, Option, None, Some, replicate, ap, ◌∙◌, sym, refl, subst, append_assoc, arith, length-append, get_or, is_some}
+use Rattle.std.proofs.Common.{◌≡◌, ℕ, zero, suc, ◌+◌, ◌<◌, ◌≤◌, ◌-◌, List, [], ◌∷◌, ◌++◌, length, map, Option, None, Some, replicate, ap, ◌∙◌, sym, refl, arith, length-append, get_or, is_some}
 use Rattle.std.specs.Prelude.{count_by, cond}
 use Rattle.std.proofs.lemmas.List.Recursion.{is_count_by}
 use Rattle.std.proofs.lemmas.List.{append-nil, map-append, length-map, length-replicate}

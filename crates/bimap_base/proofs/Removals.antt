@@ -1,11 +1,11 @@
 -- The removal of one pair.
-use Rattle.std.proofs.Common.{◌≡◌, inl, inr, suc, ◌≤◌, Bool, true, false, List, ◌∷◌, length, refl, sym, ap, ◌∙◌, subst, true≢false}
+use Rattle.std.proofs.Common.{◌≡◌, inl, inr, suc, ◌≤◌, Bool, true, List, ◌∷◌, length, sym, ap, ◌∙◌, subst, true≢false}
 use Rattle.std.specs.Prelude.{Contains}
 use Rattle.std.specs.Cmp.{IsEquivalence}
 use Rattle.std.proofs.lemmas.Bool.{or_left, or_right, false_from_ne_true, cases_Bool}
 use Rattle.bimap_base.specs.Sets.{shares, IsApart, IsSameSet, IsWithPut, LacksLeft, IsWithoutLeft, LacksRight, IsWithoutRight}
 use Rattle.bimap_base.proofs.Members.{cases_in}
-use Rattle.bimap_base.proofs.Apart.{apart_more, apart_unique, no_longer, shares_itself, shares_symm}
+use Rattle.bimap_base.proofs.Apart.{apart_more, apart_unique, no_longer, shares_itself}
 use Rattle.bimap_base.specs.Exchange.{IsRemoving}
 
 pub lacks_left : {L R : Type 0} (same_left : L → L → Bool) (S : L × R → Type 0) (left : L) → LacksLeft same_left S left → IsWithoutLeft same_left S left S

@@ -1,9 +1,9 @@
 -- A pair that takes the place of another.
-use Rattle.std.proofs.Common.{◌≡◌, ◌≢◌, inl, inr, suc, ◌≤◌, length, Bool, true, false, List, refl, sym, ap, ◌∙◌, true≢false}
+use Rattle.std.proofs.Common.{◌≡◌, inl, inr, Bool, true, false, List, refl, sym, ◌∙◌, true≢false}
 use Rattle.std.specs.Prelude.{Contains, not}
 use Rattle.std.specs.Cmp.{IsEquivalence}
 use Rattle.std.proofs.lemmas.Bool.{or_left, or_right, or_from, false_from_ne_true}
-use Rattle.bimap_base.specs.Sets.{shares, IsApart, NoneShares, IsWithPut, LacksLeft, IsWithoutLeft, LacksRight, IsWithoutRight}
+use Rattle.bimap_base.specs.Sets.{IsApart, NoneShares, IsWithPut, LacksLeft, IsWithoutLeft, LacksRight, IsWithoutRight}
 use Rattle.bimap_base.specs.Exchange.{IsRemoving, IsExchanged}
 use Rattle.bimap_base.proofs.Apart.{apart_unique}
 

@@ -1,11 +1,15 @@
 -- A fact under an answer leads to another.
 use Rattle.std.proofs.Common.{Option, Some, None}
-use Rattle.std.specs.Prelude.{Result, Ok, Err, IfSome, IfNone, IfOk, IfErr, OnOk, OnErr}
+use Rattle.std.specs.Prelude.{Result, Ok, Err, MatchOption, IfSome, IfNone, IfOk, IfErr, OnOk, OnErr}
 
 module _ {T : Type 0} where
   pub IfSome-then : {P Q : T → Type 0} (o : Option T) → ((x : T) → P x → Q x) → IfSome o P → IfSome o Q
   IfSome-then (Some x) step p = step x p
   IfSome-then None step p = p
+
+  pub MatchOption-then : {P P' : Type 0} {Q Q' : T → Type 0} (o : Option T) → (P → P') → ((x : T) → Q x → Q' x) → MatchOption o P Q → MatchOption o P' Q'
+  MatchOption-then (Some x) none some q = some x q
+  MatchOption-then None none some p = none p
 
   pub IfNone-then : {P Q : Type 0} (o : Option T) → (P → Q) → IfNone o P → IfNone o Q
   IfNone-then (Some x) step p = p

@@ -1,9 +1,9 @@
 -- Two ascending lists of pairs are equal place by place where they are the same sets.
-use Rattle.std.proofs.Common.{◌≡◌, ◌⊎◌, ◌&&◌, ◌+◌, ◌<◌, ◌≤◌, ℕ, zero, suc, Bool, true, false, List, [], ◌∷◌, ◌++◌, length, get_or, refl, sym, ap, subst, ◌∙◌, inl, inr, arith}
+use Rattle.std.proofs.Common.{◌≡◌, ◌⊎◌, ◌&&◌, ◌≤◌, Bool, true, List, [], ◌∷◌, ◌++◌, length, refl, sym, ap, subst, ◌∙◌, inl, inr, arith}
 use Rattle.std.specs.List.{Contains, AllPairs}
 use Rattle.std.specs.Bool.{Decides}
 use Rattle.std.specs.Cmp.{IsTotalOrder, IsPartialOrder, first_so, second_so, alike_right, tied_back, both_ways, both_tied, on_total, then_total, po}
-use Rattle.std.specs.Cmp.Lexicographic.{pointwise, as_long, lists_ties, lists_total, slice_cmp}
+use Rattle.std.specs.Cmp.Lexicographic.{pointwise, as_long, lists_ties, lists_total}
 use Rattle.std.specs.Ordering.{is_eq, is_lt, eq_by_cmp}
 use Rattle.std.specs.declared.cmp.Ordering.{Ordering}
 use Rattle.std.specs.declared.cmp.Ordering.TheVariants.{Less, Equal, Greater}

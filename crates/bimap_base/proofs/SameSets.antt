@@ -1,13 +1,13 @@
 -- Equality of sets of pairs that share no value is an equivalence.
-use Rattle.std.proofs.Common.{◌≡◌, ◌⊎◌, ◌&&◌, ℕ, ◌<◌, suc, Bool, true, List, [], ◌∷◌, length, get_or, refl, sym, ap, ◌∙◌, inl, inr, arith, nat_eq, true≢false}
+use Rattle.std.proofs.Common.{◌≡◌, ◌&&◌, ℕ, ◌<◌, Bool, true, List, [], ◌∷◌, length, get_or, refl, sym, ap, ◌∙◌, inl, inr, arith, nat_eq, true≢false}
 use Rattle.std.specs.List.{Contains, list_any, list_all}
 use Rattle.std.specs.Bool.{Decides}
 use Rattle.std.specs.Cmp.{IsPartialEquivalence, IsEquivalence, first_so, second_so, both_ways, and_per, on_per, equiv, partial_equiv_from_equiv, unsigned_Decides}
 use Rattle.std.proofs.lemmas.Bool.{or_left}
-use Rattle.bimap_base.specs.Sets.{shares, IsApart}
+use Rattle.bimap_base.specs.Sets.{IsApart}
 use Rattle.bimap_base.specs.Same.{pair_eq, same, IsSame}
 use Rattle.bimap_base.proofs.Apart.{apart_head, apart_tail}
-use Rattle.bimap_base.proofs.Members.{head_in, more_in, cases_in, none_in, any_in, in_any, all_in, in_all, without, length-without, in_without}
+use Rattle.bimap_base.proofs.Members.{head_in, more_in, any_in, in_any, all_in, in_all, without, length-without, in_without}
 
 module _ {L R : Type 0} (eql : L → L → Bool) (eqr : R → R → Bool) where
   pub same_decides : (xs ys : List (L × R)) → Decides (same eql eqr xs ys) (IsSame eql eqr xs ys)

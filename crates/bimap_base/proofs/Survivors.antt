@@ -1,10 +1,9 @@
 -- The survivors of a history that grows at its end.
-use Rattle.std.proofs.Common.{◌≡◌, ◌↔◌, ◌⊎◌, inl, inr, Bool, true, false, List, [], ◌∷◌, ◌++◌, refl, sym, ap, ◌∙◌, subst, true≢false, append_assoc}
-use Rattle.std.specs.Prelude.{Contains}
+use Rattle.std.proofs.Common.{◌≡◌, ◌↔◌, ◌⊎◌, inl, inr, Bool, true, List, [], ◌∷◌, ◌++◌, refl, sym, ap, ◌∙◌, subst, true≢false, append_assoc}
 use Rattle.std.proofs.lemmas.List.Elements.{Contains-append_left, Contains-append_right, Contains-append_cases, Contains-push, Contains-push_cases}
 use Rattle.std.proofs.lemmas.Bool.{false_from_ne_true}
 use Rattle.bimap_base.specs.Sets.{shares, IsWithPut}
-use Rattle.bimap_base.specs.Survivors.{IsUntouched, IsPutToStay, Survives, PutsItself, TouchesSharing, AreSurvivors}
+use Rattle.bimap_base.specs.Survivors.{IsUntouched, Survives, PutsItself, TouchesSharing, AreSurvivors}
 use Rattle.bimap_base.proofs.Members.{none_in}
 
 module _ {X : Type 0} where

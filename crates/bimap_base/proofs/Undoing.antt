@@ -1,5 +1,5 @@
 -- An insertion that is taken back.
-use Rattle.std.proofs.Common.{◌≡◌, ◌↔◌, ◌⊎◌, inl, inr, suc, ◌≤◌, Bool, true, false, List, ◌∷◌, length, refl, sym, ap, ◌∙◌, subst, arith, true≢false}
+use Rattle.std.proofs.Common.{◌≡◌, inl, inr, suc, ◌≤◌, Bool, true, false, List, ◌∷◌, length, refl, sym, ap, ◌∙◌, subst, arith, true≢false}
 use Rattle.std.specs.Prelude.{Contains}
 use Rattle.std.specs.Cmp.{IsEquivalence}
 use Rattle.std.proofs.lemmas.Bool.{or_left, or_right, or_parts, false_from_ne_true, cases_Bool}
@@ -8,8 +8,8 @@ use Rattle.bimap_base.specs.Answer.{IsAnswer, IsNamed, IsBoth, AreBothStruck}
 use Rattle.bimap_base.specs.Undoing.{AreNamedApart, IsUndoable, IsUndone, IsInserting}
 use Rattle.bimap_base.specs.declared.overwritten.Overwritten.{Overwritten}
 use Rattle.bimap_base.specs.declared.overwritten.Overwritten.TheVariants.{Neither, Left, Right, Pair, Both}
-use Rattle.bimap_base.proofs.Members.{head_in, cases_in}
-use Rattle.bimap_base.proofs.Apart.{apart_head, apart_more, apart_unique, shares_itself, shares_symm, pull, no_longer}
+use Rattle.bimap_base.proofs.Members.{cases_in}
+use Rattle.bimap_base.proofs.Apart.{apart_more, apart_unique, shares_itself, pull, no_longer}
 
 module _ {L R : Type 0} (same_left : L → L → Bool) (same_right : R → R → Bool) (lefts : IsEquivalence same_left) (rights : IsEquivalence same_right) where
   module _ (S : L × R → Type 0) (new : L × R) where

@@ -1,5 +1,5 @@
 -- What an insertion answers of the pairs that it strikes, and why it is refused.
-use Rattle.std.specs.Prelude.{◌≡◌, ◌≢◌, ◌⊎◌, Bool, true, false}
+use Rattle.std.specs.Prelude.{◌≡◌, ◌≢◌, ◌⊎◌, ℕ, Bool, true, false}
 use Rattle.bimap_base.specs.Sets.{shares, NoneShares, SomeShares, HasLeft, LacksLeft, HasRight, LacksRight}
 use Rattle.bimap_base.specs.declared.overwritten.Overwritten.{Overwritten}
 use Rattle.bimap_base.specs.declared.overwritten.Overwritten.TheVariants.{Neither, Left, Right, Pair, Both}
@@ -22,6 +22,14 @@ IsNamed (Left l r) p = p ≡ (l, r)
 IsNamed (Right l r) p = p ≡ (l, r)
 IsNamed (Pair l r) p = p ≡ (l, r)
 IsNamed (Both q s) p = (p ≡ q) ⊎ (p ≡ s)
+
+-- how many pairs the answer names
+abbrev pub named_count : {L R : Type 0} → Overwritten L R → ℕ
+named_count Neither = 0
+named_count (Left l r) = 1
+named_count (Right l r) = 1
+named_count (Pair l r) = 1
+named_count (Both q s) = 2
 
 -- the answer names two pairs
 abbrev pub IsBoth : {L R : Type 0} → Overwritten L R → Type 0

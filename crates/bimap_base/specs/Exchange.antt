@@ -1,5 +1,5 @@
 -- A pair that is taken out, and one that takes the place of another.
-use Rattle.std.specs.Prelude.{◌≡◌, ◌≢◌, ◌↔◌, ◌⊎◌, Bool, true, false, Result, List, Contains, IfOk, IfErr, OnErr}
+use Rattle.std.specs.Prelude.{◌≡◌, ◌≢◌, ◌↔◌, ◌⊎◌, Bool, true, false, Result, List, length, Contains, IfOk, IfErr, OnErr}
 use Rattle.bimap_base.specs.Sets.{HasLeft, LacksLeft, HasRight, LacksRight}
 use Rattle.bimap_base.specs.Holding.{Holding}
 use Rattle.bimap_base.specs.declared.refusal.NotReplaced.{NotReplaced}
@@ -31,6 +31,7 @@ module _ {L R : Type 0} (same_left : L → L → Bool) where
     pub replaced : IfOk result (λ taken. IsLeftReplaced (Contains old.pairs) from to taken (Contains new.pairs))
     pub refused : IfErr result (IsLeftKept (Contains old.pairs) from to)
     pub unchanged : OnErr result (new ≡ old)
+    pub count : length new.pairs ≡ length old.pairs
     pub room : new.room ≡ old.room
 
 module _ {L R : Type 0} (same_right : R → R → Bool) where
@@ -49,4 +50,5 @@ module _ {L R : Type 0} (same_right : R → R → Bool) where
     pub replaced : IfOk result (λ taken. IsRightReplaced (Contains old.pairs) from to taken (Contains new.pairs))
     pub refused : IfErr result (IsRightKept (Contains old.pairs) from to)
     pub unchanged : OnErr result (new ≡ old)
+    pub count : length new.pairs ≡ length old.pairs
     pub room : new.room ≡ old.room

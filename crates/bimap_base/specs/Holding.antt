@@ -1,9 +1,9 @@
 -- What a contract sees of a bimap, and what each call answers and leaves: one record a call, one fact a field.
-use Rattle.std.specs.Prelude.{◌≡◌, ℕ, ◌<◌, ◌≤◌, Bool, true, Option, Result, List, length, Contains, IfSome, IfNone, IfOk, IfErr, OnOk, OnErr}
+use Rattle.std.specs.Prelude.{◌≡◌, ℕ, ◌<◌, ◌≤◌, ◌+◌, Bool, true, Option, Result, List, length, Contains, IfSome, IfNone, IfOk, IfErr, OnOk, OnErr, MatchOption}
 use Rattle.std.specs.Borrow.{Bor}
 use denote.Param.Members.{Mut}
 use Rattle.bimap_base.specs.Sets.{NoneShares, SomeShares, IsWithPut, LacksLeft, IsWithoutLeft, LacksRight, IsWithoutRight}
-use Rattle.bimap_base.specs.Answer.{IsAnswer, IsRefusal, IsAllowed, IsRefusalUnder, IsBoth}
+use Rattle.bimap_base.specs.Answer.{IsAnswer, IsRefusal, IsAllowed, IsRefusalUnder, IsBoth, named_count}
 use Rattle.bimap_base.specs.Kept.{IsKept, IsKeptInTurn}
 use Rattle.bimap_base.specs.Undoing.{IsUndone}
 use Rattle.bimap_base.specs.declared.overwritten.Overwritten.{Overwritten}
@@ -32,6 +32,7 @@ module _ {L R : Type 0} (same_left : L → L → Bool) where
     pub removed : IfSome result (λ p. Contains old.pairs p × (same_left p.0 left ≡ true))
     pub none : IfNone result (LacksLeft same_left (Contains old.pairs) left)
     pub without : IsWithoutLeft same_left (Contains old.pairs) left (Contains new.pairs)
+    pub count : MatchOption result (length new.pairs ≡ length old.pairs) (λ _. length new.pairs + 1 ≡ length old.pairs)
     pub room : new.room ≡ old.room
 
 module _ {L R : Type 0} (same_right : R → R → Bool) where
@@ -44,6 +45,7 @@ module _ {L R : Type 0} (same_right : R → R → Bool) where
     pub removed : IfSome result (λ p. Contains old.pairs p × (same_right p.1 right ≡ true))
     pub none : IfNone result (LacksRight same_right (Contains old.pairs) right)
     pub without : IsWithoutRight same_right (Contains old.pairs) right (Contains new.pairs)
+    pub count : MatchOption result (length new.pairs ≡ length old.pairs) (λ _. length new.pairs + 1 ≡ length old.pairs)
     pub room : new.room ≡ old.room
 
 module _ {L R : Type 0} (same_left : L → L → Bool) (same_right : R → R → Bool) where
@@ -56,6 +58,7 @@ module _ {L R : Type 0} (same_left : L → L → Bool) (same_right : R → R →
   pub record IsInsertion (old : Holding L R) (pair : L × R) (result : Result (Overwritten L R) (NoRoom L R)) (new : Holding L R) : Type 0 where
     pub answer : IfOk result (IsAnswer same_left same_right (Contains old.pairs) pair)
     pub put : OnOk result (IsWithPut same_left same_right (Contains old.pairs) pair (Contains new.pairs))
+    pub count : IfOk result (λ answer. length new.pairs + named_count answer ≡ length old.pairs + 1)
     pub handed_back : IfErr result (λ e. (e.left, e.right) ≡ pair)
     pub none_struck : OnErr result (NoneShares same_left same_right (Contains old.pairs) pair)
     pub full : OnErr result (IsFull old)
@@ -65,6 +68,7 @@ module _ {L R : Type 0} (same_left : L → L → Bool) (same_right : R → R →
   pub record IsInsertionWithoutOverwriting (old : Holding L R) (pair : L × R) (result : Result (Unit {0}) (NotInserted L R)) (new : Holding L R) : Type 0 where
     pub none_held : OnOk result (NoneShares same_left same_right (Contains old.pairs) pair)
     pub put : OnOk result (IsWithPut same_left same_right (Contains old.pairs) pair (Contains new.pairs))
+    pub count : OnOk result (length new.pairs ≡ length old.pairs + 1)
     pub refused : IfErr result (IsRefusal same_left same_right (Contains old.pairs) (IsFull old) pair)
     pub unchanged : OnErr result (new ≡ old)
     pub room : IsRoomAfter old pair new
@@ -73,6 +77,7 @@ module _ {L R : Type 0} (same_left : L → L → Bool) (same_right : R → R →
     pub allowed : OnOk result (IsAllowed same_left same_right (Contains old.pairs) pair policy)
     pub answer : IfOk result (IsAnswer same_left same_right (Contains old.pairs) pair)
     pub put : OnOk result (IsWithPut same_left same_right (Contains old.pairs) pair (Contains new.pairs))
+    pub count : IfOk result (λ answer. length new.pairs + named_count answer ≡ length old.pairs + 1)
     pub refused : IfErr result (IsRefusalUnder same_left same_right (Contains old.pairs) (IsFull old) pair policy)
     pub unchanged : OnErr result (new ≡ old)
     pub room : IsRoomAfter old pair new
@@ -80,6 +85,7 @@ module _ {L R : Type 0} (same_left : L → L → Bool) (same_right : R → R →
   pub record IsUndoing (old : Holding L R) (left : L) (answer : Overwritten L R) (result : Result (L × R) (UndoStopped L R)) (new : Holding L R) : Type 0 where
     pub taken : IfOk result (λ p. Contains old.pairs p × (same_left p.0 left ≡ true))
     pub undone : OnOk result (IsUndone same_left same_right (Contains old.pairs) left answer (Contains new.pairs))
+    pub count : OnOk result (length new.pairs + 1 ≡ length old.pairs + named_count answer)
     pub handed_back : IfErr result (λ e. e.answer ≡ answer)
     pub both : OnErr result (IsBoth answer)
     pub full : OnErr result (IsFull old)

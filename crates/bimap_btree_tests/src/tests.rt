@@ -12,6 +12,7 @@ mod callers;
 mod compared;
 mod counting;
 mod left_walks;
+mod retained;
 mod right_walks;
 
 type Hashed = HashIndex<BuildHasherDefault<FoldHasher>>;

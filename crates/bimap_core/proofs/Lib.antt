@@ -1,4 +1,5 @@
 pub mod Places
+pub mod Counted
 pub mod Inserting
 pub mod Inserted
 pub mod Removing

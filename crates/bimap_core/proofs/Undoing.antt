@@ -1,11 +1,11 @@
 -- What an undoing leaves, from the place of the pair that is taken out.
-use Rattle.std.proofs.Common.{◌≡◌, ◌≢◌, ◌↔◌, ◌⊎◌, ℕ, ◌<◌, ◌≤◌, Bool, false, List, length, Option, Some, None, refl, sym, ap, subst, ◌∙◌, inl, inr, arith, true≢false}
+use Rattle.std.proofs.Common.{◌≡◌, ◌≢◌, ◌↔◌, ◌⊎◌, ℕ, ◌+◌, ◌<◌, ◌≤◌, Bool, false, List, length, Option, Some, None, refl, sym, ap, subst, ◌∙◌, inl, inr, arith, true≢false}
 use Rattle.std.specs.Prelude.{Contains, Ok, Err, slice_set}
 use Rattle.std.specs.Cmp.{IsEquivalence}
 use Rattle.std.proofs.lemmas.Bool.{cases_eq, false_from_ne_true}
 use Rattle.std.proofs.lemmas.List.{get_or-set_same, get_or-set_other, length-set}
 use Rattle.bimap_base.specs.Sets.{shares}
-use Rattle.bimap_base.specs.Answer.{IsNamed, IsBoth}
+use Rattle.bimap_base.specs.Answer.{IsNamed, IsBoth, named_count}
 use Rattle.bimap_base.specs.Holding.{IsUndoing}
 use Rattle.bimap_base.specs.Places.{pairs_in, IsFoundAt}
 use Rattle.bimap_base.specs.Slots.{pair_at, pair_count}
@@ -15,6 +15,7 @@ use Rattle.bimap_base.specs.declared.overwritten.Overwritten.TheVariants.{Neithe
 use Rattle.bimap_base.proofs.Fits.{NamesOne}
 use Rattle.bimap_core.specs.Store.{holding_of, IsAloneAt}
 use Rattle.bimap_core.proofs.Places.{held_at, place_of, live_within, pairs_kept, length-pairs_in, shares_symm}
+use Rattle.bimap_core.proofs.Counted.{count_over, count_new, count_out}
 use Rattle.bimap_core.proofs.Removing.{without}
 
 module _ {P : Type 0} (slots : List (Option P)) (place : ℕ) (inside : place < length slots) where
@@ -115,10 +116,11 @@ module _ {L R : Type 0} (same_left : L → L → Bool) (same_right : R → R →
             λ m. (held q).1 (elim m [ inl n ↦ inl n | inr d ↦ inr (w.1 d) ]),
           )
 
-      pub undoing_by : length slots ≤ length slots' → (pair_count slots < length slots → length slots' ≡ length slots) → ((IsBoth answer → ⊥) → length slots' ≡ length slots) → IsUndoing same_left same_right (holding_of slots) left answer (Ok p) (holding_of slots')
-      undoing_by longer had not_both = record {
+      pub undoing_by : length (pairs_in slots') + 1 ≡ length (pairs_in slots) + named_count answer → length slots ≤ length slots' → (pair_count slots < length slots → length slots' ≡ length slots) → ((IsBoth answer → ⊥) → length slots' ≡ length slots) → IsUndoing same_left same_right (holding_of slots) left answer (Ok p) (holding_of slots')
+      undoing_by count longer had not_both = record {
         taken = (held_at slots place p was, rw was at there.here);
         undone = undone_by;
+        count = count;
         handed_back = tt;
         both = tt;
         full = tt;
@@ -132,7 +134,7 @@ module _ {L R : Type 0} (same_left : L → L → Bool) (same_right : R → R →
     pub undone_neither : (p : L × R) (slots' : List (Option (L × R))) → pair_at slots place ≡ Some p → slots' ≡ slice_set slots place None → IsUndoing same_left same_right (holding_of slots) left Neither (Ok p) (holding_of slots')
     undone_neither p slots' was now =
         let long : length slots' ≡ length slots = ap length now ∙ length-set slots place None in
-        undoing_by p was Neither slots' (λ q. (λ c. inr (subst (λ z. Contains (pairs_in z) q) now c), λ m. elim m [ inl n ↦ absurd n | inr d ↦ subst (λ z. Contains (pairs_in z) q) (sym now) d ])) (omega (arith, long)) (λ _. long) (λ _. long)
+        undoing_by p was Neither slots' (λ q. (λ c. inr (subst (λ z. Contains (pairs_in z) q) now c), λ m. elim m [ inl n ↦ absurd n | inr d ↦ subst (λ z. Contains (pairs_in z) q) (sym now) d ])) (omega (arith, count_out slots slots' place p was now)) (omega (arith, long)) (λ _. long) (λ _. long)
 
     -- one pair is put in
     pub undone_one : (answer : Overwritten L R) (p new : L × R) (slots' : List (Option (L × R))) → NamesOne answer new → pair_at slots place ≡ Some p → slots' ≡ slice_set slots place (Some new) → IsUndoing same_left same_right (holding_of slots) left answer (Ok p) (holding_of slots')
@@ -143,7 +145,7 @@ module _ {L R : Type 0} (same_left : L → L → Bool) (same_right : R → R →
         let h = held_set slots place inside new q in (
           λ c. elim (h.0 (subst (λ z. Contains (pairs_in z) q) now c)) [ inl e ↦ inl (subst (IsNamed answer) (sym e) one.is) | inr d ↦ inr d ],
           λ m. subst (λ z. Contains (pairs_in z) q) (sym now) (h.1 (elim m [ inl n ↦ inl (one.only q n) | inr d ↦ inr d ])),
-        )) (omega (arith, long)) (λ _. long) (λ _. long)
+        )) (omega (arith, count_over slots slots' place p new was now, one.one)) (omega (arith, long)) (λ _. long) (λ _. long)
 
     -- two pairs are put in, the first at the place
     pub undone_both : (p first second : L × R) (grown slots' : List (Option (L × R))) (other : ℕ) → pair_at grown place ≡ Some p → ((q : ℕ) → pair_at grown q ≡ pair_at slots q) → length slots ≤ length grown → (pair_count slots < length slots → grown ≡ slots)
@@ -158,7 +160,7 @@ module _ {L R : Type 0} (same_left : L → L → Bool) (same_right : R → R →
         let h = held_both grown place other first second (live_within grown place p was) within free q in (
           λ c. elim (h.0 (subst (λ z. Contains (pairs_in z) q) now c)) [ inl n ↦ inl n | inr d ↦ inr (subst (λ z. Contains z q) same d) ],
           λ m. subst (λ z. Contains (pairs_in z) q) (sym now) (h.1 (elim m [ inl n ↦ inl n | inr d ↦ inr (subst (λ z. Contains z q) (sym same) d) ])),
-        )) (omega (arith, long)) (λ h. long ∙ ap length (had h)) (λ n. absurd (n tt))
+        )) (omega (arith, count_over grown (slice_set grown place (Some first)) place p first was refl, count_new (slice_set grown place (Some first)) slots' other second within free now, ap length (pairs_kept slots grown kept))) (omega (arith, long)) (λ h. long ∙ ap length (had h)) (λ n. absurd (n tt))
 
 module _ {L R : Type 0} (same_left : L → L → Bool) (same_right : R → R → Bool) where
   -- there was no memory
@@ -166,6 +168,7 @@ module _ {L R : Type 0} (same_left : L → L → Bool) (same_right : R → R →
   undo_refused slots slots' left first second full same = record {
     taken = tt;
     undone = tt;
+    count = tt;
     handed_back = refl;
     both = tt;
     full = length-pairs_in slots ∙ full;

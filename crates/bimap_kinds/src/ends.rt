@@ -42,7 +42,8 @@ impl<L: Ord, R: Eq, J: Index<R>> BijectiveMap<L, R, Ordered, J> {
         self.left_rank_metered(left, &mut Count::new())
     }
 
-    /// Takes out the pair with the least left, or answers `None` where no pair is held. The room stays.
+    /// Takes out the pair with the least left, or answers `None` where no pair is held, in the time of a removal. It takes no
+    /// memory, and the room stays.
     pub fn pop_first_by_left(&mut self) -> Option<(L, R)>
         ensures taken { TakesFirst (λ p. p) (holding self.old).pairs result (holding self.new).pairs }
         ensures room { (holding self.new).room ≡ (holding self.old).room }
@@ -50,7 +51,8 @@ impl<L: Ord, R: Eq, J: Index<R>> BijectiveMap<L, R, Ordered, J> {
         self.pop_first_by_left_metered(&mut Count::new())
     }
 
-    /// Takes out the pair with the greatest left, or answers `None` where no pair is held. The room stays.
+    /// Takes out the pair with the greatest left, or answers `None` where no pair is held, in the time of a removal. It takes no
+    /// memory, and the room stays.
     pub fn pop_last_by_left(&mut self) -> Option<(L, R)>
         ensures taken { TakesLast (λ p. p) (holding self.old).pairs result (holding self.new).pairs }
         ensures room { (holding self.new).room ≡ (holding self.old).room }
@@ -168,7 +170,8 @@ impl<L: Eq, R: Ord, I: Index<L>> BijectiveMap<L, R, I, Ordered> {
         self.right_rank_metered(right, &mut Count::new())
     }
 
-    /// Takes out the pair with the least right, or answers `None` where no pair is held. The room stays.
+    /// Takes out the pair with the least right, or answers `None` where no pair is held, in the time of a removal. It takes no
+    /// memory, and the room stays.
     pub fn pop_first_by_right(&mut self) -> Option<(L, R)>
         ensures taken { TakesFirst (λ p. p) (by_right self.old) result (by_right self.new) }
         ensures sorted { IsByRight R.cmp (holding self.old).pairs (by_right self.old) }
@@ -178,7 +181,8 @@ impl<L: Eq, R: Ord, I: Index<L>> BijectiveMap<L, R, I, Ordered> {
         self.pop_first_by_right_metered(&mut Count::new())
     }
 
-    /// Takes out the pair with the greatest right, or answers `None` where no pair is held. The room stays.
+    /// Takes out the pair with the greatest right, or answers `None` where no pair is held, in the time of a removal. It takes no
+    /// memory, and the room stays.
     pub fn pop_last_by_right(&mut self) -> Option<(L, R)>
         ensures taken { TakesLast (λ p. p) (by_right self.old) result (by_right self.new) }
         ensures sorted { IsByRight R.cmp (holding self.old).pairs (by_right self.old) }

@@ -1,6 +1,7 @@
 //! What stands after each refusal of memory, for each bimap.
 mod capacities;
 mod copies;
+mod exact;
 mod index;
 mod insertions;
 mod items;

@@ -1,13 +1,12 @@
 -- Pairs that are tested one after another.
-use Rattle.std.proofs.Common.{◌≡◌, ◌↔◌, ◌⊎◌, inl, inr, ℕ, suc, zero, ◌+◌, ◌<◌, ◌≤◌, Bool, true, false, cond, List, [], ◌∷◌, ◌++◌, length, take, drop, get_or, refl, sym, ap, ◌∙◌, subst, arith, true≢false, length-append, append_assoc}
+use Rattle.std.proofs.Common.{◌≡◌, inl, inr, ℕ, suc, zero, ◌+◌, ◌<◌, ◌≤◌, Bool, true, false, List, [], ◌∷◌, ◌++◌, length, take, drop, get_or, refl, sym, ap, ◌∙◌, subst, arith, length-append, append_assoc}
 use Rattle.std.specs.Prelude.{Contains}
 use Rattle.std.specs.List.Sorted.{IsPermutation}
 use Rattle.std.proofs.lemmas.List.Sorted.{IsPermutation-refl}
-use Rattle.std.proofs.lemmas.List.Elements.{Contains-append_left, Contains-append_right}
-use denote.Param.Members.{Mut, Called}
+use denote.Param.Members.{Mut}
 use denote.Ref.{Bor}
-use Rattle.bimap_base.specs.Sets.{IsApart, NoneShares}
-use Rattle.bimap_base.specs.Kept.{TestedAt, TestsInTurn, MayTest, answered_true, IsKept}
+use Rattle.bimap_base.specs.Sets.{IsApart}
+use Rattle.bimap_base.specs.Kept.{TestedAt, TestsInTurn, answered_true, IsKept}
 use Rattle.bimap_base.proofs.Members.{head_in, more_in, cases_in}
 use Rattle.bimap_base.proofs.Apart.{apart_head, apart_tail, apart_more, apart_none}
 

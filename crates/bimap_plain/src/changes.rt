@@ -1,7 +1,7 @@
 //! What changes pairs in a vector, of which no two share a value.
-ghost use Rattle.std.specs.Prelude.{◌≡◌, ◌≤◌, ◌<◌, ◌⊎◌, Contains, OnOk, OnErr, vec_len, vec_capacity};
+ghost use Rattle.std.specs.Prelude.{◌≡◌, ◌≤◌, ◌<◌, ◌+◌, ◌⊎◌, Contains, OnOk, OnErr, vec_len, vec_capacity};
 ghost use Rattle.bimap_base.specs.Sets.{IsApart};
-ghost use Rattle.bimap_base.specs.Answer.{IsAnswer};
+ghost use Rattle.bimap_base.specs.Answer.{IsAnswer, named_count};
 ghost use Rattle.bimap_base.specs.Capacity.{IsReservation};
 ghost use Rattle.bimap_base.specs.Holding.{IsInsertion, IsInsertionUnder, IsUndoing};
 ghost use Rattle.bimap_base.specs.Kept.{MayTest, MayTestPair, TestedAt, IsKept};
@@ -91,6 +91,7 @@ fn strike<L: Eq + Drop, R: Eq + Drop>(
     requires { IsApart L.eq R.eq pairs.old.items }
     ensures answer { IsAnswer L.eq R.eq (Contains pairs.old.items) (left.now, right.now) result }
     ensures cleared { IsCleared L.eq R.eq pairs.old.items (left.now, right.now) pairs.new.items }
+    ensures count { vec_len pairs.new + named_count result ≡ vec_len pairs.old }
     ensures apart { IsApart L.eq R.eq pairs.new.items }
     ensures spare { (vec_len pairs.new < vec_capacity pairs.new) ⊎ ((result ≡ Overwritten.Neither) × (pairs.new.items ≡ pairs.old.items)) }
     ensures capacity { vec_capacity pairs.new ≡ vec_capacity pairs.old }

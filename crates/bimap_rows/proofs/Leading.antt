@@ -1,10 +1,10 @@
 -- A history of the program that grows by one entry, and the history of one call.
-use Rattle.std.proofs.Common.{◌≡◌, ◌↔◌, ◌⊎◌, inl, inr, ℕ, ◌≤◌, List, [], ◌∷◌, ◌++◌, Bool, refl, sym, ap, subst, arith, nat_eq, ◌∙◌, ◌≢◌, ◌+◌, length, Option, None, Some, IfSome, MatchOption}
+use Rattle.std.proofs.Common.{◌≡◌, ◌↔◌, inl, inr, ℕ, List, [], ◌∷◌, ◌++◌, Bool, refl, sym, ap, subst, arith, nat_eq, ◌∙◌, ◌≢◌, length, Option, None, Some, IfSome, MatchOption}
 use Rattle.std.specs.List.{zip}
 use Rattle.std.proofs.lemmas.List.{length_push}
 use Rattle.bimap.specs.declared.call.Reply.{Reply}
 use Rattle.std.specs.Prelude.{Contains}
-use Rattle.std.proofs.lemmas.List.Elements.{Contains-append_cases, Contains-append_right, Contains-push, Contains-push_cases}
+use Rattle.std.proofs.lemmas.List.Elements.{Contains-append_cases, Contains-append_right, Contains-push_cases}
 use Rattle.bimap.specs.Holding.{Holding}
 use Rattle.bimap.proofs.Members.{none_in, head_in}
 use Rattle.bimap.proofs.Survivors.{split_push, not_split, Survives_none, Survives_one}

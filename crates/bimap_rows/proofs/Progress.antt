@@ -1,6 +1,5 @@
 -- One line on.
-use Rattle.std.proofs.Common.{◌≡◌, ◌⊎◌, ℕ, List, [], ◌∷◌, ◌++◌, Option, None, Some, IfSome, Bool, true, false, length, map, ◌+◌, refl, sym, ap, subst, ◌∙◌, inl, inr, arith, append_assoc, append-nil}
-use Rattle.std.specs.Prelude.{Contains, flat_map}
+use Rattle.std.proofs.Common.{◌≡◌, ◌⊎◌, ℕ, List, [], ◌∷◌, ◌++◌, Option, None, Some, IfSome, Bool, true, false, length, ◌+◌, refl, sym, ap, subst, ◌∙◌, inl, inr, append_assoc, append-nil}
 use Rattle.std.specs.Io.KnownBytes.{Appends}
 use Rattle.std.proofs.KnownBytes.{Appends-trans}
 use Rattle.std.proofs.lemmas.List.{length_push}
@@ -8,7 +7,7 @@ use Rattle.bimap_rows.specs.Lines.{Request, NoFeed, AreLinesThen, Says, SaysCall
 use Rattle.bimap_rows.specs.Serving.{Answered, LeadsTo, calls, told, IsServed, IsReadOut, Stops}
 use Rattle.bimap_rows.specs.Steps.{IsNextLine, TakesLine, StopsAtLine}
 use Rattle.bimap_rows.specs.declared.serve.Ending.{Ending}
-use Rattle.bimap_rows.specs.declared.serve.Ending.TheVariants.{Clean, InputFailed, OutputFailed, BadLine, NoMemory}
+use Rattle.bimap_rows.specs.declared.serve.Ending.TheVariants.{InputFailed, OutputFailed, BadLine, NoMemory}
 use Rattle.bimap_rows.proofs.Leading.{weaker, LeadsTo_push, LeadsTo_none}
 
 -- so many lines of the bytes were read and say the calls, and these bytes are left

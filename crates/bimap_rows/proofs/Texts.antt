@@ -1,10 +1,10 @@
 -- A line that says a call is a text.
-use Rattle.std.proofs.Common.{rules, ◌≡◌, ◌&&◌, ℕ, List, [], ◌∷◌, ◌++◌, Bool, true, refl, sym, ap, subst, append-nil, codes, ◌≢◌, ◌∙◌, ◌==◌, length, false, true≢false}
-use Rattle.std.specs.Char.{encode_utf8, IsScalar, is_ascii_digit}
+use Rattle.std.proofs.Common.{rules, ◌≡◌, ◌&&◌, ℕ, List, [], ◌∷◌, Bool, true, refl, sym, ap, subst, append-nil, codes, ◌≢◌, ◌∙◌, ◌==◌, length, false, true≢false}
+use Rattle.std.specs.Char.{encode_utf8, is_ascii_digit}
 use Rattle.std.specs.Str.{IsUtf8, all_ascii_digits}
 use Rattle.std.specs.Cmp.{first_so, second_so}
 use Rattle.std.proofs.lemmas.Str.{IsUtf8-append, IsUtf8-from_ascii}
-use Rattle.bimap_rows.specs.Lines.{Request, IsSymbol, IsNumeral, IsPairText, letter, policy_text, command_text, IsArguments, SaysCall}
+use Rattle.bimap_rows.specs.Lines.{Request, IsSymbol, IsPairText, letter, policy_text, command_text, IsArguments, SaysCall}
 use Rattle.bimap_rows.specs.declared.line.Command.{Command}
 use Rattle.bimap_rows.specs.declared.line.Command.TheVariants as command
 use Rattle.bimap.specs.declared.call.Call.TheVariants.{Insert, InsertNoOverwrite, InsertWith, RemoveByLeft, RemoveByRight, Clear}

@@ -6,7 +6,7 @@ use Rattle.bimap_rows.specs.Serving.{Answered, LeadsTo}
 use Rattle.bimap_rows.specs.declared.line.Line.{Line}
 use Rattle.bimap_rows.specs.declared.line.Line.TheVariants.{Empty, Call, Bad}
 use Rattle.bimap_rows.specs.declared.serve.Ending.{Ending}
-use Rattle.bimap_rows.specs.declared.serve.Ending.TheVariants.{Clean, InputFailed, OutputFailed, BadLine, NoMemory}
+use Rattle.bimap_rows.specs.declared.serve.Ending.TheVariants.{OutputFailed, BadLine, NoMemory}
 
 -- the line that the bytes begin with, whether a line feed ends it, and what is left then
 abbrev pub IsNextLine : List ℕ → List ℕ → Bool → Option (List ℕ) → Type 0

@@ -1,5 +1,5 @@
 -- Records that grow and shrink at their end.
-use Rattle.std.proofs.Common.{◌≡◌, ◌⊎◌, inl, inr, ℕ, suc, ◌+◌, ◌≤◌, Bool, true, false, List, [], ◌∷◌, ◌++◌, length, drop, refl, sym, ap, ◌∙◌, subst, arith, true≢false, length-append}
+use Rattle.std.proofs.Common.{◌≡◌, ◌⊎◌, inl, inr, ℕ, ◌≤◌, Bool, List, [], ◌∷◌, ◌++◌, length, drop, sym, ap, ◌∙◌, subst, arith, true≢false, length-append}
 use Rattle.std.specs.Prelude.{Contains, MatchBool}
 use Rattle.std.specs.Cmp.{IsEquivalence}
 use Rattle.std.proofs.lemmas.Bool.{cases_lt, cases_Bool, or_left, or_right, or_parts}
@@ -13,7 +13,6 @@ use Rattle.bimap.specs.declared.Overwritten.TheVariants.{Neither, Left, Right, P
 use Rattle.bimap.proofs.Undoing.{named_struck, struck_named, undone_same}
 use Rattle.bimap_undo.specs.declared.entry.Entry.{Entry}
 use Rattle.bimap_undo.specs.declared.entry.Entry.TheVariants.{Inserted, Removed}
-use Rattle.bimap.specs.Exchange.{IsRemoving}
 use Rattle.bimap_undo.specs.Marks.{Marked, IsChange, IsPath, IsBefore, KeepsMarks, HasMarks}
 use Rattle.bimap.proofs.Removals.{removing_from_one}
 

@@ -1,5 +1,5 @@
 -- Items of which all are put in and recorded, or none.
-use Rattle.std.specs.Prelude.{◌≡◌, ℕ, ◌+◌, Bool, Option, List, length, Contains}
+use Rattle.std.specs.Prelude.{◌≡◌, ◌+◌, Bool, Option, List, length, Contains}
 use Rattle.bimap.specs.Sets.{IsSameSet}
 use Rattle.bimap.specs.Survivors.{Survives, PutsItself, TouchesSharing}
 use Rattle.bimap.specs.Extension.{AreAllowed, IsRoomAfterItems, IsExtensionUnder, IsNextItem}

@@ -1,5 +1,5 @@
 -- The record of a bimap's changes, and the sets of pairs that its marks stand for.
-use Rattle.std.specs.Prelude.{◌≡◌, ◌≢◌, ◌↔◌, ℕ, ◌+◌, ◌≤◌, Bool, true, false, Result, List, [], ◌∷◌, length, drop, Contains, IfOk, IfErr, OnOk, OnErr, MatchBool}
+use Rattle.std.specs.Prelude.{◌≡◌, ℕ, ◌+◌, ◌≤◌, Bool, Result, List, [], ◌∷◌, length, drop, Contains, IfOk, IfErr, OnOk, OnErr, MatchBool}
 use Rattle.bimap.specs.Sets.{IsApart, IsSameSet, NoneShares, SomeShares, IsWithPut, HasLeft, LacksLeft, IsWithoutLeft, HasRight, LacksRight, IsWithoutRight}
 use Rattle.bimap.specs.Holding.{Holding, IsRoomAfter}
 use Rattle.bimap.specs.Undoing.{IsInserting}

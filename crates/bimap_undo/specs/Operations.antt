@@ -1,7 +1,7 @@
 -- Lists of operations on a bimap with a record.
 use Rattle.std.specs.Prelude.{ℕ, ◌≤◌}
 use Rattle.bimap_undo.specs.declared.operations.Operation.{Operation}
-use Rattle.bimap_undo.specs.declared.operations.Operation.TheVariants.{Insert, RemoveByLeft, RemoveByRight, BackTo}
+use Rattle.bimap_undo.specs.declared.operations.Operation.TheVariants.{BackTo}
 
 -- the operation goes back to no lower mark
 abbrev pub StaysAbove : {L R : Type 0} → ℕ → Operation L R → Type 0

@@ -4,4 +4,8 @@
 #[cfg(test)]
 mod all_or_none;
 #[cfg(test)]
+mod exact;
+#[cfg(test)]
 mod tests;
+#[cfg(test)]
+mod texts;

@@ -44,7 +44,7 @@ fn stands<B: Bijection<L, R> + Drop, L: CopyLeft + Copy + Drop, R: Eq + Copy + D
 }
 
 /// Performs an operation. `None` is a refusal.
-fn perform<B: Bijection<L, R> + Drop, L: CopyLeft + Copy + Drop, R: Eq + Copy + Drop>(
+pub(crate) fn perform<B: Bijection<L, R> + Drop, L: CopyLeft + Copy + Drop, R: Eq + Copy + Drop>(
     undoable: &mut Undoable<B, L, R>,
     operation: Operation<L, R>,
 ) -> Option<bool> {

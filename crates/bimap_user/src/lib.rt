@@ -1,8 +1,10 @@
 //! Code over any bimap, which stands on the contracts of `bimap` alone and has no proof of its own.
 #![tactic(auto)]
 
+mod held;
 mod ledger;
 mod looks;
 
+pub use held::seat_new;
 pub use ledger::{seat_guest, seat_in_free_place, seats_taken};
 pub use looks::{Shown, run_and_look, run_and_look_hashed, run_and_look_ordered};

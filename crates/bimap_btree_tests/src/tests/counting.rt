@@ -79,6 +79,15 @@ fn is_found(map: &Numbers<'_>, left: u32, right: u32, compared: &Cell<u64>, limi
     found && back && by_left <= limit && compared.get() <= limit
 }
 
+fn is_missing(map: &Numbers<'_>, left: u32, right: u32, compared: &Cell<u64>, limit: u64) -> bool {
+    compared.set(0);
+    let found = map.contains_left(&counted_at(left, compared));
+    let by_left = compared.get();
+    compared.set(0);
+    let back = map.contains_right(&counted_at(right, compared));
+    !found && !back && by_left <= limit && compared.get() <= limit
+}
+
 // The bimap of the pairs of i and 1001 - i, put in from the first or from the last on.
 fn crossed(alloc: Global, compared: &Cell<u64>, ascending: bool) -> Numbers<'_> {
     let mut map: Numbers<'_> = BiBTreeMap::new(alloc);
@@ -115,6 +124,17 @@ fn odd_ones_are_found(map: &Numbers<'_>, compared: &Cell<u64>) -> bool {
     true
 }
 
+// The ones that were removed lie between those that are held, and are sought to the bottom of the tree.
+fn even_ones_are_missing(map: &Numbers<'_>, compared: &Cell<u64>) -> bool {
+    for half in 1u32..501 {
+        let i = 2 * half;
+        if !is_missing(map, i, 1001 - i, compared, 18) {
+            return false;
+        }
+    }
+    true
+}
+
 fn even_ones_are_removed<'a>(map: &mut Numbers<'a>, compared: &'a Cell<u64>) -> bool {
     for half in 1u32..501 {
         compared.set(0);
@@ -133,6 +153,7 @@ fn stays_low(alloc: Global, compared: &Cell<u64>, ascending: bool) -> bool {
         && all_are_found(&map, compared)
         && even_ones_are_removed(&mut map, compared)
         && odd_ones_are_found(&map, compared)
+        && even_ones_are_missing(&map, compared)
         && map.len() == 500
 }
 

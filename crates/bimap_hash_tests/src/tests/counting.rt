@@ -75,20 +75,38 @@ fn finds_all<'a, LS: BuildHasher, RS: BuildHasher>(
     true
 }
 
-// How many equality tests the look-ups of a thousand pairs make from both sides, or `None` where one is not found.
-fn tests_of_all(alloc: Global, tests: &Cell<u64>) -> Option<u64> {
+// Whether none of a thousand other numbers is found on either side.
+fn misses_all<'a, LS: BuildHasher, RS: BuildHasher>(
+    map: &BiHashMap<Counted<'a>, Counted<'a>, LS, RS>,
+    tests: &'a Cell<u64>,
+) -> bool {
+    for i in 1001u32..2001 {
+        let key = counted_at(i, tests);
+        if map.contains_left(&key) || map.contains_right(&key) {
+            return false;
+        }
+    }
+    true
+}
+
+// How many equality tests the look-ups of a thousand pairs make from both sides, and those of a thousand numbers that are
+// not held, or `None` where one answers otherwise.
+fn tests_of_all(alloc: Global, tests: &Cell<u64>) -> Option<(u64, u64)> {
     let mut map: BiHashMap<Counted, Counted> = BiHashMap::new(alloc);
     fill(&mut map, tests);
     tests.set(0);
-    if finds_all(&map, tests) {
-        Some(tests.get())
-    } else {
-        None
-    }
+    let finds = finds_all(&map, tests);
+    let hits = tests.get();
+    tests.set(0);
+    (finds && misses_all(&map, tests)).then_some((hits, tests.get()))
 }
 
 #[test]
 fn look_ups_test_few_keys(rt: HostRuntime) {
     let tests = Cell::new(0u64);
-    assert!(&rt; tests_of_all(rt.alloc(), &tests).is_some_and(|made| made <= 20000));
+    let Some((hits, misses)) = tests_of_all(rt.alloc(), &tests) else {
+        return assert!(&rt; false, "a look-up answered wrongly");
+    };
+    assert!(&rt; hits >= 2000 && hits <= 20000, "{hits}");
+    assert!(&rt; misses <= 18000, "{misses}");
 }

@@ -1,10 +1,10 @@
 //! The hashed bimap in JSON under builders of one's own.
-use bimap::Overwritten;
 use bimap::value::{JsonFault, from_value_with_hashers, hash_to_value};
+use bimap::{NoMemory, Overwritten};
 use bimap_calls::{Crowded, Zero, crowded, shows};
 use bimap_famine::Famine;
 use serde_json::Value;
-use std::alloc::Global;
+use std::alloc::{AllocError, Global};
 use std::test::Fail;
 
 fn read(alloc: Global, value: &Value) -> Result<Crowded<char, u8>, JsonFault> {
@@ -61,5 +61,64 @@ fn refused_memory_makes_nothing(rt: HostRuntime) -> Result<(), Fail> {
     assert!(rt; refusals > 3, "{refusals}");
     assert!(rt; shows(&bimap, &[('A', 1), ('C', 2)]));
     assert_eq!(rt; value.to_string(alloc)?.as_str(), text);
+    Ok(())
+}
+
+// Writes the bimap under a famine that eases, and answers the text and how often it was refused.
+fn write_in_famine(
+    alloc: Global,
+    bimap: &Crowded<char, u8>,
+) -> Result<Option<(String, u64)>, AllocError> {
+    let mut famine = Famine::begin(alloc, 200)?;
+    for refusals in 0..200u64 {
+        match hash_to_value(alloc, bimap) {
+            Ok(value) => {
+                drop(famine);
+                return Ok(Some((value.to_string(alloc)?, refusals)));
+            }
+            Err(NoMemory) => {}
+        }
+        famine.ease()?;
+    }
+    Ok(None)
+}
+
+#[test]
+fn refused_memory_writes_nothing(rt: HostRuntime) -> Result<(), Fail> {
+    let alloc = rt.alloc();
+    let value = Value::from_str(alloc, "{\"A\":1,\"B\":2}")?;
+    let bimap = read(alloc, &value).ok().ok_or("no pairs")?;
+    let (text, refusals) = write_in_famine(alloc, &bimap)?.ok_or("no memory")?;
+    assert!(rt; refusals > 1, "{refusals}");
+    assert_eq!(rt; text.as_str(), "{\"A\":1,\"B\":2}");
+    assert!(rt; shows(&bimap, &[('A', 1), ('B', 2)]));
+    Ok(())
+}
+
+// How often a reading was refused for memory before it named another fault, and that fault.
+fn faults_in_famine(alloc: Global, value: &Value) -> Result<Option<(u64, JsonFault)>, AllocError> {
+    let mut famine = Famine::begin(alloc, 200)?;
+    for refusals in 0..200u64 {
+        match read(alloc, value) {
+            Ok(_) => return Ok(None),
+            Err(JsonFault::Memory) => {}
+            Err(fault) => return Ok(Some((refusals, fault))),
+        }
+        famine.ease()?;
+    }
+    Ok(None)
+}
+
+#[test]
+fn want_of_memory_is_told_before_a_later_fault(rt: HostRuntime) -> Result<(), Fail> {
+    let alloc = rt.alloc();
+    let value = Value::from_str(alloc, "{\"A\":1,\"BC\":2}")?;
+    let (refusals, fault) = faults_in_famine(alloc, &value)?.ok_or("no fault")?;
+    assert!(rt; refusals > 1, "{refusals}");
+    assert_eq!(rt; fault, JsonFault::BadKey(1));
+    // Before the first entry no memory is wanted.
+    let early = Value::from_str(alloc, "{\"AB\":1,\"C\":2}")?;
+    let (refusals, fault) = faults_in_famine(alloc, &early)?.ok_or("no fault")?;
+    assert_eq!(rt; (refusals, fault), (0, JsonFault::BadKey(0)));
     Ok(())
 }

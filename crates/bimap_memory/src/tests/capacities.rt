@@ -1,6 +1,8 @@
 //! The room where memory is refused.
-use bimap::{BiHashMap, Bijection, NoMemory, NoRoom, Overwritten};
-use bimap_calls::{Kind, over_each_kind, shows};
+use bimap::{
+    BiBTreeHashMap, BiBTreeMap, BiHashBTreeMap, BiHashMap, Bijection, NoMemory, NoRoom, Overwritten,
+};
+use bimap_calls::{Crowded, Kind, Zero, over_each_kind, shows};
 use bimap_famine::Famine;
 use std::alloc::{AllocError, Global};
 use std::process::Abort;
@@ -49,25 +51,65 @@ fn a_refused_change_of_room_leaves_it(rt: HostRuntime) -> Result<(), Fail> {
     Ok(())
 }
 
-// How often the making of twenty places was refused.
-fn refusals_of_making(alloc: Global) -> Result<Option<u64>, AllocError> {
+// Twenty places are made once memory eases, after as many refusals as they ask for blocks, or more.
+fn refusals_of_making<B: Bijection<u32, u32> + Drop, F: Fn(Global) -> Result<B, NoMemory>>(
+    rt: &impl Abort,
+    alloc: Global,
+    make: F,
+    blocks: u64,
+) -> Result<(), Fail>
+    requires { F.IsAlwaysCallable make }
+{
     let mut famine = Famine::begin(alloc, 400)?;
+    let mut made = None;
     for refusals in 0..400u64 {
-        let made: Result<BiHashMap<u32, u32>, NoMemory> = BiHashMap::with_capacity(alloc, 20);
-        if let Ok(map) = made {
-            let right = map.capacity() == 20 && map.is_empty();
-            return Ok(right.then_some(refusals));
+        if let Ok(map) = make(alloc) {
+            made = Some((map.capacity(), map.is_empty(), refusals));
+            break;
         }
         famine.ease()?;
     }
-    Ok(None)
+    drop(famine);
+    let (capacity, is_empty, refusals) = made.ok_or("no memory")?;
+    assert!(rt;
+        capacity == 20 && is_empty && refusals >= blocks,
+        "{refusals}"
+    );
+    Ok(())
 }
 
 #[test]
 fn a_refused_capacity_makes_nothing(rt: HostRuntime) -> Result<(), Fail> {
-    let met = refusals_of_making(rt.alloc())?;
-    assert!(rt; met.is_some_and(|met| met >= 5), "{met:?}");
-    Ok(())
+    let alloc = rt.alloc();
+    refusals_of_making(
+        &rt,
+        alloc,
+        |alloc| BiBTreeMap::<u32, u32>::with_capacity(alloc, 20),
+        3,
+    )?;
+    refusals_of_making(
+        &rt,
+        alloc,
+        |alloc| BiHashMap::<u32, u32>::with_capacity(alloc, 20),
+        5,
+    )?;
+    refusals_of_making(
+        &rt,
+        alloc,
+        |alloc| BiBTreeHashMap::<u32, u32>::with_capacity(alloc, 20),
+        4,
+    )?;
+    refusals_of_making(
+        &rt,
+        alloc,
+        |alloc| BiHashBTreeMap::<u32, u32>::with_capacity(alloc, 20),
+        4,
+    )?;
+    refusals_of_making(&rt, alloc, crowded_of_twenty, 5)
+}
+
+fn crowded_of_twenty(alloc: Global) -> Result<Crowded<u32, u32>, NoMemory> {
+    BiHashMap::with_capacity_and_hashers(alloc, 20, Zero, Zero)
 }
 
 // Whether ten places are filled without memory, and no more are made.

@@ -1,6 +1,6 @@
 //! Guests and seats, over every bimap.
-use bimap::{BiBTreeMap, BiHashMap, Bijection, NotInsertedWith, Overwritten};
-use bimap_user::{seat_guest, seat_in_free_place, seats_taken};
+use bimap::{BiBTreeMap, BiHashMap, Bijection, NotInserted, NotInsertedWith, Overwritten};
+use bimap_user::{seat_guest, seat_in_free_place, seat_new, seats_taken};
 use std::process::Abort;
 
 // Whether these guests alone have these seats.
@@ -40,7 +40,18 @@ fn each_free_place_is_given<B: Bijection<char, u32>>(rt: &impl Abort, ledger: &m
     assert!(rt; shows(ledger, &[('e', 4)]));
 }
 
+// Seats new guests alone.
+fn each_is_new<B: Bijection<char, u32>>(rt: &impl Abort, ledger: &mut B) {
+    assert!(rt; seat_new(ledger, 'a', 1) == Ok(()));
+    assert!(rt; seat_new(ledger, 'b', 2) == Ok(()));
+    assert!(rt; seat_new(ledger, 'c', 2) == Err(NotInserted::Occupied('c', 2)));
+    assert!(rt; seat_new(ledger, 'a', 3) == Err(NotInserted::Occupied('a', 3)));
+    assert!(rt; shows(ledger, &[('a', 1), ('b', 2)]));
+}
+
 fn seats_all<B: Bijection<char, u32>>(rt: &impl Abort, ledger: &mut B) {
+    each_is_new(rt, ledger);
+    ledger.clear();
     each_keeps_a_seat(rt, ledger);
     ledger.clear();
     each_free_place_is_given(rt, ledger);

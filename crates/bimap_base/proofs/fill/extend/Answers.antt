@@ -1,4 +1,4 @@
-use Rattle.std.proofs.Common.{◌≡◌, ◌∙◌, subst, sym, Some, Contains}
+use Rattle.std.proofs.Common.{◌≡◌, subst, sym, Contains}
 use Rattle.bimap_base.specs.Answer.{IsRefusalUnder}
 use Rattle.bimap_base.specs.Sets.{NoneShares}
 use Rattle.bimap_base.specs.Survivors.{Survives, PutsItself, TouchesSharing}

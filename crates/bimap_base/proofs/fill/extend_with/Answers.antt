@@ -1,7 +1,6 @@
 use Rattle.std.proofs.Common.{◌≡◌, refl, sym, subst, arith, Contains, rules}
 use Rattle.std.proofs.lemmas.List.{length_push}
 use Rattle.bimap_base.specs.Holding.{IsFull}
-use Rattle.bimap_base.specs.Extension.{IsOutOfPlaces}
 use Rattle.bimap_base.proofs.Extending.{ArePutIn, put_in_none, put_in_more, put_in_full, refusal_along}
 use Rattle.bimap_base.proofs.fill.extend_with.Goals as goal
 

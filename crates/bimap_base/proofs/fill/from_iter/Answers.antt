@@ -1,4 +1,4 @@
-use Rattle.std.proofs.Common.{◌≡◌, subst, Contains}
+use Rattle.std.proofs.Common.{subst, Contains}
 use Rattle.bimap_base.specs.Extension.{IsRefusedNext}
 use Rattle.bimap_base.proofs.fill.from_iter.Goals as goal
 

@@ -1,4 +1,4 @@
-use Rattle.std.proofs.Common.{◌≡◌, subst, ap, arith, Contains, length, ◌≤◌}
+use Rattle.std.proofs.Common.{subst, ap, arith, Contains, length, ◌≤◌}
 use Rattle.bimap_base.specs.Extension.{IsOutOfPlaces, IsRefusedNextUnder}
 use Rattle.bimap_base.proofs.Extending.{refusal_along}
 use Rattle.bimap_base.proofs.fill.from_iter_with.Goals as goal

@@ -1,22 +1,20 @@
-use Rattle.std.proofs.Common.{rules, refl, ◌≡◌, ◌≤◌, ◌∙◌, suc, length, arith, Contains}
+use Rattle.std.proofs.Common.{refl, ◌∙◌, arith, Contains}
 use Rattle.bimap_base.specs.Sets.{LacksLeft}
 use Rattle.bimap_base.specs.Exchange.{IsRemoving}
+use Rattle.bimap_base.proofs.Counts.{none_named}
 use Rattle.bimap_base.proofs.Members.{lacking}
-use Rattle.bimap_base.proofs.Removals.{removing_left, removing_shorter}
+use Rattle.bimap_base.proofs.Removals.{removing_left}
 use Rattle.bimap_base.proofs.Replacing.{lacks_equal_left, none_shares_left, exchanging}
 use Rattle.bimap_base.proofs.replace.replace_left.Goals.{else-ne-via-then-ne+else-contains_left, else-ne-via-else-ne}
 use Rattle.bimap_base.proofs.replace.replace_left.Goals as goal
 
 pub unreachable-requires : goal.unreachable-requires
 unreachable-requires g c =
-    let removing : IsRemoving (g.B.Bijection.holding c.args.bimap.now).pairs (c.in-Some.left, c.in-Some.right) (g.B.Bijection.holding c.remove_by_left.new.self).pairs = removing_left g.L.PartialEq.eq g.R.PartialEq.eq g.met.L.Eq.laws g.met.R.Eq.laws _ (c.in-Some.left, c.in-Some.right) _ (g.met.B.Bijection.apart c.args.bimap.now) c.args.from.now c.in-Some.ensures.removed.0 c.in-Some.ensures.removed.1 c.remove_by_left.ensures.without in
-    let shorter = removing_shorter g.L.PartialEq.eq g.R.PartialEq.eq g.met.L.Eq.laws g.met.R.Eq.laws _ (c.in-Some.left, c.in-Some.right) _ (g.met.B.Bijection.apart c.args.bimap.now) (g.met.B.Bijection.apart c.remove_by_left.new.self) removing in
-    omega (arith, shorter, g.met.B.Bijection.fits c.args.bimap.now, c.in-Err.ensures.full, c.remove_by_left.ensures.room)
+    omega (arith, c.in-Some.ensures.count, g.met.B.Bijection.fits c.args.bimap.now, c.in-Err.ensures.full, c.remove_by_left.ensures.room)
 
 pub returns : goal.returns
 returns g c =
     let removing : IsRemoving (g.B.Bijection.holding c.args.bimap.now).pairs (c.in-Some.left, c.in-Some.right) (g.B.Bijection.holding c.remove_by_left.new.self).pairs = removing_left g.L.PartialEq.eq g.R.PartialEq.eq g.met.L.Eq.laws g.met.R.Eq.laws _ (c.in-Some.left, c.in-Some.right) _ (g.met.B.Bijection.apart c.args.bimap.now) c.args.from.now c.in-Some.ensures.removed.0 c.in-Some.ensures.removed.1 c.remove_by_left.ensures.without in
-    let shorter = removing_shorter g.L.PartialEq.eq g.R.PartialEq.eq g.met.L.Eq.laws g.met.R.Eq.laws _ (c.in-Some.left, c.in-Some.right) _ (g.met.B.Bijection.apart c.args.bimap.now) (g.met.B.Bijection.apart c.remove_by_left.new.self) removing in
     let old = g.B.Bijection.holding c.args.bimap.now in
     let held = g.B.Bijection.holding c.remove_by_left.new.self in
     let without = c.remove_by_left.ensures.without in
@@ -34,7 +32,10 @@ returns g c =
       };
       refused = tt;
       unchanged = tt;
-      room = c.insert.ensures.room.had_place (omega (arith, shorter, g.met.B.Bijection.fits c.args.bimap.now, c.remove_by_left.ensures.room)) ∙ c.remove_by_left.ensures.room;
+      count =
+          let none = none_named g.L.PartialEq.eq g.R.PartialEq.eq (Contains held.pairs) (c.args.to, c.in-Some.right) _ (none_shares_left g.L.PartialEq.eq g.R.PartialEq.eq g.met.L.Eq.laws g.met.R.Eq.laws old.pairs held.pairs (c.in-Some.left, c.in-Some.right) (g.met.B.Bijection.apart c.args.bimap.now) removing c.args.to lacks) c.in-Ok.ensures.answer in
+          omega (arith, none, c.in-Ok.ensures.count, c.in-Some.ensures.count);
+      room = c.insert.ensures.room.had_place (omega (arith, c.in-Some.ensures.count, g.met.B.Bijection.fits c.args.bimap.now, c.remove_by_left.ensures.room)) ∙ c.remove_by_left.ensures.room;
     }
 
 pub returns-then-not-contains_left : goal.returns-then-not-contains_left
@@ -44,5 +45,6 @@ returns-then-not-contains_left g c =
       replaced = tt;
       refused = (refl, lacking (Contains old.pairs) (λ (p : g.row.L.Denot × g.row.R.Denot). g.L.PartialEq.eq p.0 c.args.from.now) c.if-not-contains_left.ensures);
       unchanged = refl;
+      count = refl;
       room = refl;
     }

@@ -1,4 +1,4 @@
-use Rattle.std.proofs.Common.{rules, ◌≡◌, ◌<◌, ◌⊎◌, inl, inr, refl, sym, ap, ◌∙◌, subst, arith, length, Contains, vec_len, true≢false}
+use Rattle.std.proofs.Common.{rules, ◌≡◌, ◌<◌, inl, inr, sym, ap, ◌∙◌, subst, arith, length, Contains, vec_len, true≢false}
 use Rattle.std.specs.Vec.{vec_capacity}
 use Rattle.bimap_base.specs.Answer.{IsAnswer}
 use Rattle.bimap_base.specs.Sets.{NoneShares}
@@ -17,6 +17,7 @@ pub returns-clause-insertion : goal.returns-clause-insertion
 returns-clause-insertion g c = record {
   answer = c.strike-answer.ensures.answer;
   put = put_by g.L.PartialEq.eq g.R.PartialEq.eq c.args.pairs.now.items c.strike-answer.new.pairs.items c.push_reserved.new.self.items (c.args.left, c.args.right) c.strike-answer.ensures.cleared (search rules);
+  count = omega (arith, c.strike-answer.ensures.count, c.push_reserved.ensures.len, ap length c.make_place.ensures.items, c.args.pairs.now.ok.0, c.strike-answer.new.pairs.ok.0, c.make_place.new.items.ok.0, c.push_reserved.new.self.ok.0);
   handed_back = tt;
   none_struck = tt;
   full = tt;

@@ -1,7 +1,4 @@
-use Rattle.std.proofs.Common.{◌≡◌, ◌↔◌, Bool, true, false, refl, sym, ◌∙◌, Contains, arith, true≢false}
-use Rattle.bimap_base.specs.Sets.{HasLeft, LacksLeft, HasRight, LacksRight}
-use Rattle.bimap_base.specs.declared.policy.OnHeld.{OnHeld}
-use Rattle.bimap_base.specs.declared.policy.OnHeld.TheVariants.{Refuse}
+use Rattle.std.proofs.Common.{refl, sym, ◌∙◌, arith, true≢false}
 use Rattle.bimap_plain.proofs.changes.insert_under.Goals as goal
 use Rattle.bimap_plain.proofs.changes.insert_under.Goals.{else-refuses-via-then-refuses+else-has_left, else-refuses-via-else-refuses, else-refuses-2-via-then-refuses-2+else-has_right, else-refuses-2-via-else-refuses-2}
 
@@ -10,6 +7,7 @@ returns-then-has_left-clause-insertion g c = record {
   allowed = tt;
   answer = tt;
   put = tt;
+  count = tt;
   refused = (refl, c.refuses.ensures.0 c.if-refuses.true, rw c.deref.ensures.value at (rw c.if-has_left.true at c.has_left.ensures));
   unchanged = refl;
   room = record { not_lower = omega arith; had_place = λ h. refl; strikes = λ h. refl };
@@ -20,6 +18,7 @@ returns-then-has_right-clause-insertion g c = record {
   allowed = tt;
   answer = tt;
   put = tt;
+  count = tt;
   refused = (
     refl,
     elim c.else-refuses.branch [
@@ -47,6 +46,7 @@ returns-in-Ok-clause-insertion g c = record {
   };
   answer = c.in-Ok.ensures.insertion.answer;
   put = c.in-Ok.ensures.insertion.put;
+  count = c.in-Ok.ensures.insertion.count;
   refused = tt;
   unchanged = tt;
   room = c.in-Ok.ensures.insertion.room;

@@ -1,4 +1,4 @@
-use Rattle.std.proofs.Common.{rules, ◌≡◌, ◌<◌, length, refl, sym, ap, ◌∙◌, subst, arith, get_or}
+use Rattle.std.proofs.Common.{rules, subst, arith}
 use Rattle.bimap_plain.proofs.Keeping.{passed, refused, ended_apart, tail, order_now, pair_at}
 use Rattle.bimap_base.specs.Kept.{TestedAt}
 use Rattle.bimap_plain.proofs.changes.keep.Goals as goal

@@ -1,6 +1,5 @@
-use Rattle.std.proofs.Common.{◌≡◌, ◌-◌, length, Contains, vec_len}
+use Rattle.std.proofs.Common.{◌≡◌, ◌-◌, vec_len}
 use Rattle.std.specs.Vec.{vec_capacity}
-use Rattle.bimap_base.specs.Kept.{MayTest}
 use Rattle.bimap_plain.proofs.Keeping.{Going}
 use Rattle.bimap_plain.proofs.changes.keep.Given as goal
 

@@ -1,4 +1,4 @@
-use Rattle.std.proofs.Common.{rules, ◌≡◌, refl, sym, ap, ◌∙◌, arith}
+use Rattle.std.proofs.Common.{sym, ◌∙◌}
 use Rattle.bimap_plain.proofs.Removal.{cleared_by, struck_left, struck_right, struck_both}
 use Rattle.bimap_plain.proofs.changes.strike.Goals as goal
 

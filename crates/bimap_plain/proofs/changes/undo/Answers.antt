@@ -1,6 +1,6 @@
-use Rattle.std.proofs.Common.{◌≡◌, true, List, sym, ◌∙◌, subst, arith, Contains}
+use Rattle.std.proofs.Common.{◌≡◌, true, List, length, sym, ap, ◌∙◌, subst, arith, Contains}
 use Rattle.bimap_base.specs.Sets.{IsWithoutLeft}
-use Rattle.bimap_base.specs.Answer.{IsBoth}
+use Rattle.bimap_base.specs.Answer.{IsBoth, named_count}
 use Rattle.bimap_base.specs.Undoing.{IsUndone}
 use Rattle.bimap_base.proofs.Fits.{names_one}
 use Rattle.bimap_plain.proofs.Undone.{one_back, two_back, one_apart, two_apart}
@@ -22,6 +22,7 @@ returns-in-Some-take_left-clause-undoing g c =
     record {
       taken = subst (λ (xs : List (g.row.L.Denot × g.row.R.Denot)). Contains xs c.in-Some-take_left.old × (g.L.PartialEq.eq c.in-Some-take_left.old.0 c.args.left.now ≡ true)) c.make_place.ensures.items e.removed;
       undone = subst (λ a. IsUndone g.L.PartialEq.eq g.R.PartialEq.eq (Contains c.args.pairs.now.items) c.args.left.now a (Contains c.push_reserved-in-Some-take_left.new.self.items)) (sym c.in-Both.is) two;
+      count = omega (arith, e.shorter, ap named_count c.in-Both.is, c.push_reserved.ensures.len, c.push_reserved-in-Some-take_left.ensures.len, ap length c.make_place.ensures.items, c.args.pairs.now.ok.0, c.make_place.new.items.ok.0, c.take_left-in-Both.new.pairs.ok.0, c.push_reserved.new.self.ok.0, c.push_reserved-in-Some-take_left.new.self.ok.0);
       handed_back = tt;
       both = tt;
       full = tt;
@@ -43,6 +44,7 @@ returns-in-Some-take_left-2-clause-undoing g c =
     record {
       taken = e.removed;
       undone = one_back g.L.PartialEq.eq g.R.PartialEq.eq c.args.pairs.now.items c.take_left-in-Left.new.pairs.items c.push_reserved-in-Some-take_left-2.new.self.items c.args.left.now c.args.answer (c.in-Left.l, c.in-Left.r) e.without c.push_reserved-in-Some-take_left-2.ensures.items one.only one.is;
+      count = omega (arith, e.shorter, one.one, c.push_reserved-in-Some-take_left-2.ensures.len, c.args.pairs.now.ok.0, c.take_left-in-Left.new.pairs.ok.0, c.push_reserved-in-Some-take_left-2.new.self.ok.0);
       handed_back = tt;
       both = tt;
       full = tt;

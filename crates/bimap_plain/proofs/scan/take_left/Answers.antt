@@ -1,4 +1,4 @@
-use Rattle.std.proofs.Common.{rules, ◌≡◌, ◌<◌, length, sym, ap, ◌∙◌, arith}
+use Rattle.std.proofs.Common.{◌<◌, length, sym, ap, ◌∙◌, arith}
 use Rattle.bimap_plain.proofs.Removal.{taken_member, taken_apart, taken_left, read_again}
 use Rattle.bimap_plain.proofs.scan.take_left.Goals as goal
 

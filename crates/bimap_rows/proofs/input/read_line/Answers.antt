@@ -1,4 +1,4 @@
-use Rattle.std.proofs.Common.{◌≡◌, ◌<◌, ◌∙◌, ap, length, arith, subst, sym, List, ℕ, IfSome, true, false}
+use Rattle.std.proofs.Common.{◌<◌, ◌∙◌, arith, subst, sym, IfSome, true}
 use Rattle.bimap_rows.proofs.Pieces.{known_full, known_last, no_bytes, other_byte}
 use Rattle.bimap_rows.specs.Steps.{IsNextLine}
 use Rattle.bimap_rows.proofs.input.read_line.Goals as goal

@@ -1,4 +1,4 @@
-use Rattle.std.proofs.Common.{◌≡◌, ◌∷◌, List, ℕ, None, arith}
+use Rattle.std.proofs.Common.{None, arith}
 use Rattle.std.proofs.lemmas.Str.Pattern.{strip_prefix_char}
 use Rattle.bimap.specs.Types.{Overwrite, Refuse}
 use Rattle.bimap_rows.proofs.line.parse_letter.Goals as goal

@@ -1,4 +1,4 @@
-use Rattle.std.proofs.Common.{◌≡◌, subst, sym, ap, length, arith}
+use Rattle.std.proofs.Common.{subst, sym}
 use Rattle.bimap_rows.specs.Lines.{SaysCall}
 use Rattle.bimap_rows.proofs.Texts.{empty_utf8, not_empty, says_utf8}
 use Rattle.bimap_rows.proofs.line.parse_line.Goals as goal

@@ -1,4 +1,4 @@
-use Rattle.std.proofs.Common.{◌≡◌, None, arith}
+use Rattle.std.proofs.Common.{None, arith}
 use Rattle.std.proofs.lemmas.Str.Pattern.{split_parts}
 use Rattle.bimap_rows.proofs.Words.{one_word, only_words}
 use Rattle.bimap_rows.proofs.line.parse_pair.Goals as goal

@@ -1,4 +1,4 @@
-use Rattle.std.proofs.Common.{◌≡◌, ◌∙◌, sym, length}
+use Rattle.std.proofs.Common.{◌∙◌, sym}
 use Rattle.bimap_rows.proofs.Leading.{kept_leads, LeadsTo_run}
 use Rattle.bimap_rows.proofs.serve.perform.Goals as goal
 

@@ -1,4 +1,4 @@
-use Rattle.std.proofs.Common.{◌≡◌, ap, subst, sym, ◌∙◌, ◌+◌, IfSome, true, false}
+use Rattle.std.proofs.Common.{subst, ◌+◌, IfSome}
 use Rattle.std.proofs.KnownBytes.{Appends-nil}
 use Rattle.bimap_rows.specs.Steps.{IsNextLine, TakesLine, StopsAtLine}
 use Rattle.bimap_rows.proofs.Progress.{none_served, next_served, all_read, all_served, stopped_at}

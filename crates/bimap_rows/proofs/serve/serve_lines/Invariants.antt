@@ -1,7 +1,5 @@
-use Rattle.std.proofs.Common.{◌-◌, List, []}
-use Rattle.std.specs.Io.KnownBytes.{Appends}
-use Rattle.bimap_rows.specs.Serving.{LeadsTo, calls, told}
-use Rattle.bimap_rows.proofs.Progress.{HasRead, HasServed}
+use Rattle.std.proofs.Common.{◌-◌}
+use Rattle.bimap_rows.proofs.Progress.{HasServed}
 use Rattle.bimap_rows.proofs.serve.serve_lines.Given as goal
 
 abbrev pub invariant-loop-number : goal.invariant-loop-number

@@ -1,4 +1,4 @@
-use Rattle.std.proofs.Common.{◌≡◌, [], refl, subst}
+use Rattle.std.proofs.Common.{refl, subst}
 use Rattle.std.proofs.KnownBytes.{Appends-nil}
 use Rattle.bimap_rows.specs.Steps.{IsRead}
 use Rattle.bimap_rows.specs.declared.line.Line.TheVariants.{Bad}

@@ -1,4 +1,4 @@
-use Rattle.std.proofs.Common.{arith, refl}
+use Rattle.std.proofs.Common.{arith}
 use Rattle.std.specs.Vec.Iter.{into_iter_items}
 use Rattle.bimap.proofs.Members.{head_in, more_in}
 use Rattle.bimap_undo.proofs.operations.there_and_back.Goals as goal

@@ -1,4 +1,4 @@
-use Rattle.std.proofs.Common.{inl, inr, ◌≡◌, ◌≤◌, length, arith, Contains}
+use Rattle.std.proofs.Common.{inl, inr, arith, Contains}
 use Rattle.bimap.proofs.Undoing.{inserting_undoable, inserting_shorter, undone_same}
 use Rattle.bimap.proofs.Removals.{removing_shorter, put_again}
 use Rattle.bimap_undo.proofs.Paths.{both_or_not}

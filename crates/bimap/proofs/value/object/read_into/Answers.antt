@@ -1,4 +1,3 @@
-use Rattle.std.proofs.Common.{◌≡◌}
 use Rattle.serde_json.specs.View.{view}
 use Rattle.bimap.proofs.JsonReading.{read_any}
 use Rattle.bimap.proofs.value.object.read_into.Goals as goal

@@ -1,10 +1,9 @@
-use Rattle.std.proofs.Common.{◌≡◌, ◌+◌, ◌<◌, ◌≤◌, ◌∷◌, ◌++◌, [], ◌∙◌, length, ap, sym, subst, arith, append_assoc, Some, None, map, get_or}
+use Rattle.std.proofs.Common.{◌≡◌, ◌≤◌, ◌∷◌, ◌++◌, [], ◌∙◌, length, ap, sym, subst, arith, append_assoc, Some, None, map, get_or}
 use Rattle.std.specs.Vec.Iter.{into_iter_items}
-use Rattle.std.proofs.lemmas.List.{length-map, append-nil}
+use Rattle.std.proofs.lemmas.List.{length-map}
 use Rattle.bimap_base.specs.Places.{pairs_in, packed}
 use Rattle.bimap_base.specs.Slots.{pair_count}
-use Rattle.bimap_base.specs.FreeSlots.{pair_of, IsSound}
-use Rattle.bimap_base.specs.declared.pairs.Slot.TheVariants.{Free, Held}
+use Rattle.bimap_base.specs.FreeSlots.{pair_of}
 use Rattle.bimap_base.proofs.Packing.{moved_more, passed_free, room_left, all_held, all_packed, none_left, counted_in}
 use Rattle.bimap_base.proofs.pairs.Pairs.pack.Goals as goal
 

@@ -11,6 +11,7 @@ returns-then-keeps-clause-answer g c =
       allowed = tt;
       answer = tt;
       put = tt;
+      count = tt;
       refused = (refl, kept.1, left_held g.L.PartialEq.eq g.R.PartialEq.eq slots c.args.left c.seek_left-by_left.result c.seek_left-by_left.ensures.found kept.0);
       unchanged = refl;
       room = room_kept g.L.PartialEq.eq g.R.PartialEq.eq slots slots (c.args.left, c.args.right) refl;
@@ -24,6 +25,7 @@ returns-then-keeps-2-clause-answer g c =
       allowed = tt;
       answer = tt;
       put = tt;
+      count = tt;
       refused = (
         refl,
         (λ e. left_lacking g.L.PartialEq.eq slots c.args.left c.seek_left-by_left.result c.seek_left-by_left.ensures.found (may _ _ c.if-keeps.false c.keeps.ensures e)),

@@ -1,4 +1,4 @@
-use Rattle.std.proofs.Common.{◌≡◌, ◌∙◌, ◌+◌, ◌≤◌, ◌∷◌, [], length, ap, arith, length-append, subst, sym}
+use Rattle.std.proofs.Common.{◌≡◌, ◌∙◌, ◌+◌, ◌∷◌, [], length, ap, arith, length-append, subst, sym}
 use Rattle.bimap_undo.specs.Marks.{Marked, marked, IsBefore}
 use Rattle.bimap_undo.proofs.Paths.{before_last, keeps_pop, marks_pop, last_is_held}
 use Rattle.bimap_undo.proofs.undoable.Undoable.back_to.Goals as goal

@@ -1,4 +1,4 @@
-use Rattle.std.proofs.Common.{◌≡◌, ◌↔◌, ◌≤◌, ◌∙◌, Bool, ap, refl, sym, subst, arith, length, Contains, rules}
+use Rattle.std.proofs.Common.{◌≡◌, ◌↔◌, ◌∙◌, Bool, ap, refl, sym, subst, arith, length, Contains, rules}
 use Rattle.std.proofs.lemmas.List.{length_push}
 use Rattle.bimap.specs.Sets.{IsApart}
 use Rattle.bimap.specs.Types.{Policy, NotInsertedWith}

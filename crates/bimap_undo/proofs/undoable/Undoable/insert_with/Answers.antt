@@ -1,4 +1,4 @@
-use Rattle.std.proofs.Common.{◌≡◌, ◌∙◌, ap, refl, Bool, Contains, List, ◌++◌, ◌∷◌, [], length, length-append}
+use Rattle.std.proofs.Common.{◌≡◌, ◌∙◌, ap, refl, Bool, Contains, ◌++◌, ◌∷◌, [], length, length-append}
 use Rattle.bimap_undo.specs.declared.entry.Entry.TheVariants.{Inserted}
 use Rattle.bimap.specs.Answer.{IsRefusalUnder}
 use Rattle.bimap.specs.Types.{Policy, NotInsertedWith}

@@ -1,4 +1,4 @@
-use Rattle.std.proofs.Common.{◌≤◌, length, drop, arith}
+use Rattle.std.proofs.Common.{drop, arith}
 use Rattle.bimap_undo.specs.Marks.{marked}
 use Rattle.bimap_undo.proofs.Paths.{held_before_last, path_from_one}
 use Rattle.bimap_undo.proofs.undoable.Undoable.mark.Goals as goal

@@ -1,4 +1,3 @@
-use Rattle.std.proofs.Common.{refl}
 use Rattle.bimap_undo.specs.Marks.{marked}
 use Rattle.bimap_undo.proofs.Paths.{no_marks}
 use Rattle.bimap_undo.proofs.undoable.Undoable.new.Goals as goal

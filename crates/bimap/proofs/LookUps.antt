@@ -1,0 +1,41 @@
+-- What a caller derives of the pairs held: which are there, which stay, and that a value has one partner.
+use Rattle.std.proofs.Common.{◌≡◌, Bool, true, false, Option, Some, None, inl, inr, refl, sym, ap, ◌∙◌, true≢false}
+use Rattle.std.specs.Prelude.{Contains, List, option_copied}
+use Rattle.std.specs.Borrow.{Bor}
+use Rattle.std.specs.Cmp.{IsEquivalence}
+use Rattle.std.proofs.lemmas.Bool.{or_left, or_right}
+use Rattle.bimap_base.specs.Sets.{shares, IsApart, IsWithPut}
+use Rattle.bimap_base.specs.Holding.{Holding, IsFoundByLeft, IsFoundByRight}
+use Rattle.bimap_base.proofs.Apart.{apart_unique}
+
+module _ {L R : Type 0} (same_left : L → L → Bool) (same_right : R → R → Bool) (S : L × R → Type 0) (p : L × R) (T : L × R → Type 0) where
+  -- a pair that was put in is there
+  pub put_is_held : IsWithPut same_left same_right S p T → T p
+  put_is_held put = (put p).1 (inl refl)
+
+  -- a pair of before that shares no value with it is still there
+  pub other_stays : IsWithPut same_left same_right S p T → (q : L × R) → S q → shares same_left same_right q p ≡ false → T q
+  other_stays put q was apart = (put q).1 (inr (was, apart))
+
+module _ {L R : Type 0} (same_left : L → L → Bool) (same_right : R → R → Bool) (lefts : IsEquivalence same_left) (rights : IsEquivalence same_right) where
+  -- two pairs with equal lefts are one
+  pub one_by_left : (held : List (L × R)) (p q : L × R) → IsApart same_left same_right held → Contains held p → Contains held q → same_left p.0 q.0 ≡ true → p ≡ q
+  one_by_left held p q apart m n e = apart_unique same_left same_right lefts rights held p q apart m n (or_left (same_left p.0 q.0) (same_right p.1 q.1) e)
+
+  -- two pairs with equal rights are one
+  pub one_by_right : (held : List (L × R)) (p q : L × R) → IsApart same_left same_right held → Contains held p → Contains held q → same_right p.1 q.1 ≡ true → p ≡ q
+  one_by_right held p q apart m n e = apart_unique same_left same_right lefts rights held p q apart m n (or_right (same_left p.0 q.0) (same_right p.1 q.1) e)
+
+  -- the partner of an equal left is found
+  pub found_by_left : (held : Holding L R) (key l : L) (r : R) (found : Option (Bor R)) → IsApart same_left same_right held.pairs → Contains held.pairs (l, r) → same_left l key ≡ true → IsFoundByLeft same_left held key found → option_copied found ≡ Some r
+  found_by_left held key l r None apart is e h = absurd (true≢false (sym e ∙ h.none (l, r) is))
+  found_by_left held key l r (Some b) apart is e h =
+      let one = one_by_left held.pairs (h.found.0, b.now) (l, r) apart h.found.1 is (lefts.symm h.found.0 l ∙ lefts.congr l key h.found.0 e ∙ lefts.symm key h.found.0 ∙ h.found.2) in
+      ap (λ (p : L × R). Some p.1) one
+
+  -- the partner of an equal right is found
+  pub found_by_right : (held : Holding L R) (key r : R) (l : L) (found : Option (Bor L)) → IsApart same_left same_right held.pairs → Contains held.pairs (l, r) → same_right r key ≡ true → IsFoundByRight same_right held key found → option_copied found ≡ Some l
+  found_by_right held key r l None apart is e h = absurd (true≢false (sym e ∙ h.none (l, r) is))
+  found_by_right held key r l (Some b) apart is e h =
+      let one = one_by_right held.pairs (b.now, h.found.0) (l, r) apart h.found.1 is (rights.symm h.found.0 r ∙ rights.congr r key h.found.0 e ∙ rights.symm key h.found.0 ∙ h.found.2) in
+      ap (λ (p : L × R). Some p.0) one

@@ -1,0 +1,102 @@
+//! The calls that are timed, over any bimap of numbers. Each answers what it found, by which a run is checked.
+ghost use Rattle.std.specs.Iterator.{IsFinite};
+
+use crate::keys::{left, mixed, right};
+use crate::report::Report;
+use bimap::{Bijection, Overwritten};
+use std::io;
+use std::io::Print;
+use std::time::Clock;
+
+// Puts in the pairs of the numbers, each with the right of the number `apart` further on, and counts those that struck a
+// pair.
+fn insert<B: Bijection<u64, u64>>(bimap: &mut B, pairs: u64, apart: u64) -> u64 {
+    let mut struck = 0u64;
+    for number in 0..pairs {
+        match bimap.insert(left(number), right(number.wrapping_add(apart))) {
+            Ok(Overwritten::Neither) | Err(_) => {}
+            Ok(_) => struck = struck.wrapping_add(1),
+        }
+    }
+    struck
+}
+
+// Looks up the lefts of the numbers from `from` on, and counts those that are held.
+fn look_up_by_left<B: Bijection<u64, u64>>(bimap: &B, pairs: u64, from: u64) -> u64 {
+    let mut found = 0u64;
+    for number in 0..pairs {
+        let key = left(mixed(number, pairs).wrapping_add(from));
+        found = found.wrapping_add(bimap.get_by_left(&key).is_some() as u64);
+    }
+    found
+}
+
+// The same by right.
+fn look_up_by_right<B: Bijection<u64, u64>>(bimap: &B, pairs: u64, from: u64) -> u64 {
+    let mut found = 0u64;
+    for number in 0..pairs {
+        let key = right(mixed(number, pairs).wrapping_add(from));
+        found = found.wrapping_add(bimap.get_by_right(&key).is_some() as u64);
+    }
+    found
+}
+
+// Removes by left, and counts what was held.
+fn remove_by_left<B: Bijection<u64, u64>>(bimap: &mut B, pairs: u64) -> u64 {
+    let mut removed = 0u64;
+    for number in 0..pairs {
+        let key = left(mixed(number, pairs));
+        removed = removed.wrapping_add(bimap.remove_by_left(&key).is_some() as u64);
+    }
+    removed
+}
+
+/// The sum of a walk.
+pub fn total<'a, W: Iterator<Item = (&'a u64, &'a u64)> + Drop>(walk: W) -> u64
+    requires can { W.can_next walk }
+    requires ends { IsFinite (W.remaining walk) }
+{
+    let mut sum = 0u64;
+    for (left, right) in walk {
+        sum = sum.wrapping_add(left ^ right);
+    }
+    sum
+}
+
+/// Insertions, look-ups that hit and miss on either side, the same pairs once more, and pairs that strike one by its left.
+pub fn changes<R: Clock + Print, B: Bijection<u64, u64>>(
+    rt: &R,
+    report: &Report,
+    bimap: &mut B,
+) -> io::Result<()> {
+    let pairs = report.pairs();
+    let start = report.start(rt)?;
+    let struck = insert(bimap, pairs, 0);
+    report.end(rt, "insert", start, struck)?;
+    let start = report.start(rt)?;
+    let found = look_up_by_left(bimap, pairs, 0);
+    report.end(rt, "hit-by-left", start, found)?;
+    let start = report.start(rt)?;
+    let found = look_up_by_right(bimap, pairs, 0);
+    report.end(rt, "hit-by-right", start, found)?;
+    let start = report.start(rt)?;
+    let found = look_up_by_left(bimap, pairs, pairs);
+    report.end(rt, "miss-by-left", start, found)?;
+    let start = report.start(rt)?;
+    let struck = insert(bimap, pairs, 0);
+    report.end(rt, "same-pair", start, struck)?;
+    let start = report.start(rt)?;
+    let struck = insert(bimap, pairs, pairs);
+    report.end(rt, "overwrite", start, struck)
+}
+
+/// Removals by left, to the last pair.
+pub fn removals<R: Clock + Print, B: Bijection<u64, u64>>(
+    rt: &R,
+    report: &Report,
+    bimap: &mut B,
+) -> io::Result<()> {
+    let start = report.start(rt)?;
+    let removed = remove_by_left(bimap, report.pairs());
+    report.end(rt, "remove", start, removed)
+}

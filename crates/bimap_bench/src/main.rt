@@ -1,0 +1,39 @@
+//! Times the calls of each kind of bimap: `bimap_bench PAIRS times` prints the nanoseconds of each call over so many
+//! pairs. Without the second word it prints what the calls found, and no time.
+#![tactic(auto)]
+
+mod calls;
+mod keys;
+mod report;
+
+use bimap::{BiBTreeHashMap, BiBTreeMap, BiHashBTreeMap, BiHashMap};
+use calls::{changes, removals, total};
+use report::Report;
+use std::{env, io};
+
+// The calls over one kind of bimap, from the empty one to the empty one.
+macro_rules! measure {
+    ($rt:expr, $report:expr, $kind:ident) => {{
+        let mut bimap: $kind<u64, u64> = $kind::new($rt.alloc());
+        let report = $report.of(stringify!($kind));
+        changes($rt, &report, &mut bimap)?;
+        let start = report.start($rt)?;
+        let sum = total(bimap.iter());
+        report.end($rt, "walk", start, sum)?;
+        removals($rt, &report, &mut bimap)?;
+    }};
+}
+
+fn main(rt: HostRuntime) -> io::Result<()> {
+    let mut words = env::args(&rt)?.skip(1);
+    let pairs = words
+        .next()
+        .and_then(|word| word.parse().ok())
+        .unwrap_or(1000u64);
+    let report = Report::new(pairs, words.next().is_some());
+    measure!(&rt, report, BiBTreeMap);
+    measure!(&rt, report, BiBTreeHashMap);
+    measure!(&rt, report, BiHashBTreeMap);
+    measure!(&rt, report, BiHashMap);
+    Ok(())
+}

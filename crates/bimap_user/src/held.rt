@@ -1,0 +1,24 @@
+//! What a caller knows of a pair that it put in, and of how many are held then.
+ghost use Rattle.std.specs.Prelude.{◌≡◌, ◌+◌, length, Contains, IfErr, OnOk, OnErr};
+ghost use Rattle.bimap.specs.Answer.{IsRefusal};
+ghost use Rattle.bimap.specs.Holding.{IsFull};
+
+use bimap::{Bijection, NotInserted};
+
+/// Seats a new guest in a new seat.
+///
+/// Costs an insertion. It takes memory only where no place is free. An `Err` hands guest and seat back, and nothing has
+/// changed: one of them is in the ledger, or there was no memory.
+#[tactic(auto, using(bimap::proofs::LookUps::put_is_held))]
+pub fn seat_new<G: Eq + Drop, S: Eq + Drop, B: Bijection<G, S>>(
+    ledger: &mut B,
+    guest: G,
+    seat: S,
+) -> Result<(), NotInserted<G, S>>
+    ensures seated { OnOk result (Contains (B.holding ledger.new).pairs (guest, seat)) }
+    ensures refused { IfErr result (IsRefusal G.eq S.eq (Contains (B.holding ledger.old).pairs) (IsFull (B.holding ledger.old)) (guest, seat)) }
+    ensures unchanged { OnErr result (B.holding ledger.new ≡ B.holding ledger.old) }
+    ensures count { OnOk result (length (B.holding ledger.new).pairs ≡ length (B.holding ledger.old).pairs + 1) }
+{
+    ledger.insert_no_overwrite(guest, seat)
+}
