@@ -11,10 +11,10 @@ mod trails;
 mod walks;
 mod zero;
 
-pub use kind::{CopyKind, Kind, Walked};
+pub use kind::{CopyKind, Kind};
 pub use policies::{KEEP_LEFT, KEEP_RIGHT, ONCE, OVERWRITE};
 pub use shown::{holds, shows};
 pub use tagged::{Tagged, with_tag};
 pub use trails::insert_all;
-pub use walks::{LeftIndex, RightIndex, TakenIndex};
+pub use walks::{Taken, Walked, WalkedRights};
 pub use zero::{Crowded, Zero, crowded};

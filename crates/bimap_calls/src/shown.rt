@@ -1,5 +1,5 @@
 //! What a bimap shows.
-use crate::kind::Walked;
+use crate::walks::Walked;
 use bimap::Bijection;
 use std::alloc::{AllocError, Global};
 

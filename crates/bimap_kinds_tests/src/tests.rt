@@ -1,7 +1,7 @@
 //! Each test is one function over any kind of bimap, called over every kind.
 //!
 //! A test that calls over the kinds is proved anew at each of them, so those of the same types are called by one.
-use bimap_calls::{CopyKind, Kind, Walked, over_each_kind};
+use bimap_calls::{CopyKind, Kind, Taken, Walked, WalkedRights, over_each_kind};
 use std::alloc::Global;
 use std::process::Abort;
 use std::test::Fail;
@@ -21,7 +21,7 @@ mod whole;
 
 use whole::digits;
 
-fn letters<B: CopyKind<char, u32> + Walked<char, u32>>(
+fn letters<B: CopyKind<char, u32> + Taken<char, u32> + Walked<char, u32> + WalkedRights<u32>>(
     rt: &impl Abort,
     alloc: Global,
 ) -> Result<(), Fail> {
@@ -30,7 +30,7 @@ fn letters<B: CopyKind<char, u32> + Walked<char, u32>>(
     whole::letters::<B>(rt, alloc)
 }
 
-fn numbers<B: Kind<u32, u32> + Walked<u32, u32>>(
+fn numbers<B: Kind<u32, u32> + Taken<u32, u32> + Walked<u32, u32> + WalkedRights<u32>>(
     rt: &impl Abort,
     alloc: Global,
 ) -> Result<(), Fail> {

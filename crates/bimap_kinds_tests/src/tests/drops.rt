@@ -1,7 +1,7 @@
 //! Each value that a bimap was given is dropped once, and not before it is let go.
 use super::counted::{Counted, Ledger};
 use bimap::{BiHashMap, Bijection, BijectiveMap};
-use bimap_calls::{Kind, crowded, over_each_kind};
+use bimap_calls::{Kind, Taken, crowded, over_each_kind};
 use bimap_index::{EmptyIndex, HashIndex};
 use bimap_tree::Ordered;
 use std::alloc::{AllocError, Global};
@@ -152,7 +152,7 @@ fn shrunk_and_cleared<LS: BuildHasher + Drop, RS: BuildHasher + Drop>(
 }
 
 // An owning walk that is given up drops the rest.
-fn given_up<B: Kind<Counted, Counted>>(
+fn given_up<B: Kind<Counted, Counted> + Taken<Counted, Counted>>(
     rt: &impl Abort,
     alloc: Global,
     mut bimap: B,
@@ -191,7 +191,10 @@ fn given_up_at_both_ends<J: EmptyIndex<Counted> + Drop>(
     Ok(())
 }
 
-fn all<B: Kind<Counted, Counted>>(rt: &impl Abort, alloc: Global) -> Result<(), Fail> {
+fn all<B: Kind<Counted, Counted> + Taken<Counted, Counted>>(
+    rt: &impl Abort,
+    alloc: Global,
+) -> Result<(), Fail> {
     struck(rt, alloc, B::empty(alloc))?;
     handed_back(rt, alloc, B::empty(alloc))?;
     undone(rt, alloc, B::empty(alloc))?;

@@ -1,6 +1,6 @@
 //! Calls on the empty bimap.
 use bimap::Bijection;
-use bimap_calls::{Kind, Walked};
+use bimap_calls::{Kind, Taken, Walked, WalkedRights};
 use std::alloc::{AllocError, Global};
 use std::cell::Cell;
 use std::process::Abort;
@@ -17,7 +17,7 @@ fn tests<B: Bijection<u32, u32>>(bimap: &mut B) -> u32 {
 }
 
 // Whether each walk ends at once.
-fn walks_nowhere<B: Kind<u32, u32> + Walked<u32, u32>>(
+fn walks_nowhere<B: Kind<u32, u32> + Taken<u32, u32> + Walked<u32, u32> + WalkedRights<u32>>(
     alloc: Global,
     mut bimap: B,
 ) -> Result<bool, AllocError> {
@@ -32,7 +32,7 @@ fn walks_nowhere<B: Kind<u32, u32> + Walked<u32, u32>>(
     )
 }
 
-fn is_empty<B: Kind<u32, u32> + Walked<u32, u32>>(
+fn is_empty<B: Kind<u32, u32> + Taken<u32, u32> + Walked<u32, u32> + WalkedRights<u32>>(
     rt: &impl Abort,
     alloc: Global,
 ) -> Result<(), Fail> {
@@ -48,7 +48,7 @@ fn is_empty<B: Kind<u32, u32> + Walked<u32, u32>>(
 }
 
 // The same of a bimap that was emptied, and has places.
-fn is_empty_again<B: Kind<u32, u32> + Walked<u32, u32>>(
+fn is_empty_again<B: Kind<u32, u32> + Taken<u32, u32> + Walked<u32, u32> + WalkedRights<u32>>(
     rt: &impl Abort,
     alloc: Global,
 ) -> Result<(), Fail> {
@@ -63,7 +63,7 @@ fn is_empty_again<B: Kind<u32, u32> + Walked<u32, u32>>(
     Ok(())
 }
 
-pub(super) fn all<B: Kind<u32, u32> + Walked<u32, u32>>(
+pub(super) fn all<B: Kind<u32, u32> + Taken<u32, u32> + Walked<u32, u32> + WalkedRights<u32>>(
     rt: &impl Abort,
     alloc: Global,
 ) -> Result<(), Fail> {

@@ -1,6 +1,6 @@
 //! So many pairs that no limit on the size is missed. The crowded kind is left out: each look-up would go through all.
 use bimap::{BiBTreeHashMap, BiBTreeMap, BiHashBTreeMap, BiHashMap, Bijection, Overwritten};
-use bimap_calls::{Kind, Walked};
+use bimap_calls::{Kind, Taken, Walked};
 use std::alloc::{AllocError, Global};
 use std::process::Abort;
 use std::test::Fail;
@@ -85,7 +85,7 @@ fn halved<B: Kind<u32, u32>>(rt: &impl Abort, alloc: Global) -> B {
     bimap
 }
 
-fn holds_many<B: Kind<u32, u32> + Walked<u32, u32>>(
+fn holds_many<B: Kind<u32, u32> + Taken<u32, u32> + Walked<u32, u32>>(
     rt: &impl Abort,
     alloc: Global,
 ) -> Result<(), Fail> {

@@ -1,6 +1,6 @@
 //! Values of no bytes, texts, and boxes, under either index on either side.
 use bimap::{Bijection, Overwritten};
-use bimap_calls::{Kind, over_mixed_kinds};
+use bimap_calls::{Kind, Taken, over_mixed_kinds};
 use std::alloc::{AllocError, Global};
 use std::process::Abort;
 use std::test::Fail;
@@ -15,7 +15,7 @@ fn nothing_on_both_sides<B: Kind<(), ()>>(rt: &impl Abort, alloc: Global) {
     assert!(rt; bimap.len() == 0 && bimap.remove_by_left(&()).is_none());
 }
 
-fn nothing_on_the_left<B: Kind<(), u32>>(rt: &impl Abort, alloc: Global) {
+fn nothing_on_the_left<B: Kind<(), u32> + Taken<(), u32>>(rt: &impl Abort, alloc: Global) {
     let mut bimap = B::empty(alloc);
     assert!(rt; bimap.insert((), 1) == Ok(Overwritten::Neither));
     assert!(rt; bimap.insert((), 2) == Ok(Overwritten::Left((), 1)));
@@ -100,7 +100,10 @@ fn boxed(alloc: Global, of: u32) -> Result<Box<u32>, AllocError> {
 }
 
 // Boxes are equal by what is in them.
-fn boxes<B: Kind<Box<u32>, Box<u32>>>(rt: &impl Abort, alloc: Global) -> Result<(), Fail> {
+fn boxes<B: Kind<Box<u32>, Box<u32>> + Taken<Box<u32>, Box<u32>>>(
+    rt: &impl Abort,
+    alloc: Global,
+) -> Result<(), Fail> {
     let mut bimap = B::empty(alloc);
     for (left, right, length) in [(1, 11, 1), (2, 12, 2), (3, 13, 3), (2, 11, 2), (4, 13, 2)] {
         let (left, right) = (boxed(alloc, left)?, boxed(alloc, right)?);

@@ -1,6 +1,6 @@
 //! Walks: each pair once, copies that are made on the way, and bimaps under unlike builders.
 use bimap::{BiHashMap, Bijection};
-use bimap_calls::{CopyKind, Kind, Walked, holds};
+use bimap_calls::{CopyKind, Kind, Taken, Walked, WalkedRights, holds};
 use std::alloc::{AllocError, Global};
 use std::hash::RandomState;
 use std::process::Abort;
@@ -8,10 +8,9 @@ use std::test::Fail;
 
 const HELD: [(char, u32); 3] = [('a', 3), ('b', 2), ('c', 1)];
 
-pub(super) fn gives_each_once<B: CopyKind<char, u32> + Walked<char, u32>>(
-    rt: &impl Abort,
-    alloc: Global,
-) -> Result<(), Fail> {
+pub(super) fn gives_each_once<
+    B: CopyKind<char, u32> + Taken<char, u32> + Walked<char, u32> + WalkedRights<u32>,
+>(rt: &impl Abort, alloc: Global) -> Result<(), Fail> {
     let mut bimap = B::empty(alloc);
     bimap.add(&[('x', 9)]).ok().ok_or("no memory")?;
     bimap.add(&HELD).ok().ok_or("no memory")?;
@@ -53,7 +52,7 @@ fn filled<B: Kind<u32, u32>>(alloc: Global, pairs: &[(u32, u32)]) -> Result<B, F
 
 // Whether the walks of either side give the values of these pairs, that of the lefts in their order, and an owning walk
 // the pairs.
-fn sides_give<B: Kind<u32, u32> + Walked<u32, u32>>(
+fn sides_give<B: Kind<u32, u32> + Taken<u32, u32> + Walked<u32, u32> + WalkedRights<u32>>(
     alloc: Global,
     mut bimap: B,
     pairs: &[(u32, u32)],
@@ -70,10 +69,9 @@ fn sides_give<B: Kind<u32, u32> + Walked<u32, u32>>(
     )
 }
 
-pub(super) fn walks_alike<B: Kind<u32, u32> + Walked<u32, u32>>(
-    rt: &impl Abort,
-    alloc: Global,
-) -> Result<(), Fail> {
+pub(super) fn walks_alike<
+    B: Kind<u32, u32> + Taken<u32, u32> + Walked<u32, u32> + WalkedRights<u32>,
+>(rt: &impl Abort, alloc: Global) -> Result<(), Fail> {
     for length in LENGTHS {
         let mut pairs = scattered(alloc, length)?;
         let bimap = filled::<B>(alloc, pairs.as_slice())?;
