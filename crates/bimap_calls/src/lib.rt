@@ -16,5 +16,5 @@ pub use policies::{KEEP_LEFT, KEEP_RIGHT, ONCE, OVERWRITE};
 pub use shown::{holds, shows};
 pub use tagged::{Tagged, with_tag};
 pub use trails::insert_all;
-pub use walks::{Taken, Walked, WalkedRights};
+pub use walks::{LeftIndex, RightIndex, Taken, TakenIndex, Walked, WalkedRights};
 pub use zero::{Crowded, Zero, crowded};
