@@ -15,6 +15,9 @@ impl<L: Eq + Drop, R: Eq + Drop, I: Index<L>, J: Index<R>> BijectiveMap<L, R, I,
     ///
     /// Nothing is reserved by a size hint. An `Err` hands the refused item back: those before it stay, and no more are
     /// asked for. Time is that of an insertion for each item.
+    ///
+    ///     seats.extend([('d', 4), ('e', 1)]); // Ok(())
+    ///     seats.len(); // 4
     pub fn extend<A: IntoIterator<Item = (L, R)>>(
         &mut self,
         items: A,
@@ -39,6 +42,8 @@ impl<L: Eq + Drop, R: Eq + Drop, I: EmptyIndex<L> + Drop, J: EmptyIndex<R> + Dro
     ///
     /// Nothing is reserved by a size hint. An `Err` hands the refused item back, and there is no bimap. Time is that of
     /// `extend`.
+    ///
+    ///     let seats: BiBTreeMap<char, u32> = BiBTreeMap::from_iter(alloc, [('a', 3), ('b', 1), ('c', 2)])?;
     pub fn from_iter<A: IntoIterator<Item = (L, R)>>(
         alloc: Global,
         items: A,

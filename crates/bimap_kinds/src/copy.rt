@@ -19,6 +19,8 @@ impl<
     ///
     /// Memory for the whole capacity is taken at once, beside what the clones take. Where some is refused, there is no
     /// copy. Time is that of an insertion for each pair.
+    ///
+    ///     seats.clone()? == seats; // true
     pub fn clone(&self) -> Result<Self, NoMemory>
         requires { AreClonesEqual L.is_clone R.is_clone L.eq R.eq (holding self.now).pairs }
         ensures pairs { IfOk result (λ copy. IsCopy L.is_clone R.is_clone L.eq R.eq (holding self.now).pairs (holding copy).pairs) }

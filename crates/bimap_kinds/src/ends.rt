@@ -14,6 +14,8 @@ impl<L: Ord, R: Eq, J: Index<R>> BijectiveMap<L, R, Ordered, J> {
     ghost use Rattle.bimap_kinds.specs.Held.{holding};
 
     /// The pair with the least left, or `None` where no pair is held, in time logarithmic in the length.
+    ///
+    ///     seats.first_by_left(); // Some((&'a', &3))
     pub fn first_by_left(&self) -> Option<(&L, &R)>
         ensures { option_map deref_pair result ≡ slice_get (holding self.now).pairs 0 }
     {
@@ -21,6 +23,8 @@ impl<L: Ord, R: Eq, J: Index<R>> BijectiveMap<L, R, Ordered, J> {
     }
 
     /// The pair with the greatest left, or `None` where no pair is held, in time logarithmic in the length.
+    ///
+    ///     seats.last_by_left(); // Some((&'c', &2))
     pub fn last_by_left(&self) -> Option<(&L, &R)>
         ensures { option_map deref_pair result ≡ slice_get (holding self.now).pairs (length (holding self.now).pairs - 1) }
     {
@@ -28,6 +32,8 @@ impl<L: Ord, R: Eq, J: Index<R>> BijectiveMap<L, R, Ordered, J> {
     }
 
     /// The pair with exactly so many lefts below its own, or `None` from the length on, in time logarithmic in the length.
+    ///
+    ///     seats.pair_at_left_rank(1); // Some((&'b', &1))
     pub fn pair_at_left_rank(&self, rank: usize) -> Option<(&L, &R)>
         ensures { option_map deref_pair result ≡ slice_get (holding self.now).pairs rank }
     {
@@ -36,6 +42,8 @@ impl<L: Ord, R: Eq, J: Index<R>> BijectiveMap<L, R, Ordered, J> {
 
     /// How many lefts are below this one, which need not be held: the rank of its pair, where it is. In time logarithmic in
     /// the length.
+    ///
+    ///     seats.left_rank(&'c'); // 2
     pub fn left_rank(&self, left: &L) -> usize
         ensures { result ≡ count_by (λ p. is_lt (L.cmp p.0 left.now)) (holding self.now).pairs }
     {
@@ -44,6 +52,8 @@ impl<L: Ord, R: Eq, J: Index<R>> BijectiveMap<L, R, Ordered, J> {
 
     /// Takes out the pair with the least left, or answers `None` where no pair is held, in the time of a removal. It takes no
     /// memory, and the room stays.
+    ///
+    ///     seats.pop_first_by_left(); // Some(('a', 3))
     pub fn pop_first_by_left(&mut self) -> Option<(L, R)>
         ensures taken { TakesFirst (λ p. p) (holding self.old).pairs result (holding self.new).pairs }
         ensures room { (holding self.new).room ≡ (holding self.old).room }
@@ -53,6 +63,8 @@ impl<L: Ord, R: Eq, J: Index<R>> BijectiveMap<L, R, Ordered, J> {
 
     /// Takes out the pair with the greatest left, or answers `None` where no pair is held, in the time of a removal. It takes no
     /// memory, and the room stays.
+    ///
+    ///     seats.pop_last_by_left(); // Some(('c', 2))
     pub fn pop_last_by_left(&mut self) -> Option<(L, R)>
         ensures taken { TakesLast (λ p. p) (holding self.old).pairs result (holding self.new).pairs }
         ensures room { (holding self.new).room ≡ (holding self.old).room }
@@ -138,6 +150,8 @@ impl<L: Eq, R: Ord, I: Index<L>> BijectiveMap<L, R, I, Ordered> {
     ghost use Rattle.bimap_kinds.specs.Sorted.{IsByRight};
 
     /// The pair with the least right, or `None` where no pair is held, in time logarithmic in the length.
+    ///
+    ///     seats.first_by_right(); // Some((&'b', &1))
     pub fn first_by_right(&self) -> Option<(&L, &R)>
         ensures pair { option_map deref_pair result ≡ slice_get (by_right self.now) 0 }
         ensures sorted { IsByRight R.cmp (holding self.now).pairs (by_right self.now) }
@@ -146,6 +160,8 @@ impl<L: Eq, R: Ord, I: Index<L>> BijectiveMap<L, R, I, Ordered> {
     }
 
     /// The pair with the greatest right, or `None` where no pair is held, in time logarithmic in the length.
+    ///
+    ///     seats.last_by_right(); // Some((&'a', &3))
     pub fn last_by_right(&self) -> Option<(&L, &R)>
         ensures pair { option_map deref_pair result ≡ slice_get (by_right self.now) (length (by_right self.now) - 1) }
         ensures sorted { IsByRight R.cmp (holding self.now).pairs (by_right self.now) }
@@ -154,6 +170,8 @@ impl<L: Eq, R: Ord, I: Index<L>> BijectiveMap<L, R, I, Ordered> {
     }
 
     /// The pair with exactly so many rights below its own, or `None` from the length on, in time logarithmic in the length.
+    ///
+    ///     seats.pair_at_right_rank(1); // Some((&'c', &2))
     pub fn pair_at_right_rank(&self, rank: usize) -> Option<(&L, &R)>
         ensures pair { option_map deref_pair result ≡ slice_get (by_right self.now) rank }
         ensures sorted { IsByRight R.cmp (holding self.now).pairs (by_right self.now) }
@@ -163,6 +181,8 @@ impl<L: Eq, R: Ord, I: Index<L>> BijectiveMap<L, R, I, Ordered> {
 
     /// How many rights are below this one, which need not be held: the rank of its pair, where it is. In time logarithmic in
     /// the length.
+    ///
+    ///     seats.right_rank(&3); // 2
     pub fn right_rank(&self, right: &R) -> usize
         ensures rank { result ≡ count_by (λ p. is_lt (R.cmp p.1 right.now)) (by_right self.now) }
         ensures sorted { IsByRight R.cmp (holding self.now).pairs (by_right self.now) }
@@ -172,6 +192,8 @@ impl<L: Eq, R: Ord, I: Index<L>> BijectiveMap<L, R, I, Ordered> {
 
     /// Takes out the pair with the least right, or answers `None` where no pair is held, in the time of a removal. It takes no
     /// memory, and the room stays.
+    ///
+    ///     seats.pop_first_by_right(); // Some(('b', 1))
     pub fn pop_first_by_right(&mut self) -> Option<(L, R)>
         ensures taken { TakesFirst (λ p. p) (by_right self.old) result (by_right self.new) }
         ensures sorted { IsByRight R.cmp (holding self.old).pairs (by_right self.old) }
@@ -183,6 +205,8 @@ impl<L: Eq, R: Ord, I: Index<L>> BijectiveMap<L, R, I, Ordered> {
 
     /// Takes out the pair with the greatest right, or answers `None` where no pair is held, in the time of a removal. It takes no
     /// memory, and the room stays.
+    ///
+    ///     seats.pop_last_by_right(); // Some(('a', 3))
     pub fn pop_last_by_right(&mut self) -> Option<(L, R)>
         ensures taken { TakesLast (λ p. p) (by_right self.old) result (by_right self.new) }
         ensures sorted { IsByRight R.cmp (holding self.old).pairs (by_right self.old) }

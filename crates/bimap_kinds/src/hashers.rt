@@ -13,6 +13,10 @@ impl<L: Eq + Hash, R: Eq + Hash, LS: BuildHasher, RS: BuildHasher> BiHashMap<L, 
     ghost use Rattle.bimap_kinds.specs.Held.{holding};
 
     /// The empty bimap, without places, and with these builders. It takes no memory, and constant time.
+    ///
+    ///     let (left, right) = (RandomState::new(&rt)?, RandomState::new(&rt)?);
+    ///     let mut seats = BiHashMap::with_hashers(alloc, left, right);
+    ///     seats.insert('a', 3); // Ok(Overwritten::Neither)
     pub fn with_hashers(alloc: Global, left_builder: LS, right_builder: RS) -> Self
         ensures pairs { (holding result).pairs ≡ [] }
         ensures room { (holding result).room ≡ 0 }
@@ -24,6 +28,10 @@ impl<L: Eq + Hash, R: Eq + Hash, LS: BuildHasher, RS: BuildHasher> BiHashMap<L, 
 
     /// The empty bimap of exactly this capacity, and with these builders, in time in proportion to it. At 0 it takes no
     /// memory. A refusal makes nothing.
+    ///
+    ///     let (left, right) = (RandomState::new(&rt)?, RandomState::new(&rt)?);
+    ///     let seats: BiHashMap<char, u32, RandomState, RandomState> = BiHashMap::with_capacity_and_hashers(alloc, 16, left, right)?;
+    ///     seats.capacity(); // 16
     pub fn with_capacity_and_hashers(
         alloc: Global,
         capacity: usize,
@@ -50,6 +58,10 @@ impl<L: Eq + Hash, R: Eq + Hash, LS: BuildHasher, RS: BuildHasher> BiHashMap<L, 
     ///
     /// Nothing is reserved by a size hint. An `Err` hands the refused item back, and there is no bimap. Time is that of
     /// `extend`.
+    ///
+    ///     let (left, right) = (RandomState::new(&rt)?, RandomState::new(&rt)?);
+    ///     let seats = BiHashMap::from_iter_with_hashers(alloc, left, right, [('a', 3), ('b', 1)])?;
+    ///     seats.len(); // 2
     pub fn from_iter_with_hashers<A: IntoIterator<Item = (L, R)>>(
         alloc: Global,
         left_builder: LS,

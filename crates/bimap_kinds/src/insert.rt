@@ -15,6 +15,8 @@ impl<L: Eq + Drop, R: Eq + Drop, I: Index<L>, J: Index<R>> BijectiveMap<L, R, I,
     ///
     /// It takes memory only where it strikes none and as many pairs are held as there is room for: the room doubles then.
     /// An `Err` hands the pair back, and nothing has changed.
+    ///
+    ///     seats.insert('a', 1); // Ok(Overwritten::Both(('a', 3), ('b', 1)))
     pub fn insert(&mut self, left: L, right: R) -> Result<Overwritten<L, R>, NoRoom<L, R>>
         ensures { IsInsertion L.eq R.eq (holding self.old) (left, right) result (holding self.new) }
     {
@@ -25,6 +27,8 @@ impl<L: Eq + Drop, R: Eq + Drop, I: Index<L>, J: Index<R>> BijectiveMap<L, R, I,
     ///
     /// It takes memory only where as many pairs are held as there is room for. An `Err` hands the pair back, and nothing
     /// has changed.
+    ///
+    ///     seats.insert_no_overwrite('d', 3); // Err(NotInserted::Occupied('d', 3))
     pub fn insert_no_overwrite(&mut self, left: L, right: R) -> Result<(), NotInserted<L, R>>
         ensures { IsInsertionWithoutOverwriting L.eq R.eq (holding self.old) (left, right) result (holding self.new) }
     {
@@ -35,6 +39,9 @@ impl<L: Eq + Drop, R: Eq + Drop, I: Index<L>, J: Index<R>> BijectiveMap<L, R, I,
     ///
     /// It takes memory only where it strikes none and as many pairs are held as there is room for. An `Err` hands the pair
     /// back, and nothing has changed.
+    ///
+    ///     let keep_right = Policy { left: OnHeld::Overwrite, right: OnHeld::Refuse };
+    ///     seats.insert_with('d', 3, keep_right); // Err(NotInsertedWith::RightHeld('d', 3))
     pub fn insert_with(
         &mut self,
         left: L,

@@ -11,6 +11,8 @@ impl<L: Eq, R: Eq, I: Index<L>, J: Index<R>> BijectiveMap<L, R, I, J> {
     ghost use Rattle.bimap_kinds.specs.Held.{holding};
 
     /// The number of pairs, in constant time.
+    ///
+    ///     seats.len(); // 3
     pub fn len(&self) -> usize
         ensures { result ≡ length (holding self.now).pairs }
     {
@@ -18,6 +20,8 @@ impl<L: Eq, R: Eq, I: Index<L>, J: Index<R>> BijectiveMap<L, R, I, J> {
     }
 
     /// Whether no pair is held, in constant time.
+    ///
+    ///     seats.is_empty(); // false
     pub fn is_empty(&self) -> bool
         ensures { IsTrue result ↔ ((holding self.now).pairs ≡ []) }
     {
@@ -25,6 +29,8 @@ impl<L: Eq, R: Eq, I: Index<L>, J: Index<R>> BijectiveMap<L, R, I, J> {
     }
 
     /// The number of places for pairs, in constant time.
+    ///
+    ///     seats.capacity(); // 4
     pub fn capacity(&self) -> usize
         ensures { result ≡ (holding self.now).room }
     {
@@ -35,6 +41,8 @@ impl<L: Eq, R: Eq, I: Index<L>, J: Index<R>> BijectiveMap<L, R, I, J> {
     ///
     /// A search takes time logarithmic in the length on an ordered side; on a hashed one expected constant time where the
     /// hashes spread, at worst the length.
+    ///
+    ///     seats.get_by_left(&'a'); // Some(&3)
     pub fn get_by_left(&self, left: &L) -> Option<&R>
         ensures { IsFoundByLeft L.eq (holding self.now) left.now result }
     {
@@ -42,6 +50,8 @@ impl<L: Eq, R: Eq, I: Index<L>, J: Index<R>> BijectiveMap<L, R, I, J> {
     }
 
     /// The partner of a right, or `None` where it is not held, by one search.
+    ///
+    ///     seats.get_by_right(&1); // Some(&'b')
     pub fn get_by_right(&self, right: &R) -> Option<&L>
         ensures { IsFoundByRight R.eq (holding self.now) right.now result }
     {
@@ -71,6 +81,8 @@ impl<L: Eq + Drop, R: Eq + Drop, I: Index<L>, J: Index<R>> BijectiveMap<L, R, I,
     ghost use Rattle.bimap_kinds.specs.Held.{holding};
 
     /// Whether the left is held, by one search.
+    ///
+    ///     seats.contains_left(&'d'); // false
     pub fn contains_left(&self, left: &L) -> bool
         ensures { IsTrue result ↔ HasLeft L.eq (Contains (holding self.now).pairs) left.now }
     {
@@ -78,6 +90,8 @@ impl<L: Eq + Drop, R: Eq + Drop, I: Index<L>, J: Index<R>> BijectiveMap<L, R, I,
     }
 
     /// Whether the right is held, by one search.
+    ///
+    ///     seats.contains_right(&2); // true
     pub fn contains_right(&self, right: &R) -> bool
         ensures { IsTrue result ↔ HasRight R.eq (Contains (holding self.now).pairs) right.now }
     {

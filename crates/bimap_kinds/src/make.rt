@@ -27,6 +27,9 @@ impl<L: Eq, R: Eq, I: EmptyIndex<L>, J: EmptyIndex<R>> BijectiveMap<L, R, I, J> 
     ghost use Rattle.bimap_kinds.specs.Held.{holding};
 
     /// The empty bimap without places, also of a kind that names builders of its own. It takes no memory, and constant time.
+    ///
+    ///     let seats: BiHashMap<char, u32> = BiHashMap::empty(alloc);
+    ///     seats.len(); // 0
     pub fn empty(alloc: Global) -> Self
         ensures pairs { (holding result).pairs ≡ [] }
         ensures room { (holding result).room ≡ 0 }
@@ -39,6 +42,9 @@ impl<L: Eq, R: Eq, I: DefaultIndex<L>, J: DefaultIndex<R>> BijectiveMap<L, R, I,
     ghost use Rattle.bimap_kinds.specs.Held.{holding};
 
     /// The empty bimap, without places. It takes no memory, and constant time.
+    ///
+    ///     let seats: BiBTreeMap<char, u32> = BiBTreeMap::new(alloc);
+    ///     seats.capacity(); // 0
     pub fn new(alloc: Global) -> Self
         ensures pairs { (holding result).pairs ≡ [] }
         ensures room { (holding result).room ≡ 0 }
@@ -48,6 +54,9 @@ impl<L: Eq, R: Eq, I: DefaultIndex<L>, J: DefaultIndex<R>> BijectiveMap<L, R, I,
 
     /// The empty bimap of exactly this capacity, in time in proportion to it. At 0 it takes no memory. A refusal makes
     /// nothing.
+    ///
+    ///     let seats: BiBTreeMap<char, u32> = BiBTreeMap::with_capacity(alloc, 16)?;
+    ///     seats.capacity(); // 16
     pub fn with_capacity(alloc: Global, capacity: usize) -> Result<Self, NoMemory>
     where
         L: Drop,

@@ -10,6 +10,8 @@ impl<L: Eq, R: Eq, I: Index<L>, J: Index<R>> BijectiveMap<L, R, I, J> {
     ghost use Rattle.bimap_kinds.specs.Held.{holding};
 
     /// Takes out the pair of a left, or answers `None` where it is not held, by one search a side.
+    ///
+    ///     seats.remove_by_left(&'a'); // Some(('a', 3))
     pub fn remove_by_left(&mut self, left: &L) -> Option<(L, R)>
         ensures { IsRemovalByLeft L.eq (holding self.old) left.now result (holding self.new) }
     {
@@ -17,6 +19,8 @@ impl<L: Eq, R: Eq, I: Index<L>, J: Index<R>> BijectiveMap<L, R, I, J> {
     }
 
     /// Takes out the pair of a right, or answers `None` where it is not held, by one search a side.
+    ///
+    ///     seats.remove_by_right(&4); // None
     pub fn remove_by_right(&mut self, right: &R) -> Option<(L, R)>
         ensures { IsRemovalByRight R.eq (holding self.old) right.now result (holding self.new) }
     {
@@ -24,6 +28,9 @@ impl<L: Eq, R: Eq, I: Index<L>, J: Index<R>> BijectiveMap<L, R, I, J> {
     }
 
     /// Drops all pairs, in time in proportion to the capacity. The room stays.
+    ///
+    ///     seats.clear();
+    ///     (seats.len(), seats.capacity()); // (0, 4)
     pub fn clear(&mut self)
     where
         L: Drop,

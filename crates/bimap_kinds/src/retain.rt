@@ -20,6 +20,9 @@ impl<L: Eq + Hash + Drop, R: Eq + Drop, LS: BuildHasher, J: Index<R>> BijectiveM
     ///
     /// It takes no memory, and the room stays. Time is in proportion to the capacity, and that of a removal more for each
     /// pair that is taken out.
+    ///
+    ///     seats.retain(|_: &char, seat: &u32| *seat >= 2);
+    ///     seats.len(); // 2
     pub fn retain<F: FnMut(&L, &R) -> bool>(&mut self, f: F)
         requires { MayTest F.FnMut f (holding self.old).pairs }
         ensures { IsRetention F.FnMut (holding self.old) f (holding self.new) }
@@ -35,6 +38,9 @@ impl<L: Ord + Drop, R: Eq + Drop, J: Index<R>> BijectiveMap<L, R, Ordered, J> {
     ///
     /// It takes no memory, and the room stays. Time is the length times its logarithm, and that of a removal more for each
     /// pair that is taken out.
+    ///
+    ///     seats.retain(|_: &char, seat: &u32| *seat >= 2);
+    ///     seats.len(); // 2
     pub fn retain<F: FnMut(&L, &R) -> bool>(&mut self, f: F)
         requires { MayTestInTurn F.FnMut f (holding self.old).pairs }
         ensures { IsRetentionInTurn F.FnMut (holding self.old) f (holding self.new) }

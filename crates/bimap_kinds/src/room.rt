@@ -11,6 +11,9 @@ impl<L: Eq, R: Eq, I: Index<L>, J: Index<R>> BijectiveMap<L, R, I, J> {
     /// Makes the capacity at least the length plus `more`, exactly. Where it is so already, nothing changes and no memory
     /// is taken. A refusal changes nothing, but an index may keep the cells that it got. Time is in proportion to the new
     /// capacity.
+    ///
+    ///     seats.reserve(5); // Ok(())
+    ///     seats.capacity(); // 8
     pub fn reserve(&mut self, more: usize) -> Result<(), NoMemory>
         ensures { IsReservation (holding self.old) more result (holding self.new) }
     {
@@ -23,6 +26,9 @@ impl<L: Eq + Drop, R: Eq + Drop, I: PackedIndex<L>, J: PackedIndex<R>> Bijective
 
     /// Makes the capacity `least`, exactly, or the length where that is more. It never adds to it: where it would, nothing
     /// changes and no memory is taken. A refusal changes nothing. Time is in proportion to the old capacity.
+    ///
+    ///     seats.shrink_to(0); // Ok(())
+    ///     seats.capacity(); // 3
     pub fn shrink_to(&mut self, least: usize) -> Result<(), NoMemory>
         ensures { IsShrink (holding self.old) least result (holding self.new) }
     {
@@ -31,6 +37,9 @@ impl<L: Eq + Drop, R: Eq + Drop, I: PackedIndex<L>, J: PackedIndex<R>> Bijective
 
     /// Makes the capacity the length, exactly. Where it is so already, no memory is taken. A refusal changes nothing. Time
     /// is in proportion to the old capacity.
+    ///
+    ///     seats.shrink_to_fit(); // Ok(())
+    ///     seats.capacity(); // 3
     pub fn shrink_to_fit(&mut self) -> Result<(), NoMemory>
         ensures { IsShrink (holding self.old) 0 result (holding self.new) }
     {

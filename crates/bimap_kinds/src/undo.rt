@@ -14,6 +14,8 @@ impl<L: Eq + Drop, R: Eq + Drop, I: Index<L>, J: Index<R>> BijectiveMap<L, R, I,
     ///
     /// Only where the answer is `Both` and as many pairs are held as there is room for does it take memory. An `Err`
     /// hands the answer back, and nothing has changed.
+    ///
+    ///     seats.undo_insert(&'c', Overwritten::Neither); // Ok(('c', 2))
     pub fn undo_insert(
         &mut self,
         left: &L,
@@ -27,6 +29,8 @@ impl<L: Eq + Drop, R: Eq + Drop, I: Index<L>, J: Index<R>> BijectiveMap<L, R, I,
 
     /// Whether the insertion that gave this answer for this left may be undone, by three searches a side at most, and
     /// without memory.
+    ///
+    ///     seats.can_undo_insert(&'c', &Overwritten::Left('c', 3)); // false
     pub fn can_undo_insert(&self, left: &L, answer: &Overwritten<L, R>) -> bool
         ensures { IsTrue result ↔ IsUndoable L.eq R.eq (Contains (holding self.now).pairs) left.now answer.now }
     {

@@ -12,6 +12,8 @@ use std::hash::{BuildHasher, Hash};
 
 impl<L: Eq + Hash, R: Eq, LS: BuildHasher, J: Index<R>> BijectiveMap<L, R, HashIndex<LS>, J> {
     /// The pairs, in an open order. No memory is taken, and a whole walk takes time in proportion to the capacity.
+    ///
+    ///     seats.iter().len(); // 3
     pub fn iter(&self) -> Iter<'_, L, R>
         ensures rest { result ≡ (holding self.now).pairs }
         ensures runs { ShowsInOrder (deref_pair {K = L} {X = R}) }
@@ -20,6 +22,8 @@ impl<L: Eq + Hash, R: Eq, LS: BuildHasher, J: Index<R>> BijectiveMap<L, R, HashI
     }
 
     /// The lefts, in the order and at the cost of `iter`.
+    ///
+    ///     seats.left_values().len(); // 3
     pub fn left_values(&self) -> LeftValues<'_, L, R>
         ensures rest { result ≡ keys_of (holding self.now).pairs }
         ensures runs { ShowsInOrder (deref {X = L}) }
@@ -35,6 +39,8 @@ impl<L: Eq + Hash, R: Eq + Hash, LS: BuildHasher, RS: BuildHasher> BijectiveMap<
     HashIndex<RS>,
 > {
     /// The rights, in the order and at the cost of `iter`.
+    ///
+    ///     seats.right_values().len(); // 3
     pub fn right_values(&self) -> RightValues<'_, L, R>
         ensures rest { result ≡ values_of (holding self.now).pairs }
         ensures runs { ShowsInOrder (deref {X = R}) }

@@ -19,6 +19,9 @@ use std::ops::RangeBounds;
 
 impl<L: Ord, R: Eq, J: Index<R>> BijectiveMap<L, R, Ordered, J> {
     /// The pairs by ascending left. A step takes one descent at most, and no memory.
+    ///
+    ///     seats.iter().next(); // Some((&'a', &3))
+    ///     seats.iter().next_back(); // Some((&'c', &2))
     pub fn iter(&self) -> Iter<'_, L, R>
         ensures rest { result ≡ (holding self.now).pairs }
         ensures runs { ShowsInOrder (deref_pair {K = L} {X = R}) }
@@ -28,6 +31,8 @@ impl<L: Ord, R: Eq, J: Index<R>> BijectiveMap<L, R, Ordered, J> {
     }
 
     /// The lefts, ascending. A step takes one descent at most, and no memory.
+    ///
+    ///     seats.left_values().next(); // Some(&'a')
     pub fn left_values(&self) -> LeftValues<'_, L, R>
         ensures rest { result ≡ keys_of (holding self.now).pairs }
         ensures runs { ShowsInOrder (deref {X = L}) }
@@ -37,6 +42,8 @@ impl<L: Ord, R: Eq, J: Index<R>> BijectiveMap<L, R, Ordered, J> {
     }
 
     /// The pairs whose left lies in a range, by ascending left. It takes two searches by left, and no memory.
+    ///
+    ///     seats.left_range('b'..).next(); // Some((&'b', &1))
     pub fn left_range<A: RangeBounds<L>>(&self, range: A) -> LeftRange<'_, L, R>
         requires { A.is_forward range (IsLeBy L.cmp) (IsLtBy L.cmp) }
         ensures rest { A.has_bounds range → result ≡ filter (λ p. range_contains L.cmp (A.start_bound range) (A.end_bound range) p.0) (holding self.now).pairs }
@@ -58,6 +65,8 @@ impl<L: Ord, R: Eq, J: Index<R>> BijectiveMap<L, R, Ordered, J> {
 
 impl<L: Eq, R: Ord, I: Index<L>> BijectiveMap<L, R, I, Ordered> {
     /// The rights, ascending. A step takes one descent at most, and no memory.
+    ///
+    ///     seats.right_values().next(); // Some(&1)
     pub fn right_values(&self) -> RightValues<'_, L, R>
         ensures rest { result ≡ values_of (by_right self.now) }
         ensures sorted { IsByRight R.cmp (holding self.now).pairs (by_right self.now) }
@@ -68,6 +77,8 @@ impl<L: Eq, R: Ord, I: Index<L>> BijectiveMap<L, R, I, Ordered> {
     }
 
     /// The pairs whose right lies in a range, by ascending right. It takes two searches by right, and no memory.
+    ///
+    ///     seats.right_range(2..).next(); // Some((&'c', &2))
     pub fn right_range<A: RangeBounds<R>>(&self, range: A) -> RightRange<'_, L, R>
         requires { A.is_forward range (IsLeBy R.cmp) (IsLtBy R.cmp) }
         ensures rest { A.has_bounds range → result ≡ filter (λ p. range_contains R.cmp (A.start_bound range) (A.end_bound range) p.1) (by_right self.now) }
@@ -90,6 +101,8 @@ impl<L: Eq, R: Ord, I: Index<L>> BijectiveMap<L, R, I, Ordered> {
 
 impl<L: Ord, R: Eq + Hash, RS: BuildHasher> BijectiveMap<L, R, Ordered, HashIndex<RS>> {
     /// The rights, by ascending left. A step takes one descent at most, and no memory.
+    ///
+    ///     seats.right_values().next(); // Some(&3)
     pub fn right_values(&self) -> RightValues<'_, L, R>
         ensures rest { result ≡ values_of (holding self.now).pairs }
         ensures runs { ShowsInOrder (deref {X = R}) }

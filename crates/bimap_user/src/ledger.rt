@@ -1,7 +1,8 @@
 //! A ledger of guests and their seats, in which no guest takes a seat from another.
-ghost use Rattle.std.specs.Prelude.{◌≡◌, ◌<◌, ◌≤◌, length, Contains, IfOk, OnOk};
+ghost use Rattle.std.specs.Prelude.{◌≡◌, ◌<◌, ◌≤◌, length, Contains, IfOk, IfErr, OnOk, OnErr};
 ghost use Rattle.bimap.specs.Sets.{IsWithPut, LacksRight};
-ghost use Rattle.bimap.specs.Answer.{IsAnswer};
+ghost use Rattle.bimap.specs.Answer.{IsAnswer, IsRefusalUnder};
+ghost use Rattle.bimap.specs.Holding.{IsFull};
 
 use bimap::{Bijection, NotInsertedWith, OnHeld, Overwritten, Policy};
 
@@ -14,6 +15,8 @@ pub fn seat_guest<G: Eq + Drop, S: Eq + Drop, B: Bijection<G, S>>(
     ensures was_free { OnOk result (LacksRight S.eq (Contains (B.holding ledger.old).pairs) seat) }
     ensures left { IfOk result (IsAnswer G.eq S.eq (Contains (B.holding ledger.old).pairs) (guest, seat)) }
     ensures seated { OnOk result (IsWithPut G.eq S.eq (Contains (B.holding ledger.old).pairs) (guest, seat) (Contains (B.holding ledger.new).pairs)) }
+    ensures refused { IfErr result (IsRefusalUnder G.eq S.eq (Contains (B.holding ledger.old).pairs) (IsFull (B.holding ledger.old)) (guest, seat) (record { left = OnHeld.Overwrite; right = OnHeld.Refuse })) }
+    ensures unchanged { OnErr result (B.holding ledger.new ≡ B.holding ledger.old) }
 {
     let policy = Policy {
         left: OnHeld::Overwrite,

@@ -1,0 +1,55 @@
+//! Examples of look-ups, ends and ranks.
+use super::{ordered, Seats};
+use bimap::Overwritten;
+use std::process::Abort;
+use std::test::Fail;
+
+#[test]
+fn looks_up(rt: HostRuntime) -> Result<(), Fail> {
+    let seats = ordered(rt.alloc())?;
+    assert!(&rt; seats.len() == 3);
+    assert!(&rt; seats.is_empty() == false);
+    assert!(&rt; seats.capacity() == 4);
+    assert!(&rt; seats.get_by_left(&'a') == Some(&3));
+    assert!(&rt; seats.get_by_right(&1) == Some(&'b'));
+    assert!(&rt; seats.contains_left(&'d') == false);
+    assert!(&rt; seats.contains_right(&2) == true);
+    assert!(&rt; seats.can_undo_insert(&'c', &Overwritten::Left('c', 3)) == false);
+    Ok(())
+}
+
+#[test]
+fn finds_ends_and_ranks(rt: HostRuntime) -> Result<(), Fail> {
+    let seats = ordered(rt.alloc())?;
+    by_left(&rt, &seats);
+    by_right(&rt, &seats);
+    Ok(())
+}
+
+fn by_left(rt: &impl Abort, seats: &Seats) {
+    assert!(rt; seats.first_by_left() == Some((&'a', &3)));
+    assert!(rt; seats.last_by_left() == Some((&'c', &2)));
+    assert!(rt; seats.pair_at_left_rank(1) == Some((&'b', &1)));
+    assert!(rt; seats.left_rank(&'c') == 2);
+}
+
+fn by_right(rt: &impl Abort, seats: &Seats) {
+    assert!(rt; seats.first_by_right() == Some((&'b', &1)));
+    assert!(rt; seats.last_by_right() == Some((&'a', &3)));
+    assert!(rt; seats.pair_at_right_rank(1) == Some((&'c', &2)));
+    assert!(rt; seats.right_rank(&3) == 2);
+}
+
+#[test]
+fn takes_the_ends_out(rt: HostRuntime) -> Result<(), Fail> {
+    let alloc = rt.alloc();
+    let mut seats = ordered(alloc)?;
+    assert!(rt; seats.pop_first_by_left() == Some(('a', 3)));
+    let mut seats = ordered(alloc)?;
+    assert!(rt; seats.pop_last_by_left() == Some(('c', 2)));
+    let mut seats = ordered(alloc)?;
+    assert!(rt; seats.pop_first_by_right() == Some(('b', 1)));
+    let mut seats = ordered(alloc)?;
+    assert!(rt; seats.pop_last_by_right() == Some(('a', 3)));
+    Ok(())
+}
