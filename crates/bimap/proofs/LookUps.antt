@@ -1,5 +1,5 @@
 -- What a caller derives of the pairs held: which are there, which stay, and that a value has one partner.
-use Rattle.std.proofs.Common.{◌≡◌, Bool, true, false, Option, Some, None, inl, inr, refl, sym, ap, ◌∙◌, true≢false}
+use Rattle.std.proofs.Common.{◌≡◌, Bool, true, false, Option, Some, None, IfSome, inl, inr, refl, sym, ap, subst, ◌∙◌, true≢false}
 use Rattle.std.specs.Prelude.{Contains, List, option_copied}
 use Rattle.std.specs.Borrow.{Bor}
 use Rattle.std.specs.Cmp.{IsEquivalence}
@@ -39,3 +39,14 @@ module _ {L R : Type 0} (same_left : L → L → Bool) (same_right : R → R →
   found_by_right held key r l (Some b) apart is e h =
       let one = one_by_right held.pairs (b.now, h.found.0) (l, r) apart h.found.1 is (rights.symm h.found.0 r ∙ rights.congr r key h.found.0 e ∙ rights.symm key h.found.0 ∙ h.found.2) in
       ap (λ (p : L × R). Some p.0) one
+
+module _ {L R : Type 0} where
+  -- where equal lefts are the same, as numbers are, what is found is held under the very left
+  pub held_under_left : (same_left : L → L → Bool) → ((a b : L) → same_left a b ≡ true → a ≡ b) → (held : Holding L R) (key : L) (found : Option (Bor R)) → IsFoundByLeft same_left held key found → IfSome found (λ right. Contains held.pairs (key, right.now))
+  held_under_left same_left same held key None h = tt
+  held_under_left same_left same held key (Some b) h = subst (λ (l : L). Contains held.pairs (l, b.now)) (same h.found.0 key h.found.2) h.found.1
+
+  -- where equal rights are the same, what is found is held with the very right
+  pub held_with_right : (same_right : R → R → Bool) → ((a b : R) → same_right a b ≡ true → a ≡ b) → (held : Holding L R) (key : R) (found : Option (Bor L)) → IsFoundByRight same_right held key found → IfSome found (λ left. Contains held.pairs (left.now, key))
+  held_with_right same_right same held key None h = tt
+  held_with_right same_right same held key (Some b) h = subst (λ (r : R). Contains held.pairs (b.now, r)) (same h.found.0 key h.found.2) h.found.1

@@ -4,21 +4,21 @@ ghost use Rattle.std.specs.Iterator.{IsFinite};
 use crate::keys::{left, mixed, right};
 use crate::report::Report;
 use bimap::{Bijection, Overwritten};
-use std::io;
-use std::io::Print;
+use std::io::{self, ErrorKind, Print};
 use std::time::Clock;
 
 // Puts in the pairs of the numbers, each with the right of the number `apart` further on, and counts those that struck a
 // pair.
-fn insert<B: Bijection<u64, u64>>(bimap: &mut B, pairs: u64, apart: u64) -> u64 {
+fn insert<B: Bijection<u64, u64>>(bimap: &mut B, pairs: u64, apart: u64) -> io::Result<u64> {
     let mut struck = 0u64;
     for number in 0..pairs {
         match bimap.insert(left(number), right(number.wrapping_add(apart))) {
-            Ok(Overwritten::Neither) | Err(_) => {}
+            Ok(Overwritten::Neither) => {}
             Ok(_) => struck = struck.wrapping_add(1),
+            Err(_) => return Err(ErrorKind::OutOfMemory.into()),
         }
     }
-    struck
+    Ok(struck)
 }
 
 // Looks up the lefts of the numbers from `from` on, and counts those that are held.
@@ -71,7 +71,7 @@ pub fn changes<R: Clock + Print, B: Bijection<u64, u64>>(
 ) -> io::Result<()> {
     let pairs = report.pairs();
     let start = report.start(rt)?;
-    let struck = insert(bimap, pairs, 0);
+    let struck = insert(bimap, pairs, 0)?;
     report.end(rt, "insert", start, struck)?;
     let start = report.start(rt)?;
     let found = look_up_by_left(bimap, pairs, 0);
@@ -83,10 +83,10 @@ pub fn changes<R: Clock + Print, B: Bijection<u64, u64>>(
     let found = look_up_by_left(bimap, pairs, pairs);
     report.end(rt, "miss-by-left", start, found)?;
     let start = report.start(rt)?;
-    let struck = insert(bimap, pairs, 0);
+    let struck = insert(bimap, pairs, 0)?;
     report.end(rt, "same-pair", start, struck)?;
     let start = report.start(rt)?;
-    let struck = insert(bimap, pairs, pairs);
+    let struck = insert(bimap, pairs, pairs)?;
     report.end(rt, "overwrite", start, struck)
 }
 

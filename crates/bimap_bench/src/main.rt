@@ -1,5 +1,6 @@
 //! Times the calls of each kind of bimap: `bimap_bench PAIRS times` prints the nanoseconds of each call over so many
-//! pairs. Without the second word it prints what the calls found, and no time.
+//! pairs. Without the second word it prints what the calls found, and no time. A first word that is no number, and want of
+//! memory, end it with an error.
 #![tactic(auto)]
 
 mod calls;
@@ -9,7 +10,8 @@ mod report;
 use bimap::{BiBTreeHashMap, BiBTreeMap, BiHashBTreeMap, BiHashMap};
 use calls::{changes, removals, total};
 use report::Report;
-use std::{env, io};
+use std::env;
+use std::io::{self, ErrorKind};
 
 // The calls over one kind of bimap, from the empty one to the empty one.
 macro_rules! measure {
@@ -26,10 +28,13 @@ macro_rules! measure {
 
 fn main(rt: HostRuntime) -> io::Result<()> {
     let mut words = env::args(&rt)?.skip(1);
-    let pairs = words
-        .next()
-        .and_then(|word| word.parse().ok())
-        .unwrap_or(1000u64);
+    let pairs = match words.next() {
+        None => 1000u64,
+        Some(word) => match word.parse() {
+            Ok(pairs) => pairs,
+            Err(_) => return Err(ErrorKind::InvalidInput.into()),
+        },
+    };
     let report = Report::new(pairs, words.next().is_some());
     measure!(&rt, report, BiBTreeMap);
     measure!(&rt, report, BiBTreeHashMap);
