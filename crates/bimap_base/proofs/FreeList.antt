@@ -17,37 +17,30 @@ get_or-push_default (x ∷ xs) d (suc i) = get_or-push_default xs d i
 
 module _ {L R : Type 0} where
   -- a place starts one list of free slots at most
-  pub IsFreeList-count_unique : (slots : List (Slot L R)) (m n : ℕ) (first : Option ℕ) → IsFreeList slots m first → IsFreeList slots n first → m ≡ n
+  pub IsFreeList-count_unique : (slots : List (Slot L R)) (m n first : ℕ) → IsFreeList slots m first → IsFreeList slots n first → m ≡ n
   IsFreeList-count_unique slots zero zero first p q = refl
-  IsFreeList-count_unique slots zero (suc n) first p q = let listed = q.2 in absurd (cc)
-  IsFreeList-count_unique slots (suc m) zero first p q = let listed = p.2 in absurd (cc)
+  IsFreeList-count_unique slots zero (suc n) first p q = absurd (omega (arith, p, slice_get_within slots first _ q.1))
+  IsFreeList-count_unique slots (suc m) zero first p q = absurd (omega (arith, q, slice_get_within slots first _ p.1))
   IsFreeList-count_unique slots (suc m) (suc n) first p q =
-      let there = p.2 in
-      let here = q.2 in
-      let place : p.0 ≡ q.0 = cc in
-      let one = p.3 in
-      let two = subst (λ k. slice_get slots k ≡ Some (Free q.1)) (sym place) q.3 in
-      let same : q.1 ≡ p.1 = cc in
-      ap suc (IsFreeList-count_unique slots m n p.1 p.4 (subst (IsFreeList slots n) same q.4))
+      let one = p.1 in
+      let two = q.1 in
+      let same : q.0 ≡ p.0 = cc in
+      ap suc (IsFreeList-count_unique slots m n p.0 p.2 (subst (IsFreeList slots n) same q.2))
 
   -- a write at a place that is not on the list keeps the list
-  pub IsFreeList-set : (slots : List (Slot L R)) (place : ℕ) (slot : Slot L R) (n : ℕ) (first : Option ℕ) → ((m : ℕ) → m < n → IsFreeList slots (suc m) (Some place) → ⊥) → IsFreeList slots n first → IsFreeList (set slots place slot) n first
-  IsFreeList-set slots place slot zero first off p = p
+  pub IsFreeList-set : (slots : List (Slot L R)) (place : ℕ) (slot : Slot L R) (n first : ℕ) → ((m : ℕ) → m < n → IsFreeList slots (suc m) place → ⊥) → IsFreeList slots n first → IsFreeList (set slots place slot) n first
+  IsFreeList-set slots place slot zero first off p = p ∙ sym (length-set slots place slot)
   IsFreeList-set slots place slot (suc n) first off p =
-      let other : p.0 ≢ place = λ same. off n (omega arith) (subst (IsFreeList slots (suc n)) (p.2 ∙ ap Some same) p) in
-      let within = slice_get_within slots p.0 _ p.3 in
-      let kept : slice_get (set slots place slot) p.0 ≡ Some (Free p.1) =
-      slice_get-get_or (set slots place slot) p.0 slot (omega (arith, length-set slots place slot))
-      ∙ ap Some (get_or-set_other slots place p.0 slot slot other ∙ get_or_from_slice_get slots p.0 _ slot p.3) in
-      (p.0, p.1, p.2, kept, IsFreeList-set slots place slot n p.1 (λ m below. off m (omega arith)) p.4)
+      let other : first ≢ place = λ same. off n (omega arith) (subst (IsFreeList slots (suc n)) same p) in
+      let within = slice_get_within slots first _ p.1 in
+      let kept : slice_get (set slots place slot) first ≡ Some (Free p.0) =
+      slice_get-get_or (set slots place slot) first slot (omega (arith, length-set slots place slot))
+      ∙ ap Some (get_or-set_other slots place first slot slot other ∙ get_or_from_slice_get slots first _ slot p.1) in
+      (p.0, kept, IsFreeList-set slots place slot n p.0 (λ m below. off m (omega arith)) p.2)
 
   -- a held slot is on no list of free slots
-  pub held_is_off_list : (slots : List (Slot L R)) (place : ℕ) (l : L) (r : R) → slice_get slots place ≡ Some (Held l r) → (m : ℕ) → IsFreeList slots (suc m) (Some place) → ⊥
-  held_is_off_list slots place l r found m p =
-      let there = p.2 in
-      let here : p.0 ≡ place = cc in
-      let listed = subst (λ k. slice_get slots k ≡ Some (Free p.1)) here p.3 in
-      cc
+  pub held_is_off_list : (slots : List (Slot L R)) (place : ℕ) (l : L) (r : R) → slice_get slots place ≡ Some (Held l r) → (m : ℕ) → IsFreeList slots (suc m) place → ⊥
+  held_is_off_list slots place l r found m p = let listed = p.1 in cc
 
   -- the count of pairs after a write
   pub count-set : (slots : List (Slot L R)) (place : ℕ) (old new : Slot L R) → slice_get slots place ≡ Some old → count_by is_some (map pair_of (set slots place new)) + cond (is_some (pair_of old)) 1 0 ≡ count_by is_some (map pair_of slots) + cond (is_some (pair_of new)) 1 0
@@ -63,52 +56,38 @@ module _ {L R : Type 0} where
   held_at slots place present =
       let inside : place < length (map pair_of slots) = grind (arith, get_or_past) in
       let within : place < length slots = omega (arith, length-map slots pair_of) in
-      by_slot (get_or slots place (Free None)) (slice_get-get_or slots place (Free None) within) (subst IsSome (get_or-map pair_of slots place (Free None) None within) present)
+      by_slot (get_or slots place (Free 0)) (slice_get-get_or slots place (Free 0) within) (subst IsSome (get_or-map pair_of slots place (Free 0) None within) present)
     where
       by_slot : (s : Slot L R) → slice_get slots place ≡ Some s → IsSome (pair_of s) → (l : L) × (r : R) × (slice_get slots place ≡ Some (Held l r))
       by_slot (Free _) found some = absurd (true≢false (sym some))
       by_slot (Held l r) found some = (l, r, found)
 
-  -- where a slot is free, the list's first place is free
-  pub first_is_free : (slots : List (Slot L R)) (len place : ℕ) (next : Option ℕ) → IsSound slots len next → next ≡ Some place → (after : Option ℕ) × (slice_get slots place ≡ Some (Free after))
-  first_is_free slots len place next sound is = by_count sound.free sound.linked
+  -- where not every place has a pair, the list's first place is free
+  pub first_is_free : (slots : List (Slot L R)) (len place : ℕ) → IsSound slots len place → len < length slots → (after : ℕ) × (slice_get slots place ≡ Some (Free after))
+  first_is_free slots len place sound fewer = by_count sound.free sound.total sound.linked
     where
-      by_count : (n : ℕ) → IsFreeList slots n next → (after : Option ℕ) × (slice_get slots place ≡ Some (Free after))
-      by_count zero linked = absurd (cc)
-      by_count (suc n) linked =
-          let there = linked.2 in
-          let same : linked.0 ≡ place = cc in
-          (linked.1, subst (λ k. slice_get slots k ≡ Some (Free linked.1)) same linked.3)
+      by_count : (n : ℕ) → len + n ≡ length slots → IsFreeList slots n place → (after : ℕ) × (slice_get slots place ≡ Some (Free after))
+      by_count zero total linked = absurd (omega arith)
+      by_count (suc n) total linked = (linked.0, linked.1)
 
-  -- with no first free place every place has a pair
-  pub full_at_none : (slots : List (Slot L R)) (len : ℕ) (next : Option ℕ) → IsSound slots len next → next ≡ None → len ≡ length slots
-  full_at_none slots len next sound is = by_count sound.free sound.total sound.linked
+  pub IsSound-fill : (slots : List (Slot L R)) (len place after : ℕ) (l : L) (r : R) → IsSound slots len place → slice_get slots place ≡ Some (Free after) → IsSound (set slots place (Held l r)) (len + 1) after
+  IsSound-fill slots len place after l r sound found = by_count sound.free sound.total sound.linked
     where
-      by_count : (n : ℕ) → len + n ≡ length slots → IsFreeList slots n next → len ≡ length slots
-      by_count zero total linked = omega arith
-      by_count (suc n) total linked = let there = linked.2 in absurd (cc)
-
-  pub IsSound-fill : (slots : List (Slot L R)) (len place : ℕ) (next after : Option ℕ) (l : L) (r : R) → IsSound slots len next → next ≡ Some place → slice_get slots place ≡ Some (Free after) → IsSound (set slots place (Held l r)) (len + 1) after
-  IsSound-fill slots len place next after l r sound is found = by_count sound.free sound.total sound.linked
-    where
-      by_count : (n : ℕ) → len + n ≡ length slots → IsFreeList slots n next → IsSound (set slots place (Held l r)) (len + 1) after
-      by_count zero total linked = absurd (cc)
+      by_count : (n : ℕ) → len + n ≡ length slots → IsFreeList slots n place → IsSound (set slots place (Held l r)) (len + 1) after
+      by_count zero total linked = absurd (omega (arith, linked, slice_get_within slots place _ found))
       by_count (suc n) total linked =
-          let there = linked.2 in
-          let same : linked.0 ≡ place = cc in
-          let listed = subst (λ k. slice_get slots k ≡ Some (Free linked.1)) same linked.3 in
-          let follows : linked.1 ≡ after = cc in
-          let whole : IsFreeList slots (suc n) (Some place) = subst (IsFreeList slots (suc n)) is linked in
-          let off : (m : ℕ) → m < n → IsFreeList slots (suc m) (Some place) → ⊥ =
-          λ m below p. omega (arith, IsFreeList-count_unique slots (suc m) (suc n) (Some place) p whole) in
+          let listed = linked.1 in
+          let follows : linked.0 ≡ after = cc in
+          let off : (m : ℕ) → m < n → IsFreeList slots (suc m) place → ⊥ =
+          λ m below p. omega (arith, IsFreeList-count_unique slots (suc m) (suc n) place p linked) in
           record {
             counted = omega (arith, sound.counted, count-set slots place (Free after) (Held l r) found);
             free = n;
             total = omega (arith, length-set slots place (Held l r));
-            linked = IsFreeList-set slots place (Held l r) n after off (subst (IsFreeList slots n) follows linked.4);
+            linked = IsFreeList-set slots place (Held l r) n after off (subst (IsFreeList slots n) follows linked.2);
           }
 
-  pub IsSound-vacate : (slots : List (Slot L R)) (len place : ℕ) (next : Option ℕ) (l : L) (r : R) → IsSound slots len next → slice_get slots place ≡ Some (Held l r) → IsSound (set slots place (Free next)) (len - 1) (Some place)
+  pub IsSound-vacate : (slots : List (Slot L R)) (len place next : ℕ) (l : L) (r : R) → IsSound slots len next → slice_get slots place ≡ Some (Held l r) → IsSound (set slots place (Free next)) (len - 1) place
   IsSound-vacate slots len place next l r sound found =
       let within = slice_get_within slots place _ found in
       let count = count-set slots place (Held l r) (Free next) found in
@@ -119,10 +98,10 @@ module _ {L R : Type 0} where
         counted = omega (arith, sound.counted);
         free = suc sound.free;
         total = omega (arith, length-set slots place (Free next), sound.counted, sound.total);
-        linked = (place, next, refl, written, IsFreeList-set slots place (Free next) sound.free next (λ m _. held_is_off_list slots place l r found m) sound.linked);
+        linked = (next, written, IsFreeList-set slots place (Free next) sound.free next (λ m _. held_is_off_list slots place l r found m) sound.linked);
       }
 
-  pub IsSound-rewrite : (slots : List (Slot L R)) (len place : ℕ) (next : Option ℕ) (l m : L) (r s : R) → IsSound slots len next → slice_get slots place ≡ Some (Held l r) → IsSound (set slots place (Held m s)) len next
+  pub IsSound-rewrite : (slots : List (Slot L R)) (len place next : ℕ) (l m : L) (r s : R) → IsSound slots len next → slice_get slots place ≡ Some (Held l r) → IsSound (set slots place (Held m s)) len next
   IsSound-rewrite slots len place next l m r s sound found =
       record {
         counted = omega (arith, sound.counted, count-set slots place (Held l r) (Held m s) found);
@@ -131,37 +110,42 @@ module _ {L R : Type 0} where
         linked = IsFreeList-set slots place (Held m s) sound.free next (λ k _. held_is_off_list slots place l r found k) sound.linked;
       }
 
-  -- a slot more at the end keeps the list
-  pub IsFreeList-push : (slots : List (Slot L R)) (slot : Slot L R) (n : ℕ) (first : Option ℕ) → IsFreeList slots n first → IsFreeList (slots ++ slot ∷ []) n first
-  IsFreeList-push slots slot zero first p = p
-  IsFreeList-push slots slot (suc n) first p =
-      let within = slice_get_within slots p.0 _ p.3 in
-      let kept : slice_get (slots ++ slot ∷ []) p.0 ≡ Some (Free p.1) =
-      slice_get-get_or (slots ++ slot ∷ []) p.0 slot (omega (arith, length_push slots slot))
-      ∙ ap Some (get_or_append_left slots (slot ∷ []) slot p.0 within ∙ get_or_from_slice_get slots p.0 _ slot p.3) in
-      (p.0, p.1, p.2, kept, IsFreeList-push slots slot n p.1 p.4)
+  -- a free slot more at the end, which names the number of slots, is the last of the list
+  pub IsFreeList-push : (slots : List (Slot L R)) (n first : ℕ) → IsFreeList slots n first → IsFreeList (slots ++ Free (length slots + 1) ∷ []) (suc n) first
+  IsFreeList-push slots zero first p =
+      let slot = Free (length slots + 1) in
+      let longer = length_push slots slot in
+      let there : slice_get (slots ++ slot ∷ []) (length slots) ≡ Some slot =
+      slice_get-get_or (slots ++ slot ∷ []) (length slots) slot (omega arith) ∙ ap Some (get_or-append_seam slots slot [] slot) in
+      (length slots + 1, rw p there, omega arith)
+  IsFreeList-push slots (suc n) first p =
+      let slot = Free (length slots + 1) in
+      let within = slice_get_within slots first _ p.1 in
+      let kept : slice_get (slots ++ slot ∷ []) first ≡ Some (Free p.0) =
+      slice_get-get_or (slots ++ slot ∷ []) first slot (omega (arith, length_push slots slot))
+      ∙ ap Some (get_or_append_left slots (slot ∷ []) slot first within ∙ get_or_from_slice_get slots first _ slot p.1) in
+      (p.0, kept, IsFreeList-push slots n p.0 p.2)
 
-  pub IsSound-empty : IsSound {L = L} {R = R} [] 0 None
+  pub IsSound-empty : IsSound {L = L} {R = R} [] 0 0
   IsSound-empty = record { counted = refl; free = 0; total = refl; linked = refl }
 
-  pub IsGrown-start : (slots : List (Slot L R)) (len : ℕ) (next : Option ℕ) → IsSound slots len next → IsGrown slots slots len next
+  pub IsGrown-start : (slots : List (Slot L R)) (len next : ℕ) → IsSound slots len next → IsGrown slots slots len next
   IsGrown-start slots len next sound = record { sound = sound; kept = λ _. refl; count = refl }
 
-  pub IsGrown-push : (first slots : List (Slot L R)) (len : ℕ) (next : Option ℕ) → IsGrown first slots len next → IsGrown first (slots ++ Free next ∷ []) len (Some (length slots))
+  pub IsGrown-push : (first slots : List (Slot L R)) (len next : ℕ) → IsGrown first slots len next → IsGrown first (slots ++ Free (length slots + 1) ∷ []) len next
   IsGrown-push first slots len next grown =
       let sound = grown.sound in
-      let longer = length_push slots (Free next) in
-      let pushed : map pair_of (slots ++ Free next ∷ []) ≡ map pair_of slots ++ None ∷ [] = map_push pair_of slots (Free next) in
+      let slot = Free (length slots + 1) in
+      let longer = length_push slots slot in
+      let pushed : map pair_of (slots ++ slot ∷ []) ≡ map pair_of slots ++ None ∷ [] = map_push pair_of slots slot in
       let same = sum_by_push (λ o. cond (is_some o) 1 0) (map pair_of slots) None in
-      let there : slice_get (slots ++ Free next ∷ []) (length slots) ≡ Some (Free next) =
-      slice_get-get_or (slots ++ Free next ∷ []) (length slots) (Free next) (omega arith) ∙ ap Some (get_or-append_seam slots (Free next) [] (Free next)) in
-      let counts : count_by is_some (map pair_of (slots ++ Free next ∷ [])) ≡ count_by is_some (map pair_of slots) = rw pushed (omega arith) in
+      let counts : count_by is_some (map pair_of (slots ++ slot ∷ [])) ≡ count_by is_some (map pair_of slots) = rw pushed (omega arith) in
       record {
         sound = record {
           counted = sound.counted ∙ sym counts;
           free = suc sound.free;
           total = omega (arith, sound.total);
-          linked = (length slots, next, refl, there, IsFreeList-push slots (Free next) sound.free next sound.linked);
+          linked = IsFreeList-push slots sound.free next sound.linked;
         };
         kept = λ place. rw pushed (get_or-push_default (map pair_of slots) None place ∙ grown.kept place);
         count = counts ∙ grown.count;

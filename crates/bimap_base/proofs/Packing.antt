@@ -61,7 +61,7 @@ module _ {L R : Type 0} where
       ∙ map-append Some (pairs_in (map pair_of seen)) ((l, r) ∷ []))
 
   -- one more slot was passed, which is free
-  pub passed_free : (kept : List (Option (L × R))) (seen : List (Slot L R)) (next : Option ℕ) → kept ≡ map Some (pairs_in (map pair_of seen)) → kept ≡ map Some (pairs_in (map pair_of (seen ++ Free next ∷ [])))
+  pub passed_free : (kept : List (Option (L × R))) (seen : List (Slot L R)) (next : ℕ) → kept ≡ map Some (pairs_in (map pair_of seen)) → kept ≡ map Some (pairs_in (map pair_of (seen ++ Free next ∷ [])))
   passed_free kept seen next h =
       h ∙ ap (map Some) (sym (ap pairs_in (map-append pair_of seen (Free next ∷ [])) ∙ pairs_in-append (map pair_of seen) (None ∷ []) ∙ append-nil (pairs_in (map pair_of seen))))
 
@@ -74,12 +74,12 @@ module _ {L R : Type 0} where
       omega (arith, i, j, k, length-append (pairs_in (map pair_of seen)) ((l, r) ∷ pairs_in (map pair_of rest)), ap length h, length-map kept pair_of, length-map (pairs_in (map pair_of seen)) Some, counted_in (map pair_of all))
 
   -- the moved slots have no free one among them
-  pub all_held : (kept : List (Slot L R)) (all : List (Option (L × R))) (len : ℕ) → map pair_of kept ≡ map Some (pairs_in all) → len ≡ count_by is_some all → IsSound kept len None
-  all_held kept all len h e = record {
+  pub all_held : (kept : List (Slot L R)) (all : List (Option (L × R))) (len next : ℕ) → map pair_of kept ≡ map Some (pairs_in all) → len ≡ count_by is_some all → next ≡ length kept → IsSound kept len next
+  all_held kept all len next h e full = record {
     counted = e ∙ counted_in all ∙ sym (ap (count_by is_some) h ∙ all_some (pairs_in all));
     free = 0;
     total = omega (arith, e, counted_in all, ap length h, length-map kept pair_of, length-map (pairs_in all) Some);
-    linked = refl;
+    linked = full;
   }
 
 -- at the end of the slots all were seen

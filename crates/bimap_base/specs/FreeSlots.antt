@@ -9,21 +9,20 @@ module _ {L R : Type 0} where
   pair_of (Free _) = None
   pair_of (Held l r) = Some (l, r)
 
-  -- from this place on, so many free slots each name the next, and the last names none
-  abbrev pub IsFreeList : List (Slot L R) → ℕ → Option ℕ → Type 0
-  IsFreeList slots zero first = first ≡ None
-  IsFreeList slots (suc count) first =
-      (place : ℕ) × (next : Option ℕ) × (first ≡ Some place) × (slice_get slots place ≡ Some (Free next)) × IsFreeList slots count next
+  -- from this place on, so many free slots each name the next, and the last names the number of slots
+  abbrev pub IsFreeList : List (Slot L R) → ℕ → ℕ → Type 0
+  IsFreeList slots zero first = first ≡ length slots
+  IsFreeList slots (suc count) first = (next : ℕ) × (slice_get slots first ≡ Some (Free next)) × IsFreeList slots count next
 
   -- `len` counts the pairs, and the list from `next` holds every free slot
-  pub record IsSound (slots : List (Slot L R)) (len : ℕ) (next : Option ℕ) : Type 0 where
+  pub record IsSound (slots : List (Slot L R)) (len next : ℕ) : Type 0 where
     pub counted : len ≡ count_by is_some (map pair_of slots)
     pub free : ℕ
     pub total : len + free ≡ length slots
     pub linked : IsFreeList slots free next
 
   -- more slots at the end are free, and no pair has moved
-  pub record IsGrown (first : List (Slot L R)) (slots : List (Slot L R)) (len : ℕ) (next : Option ℕ) : Type 0 where
+  pub record IsGrown (first : List (Slot L R)) (slots : List (Slot L R)) (len next : ℕ) : Type 0 where
     pub sound : IsSound slots len next
     pub kept : (place : ℕ) → get_or (map pair_of slots) place None ≡ get_or (map pair_of first) place None
     pub count : count_by is_some (map pair_of slots) ≡ count_by is_some (map pair_of first)

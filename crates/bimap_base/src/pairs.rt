@@ -15,13 +15,14 @@ pub struct Pairs<L, R> {
     slots: Vec<Slot<L, R>>,
     // How many places have a pair.
     len: usize,
-    // The first free place.
-    next: Option<usize>,
+    // The first free place, or the number of places where none is free.
+    next: usize,
 }
 
 #[derive(Drop)]
 enum Slot<L, R> {
-    Free(Option<usize>),
+    // It names the next free place, and the last free one the number of places.
+    Free(usize),
     Held(L, R),
 }
 
@@ -37,20 +38,18 @@ impl<L, R> Model for Pairs<L, R> {
     ghost invariant = { λ s. IsSound s.slots.items s.len s.next };
 }
 
-// Pushes free slots up to a number, which the vector has room for, and answers the first free place.
-fn push_free<L, R>(slots: &mut Vec<Slot<L, R>>, first: Option<usize>, to: usize) -> Option<usize>
+// Pushes free slots up to a number, which the vector has room for. They come after those that are free already, the lowest
+// of them first.
+fn push_free<L, R>(slots: &mut Vec<Slot<L, R>>, to: usize)
     requires room { to ≤ vec_capacity slots.old }
     requires fits { vec_len slots.old ≤ to }
-    ensures grown { (len : ℕ) → IsSound slots.old.items len first → IsGrown slots.old.items slots.new.items len result }
+    ensures grown { (len next : ℕ) → IsSound slots.old.items len next → IsGrown slots.old.items slots.new.items len next }
     ensures long { vec_len slots.new ≡ to }
 {
-    let mut next = first;
     while slots.len() < to {
-        let place = slots.len();
-        slots.push_reserved(Slot::Free(next));
-        next = Some(place);
+        let after = slots.len() + 1;
+        slots.push_reserved(Slot::Free(after));
     }
-    next
 }
 
 impl<L, R> Pairs<L, R> {
@@ -61,7 +60,7 @@ impl<L, R> Pairs<L, R> {
         Pairs {
             slots: Vec::new(alloc),
             len: 0,
-            next: None,
+            next: 0,
         }
     }
 
@@ -114,16 +113,14 @@ impl<L, R> Pairs<L, R> {
         ensures now { self.new ≡ slice_set self.old result (Some (left, right)) }
         ensures count { pair_count self.new ≡ pair_count self.old + 1 }
     {
-        match self.next {
-            Some(place) => {
-                match mem::replace(&mut self.slots[place], Slot::Held(left, right)) {
-                    Slot::Free(next) => self.next = next,
-                    Slot::Held(_, _) => unreachable!(),
-                }
+        let place = self.next;
+        match mem::replace(&mut self.slots[place], Slot::Held(left, right)) {
+            Slot::Free(next) => {
                 self.len += 1;
+                self.next = next;
                 place
             }
-            None => unreachable!(),
+            Slot::Held(_, _) => unreachable!(),
         }
     }
 
@@ -151,7 +148,7 @@ impl<L, R> Pairs<L, R> {
         match mem::replace(&mut self.slots[place], free) {
             Slot::Held(left, right) => {
                 self.len -= 1;
-                self.next = Some(place);
+                self.next = place;
                 (left, right)
             }
             Slot::Free(_) => unreachable!(),
@@ -174,7 +171,7 @@ impl<L, R> Pairs<L, R> {
         if self.slots.try_reserve_exact(to - places).is_err() {
             return Err(NoMemory);
         }
-        self.next = push_free(&mut self.slots, self.next, to);
+        push_free(&mut self.slots, to);
         Ok(())
     }
 
@@ -198,7 +195,8 @@ impl<L, R> Pairs<L, R> {
                 Slot::Free(_) => {}
             }
         }
-        self.next = push_free(&mut self.slots, None, to);
+        self.next = self.slots.len();
+        push_free(&mut self.slots, to);
         Ok(())
     }
 
@@ -214,6 +212,7 @@ impl<L, R> Pairs<L, R> {
         let places = self.slots.len();
         self.slots.clear();
         self.len = 0;
-        self.next = push_free(&mut self.slots, None, places);
+        self.next = 0;
+        push_free(&mut self.slots, places);
     }
 }

@@ -116,3 +116,45 @@ fn prints_its_pairs(rt: HostRuntime) -> Result<(), Fail> {
     is_printed(&rt, alloc, BiHashMap::<char, u32>::new(alloc), two)?;
     is_printed(&rt, alloc, BiHashBTreeMap::<char, u32>::new(alloc), two)
 }
+
+// Whether the walk gives the lefts from 0 on, in turn.
+fn goes_in_turn<S: BuildHasher, J: Index<u32>>(
+    map: &BijectiveMap<u32, u32, HashIndex<S>, J>,
+) -> bool {
+    let mut expected = 0;
+    for (left, _) in map.iter() {
+        if *left != expected {
+            return false;
+        }
+        expected += 1;
+    }
+    true
+}
+
+// Inserts pairs in turn, and asks for room at times, where some places are free and where none is.
+fn is_filled_in_turn<S: BuildHasher, J: Index<u32>>(
+    rt: &impl Abort,
+    map: &mut BijectiveMap<u32, u32, HashIndex<S>, J>,
+) {
+    for left in 0..40 {
+        if left % 9 == 4 {
+            assert!(rt; map.reserve(11).is_ok());
+        }
+        let _ = map.insert(left, 100 - left);
+        assert!(rt; goes_in_turn(map));
+    }
+    assert!(rt; map.len() == 40);
+}
+
+#[test]
+fn pairs_inserted_in_turn_are_walked_in_turn(rt: HostRuntime) {
+    let alloc = rt.alloc();
+    let mut map: BiHashMap<u32, u32> = BiHashMap::new(alloc);
+    is_filled_in_turn(&rt, &mut map);
+    map.clear();
+    is_filled_in_turn(&rt, &mut map);
+    let mut mixed: BiHashBTreeMap<u32, u32> = BiHashBTreeMap::new(alloc);
+    is_filled_in_turn(&rt, &mut mixed);
+    mixed.clear();
+    is_filled_in_turn(&rt, &mut mixed);
+}

@@ -1,4 +1,4 @@
-use Rattle.std.proofs.Common.{◌≡◌, ◌∙◌, arith}
+use Rattle.std.proofs.Common.{◌≡◌, ◌∙◌, ◌+◌, arith, ap}
 use Rattle.std.proofs.lemmas.List.{length_push}
 use Rattle.bimap_base.specs.declared.pairs.Slot.TheVariants.{Free}
 use Rattle.bimap_base.proofs.FreeList.{IsGrown-start, IsGrown-push}
@@ -6,17 +6,17 @@ use Rattle.bimap_base.proofs.pairs.push_free.Goals as goal
 
 pub loop-slots-init : goal.loop-slots-init
 loop-slots-init g c = record {
-  grown = λ len sound. IsGrown-start _ _ _ sound;
+  grown = λ len next sound. IsGrown-start _ _ _ sound;
   fits = omega arith;
   room = omega arith;
 }
 
 pub loop-slots-preserved : goal.loop-slots-preserved
 loop-slots-preserved g c =
-    let there : c.len-place.result ≡ _ = c.len-place.ensures ∙ c.loop-slots.slots.ok.0 in
-    let longer = length_push c.loop-slots.slots.items (Free c.loop-slots.next) in
+    let there = ap (λ n. n + 1) (c.len-after.ensures ∙ c.loop-slots.slots.ok.0) in
+    let longer = length_push c.loop-slots.slots.items (Free (c.len-after.result + 1)) in
     record {
-      grown = λ len sound. rw (c.push_reserved.ensures.items, there) (IsGrown-push _ _ _ _ (c.loop-slots.invariant.grown len sound));
+      grown = λ len next sound. rw (c.push_reserved.ensures.items, there) (IsGrown-push _ _ _ _ (c.loop-slots.invariant.grown len next sound));
       fits = omega arith;
       room = omega arith;
     }

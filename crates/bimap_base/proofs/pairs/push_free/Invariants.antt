@@ -4,7 +4,7 @@ use Rattle.bimap_base.proofs.pairs.push_free.Given as goal
 
 abbrev pub invariant-loop-slots : goal.invariant-loop-slots
 invariant-loop-slots g l = record {
-  grown : (len : ℕ) → IsSound l.initial.slots.items len l.fn.first → IsGrown l.initial.slots.items l.slots.items len l.next;
+  grown : (len next : ℕ) → IsSound l.initial.slots.items len next → IsGrown l.initial.slots.items l.slots.items len next;
   fits : vec_len l.slots ≤ l.to;
   room : l.to ≤ vec_capacity l.slots;
 }

@@ -2,7 +2,7 @@ use Rattle.bimap_base.proofs.FreeList.{IsSound-empty}
 use Rattle.bimap_base.proofs.pairs.Pairs.clear.Goals as goal
 
 pub returns-clause-free : goal.returns-clause-free
-returns-clause-free g c = (rw c.clear.ensures.items at (c.push_free-self-inside.ensures.grown 0 (rw c.clear.ensures.items IsSound-empty))).kept
+returns-clause-free g c = (rw c.clear.ensures.items at (c.push_free.ensures.grown 0 0 (rw c.clear.ensures.items IsSound-empty))).kept
 
 pub returns-clause-count : goal.returns-clause-count
-returns-clause-count g c = (rw c.clear.ensures.items at (c.push_free-self-inside.ensures.grown 0 (rw c.clear.ensures.items IsSound-empty))).count
+returns-clause-count g c = (rw c.clear.ensures.items at (c.push_free.ensures.grown 0 0 (rw c.clear.ensures.items IsSound-empty))).count

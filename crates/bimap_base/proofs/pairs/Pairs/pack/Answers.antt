@@ -35,8 +35,8 @@ loop-slot-preserved g c =
       whole = append_assoc c.loop-slot.yielded (c.in-Some.slot ∷ []) (into_iter_items c.next.new.self) ∙ ap (λ v. c.loop-slot.yielded ++ v) (sym c.in-Some.ensures.steps.0) ∙ i.whole;
     }
 
-pub push_free-self-inside-requires-clause-fits : goal.push_free-self-inside-requires-clause-fits
-push_free-self-inside-requires-clause-fits g c =
+pub push_free-requires-clause-fits : goal.push_free-requires-clause-fits
+push_free-requires-clause-fits g c =
     let i = c.loop-slot.invariant in
     let slots = c.self.inside.slots.items in
     let all = c.into_iter-slot-iterator.ensures.into_iter_gives.0 ∙ ap (λ v. v.items) c.replace-slots.ensures.value in
@@ -51,18 +51,18 @@ invariant_of-self g c =
     let all = c.into_iter-slot-iterator.ensures.into_iter_gives.0 ∙ ap (λ v. v.items) c.replace-slots.ensures.value in
     let seen = none_left c.loop-slot.yielded (into_iter_items c.loop-slot.slot-iterator) c.self.inside.slots.items (i.whole ∙ all) (omega (arith, c.in-None.ensures.steps.0, c.loop-slot.slot-iterator.rest.ok)) in
     let moved = i.moved ∙ ap (λ z. map Some (pairs_in (map pair_of z))) seen in
-    (c.push_free-self-inside.ensures.grown c.loop-slot.self-inside.len (all_held c.loop-slot.self-inside.slots.items (map pair_of c.self.inside.slots.items) c.loop-slot.self-inside.len moved (i.count ∙ c.self.invariant.counted))).sound
+    (c.push_free.ensures.grown c.loop-slot.self-inside.len _ (all_held c.loop-slot.self-inside.slots.items (map pair_of c.self.inside.slots.items) c.loop-slot.self-inside.len _ moved (i.count ∙ c.self.invariant.counted) (c.len-self-inside.ensures ∙ c.loop-slot.self-inside.slots.ok.0))).sound
 
 pub returns-clause-ok : goal.returns-clause-ok
 returns-clause-ok g c =
     let i = c.loop-slot.invariant in
     let slots = c.self.inside.slots.items in
-    let new = c.push_free-self-inside.new.slots in
+    let new = c.push_free.new.slots in
     let all = c.into_iter-slot-iterator.ensures.into_iter_gives.0 ∙ ap (λ v. v.items) c.replace-slots.ensures.value in
     let seen = none_left c.loop-slot.yielded (into_iter_items c.loop-slot.slot-iterator) c.self.inside.slots.items (i.whole ∙ all) (omega (arith, c.in-None.ensures.steps.0, c.loop-slot.slot-iterator.rest.ok)) in
     let moved = i.moved ∙ ap (λ z. map Some (pairs_in (map pair_of z))) seen in
-    let grown = c.push_free-self-inside.ensures.grown c.loop-slot.self-inside.len (all_held c.loop-slot.self-inside.slots.items (map pair_of slots) c.loop-slot.self-inside.len moved (i.count ∙ c.self.invariant.counted)) in
+    let grown = c.push_free.ensures.grown c.loop-slot.self-inside.len _ (all_held c.loop-slot.self-inside.slots.items (map pair_of slots) c.loop-slot.self-inside.len _ moved (i.count ∙ c.self.invariant.counted) (c.len-self-inside.ensures ∙ c.loop-slot.self-inside.slots.ok.0)) in
     let count = subst (λ v. pair_count v ≤ c.args.to) (sym c.self.view_is) c.requires in
     subst (λ v. map pair_of new.items ≡ packed (pairs_in v) c.args.to) c.self.view_is
-    (all_packed (map pair_of new.items) (pairs_in (map pair_of slots)) c.args.to (omega (arith, count, counted_in (map pair_of slots))) (omega (arith, length-map new.items pair_of, c.push_free-self-inside.ensures.long, new.ok))
+    (all_packed (map pair_of new.items) (pairs_in (map pair_of slots)) c.args.to (omega (arith, count, counted_in (map pair_of slots))) (omega (arith, length-map new.items pair_of, c.push_free.ensures.long, new.ok))
     (λ k. grown.kept k ∙ ap (λ z. get_or z k None) moved))
