@@ -1,6 +1,6 @@
 -- What is said of a holding is said of one with the same members, as many of them and the same room.
 use Rattle.std.proofs.Common.{◌≡◌, ◌∙◌, Bool, Option, length, sym, arith}
-use Rattle.std.specs.Prelude.{Contains, Result, IsOk, OnErr}
+use Rattle.std.specs.Prelude.{Contains, Result, OnErr}
 use Rattle.std.specs.Borrow.{Bor}
 use Rattle.bimap_base.specs.Sets.{IsSameSet, HasLeft}
 use Rattle.bimap_base.specs.Holding.{Holding, IsFull, IsFoundByLeft, IsFoundByRight, IsRemovalByLeft, IsRemovalByRight, IsRoomAfter, IsInsertionUnder, IsInterning, IsUndoing}

@@ -3,6 +3,7 @@
 
 mod copy;
 mod insert;
+mod intern;
 mod pack;
 mod ranks;
 mod remove;
