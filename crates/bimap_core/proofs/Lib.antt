@@ -2,7 +2,6 @@ pub mod Places
 pub mod Counted
 pub mod Inserting
 pub mod Inserted
-pub mod Interned
 pub mod Removing
 pub mod Linking
 pub mod Retaining

@@ -3,7 +3,6 @@
 
 mod copy;
 mod insert;
-mod intern;
 mod pack;
 mod ranks;
 mod remove;
