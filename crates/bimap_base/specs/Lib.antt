@@ -2,7 +2,6 @@ pub mod Sets
 pub mod Answer
 pub mod Survivors
 pub mod Kept
-pub mod Visited
 pub mod Undoing
 pub mod Fitting
 pub mod Holding

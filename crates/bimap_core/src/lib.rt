@@ -2,7 +2,6 @@
 #![tactic(auto)]
 
 mod copy;
-mod for_each;
 mod insert;
 mod pack;
 mod ranks;

@@ -1,4 +1,3 @@
 pub mod Keeping
-pub mod Visiting
 pub mod Removal
 pub mod Undone

@@ -1,8 +1,8 @@
 //! A ledger of guests and their seats, in which no guest takes a seat from another.
 ghost use Rattle.std.specs.Prelude.{◌≡◌, ◌<◌, ◌≤◌, length, Contains, IfOk, IfErr, OnOk, OnErr};
 ghost use Rattle.bimap.specs.Sets.{IsWithPut, LacksRight};
-ghost use Rattle.bimap.specs.Answer.{IsAnswer};
-ghost use Rattle.bimap.specs.Visited.{MayVisit, IsVisited};
+ghost use Rattle.bimap.specs.Answer.{IsAnswer, IsRefusalUnder};
+ghost use Rattle.bimap.specs.Holding.{IsFull};
 
 use bimap::{Bijection, NotInsertedWith, OnHeld, Overwritten, Policy};
 
@@ -31,17 +31,6 @@ pub fn seats_taken<G: Eq + Drop, S: Eq + Drop, B: Bijection<G, S>>(ledger: &B) -
     ensures within { result ≤ (B.holding ledger.now).room }
 {
     ledger.len()
-}
-
-/// Shows each guest with the seat to a visitor, once and in an open order.
-pub fn show_seats<G: Eq + Drop, S: Eq + Drop, B: Bijection<G, S>, F: FnMut(&G, &S)>(
-    ledger: &B,
-    visitor: F,
-)
-    requires { MayVisit F.FnMut visitor (B.holding ledger.now).pairs }
-    ensures { IsVisited F.FnMut visitor (B.holding ledger.now).pairs }
-{
-    ledger.for_each(visitor)
 }
 
 /// Seats a guest while a place is free, and so is never refused.
