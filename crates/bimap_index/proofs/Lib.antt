@@ -1,4 +1,5 @@
-pub mod Adopting
 pub mod Ascending
+pub mod ByPlace
 pub mod Grown
 pub mod Packing
+pub mod Placed

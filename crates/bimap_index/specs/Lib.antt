@@ -1,6 +1,5 @@
 pub mod Listed
 pub mod ByOrder
 pub mod ByHash
-pub mod SameLists
 pub mod OrderLaws
 pub mod HashLaws

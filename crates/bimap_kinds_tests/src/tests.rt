@@ -16,7 +16,6 @@ mod many;
 mod odd_values;
 mod ordered_walks;
 mod own_calls;
-mod shrinks;
 mod walks;
 mod whole;
 
@@ -27,7 +26,6 @@ fn letters<B: CopyKind<char, u32> + Taken<char, u32> + Walked<char, u32> + Walke
     alloc: Global,
 ) -> Result<(), Fail> {
     capacities::all::<B>(rt, alloc);
-    shrinks::all::<B>(rt, alloc)?;
     walks::gives_each_once::<B>(rt, alloc)?;
     whole::letters::<B>(rt, alloc)
 }
