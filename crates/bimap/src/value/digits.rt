@@ -1,19 +1,19 @@
 //! The plain decimal texts of whole numbers. It doesn't know of JSON.
-ghost use Rattle.std.specs.Prelude.{◌≡◌, ◌≢◌, ℕ, ◌<◌, length, slice_index, MatchBool};
+ghost use Rattle.std.specs.Prelude.{◌≡◌, ◌≢◌, ◌↔◌, ℕ, ◌<◌, length, slice_index, IsTrue};
 ghost use Rattle.bimap.specs.JsonReading.{ReadsSome};
 ghost use Rattle.bimap.specs.JsonDigits.{IsPlain, IsPlainSigned};
 ghost use Rattle.bimap.specs.JsonTexts.{IsUnsignedText, IsSignedText};
 
 /// Whether digits begin with no plus, and with no zero before another.
 fn is_plain(digits: &[u8]) -> bool
-    ensures { MatchBool result (IsPlain digits.now) (¬ IsPlain digits.now) }
+    ensures { IsTrue result ↔ IsPlain digits.now }
 {
     !digits.is_empty() && digits[0] != b'+' && (digits[0] != b'0' || digits.len() == 1)
 }
 
 /// The same after a minus, where no zero may begin: zero has no minus.
 fn is_plain_signed(text: &[u8]) -> bool
-    ensures { MatchBool result (IsPlainSigned text.now) (¬ IsPlainSigned text.now) }
+    ensures { IsTrue result ↔ IsPlainSigned text.now }
 {
     if !text.is_empty() && text[0] == b'-' {
         let digits = &text[1..];
