@@ -8,7 +8,9 @@ use bimap::{BiBTreeMap, BiHashMap, ExtendStopped};
 use std::alloc::Global;
 
 type Seats = BiBTreeMap<char, u32>;
+
 type Hashed = BiHashMap<char, u32>;
+
 type Stopped = ExtendStopped<char, u32>;
 
 const PAIRS: [(char, u32); 3] = [('a', 3), ('b', 1), ('c', 2)];

@@ -10,7 +10,10 @@ fn inserts(rt: HostRuntime) -> Result<(), Fail> {
     assert!(&rt; seats.insert('a', 1) == Ok(Overwritten::Both(('a', 3), ('b', 1))));
     let mut seats = ordered(alloc)?;
     assert!(&rt; seats.insert_no_overwrite('d', 3) == Err(NotInserted::Occupied('d', 3)));
-    let keep_right = Policy { left: OnHeld::Overwrite, right: OnHeld::Refuse };
+    let keep_right = Policy {
+        left: OnHeld::Overwrite,
+        right: OnHeld::Refuse,
+    };
     assert!(&rt; seats.insert_with('d', 3, keep_right) == Err(NotInsertedWith::RightHeld('d', 3)));
     assert!(&rt; seats.extend([('d', 4), ('e', 1)]) == Ok(()));
     assert!(&rt; seats.len() == 4);

@@ -1,5 +1,5 @@
 //! Examples of look-ups, ends and ranks.
-use super::{ordered, Seats};
+use super::{Seats, ordered};
 use bimap::Overwritten;
 use std::process::Abort;
 use std::test::Fail;
