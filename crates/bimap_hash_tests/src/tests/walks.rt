@@ -121,12 +121,12 @@ fn prints_its_pairs(rt: HostRuntime) -> Result<(), Fail> {
 fn goes_in_turn<S: BuildHasher, J: Index<u32>>(
     map: &BijectiveMap<u32, u32, HashIndex<S>, J>,
 ) -> bool {
-    let mut expected = 0;
+    let mut expected = 0u32;
     for (left, _) in map.iter() {
         if *left != expected {
             return false;
         }
-        expected += 1;
+        expected = expected.wrapping_add(1);
     }
     true
 }
