@@ -4,6 +4,7 @@ pub mod Heights
 pub mod Split
 pub mod Searches
 pub mod Ranks
+pub mod Filling
 pub mod Walks
 pub mod Index
 pub mod Rooms
@@ -19,6 +20,5 @@ pub mod Found
 pub mod Starts
 pub mod Whole
 pub mod Routes
-pub mod Batches
 pub mod Spans
 pub mod Climbs

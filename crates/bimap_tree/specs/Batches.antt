@@ -8,5 +8,5 @@ HasRank batch rank = (batch.from ≤ rank) × (rank < batch.from + batch.count)
 
 -- the places that the batch holds are those of the list
 pub record IsBatch (places : List ℕ) (batch : Batch) : Type 0 where
-  pub fits : batch.count ≤ 16
+  pub fits : batch.count < 64
   pub reads : (k : ℕ) → k < batch.count → slice_get places (batch.from + k) ≡ Some (slice_index batch.places k)

@@ -1,4 +1,5 @@
 pub mod Tree
+pub mod Filled
 pub mod Index
 pub mod Order
 pub mod Start

@@ -268,19 +268,23 @@ impl Ordered {
         place_under(&self.cells, self.root, rank, meter)
     }
 
-    /// Puts the places from a rank on into a buffer, as many as it holds, and answers how many. It takes time logarithmic in the length, once for all of them.
+    /// Puts the places from a rank on into a buffer, until there are at least as many as are wanted, and answers how many. It takes time logarithmic in the length, once for all of them.
     pub fn places_from<M: Meter>(
         &self,
         rank: usize,
-        buffer: &mut [usize; 16],
+        wanted: usize,
+        buffer: &mut [usize; 64],
         meter: &mut M,
     ) -> usize
-        requires { rank ≤ length self.now.places }
-        ensures count { result ≡ min 16 (length self.now.places - rank) }
-        ensures places { take result buffer.new ≡ take 16 (drop rank self.now.places) }
+        requires rank { rank ≤ length self.now.places }
+        requires wanted { wanted ≤ 57 }
+        ensures enough { min wanted (length self.now.places - rank) ≤ result }
+        ensures most { result ≤ length self.now.places - rank }
+        ensures within { result < 64 }
+        ensures places { take result buffer.new ≡ take result (drop rank self.now.places) }
         ensures comparisons { M.comparisons meter.new ≡ M.comparisons meter.old }
         ensures touches { M.touches meter.new ≤ M.touches meter.old + result + 3 * most_height (length self.now.places) }
     {
-        fill_from(&self.cells, self.root, rank, buffer, meter)
+        fill_from(&self.cells, self.root, rank, wanted, buffer, meter)
     }
 }

@@ -2,13 +2,11 @@
 use Rattle.std.proofs.Common.{◌≡◌, ◌≢◌, ℕ, suc, List, [], ◌∷◌, ◌++◌, length, Option, None, Some, is_some, IsSome, refl, sym, ap, ◌∙◌, true≢false}
 use Rattle.std.specs.Prelude.{slice_set}
 use Rattle.std.specs.List.{All, cons_option}
-use Rattle.std.specs.Option.{option_map}
-use Rattle.std.specs.Map.Iter.{TakesFirst, TakesLast}
 use Rattle.std.proofs.lemmas.List.{get_or-set_other}
 use Rattle.std.proofs.lemmas.List.Elements.{filter_map-append}
 use Rattle.bimap_base.specs.PairsAt.{pairs_at}
 use Rattle.bimap_base.specs.Slots.{pair_at, IsLive}
-use Rattle.bimap_walk.proofs.Ends.{All-first, All-behind, All-last}
+use Rattle.bimap_walk.proofs.Ends.{All-first, All-behind}
 
 module _ {P : Type 0} (slots : List (Option P)) where
   -- each place has a pair, so there are as many
@@ -27,15 +25,6 @@ module _ {P : Type 0} (slots : List (Option P)) where
 
     pub pairs_at-last : (x : P) → old ≡ ps ++ p ∷ [] → pair_at slots p ≡ Some x → pairs_at slots old ≡ pairs_at slots ps ++ x ∷ []
     pairs_at-last x e is = ap (pairs_at slots) e ∙ filter_map-append (pair_at slots) ps (p ∷ []) ∙ ap (λ o. pairs_at slots ps ++ cons_option o []) is
-
-    module _ {A : Type 0} (shows : A → P) where
-      pub shows_first : (r : Option A) → old ≡ p ∷ ps → All (IsLive slots) old → option_map shows r ≡ pair_at slots p → TakesFirst shows (pairs_at slots old) r (pairs_at slots ps)
-      shows_first None e live is = absurd (true≢false (sym (All-first old p ps e (IsLive slots) live) ∙ ap is_some (sym is)))
-      shows_first (Some a) e live is = pairs_at-first (shows a) e (sym is)
-
-      pub shows_last : (r : Option A) → old ≡ ps ++ p ∷ [] → All (IsLive slots) old → option_map shows r ≡ pair_at slots p → TakesLast shows (pairs_at slots old) r (pairs_at slots ps)
-      shows_last None e live is = absurd (true≢false (sym (All-last old p ps e (IsLive slots) live) ∙ ap is_some (sym is)))
-      shows_last (Some a) e live is = pairs_at-last (shows a) e (sym is)
 
   -- the pair at one place is taken out of the store
   module _ (p : ℕ) (new : List (Option P)) (now : new ≡ slice_set slots p None) where

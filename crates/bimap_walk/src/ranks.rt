@@ -62,14 +62,14 @@ impl<'a, L, R> Walk for Ranks<'a, L, R> {
 
     fn next(&mut self) -> Option<(&'a L, &'a R)> {
         let place = self.window.first(self.index)?;
-        self.pairs.at(place)
+        Some(self.pairs.held(place))
     }
 }
 
 impl<'a, L, R> WalkBack for Ranks<'a, L, R> {
     fn next_back(&mut self) -> Option<(&'a L, &'a R)> {
         let place = self.window.last(self.index)?;
-        self.pairs.at(place)
+        Some(self.pairs.held(place))
     }
 }
 

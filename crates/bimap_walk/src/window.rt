@@ -42,7 +42,7 @@ impl Window {
         self.back - self.front
     }
 
-    // The first place left. One descent serves sixteen calls.
+    // The first place left. One descent serves many calls.
     pub(crate) fn first(&mut self, index: &Ordered) -> Option<usize>
         requires { IsWindow index.now.places self.old }
         ensures window { IsWindow index.now.places self.new }
@@ -52,12 +52,12 @@ impl Window {
             return None;
         }
         let rank = self.front;
-        let place = self.ahead.place(index, rank, rank, &mut Count::new());
+        let place = self.ahead.place(index, rank, &mut Count::new());
         self.front += 1;
         Some(place)
     }
 
-    // The last place left. One descent serves sixteen calls.
+    // The last place left. One descent serves many calls.
     pub(crate) fn last(&mut self, index: &Ordered) -> Option<usize>
         requires { IsWindow index.now.places self.old }
         ensures window { IsWindow index.now.places self.new }
@@ -67,10 +67,6 @@ impl Window {
             return None;
         }
         self.back -= 1;
-        let rank = self.back;
-        Some(
-            self.behind
-                .place(index, rank, rank.saturating_sub(15), &mut Count::new()),
-        )
+        Some(self.behind.place_back(index, self.back, &mut Count::new()))
     }
 }

@@ -11,7 +11,7 @@ use std::test::Fail;
 /// A bimap of an ordered left, whatever finds its rights.
 type ByLeft<J> = BijectiveMap<u32, u32, Ordered, J>;
 
-// More than two batches of sixteen.
+// So many that the index has several levels.
 const PAIRS: u32 = 40;
 
 // The right of a left.

@@ -1,4 +1,4 @@
-//! The walks by an ordered side, over several batches of sixteen, from both ends, with a copy made on the way.
+//! The walks by an ordered side, over several batches from both ends, with a copy made on the way.
 use bimap::{BiBTreeHashMap, BiBTreeMap, BiHashBTreeMap, Bijection, BijectiveMap};
 use bimap_index::{HashIndex, Index};
 use bimap_tree::Ordered;
@@ -7,10 +7,10 @@ use std::hash::BuildHasher;
 use std::process::Abort;
 use std::test::Fail;
 
-const PAIRS: u32 = 50;
+const PAIRS: u32 = 150;
 
 // So many steps are made from either end before the copy: to the ends of batches, beside them, and to the end of all.
-const STEPS: [u32; 10] = [0, 1, 7, 8, 9, 15, 16, 17, 24, 25];
+const STEPS: [u32; 12] = [0, 1, 7, 8, 9, 14, 15, 64, 65, 71, 74, 75];
 
 // A greater left has a smaller right: the rights are those from `PAIRS` on.
 fn fill<B: Bijection<u32, u32>>(bimap: &mut B) {

@@ -28,10 +28,11 @@ pub(super) fn gives_each_once<
     Ok(())
 }
 
-// A walk by an ordered side reads sixteen places at a time. It is given up on before, at and after the ends of these.
-const LENGTHS: [u32; 6] = [0, 1, 15, 16, 17, 50];
+// A walk by an ordered side reads eight to fourteen places at first, and then 57 to 63 at a time. It is given up on before,
+// at and after the ends of these.
+const LENGTHS: [u32; 6] = [0, 1, 7, 8, 15, 150];
 
-const STEPS: [usize; 7] = [0, 1, 7, 15, 16, 17, 33];
+const STEPS: [usize; 10] = [0, 1, 7, 8, 14, 15, 64, 65, 77, 133];
 
 // So many pairs, in no order.
 fn scattered(alloc: Global, pairs: u32) -> Result<Vec<(u32, u32)>, AllocError> {

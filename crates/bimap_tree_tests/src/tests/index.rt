@@ -5,7 +5,7 @@ ghost use Rattle.std.specs.Ordering.{nat_cmp};
 ghost use Rattle.bimap_base.specs.Keyed.{Ascends};
 
 use bimap_base::{Keys, Meter};
-use bimap_tree::{Ordered, Route};
+use bimap_tree::{Batch, Ordered, Route};
 use std::alloc::Global;
 use std::cmp::Ordering;
 use std::ops::Bound;
@@ -135,19 +135,43 @@ fn places_by_rank(rt: HostRuntime) -> Result<(), Fail> {
         assert!(rt; meter.touches <= 40);
     }
     let mut meter = at_zero(&rt);
-    let mut buffer = [0usize; 16];
+    let mut buffer = [0usize; 64];
     let mut walked = 0usize;
     for rank in 0..1000usize {
         if rank == walked {
-            let filled = index.places_from(rank, &mut buffer, &mut meter);
-            assert_eq!(rt;
-                (filled, buffer[0]),
-                (if rank < 992 { 16 } else { 8 }, rank)
-            );
-            walked = if rank < 992 { rank + 16 } else { 1000 };
+            let filled = index.places_from(rank, 57, &mut buffer, &mut meter);
+            assert!(rt; filled >= if rank < 943 { 57 } else { 1000 - rank });
+            for (behind, place) in buffer[..filled].iter().enumerate() {
+                assert_eq!(rt; *place, rank + behind);
+            }
+            walked = rank + filled;
         }
     }
-    assert_eq!(rt; buffer[7], 999);
+    assert_eq!(rt; walked, 1000);
+    Ok(())
+}
+
+// Walks a thousand places by batches from either end, and answers how many nodes each walk touched.
+fn walk_by_batches<R: Abort>(rt: &R, index: &Ordered) -> (u64, u64)
+    requires { length index.now.places ≡ 1000 }
+{
+    let (mut ahead, mut behind) = (Batch::new(index), Batch::new(index));
+    let (mut to, mut fro) = (at_zero(rt), at_zero(rt));
+    for rank in 0..1000usize {
+        assert_eq!(rt; ahead.place(index, rank, &mut to), rank);
+        assert_eq!(rt; behind.place_back(index, 999 - rank, &mut fro), 999 - rank);
+    }
+    (to.touches, fro.touches)
+}
+
+// One batch has eight places or more, and eighteen have 57 or more: each takes a descent of at most twenty levels.
+#[test]
+fn batches_touch_a_place_about_once(rt: HostRuntime) -> Result<(), Fail> {
+    let numbers = thousand(rt.alloc())?;
+    let index = listed(&rt, rt.alloc(), &numbers)?;
+    let (to, fro) = walk_by_batches(&rt, &index);
+    assert!(rt; to <= 1000 + 19 * 60);
+    assert!(rt; fro <= 1000 + 19 * 60);
     Ok(())
 }
 

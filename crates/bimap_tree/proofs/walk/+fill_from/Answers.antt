@@ -1,50 +1,82 @@
-use Rattle.std.proofs.Common.{◌≤◌, arith, take, ap, sym, ◌∙◌}
-use Rattle.bimap_tree.specs.Tree.{size}
+use Rattle.std.proofs.Common.{◌≤◌, arith, ap, sym}
+use Rattle.bimap_tree.specs.Tree.{size, height, reading}
+use Rattle.bimap_tree.proofs.Filling.{parts, below, told, cut, behind, first_and}
 use Rattle.bimap_tree.proofs.Ranks.{rank_into}
-use Rattle.bimap_tree.proofs.Walks.{drop_right, drop_left, from_here, full_list, on_list, left_length}
+use Rattle.bimap_tree.proofs.Shown.{size-reading}
+use Rattle.bimap_tree.proofs.Walks.{drop_right, drop_left, drop_here}
 use Rattle.bimap_tree.proofs.walk.+fill_from.Goals as goal
 
-pub returns-then-before-rank-clause-places :
-    goal.returns-then-before-rank-clause-places
-returns-then-before-rank-clause-places g t c x h few =
-    let (l, r, i) = rank_into _ _ _ _ x h c.in-Some.is c.read-node.ensures.node in
-    let b = (c.measure-before.ensures.measured l i.left_tree).size_is in
-    c.fill_from.ensures.places r i.right_tree (omega (arith, few, ap size i.is, b, c.if-before-rank.true))
-    ∙ ap (λ z. take 16 z) (sym (drop_right x l r _ _ _ i.is b c.if-before-rank.true))
+pub returns-then-before-rank-clause-filled :
+    goal.returns-then-before-rank-clause-filled
+returns-then-before-rank-clause-filled g t c x h b few =
+    let (l, r, i) = parts _ _ _ x (below _ _ _ _ x h b c.in-Some.is c.read-node.ensures.node) in
+    let n = (c.measure-before.ensures.measured l i.left_tree).size_is in
+    told _ _ _ _ _ _ _ (sym (drop_right x l r _ _ _ i.is n c.if-before-rank.true)) (c.fill_from.ensures.filled r i.right_tree i.right_balanced (omega (arith, few, ap size i.is, n, c.if-before-rank.true)))
 
-pub returns-then-rank-before-clause-places :
-    goal.returns-then-rank-before-clause-places
-returns-then-rank-before-clause-places g t c x h few =
-    let (l, r, i) = rank_into _ _ _ _ x h c.in-Some.is c.read-node.ensures.node in
-    from_here _ x l r _ _ _ i.is (c.if-rank-before.true ∙ (c.measure-before.ensures.measured l i.left_tree).size_is) c.requires.room (c.fill_all.ensures.places r i.right_tree)
+pub returns-then-rank-before-clause-filled :
+    goal.returns-then-rank-before-clause-filled
+returns-then-rank-before-clause-filled g t c x h b few =
+    let (l, r, i) = parts _ _ _ x (below _ _ _ _ x h b c.in-Some.is c.read-node.ensures.node) in
+    let n = (c.measure-before.ensures.measured l i.left_tree).size_is in
+    told _ _ _ _ _ _ _ (sym (drop_here x l r _ _ i.is (omega (arith, n, c.if-rank-before.true)))) (first_and _ (reading r) _ _ _ _ c.requires.long (c.fill_all.ensures.filled r i.right_tree i.right_balanced))
 
-pub returns-then-first-eq16-clause-places :
-    goal.returns-then-first-eq16-clause-places
-returns-then-first-eq16-clause-places g t c x h few =
-    let (l, r, i) = rank_into _ _ _ _ x h c.in-Some.is c.read-node.ensures.node in
-    let b = (c.measure-before.ensures.measured l i.left_tree).size_is in
-    let le : c.args.rank ≤ size l = omega (arith, b, c.if-before-rank.false) in
-    full_list _ _ _ _ c.if-first-eq16.true (omega (arith, left_length l c.args.rank le, c.fill_from-first.ensures.count l i.left_tree le, c.if-first-eq16.true)) (c.fill_from-first.ensures.places l i.left_tree le)
-    ∙ ap (λ z. take 16 z) (sym (drop_left x l r _ _ i.is le))
+pub returns-then-filled-wanted-clause-filled :
+    goal.returns-then-filled-wanted-clause-filled
+returns-then-filled-wanted-clause-filled g t c x h b few =
+    let (l, r, i) = parts _ _ _ x (below _ _ _ _ x h b c.in-Some.is c.read-node.ensures.node) in
+    let n = (c.measure-before.ensures.measured l i.left_tree).size_is in
+    let le : c.args.rank ≤ size l = omega (arith, n, c.if-before-rank.false) in
+    let k = c.fill_from-filled.ensures.filled l i.left_tree i.left_balanced le in
+    told _ _ _ _ _ _ _ (sym (drop_left x l r _ _ i.is le)) (cut _ 0 _ _ _ _ _ (omega arith) (omega (arith, k.most, c.if-filled-wanted.true)) k)
 
-pub returns-else-first-eq16-clause-places :
-    goal.returns-else-first-eq16-clause-places
-returns-else-first-eq16-clause-places g t c x h few =
-    let (l, r, i) = rank_into _ _ _ _ x h c.in-Some.is c.read-node.ensures.node in
-    let b = (c.measure-before.ensures.measured l i.left_tree).size_is in
-    let le : c.args.rank ≤ size l = omega (arith, b, c.if-before-rank.false) in
-    let n = c.fill_from-first.ensures.count l i.left_tree le in
-    on_list _ _ _ _ _ _ (omega (arith, left_length l c.args.rank le, n, c.if-first-eq16.false)) (omega (arith, n, c.if-first-eq16.false)) c.fill_from-first.ensures.room (c.fill_from-first.ensures.places l i.left_tree le) (c.fill_all-in-Some.ensures.places r i.right_tree)
-    ∙ ap (λ z. take 16 z) (sym (drop_left x l r _ _ i.is le))
+pub returns-else-filled-wanted-clause-filled :
+    goal.returns-else-filled-wanted-clause-filled
+returns-else-filled-wanted-clause-filled g t c x h b few =
+    let (l, r, i) = parts _ _ _ x (below _ _ _ _ x h b c.in-Some.is c.read-node.ensures.node) in
+    let n = (c.measure-before.ensures.measured l i.left_tree).size_is in
+    let le : c.args.rank ≤ size l = omega (arith, n, c.if-before-rank.false) in
+    let k = c.fill_from-filled.ensures.filled l i.left_tree i.left_balanced le in
+    told _ _ _ _ _ _ _ (sym (drop_left x l r _ _ i.is le)) (behind _ 0 _ _ _ _ _ _ _ _ (omega arith) (omega (arith, k.enough, k.most, c.if-filled-wanted.false)) k (c.fill_all-in-Some.ensures.filled r i.right_tree i.right_balanced))
+
+pub returns-else-filled-wanted-clause-touches :
+    goal.returns-else-filled-wanted-clause-touches
+returns-else-filled-wanted-clause-touches g t c x h b few =
+    let (l, r, i) = parts _ _ _ x (below _ _ _ _ x h b c.in-Some.is c.read-node.ensures.node) in
+    let n = (c.measure-before.ensures.measured l i.left_tree).size_is in
+    let le : c.args.rank ≤ size l = omega (arith, n, c.if-before-rank.false) in
+    let tl = (c.fill_from-filled.ensures.touches l i.left_tree i.left_balanced le).1 (omega (arith, c.if-filled-wanted.false)) in
+    let tr = c.fill_all-in-Some.ensures.touches r i.right_tree i.right_balanced in
+    let k = c.fill_all-in-Some.ensures.filled r i.right_tree i.right_balanced in (
+      omega (arith, tl, tr.1, ap height i.is, c.read-node.ensures.touches, c.measure-before.ensures.touches),
+      λ less. omega (arith, tl, tr.0, k.enough, less, size-reading r, ap height i.is, c.read-node.ensures.touches, c.measure-before.ensures.touches),
+    )
 
 pub fill_from-requires : goal.fill_from-requires
 fill_from-requires g t c κs within =
-    let (l, r, i) = rank_into _ _ _ _ _ c.requires.tree.1 c.in-Some.is c.read-node.ensures.node in
-    let low = i.right_lower in
-    let b = (c.measure-before.ensures.measured l i.left_tree).size_is in
-    (omega arith, (within, ((r, i.right_tree, omega (arith, c.requires.tree.2, ap size i.is, b, c.if-before-rank.true)), c.requires.room)))
+    let (x, h, b, few) = c.requires.tree in
+    let (l, r, i) = parts _ _ _ x (below _ _ _ _ x h b c.in-Some.is c.read-node.ensures.node) in
+    let (l', r', j) = rank_into _ _ _ _ x h c.in-Some.is c.read-node.ensures.node in
+    let low = j.right_lower in
+    let n = (c.measure-before.ensures.measured l i.left_tree).size_is in
+    (omega arith, (within, ((r, i.right_tree, i.right_balanced, omega (arith, few, ap size i.is, n, c.if-before-rank.true)), (c.requires.wanted, c.requires.long))))
+
+pub fill_from-filled-requires : goal.fill_from-filled-requires
+fill_from-filled-requires g t c κs within =
+    let (x, h, b, few) = c.requires.tree in
+    let (l, r, i) = parts _ _ _ x (below _ _ _ _ x h b c.in-Some.is c.read-node.ensures.node) in
+    let (l', r', j) = rank_into _ _ _ _ x h c.in-Some.is c.read-node.ensures.node in
+    let low = j.left_lower in
+    let n = (c.measure-before.ensures.measured l i.left_tree).size_is in
+    (omega arith, (within, ((l, i.left_tree, i.left_balanced, omega (arith, n, c.if-before-rank.false)), (c.requires.wanted, c.requires.long))))
+
+pub fill_all-requires-clause-tree : goal.fill_all-requires-clause-tree
+fill_all-requires-clause-tree g t c =
+    let (x, h, b, few) = c.requires.tree in
+    let (l, r, i) = parts _ _ _ x (below _ _ _ _ x h b c.in-Some.is c.read-node.ensures.node) in
+    (r, i.right_tree, i.right_balanced)
 
 pub fill_all-requires-in-Some-clause-tree : goal.fill_all-requires-in-Some-clause-tree
 fill_all-requires-in-Some-clause-tree g t c =
-    let (l, r, i) = rank_into _ _ _ _ _ c.requires.tree.1 c.in-Some.is c.read-node.ensures.node in
-    (r, i.right_tree)
+    let (x, h, b, few) = c.requires.tree in
+    let (l, r, i) = parts _ _ _ x (below _ _ _ _ x h b c.in-Some.is c.read-node.ensures.node) in
+    (r, i.right_tree, i.right_balanced)

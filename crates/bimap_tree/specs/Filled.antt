@@ -1,0 +1,23 @@
+-- What a buffer holds into which places were put behind those that stood there.
+use Rattle.std.specs.Prelude.{◌≡◌, ℕ, ◌+◌, ◌≤◌, ◌<◌, ◌++◌, min, List, [], ◌∷◌, Option, Some, None, length, take, slice_get}
+use Rattle.bimap_base.specs.declared.cells.Node.{Node}
+use Rattle.bimap_tree.specs.Tree.{Tree, Stands, IsBalanced}
+
+-- a place, if there is one
+abbrev pub place_in : Option ℕ → List ℕ
+place_in None = []
+place_in (Some place) = place ∷ []
+
+-- the nodes show a balanced tree at a place, which has this node
+pub record CanFill (nodes : List Node) (at : ℕ) (node : Node) (t : Tree) : Type 0 where
+  pub tree : Stands nodes (Some at) t
+  pub node_is : slice_get nodes at ≡ Some node
+  pub balanced : IsBalanced t
+
+-- behind so many places of the old buffer stand the first of the added ones: all, or at least so many as are wanted
+pub record IsFilled (wanted filled : ℕ) (old added new : List ℕ) (count : ℕ) : Type 0 where
+  pub enough : min wanted (filled + length added) ≤ count
+  pub most : count ≤ filled + length added
+  pub within : count < 64
+  pub long : length new ≡ 64
+  pub places : take count new ≡ take count (take filled old ++ added)
