@@ -1,5 +1,5 @@
 //! The listed places in the order of their keys. It knows places, ranks and counts, and no key's value.
-ghost use Rattle.std.specs.Prelude.{◌≡◌, ◌≢◌, ◌⊎◌, ℕ, ◌+◌, ◌-◌, ◌*◌, ◌<◌, ◌≤◌, [], length, min, take, drop, slice_get, Some, None, IsOk, OnOk, OnErr, IsSome, IfSome, IfNone};
+ghost use Rattle.std.specs.Prelude.{◌≡◌, ◌≢◌, ◌⊎◌, ℕ, ◌+◌, ◌-◌, ◌*◌, ◌<◌, ◌≤◌, [], length, max, min, take, drop, slice_get, Some, None, IsOk, OnOk, OnErr, IsSome, IfSome, IfNone};
 ghost use Rattle.std.specs.List.{AllPairs, Contains};
 ghost use Rattle.std.specs.declared.cmp.Ordering.TheVariants.{Equal};
 ghost use Rattle.bimap_base.specs.Digits.{most_height};
@@ -66,11 +66,11 @@ impl Ordered {
         self.len
     }
 
-    /// Makes cells for each place below `to`. It takes memory only where some are missing, and a refusal changes nothing.
+    /// Makes cells for each place below `to`, and no more. It takes memory only where some are missing, and a refusal changes nothing.
     pub fn grow(&mut self, to: usize) -> Result<(), NoMemory>
         ensures places { self.new.places ≡ self.old.places }
         ensures cells { length self.old.nodes ≤ length self.new.nodes }
-        ensures ok { OnOk result (to ≤ length self.new.nodes) }
+        ensures ok { OnOk result (length self.new.nodes ≡ max (length self.old.nodes) to) }
         ensures enough { to ≤ length self.old.nodes → IsOk result }
         ensures unchanged { to ≤ length self.old.nodes → self.new ≡ self.old }
         ensures err { OnErr result (self.new ≡ self.old) }

@@ -6,7 +6,7 @@ pub loop-place-init : goal.loop-place-init
 loop-place-init g c = record {
   ascends = ascends_none _ _ _ (c.grow.ensures.places ∙ c.new-index.ensures.places);
   len = ap length (c.grow.ensures.places ∙ c.new-index.ensures.places);
-  cells = was_ok _ _ _ _ _ c.ok.ensures.value c.ok_or.ensures.value c.in_ok-ok_or.was c.grow.ensures.ok;
+  cells = omega (arith, was_ok _ _ _ _ _ c.ok.ensures.value c.ok_or.ensures.value c.in_ok-ok_or.was c.grow.ensures.ok);
   listed = λ p here. absurd (omega (arith, here.1, ap length (c.grow.ensures.places ∙ c.new-index.ensures.places)));
 }
 

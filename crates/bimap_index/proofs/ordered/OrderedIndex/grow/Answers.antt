@@ -1,0 +1,6 @@
+use Rattle.std.proofs.Common.{arith}
+use Rattle.bimap_base.proofs.Results.{OnOk-then}
+use Rattle.bimap_index.proofs.ordered.OrderedIndex.grow.Goals as goal
+
+pub returns-clause-ok : goal.returns-clause-ok
+returns-clause-ok g c = OnOk-then c.grow.result (λ e. omega (arith, e)) c.grow.ensures.ok
