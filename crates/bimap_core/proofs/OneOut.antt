@@ -1,33 +1,10 @@
 -- Lists that ascend, and one from which an element was taken out.
-use Rattle.std.proofs.Common.{◌≡◌, ◌≢◌, ◌⊎◌, ◌↔◌, ◌∙◌, List, [], ◌∷◌, ◌++◌, get_or, refl, sym, ap, subst, inl, inr, Contains}
+use Rattle.std.proofs.Common.{◌≡◌, ◌≢◌, ◌↔◌, List, ◌∷◌, ◌++◌, get_or, sym, subst, Contains}
 use Rattle.std.specs.List.{AllPairs}
-use Rattle.bimap_base.proofs.Members.{head_in, more_in, cases_in, none_in, AllPairs-head, AllPairs-tail}
+use Rattle.bimap_index.specs.SameLists.{same_ascending}
 use Rattle.bimap_core.proofs.Permuted.{without_it, with_it, apart_left, all_without}
 
 module _ {X : Type 0} (Below : X → X → Type 0) (strict : (x y : X) → Below x y → Below y x → ⊥) where
-  -- where the heads are equal, the elements of one tail are in the other
-  tail_in : (x y : X) (xs ys : List X) → AllPairs Below (x ∷ xs) → x ≡ y → (q : X) → (Contains (x ∷ xs) q → Contains (y ∷ ys) q) → Contains xs q → Contains ys q
-  tail_in x y xs ys up e q within c = by (cases_in y ys q (within (more_in x xs q c)))
-    where
-      by : (y ≡ q) ⊎ Contains ys q → Contains ys q
-      by (inl same) = let itself : Below x x = subst (Below x) (sym (e ∙ same)) (AllPairs-head Below x xs up q c) in absurd (strict x x itself itself)
-      by (inr d) = d
-
-  -- ascending lists with the same elements are equal
-  same_ascending : (xs ys : List X) → AllPairs Below xs → AllPairs Below ys → ((q : X) → Contains xs q ↔ Contains ys q) → xs ≡ ys
-  same_ascending [] [] up up' same = refl
-  same_ascending [] (y ∷ ys) up up' same = none_in y ((same y).1 (head_in y ys))
-  same_ascending (x ∷ xs) [] up up' same = none_in x ((same x).0 (head_in x xs))
-  same_ascending (x ∷ xs) (y ∷ ys) up up' same =
-      let e : x ≡ y = heads (cases_in y ys x ((same x).0 (head_in x xs))) (cases_in x xs y ((same y).1 (head_in y ys))) in
-      let rest : xs ≡ ys = same_ascending xs ys (AllPairs-tail Below x xs up) (AllPairs-tail Below y ys up') (λ q. (tail_in x y xs ys up e q (same q).0, tail_in y x ys xs up' (sym e) q (same q).1)) in
-      ap (λ z. z ∷ xs) e ∙ ap (λ zs. y ∷ zs) rest
-    where
-      heads : (y ≡ x) ⊎ Contains ys x → (x ≡ y) ⊎ Contains xs y → x ≡ y
-      heads (inl e) d = sym e
-      heads (inr c) (inl e) = e
-      heads (inr c) (inr d) = absurd (strict x y (AllPairs-head Below x xs up y d) (AllPairs-head Below y ys up' x c))
-
   distinct : (xs : List X) → AllPairs Below xs → AllPairs (λ p q. p ≢ q) xs
   distinct xs up i j d before inside e =
       let x = get_or xs i d in
@@ -37,7 +14,7 @@ module _ {X : Type 0} (Below : X → X → Type 0) (strict : (x y : X) → Below
   -- an ascending list that has the others is the list without the one
   pub one_out : (a : List X) (x : X) (b ys : List X) → AllPairs Below (a ++ x ∷ b) → AllPairs Below ys → ((q : X) → Contains ys q ↔ (Contains (a ++ x ∷ b) q × (q ≢ x))) → ys ≡ a ++ b
   one_out a x b ys up up' others =
-      same_ascending ys (a ++ b) up' (all_without Below a x b up) (λ q. (
+      same_ascending Below strict ys (a ++ b) up' (all_without Below a x b up) (λ q. (
         λ c. let w = (others q).0 c in without_it a b x q w.0 w.1,
         λ c. (others q).1 (with_it a b x q c, apart_left a x b (distinct (a ++ x ∷ b) up) q c),
       ))

@@ -1,11 +1,11 @@
 //! Exact shrinks. They know places, and what the indexes are to list of them.
-ghost use Rattle.std.specs.Prelude.{◌≡◌, ◌≤◌, length, OnOk, OnErr};
+ghost use Rattle.std.specs.Prelude.{◌≡◌, ◌+◌, ◌*◌, ◌≤◌, length, OnOk, OnErr};
 ghost use Rattle.bimap_base.specs.Capacity.{IsShrink};
 ghost use Rattle.bimap_base.specs.Places.{pairs_in};
 ghost use Rattle.bimap_base.specs.Slots.{pair_count};
 
 use crate::table::Table;
-use bimap_base::NoMemory;
+use bimap_base::{LeftSide, Meter, NoMemory, RightSide};
 use bimap_index::PackedIndex;
 
 impl<L: Eq, R: Eq, I: PackedIndex<L>, J: PackedIndex<R>> Table<L, R, I, J> {
@@ -13,23 +13,25 @@ impl<L: Eq, R: Eq, I: PackedIndex<L>, J: PackedIndex<R>> Table<L, R, I, J> {
 
     /// Makes the room `least`, exactly, or the length where that is more. It never adds to it: where it would, nothing
     /// changes and no memory is taken. A refusal changes nothing.
-    pub fn shrink_to(&mut self, least: usize) -> Result<(), NoMemory>
+    pub fn shrink_to<M: Meter>(&mut self, least: usize, meter: &mut M) -> Result<(), NoMemory>
     where
         L: Drop,
         R: Drop,
-        ensures { IsShrink (holding_of self.old.pairs) least result (holding_of self.new.pairs) }
+        ensures answer { IsShrink (holding_of self.old.pairs) least result (holding_of self.new.pairs) }
+        ensures comparisons { M.comparisons meter.new ≤ M.comparisons meter.old + length (I.places self.old.left) * I.effort (length (I.places self.old.left)) + length (J.places self.old.right) * J.effort (length (J.places self.old.right)) }
+        ensures touches { M.touches meter.new ≤ M.touches meter.old + length (I.places self.old.left) * (64 * (I.effort (length (I.places self.old.left)) + 1)) + length (J.places self.old.right) * (64 * (J.effort (length (J.places self.old.right)) + 1)) }
     {
         let room = self.room();
         let to = self.len().max(least.min(room));
         if to == room {
             return Ok(());
         }
-        self.pack(to)
+        self.pack(to, meter)
     }
 
-    // Makes exactly so many places, and moves the pairs to the first of them. What the indexes are to list and the store
-    // are made anew before anything changes, so a refusal changes nothing.
-    fn pack(&mut self, to: usize) -> Result<(), NoMemory>
+    // Makes exactly so many places, and moves the pairs to the first of them. What the indexes adopt and the store are made
+    // anew before anything changes, so a refusal changes nothing.
+    fn pack<M: Meter>(&mut self, to: usize, meter: &mut M) -> Result<(), NoMemory>
     where
         L: Drop,
         R: Drop,
@@ -37,12 +39,15 @@ impl<L: Eq, R: Eq, I: PackedIndex<L>, J: PackedIndex<R>> Table<L, R, I, J> {
         ensures ok { OnOk result (length self.new.pairs ≡ to) }
         ensures pairs { pairs_in self.new.pairs ≡ pairs_in self.old.pairs }
         ensures err { OnErr result (self.new.pairs ≡ self.old.pairs) }
+        ensures comparisons { M.comparisons meter.new ≤ M.comparisons meter.old + length (I.places self.old.left) * I.effort (length (I.places self.old.left)) + length (J.places self.old.right) * J.effort (length (J.places self.old.right)) }
+        ensures touches { M.touches meter.new ≤ M.touches meter.old + length (I.places self.old.left) * (64 * (I.effort (length (I.places self.old.left)) + 1)) + length (J.places self.old.right) * (64 * (J.effort (length (J.places self.old.right)) + 1)) }
     {
-        let left = self.left.packed(to)?;
-        let right = self.right.packed(to)?;
+        let alloc = self.pairs.allocator();
+        let left = self.left.packed(alloc, to)?;
+        let right = self.right.packed(alloc, to)?;
         self.pairs.pack(to)?;
-        self.left.adopt(left);
-        self.right.adopt(right);
+        self.left.adopt(left, LeftSide::new(&self.pairs), meter);
+        self.right.adopt(right, RightSide::new(&self.pairs), meter);
         Ok(())
     }
 }

@@ -20,9 +20,13 @@ use Rattle.bimap_index.specs.Listed.{IsFoundBy, IsWithout, MayLink}
 use Rattle.bimap_index.specs.ByOrder.{ListsByOrder}
 use Rattle.bimap_index.specs.OrderLaws.{equal_from, equal_to, live_listed}
 
--- a search of a list from which one place was taken is no longer
+-- a search of a list of fewer places is no longer
+pub effort_least : (n m : ℕ) → n ≤ m → most_height n ≤ most_height m
+effort_least n m fewer = omega (arith, bits-least n (bits m) (omega (arith, fewer, bits-enough m)))
+
+-- nor is one of a list from which one place was taken
 pub effort_fewer : (n m : ℕ) → n + 1 ≡ m → most_height n ≤ most_height m
-effort_fewer n m fewer = omega (arith, bits-least n (bits m) (omega (arith, fewer, bits-enough m)))
+effort_fewer n m fewer = effort_least n m (omega (arith, fewer))
 
 listed_there : (places : List ℕ) (i : ℕ) → i < length places → Contains places (get_or places i 0)
 listed_there places i inside = (i, inside, get_or_default places i (get_or places i 0) 0 inside)
@@ -32,7 +36,7 @@ not_true true never = absurd (never refl)
 not_true false _ = refl
 
 module _ {K : Type 0} (order : K → K → Ordering) (same : K → K → Bool) (total : IsTotalOrder order) (agrees : (x y : K) → same x y ≡ eq_by_cmp order x y) where
-  stands : (f : ℕ → Option K) (key : K) (p : ℕ) → standing f order key p ≡ Some Equal → (k : K) × (f p ≡ Some k) × (order k key ≡ Equal)
+  pub stands : (f : ℕ → Option K) (key : K) (p : ℕ) → standing f order key p ≡ Some Equal → (k : K) × (f p ≡ Some k) × (order k key ≡ Equal)
   stands f key p e = by_key (f p) e
     where
       by_key : (o : Option K) → option_map (λ k. order k key) o ≡ Some Equal → (k : K) × (o ≡ Some k) × (order k key ≡ Equal)
@@ -51,7 +55,7 @@ module _ {K : Type 0} (order : K → K → Ordering) (same : K → K → Bool) (
       }
 
   -- two listed places whose keys are equal to one key are the same
-  one_place : (f : ℕ → Option K) (places : List ℕ) → Ascends f order places → (key : K) (p q : ℕ) (k l : K) → Contains places p → Contains places q → f p ≡ Some k → f q ≡ Some l → order k key ≡ Equal → order l key ≡ Equal → p ≡ q
+  pub one_place : (f : ℕ → Option K) (places : List ℕ) → Ascends f order places → (key : K) (p q : ℕ) (k l : K) → Contains places p → Contains places q → f p ≡ Some k → f q ≡ Some l → order k key ≡ Equal → order l key ≡ Equal → p ≡ q
   one_place f places up key p q k l there here is is2 equal equal2 =
       let first : get_or places there.0 0 ≡ p = get_or_default places there.0 0 p there.1 ∙ there.2 in
       let second : get_or places here.0 0 ≡ q = get_or_default places here.0 0 q here.1 ∙ here.2 in

@@ -1,5 +1,4 @@
+pub mod Adopting
 pub mod Ascending
-pub mod ByPlace
 pub mod Grown
 pub mod Packing
-pub mod Placed

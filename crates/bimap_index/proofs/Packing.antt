@@ -1,5 +1,5 @@
 -- A side whose keys are moved to the first places, and a hashed index of it.
-use Rattle.std.proofs.Common.{get_or, ◌≡◌, ℕ, zero, suc, ◌<◌, ◌≤◌, ◌-◌, ◌++◌, Bool, false, List, [], ◌∷◌, length, map, replicate, Option, Some, None, refl, sym, ap, subst, ◌∙◌, inl, inr, arith}
+use Rattle.std.proofs.Common.{get_or, ◌≡◌, ◌≢◌, ℕ, zero, suc, ◌<◌, ◌≤◌, ◌-◌, ◌++◌, Bool, false, List, [], ◌∷◌, length, map, replicate, Option, Some, None, IsSome, refl, sym, ap, subst, ◌∙◌, inl, inr, arith}
 use Rattle.std.specs.Prelude.{Result, Ok, Err, IfOk}
 use Rattle.std.specs.Option.{option_map}
 use Rattle.std.specs.Cmp.{IsEquivalence}
@@ -43,18 +43,24 @@ module _ {P : Type 0} where
   none_at (suc k) (suc place) = none_at k place
 
   -- in a packed list what stands at a place is the one of that rank
-  rank_of : (ps : List P) (k place : ℕ) (p : P) → pair_at (map Some ps ++ replicate k None) place ≡ Some p → (place < length ps) × (get_or ps place p ≡ p)
+  pub rank_of : (ps : List P) (k place : ℕ) (p : P) → pair_at (map Some ps ++ replicate k None) place ≡ Some p → (place < length ps) × (get_or ps place p ≡ p)
   rank_of [] k place p is = let none = none_at k place in absurd (cc)
   rank_of (x ∷ ps) k zero p is = (omega arith, (cc))
   rank_of (x ∷ ps) k (suc place) p is = let r = rank_of ps k place p is in (omega (arith, r.0), r.1)
 
+  -- and the first places have something
+  pub live_in : (ps : List P) (k place : ℕ) → place < length ps → IsSome (pair_at (map Some ps ++ replicate k None) place)
+  live_in [] k place inside = absurd (omega (arith, inside))
+  live_in (x ∷ ps) k zero inside = refl
+  live_in (x ∷ ps) k (suc place) inside = live_in ps k place (omega (arith, inside))
+
 module _ {P K : Type 0} (key : P → K) where
-  keys_at : (slots : List (Option P)) (place : ℕ) → option_map key (pair_at slots place) ≡ pair_at (map (option_map key) slots) place
+  pub keys_at : (slots : List (Option P)) (place : ℕ) → option_map key (pair_at slots place) ≡ pair_at (map (option_map key) slots) place
   keys_at [] place = refl
   keys_at (x ∷ slots) zero = refl
   keys_at (x ∷ slots) (suc place) = keys_at slots place
 
-  keys_in : (slots : List (Option P)) → pairs_in (map (option_map key) slots) ≡ map key (pairs_in slots)
+  pub keys_in : (slots : List (Option P)) → pairs_in (map (option_map key) slots) ≡ map key (pairs_in slots)
   keys_in [] = refl
   keys_in (None ∷ slots) = keys_in slots
   keys_in (Some x ∷ slots) = ap (λ z. key x ∷ z) (keys_in slots)
@@ -97,6 +103,25 @@ module _ {K : Type 0} (number : K → ℕ) where
       by None y e rest = ap (λ z. pairs_in (z ∷ numbers)) e ∙ rest
       by (Some k) y e rest = ap (λ z. pairs_in (z ∷ numbers)) e ∙ ap (λ z. number k ∷ z) rest
 
+-- what holds of the keys of each two places holds of them where they are moved to
+pub packed_apart : {K : Type 0} {f g : ℕ → Option K} {to : ℕ} → IsPackedSide f g to → (R : K → K → Type 0) → ((k l : K) → R k l → R l k) → ((a b : ℕ) (k l : K) → a ≢ b → f a ≡ Some k → f b ≡ Some l → R k l) → (a b : ℕ) (k l : K) → a ≢ b → g a ≡ Some k → g b ≡ Some l → R k l
+packed_apart {K} {f} {g} {to} side R turned apart a b k l away first second =
+    let here = rank_of keys (to - length keys) a k (sym (side.after a) ∙ first) in
+    let there = rank_of keys (to - length keys) b l (sym (side.after b) ∙ second) in
+    elim (cases_lt a b) [
+      | inl less ↦ ranked a b k l less here there
+      | inr other ↦ turned l k (ranked b a l k (omega (arith, other, away)) there here)
+    ]
+  where
+    keys : List K
+    keys = pairs_in side.keys
+
+    ranked : (a b : ℕ) (k l : K) → a < b → (a < length keys) × (get_or keys a k ≡ k) → (b < length keys) × (get_or keys b l ≡ l) → R k l
+    ranked a b k l less first second =
+        let all = in_turn R side.keys (λ a b p q e first second. apart a b p q (λ h. absurd (omega (arith, e, h))) (side.before a ∙ first) (side.before b ∙ second)) in
+        let y : get_or keys b k ≡ l = get_or_default keys b k l second.0 ∙ second.1 in
+        subst (R k) y (subst (λ z. R z (get_or keys b k)) first.1 (all a b k less second.0))
+
 -- the moved numbers are listed for the moved keys
 pub hash_packed : {K : Type 0} (same : K → K → Bool) (number : K → ℕ) → IsEquivalence same → (numbers new : List (Option ℕ)) (f g : ℕ → Option K) (to : ℕ) → ListsByHash same number numbers f → IsPackedSide f g to → new ≡ packed (pairs_in numbers) to → ListsByHash same number new g
 hash_packed {K} same number equal numbers new f g to listing side now =
@@ -104,13 +129,7 @@ hash_packed {K} same number equal numbers new f g to listing side now =
       numbered = λ place. ap (λ z. number_at (packed z to) place) told
           ∙ sym (keys_first number keys (to - length keys) (to - length (map number keys)) place)
           ∙ ap (option_map number) (sym (side.after place));
-      apart = λ a b k l away first second.
-          let first = rank_of keys (to - length keys) a k (sym (side.after a) ∙ first) in
-          let second = rank_of keys (to - length keys) b l (sym (side.after b) ∙ second) in
-          elim (cases_lt a b) [
-            | inl less ↦ ranked a b k l less first second
-            | inr other ↦ equal.symm k l ∙ ranked b a l k (let h : b < a = omega (arith, other, away) in h) second first
-          ];
+      apart = packed_apart side (λ k l. same k l ≡ false) (λ k l e. sym (equal.symm k l) ∙ e) listing.apart;
     }
   where
     keys : List K
@@ -118,14 +137,6 @@ hash_packed {K} same number equal numbers new f g to listing side now =
 
     told : pairs_in numbers ≡ map number keys
     told = numbers_in number side.keys numbers (λ place. listing.numbered place ∙ ap (option_map number) (side.before place))
-
-    ranked : (a b : ℕ) (k l : K) → a < b → (a < length keys) × (get_or keys a k ≡ k) → (b < length keys) × (get_or keys b l ≡ l) → same k l ≡ false
-    ranked a b k l less first second =
-        let all = in_turn (λ p q. same p q ≡ false) side.keys (λ a b p q e first second. listing.apart a b p q (λ h. absurd (omega (arith, e, h))) (side.before a ∙ first) (side.before b ∙ second)) in
-        let here = all a b k less second.0 in
-        let x : get_or keys a k ≡ k = first.1 in
-        let y : get_or keys b k ≡ l = get_or_default keys b k l second.0 ∙ second.1 in
-        sym (ap (λ z. same z (get_or keys b k)) x ∙ ap (same k) y) ∙ here
 
 pub cells_packed : (numbers new : List (Option ℕ)) (to : ℕ) → length (pairs_in numbers) ≤ to → new ≡ packed (pairs_in numbers) to → length new ≡ to
 cells_packed numbers new to fits now = ap length now ∙ length-packed (pairs_in numbers) to fits

@@ -4,16 +4,19 @@ use Rattle.std.specs.Prelude.{◌≡◌, ◌≢◌, ◌↔◌, ℕ, zero, suc, �
 use Rattle.std.proofs.Common.{get_or, refl, sym, ap, subst, ◌∙◌, inl, inr, arith, true≢false}
 use Rattle.std.specs.Option.{option_map}
 use Rattle.std.specs.Cmp.{IsEquivalence}
-use Rattle.std.specs.List.{AllPairs, Contains}
+use Rattle.std.specs.List.{AllPairs, Contains, filter_map}
 use Rattle.std.proofs.lemmas.List.{get_or_default}
 use Rattle.std.proofs.lemmas.List.Kept.{AllPairs-cons}
 use Rattle.std.proofs.Math.Logic.{∥∥₁_elim}
 use Rattle.std.proofs.Props.{props}
 use Rattle.bimap_base.specs.Slots.{pair_at}
+use Rattle.bimap_base.specs.Places.{pairs_in}
+use Rattle.bimap_base.specs.PairsAt.{pairs_at}
 use Rattle.bimap_base.proofs.Members.{more_in, cases_in, none_in}
 use Rattle.bimap_chain.specs.Chains.{number_at}
 use Rattle.bimap_index.specs.Listed.{IsAlike}
 use Rattle.bimap_index.specs.ByHash.{ListsByHash, places_from}
+use Rattle.bimap_index.specs.SameLists.{same_ascending}
 
 module _ {P : Type 0} where
   -- each of these places has something, and stands behind the first
@@ -45,6 +48,26 @@ module _ {P : Type 0} where
       AllPairs-cons (λ a b. a < b) first later
       (λ k d l. let r = in_places slots (suc first) (get_or later k d) (k, l, get_or_default later k (get_or later k d) d l) in omega (arith, r.1))
       (ascends_from slots (suc first))
+
+  read_from : (slots : List (Option P)) (first : ℕ) (at : ℕ → Option P) → ((d : ℕ) → at (first + d) ≡ pair_at slots d) → filter_map at (places_from first slots) ≡ pairs_in slots
+  read_from [] first at same = refl
+  read_from (None ∷ slots) first at same = read_from slots (suc first) at (λ d. ap at (let e : suc first + d ≡ first + suc d = omega arith in e) ∙ same (suc d))
+  read_from (Some x ∷ slots) first at same =
+      let here : at first ≡ Some x = ap at (let e : first ≡ first + 0 = omega arith in e) ∙ same 0 in
+      let rest = read_from slots (suc first) at (λ d. ap at (let e : suc first + d ≡ first + suc d = omega arith in e) ∙ same (suc d)) in
+      rw here (ap (λ z. x ∷ z) rest)
+
+  -- where the live places are walked in ascending order, the pairs met are those of the store in its order
+  pub pairs_by_place : (slots : List (Option P)) (places : List ℕ) → AllPairs (λ a b. a < b) places → ((p : ℕ) → Contains places p ↔ IsSome (pair_at slots p)) → pairs_at slots places ≡ pairs_in slots
+  pairs_by_place slots places up listed =
+      ap (pairs_at slots) (same_ascending (λ a b. a < b) (λ a b l m. omega (arith, l, m)) places (places_from 0 slots) up (ascends_from slots 0) (λ p. (to p, from p)))
+      ∙ read_from slots 0 (pair_at slots) (λ d. ap (pair_at slots) (let e : 0 + d ≡ d = omega arith in e))
+    where
+      to : (p : ℕ) → Contains places p → Contains (places_from 0 slots) p
+      to p c = let e : 0 + p ≡ p = omega arith in subst (Contains (places_from 0 slots)) e (to_places slots 0 p ((listed p).0 c))
+
+      from : (p : ℕ) → Contains (places_from 0 slots) p → Contains places p
+      from p c = let r = in_places slots 0 p c in (listed p).1 (let e : r.0 ≡ p = omega (arith, r.1) in subst (λ z. IsSome (pair_at slots z)) e r.2)
 
 module _ {K : Type 0} (same : K → K → Bool) (number : K → ℕ) where
   -- equal keys are listed alike
@@ -101,3 +124,12 @@ module _ {K : Type 0} (same : K → K → Bool) (number : K → ℕ) where
   -- no order is known of their keys
   pub hash_in_order : (numbers : List (Option ℕ)) (f : ℕ → Option K) → ListsByHash same number numbers f → AllPairs (λ a b. (k l : K) → f a ≡ Some k → f b ≡ Some l → Less ≡ Less) (places_from 0 numbers)
   hash_in_order numbers f listing i j d before inside k l first second = refl
+
+  -- a walk goes over the keys in the order of their places
+  pub hash_walk_in : (numbers : List (Option ℕ)) (keys : List (Option K)) → ListsByHash same number numbers (pair_at keys) → pairs_at keys (places_from 0 numbers) ≡ pairs_in keys
+  hash_walk_in numbers keys listing = pairs_by_place keys (places_from 0 numbers) (hash_by_place numbers (pair_at keys) listing) (hash_listed numbers (pair_at keys) listing)
+
+-- so two of the same keys in the same order of places are walked alike, whatever numbers them
+pub hash_walks_alike : {K : Type 0} (same : K → K → Bool) (number number' : K → ℕ) (numbers numbers' : List (Option ℕ)) (keys keys' : List (Option K)) → ListsByHash same number numbers (pair_at keys) → ListsByHash same number' numbers' (pair_at keys') → pairs_in keys' ≡ pairs_in keys → pairs_at keys' (places_from 0 numbers') ≡ pairs_at keys (places_from 0 numbers)
+hash_walks_alike same number number' numbers numbers' keys keys' listing listing' alike =
+    hash_walk_in same number' numbers' keys' listing' ∙ alike ∙ sym (hash_walk_in same number numbers keys listing)

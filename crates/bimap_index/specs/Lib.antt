@@ -1,5 +1,6 @@
 pub mod Listed
 pub mod ByOrder
 pub mod ByHash
+pub mod SameLists
 pub mod OrderLaws
 pub mod HashLaws

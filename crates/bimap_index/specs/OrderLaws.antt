@@ -3,18 +3,23 @@ use Rattle.std.specs.Prelude.{◌≡◌, ◌≢◌, ◌↔◌, ◌⊎◌, ℕ, B
 use Rattle.std.proofs.Common.{get_or, refl, sym, ap, subst, ◌∙◌, inl, inr, arith, true≢false}
 use Rattle.std.specs.List.{AllPairs, Contains}
 use Rattle.std.specs.declared.cmp.Ordering.{Ordering}
-use Rattle.std.specs.declared.cmp.Ordering.TheVariants.{Equal, Less}
+use Rattle.std.specs.declared.cmp.Ordering.TheVariants.{Equal, Less, Greater}
 use Rattle.std.specs.Cmp.{IsTotalOrder, Equal-is}
-use Rattle.std.specs.Ordering.{eq_by_cmp}
+use Rattle.std.specs.Ordering.{eq_by_cmp, ordering_reverse}
 use Rattle.std.proofs.lemmas.Bool.{cases_eq}
 use Rattle.std.proofs.lemmas.Cmp.{alike_right, tied_back, tied_itself}
 use Rattle.std.proofs.lemmas.List.{get_or_default}
 use Rattle.std.proofs.Math.Logic.{∥∥₁_elim, ∥∥₁_map}
 use Rattle.std.proofs.Props.{props}
 use Rattle.bimap_base.specs.Keyed.{Ascends}
+use Rattle.bimap_base.specs.Slots.{pair_at}
+use Rattle.bimap_base.specs.Places.{pairs_in}
+use Rattle.bimap_base.specs.PairsAt.{pairs_at}
 use Rattle.bimap_base.proofs.Members.{head_in, more_in, cases_in, none_in}
+use Rattle.bimap_base.proofs.Walked.{IsWalk, walked, pairs_walked}
 use Rattle.bimap_index.specs.Listed.{IsAlike}
 use Rattle.bimap_index.specs.ByOrder.{ListsByOrder}
+use Rattle.bimap_index.specs.SameLists.{same_ascending}
 
 -- whether a list of numbers has one can be found out
 contains_from : (xs : List ℕ) (x : ℕ) → ∥ Contains xs x ∥₁ → Contains xs x
@@ -103,3 +108,25 @@ module _ {K : Type 0} (order : K → K → Ordering) (same : K → K → Bool) (
         };
         lists = λ place live. contains_from places place (∥∥₁_map h (λ k. k.lists place live));
       }
+
+  -- its places are those of a walk, which goes over the keys as they ascend
+  pub order_walk_of : (places : List ℕ) (keys : List (Option K)) → ListsByOrder order places (pair_at keys) → IsWalk keys places
+  order_walk_of places keys listing = record { live = order_listed places (pair_at keys) listing; distinct = order_distinct places (pair_at keys) listing }
+
+  ascending_of : (places : List ℕ) (keys : List (Option K)) → ListsByOrder order places (pair_at keys) → AllPairs (λ k l. order k l ≡ Less) (pairs_at keys places)
+  ascending_of places keys listing =
+      pairs_walked keys places (order_walk_of places keys listing) (λ a b. (k l : K) → pair_at keys a ≡ Some k → pair_at keys b ≡ Some l → order k l ≡ Less) (λ k l. order k l ≡ Less) (λ a b k l less i j. less k l i j) (order_in_order places (pair_at keys) listing)
+
+  -- no two keys are each below the other
+  strict : (k l : K) → order k l ≡ Less → order l k ≡ Less → ⊥
+  strict k l e f = let h = total.antisymm k l in let r : ordering_reverse (order l k) ≡ Greater = ap ordering_reverse f in absurd (cc)
+
+  -- two of the same keys are walked alike
+  pub order_walks_alike : (places places' : List ℕ) (keys keys' : List (Option K)) → ListsByOrder order places (pair_at keys) → ListsByOrder order places' (pair_at keys') → pairs_in keys' ≡ pairs_in keys → pairs_at keys' places' ≡ pairs_at keys places
+  order_walks_alike places places' keys keys' listing listing' alike =
+      same_ascending (λ k l. order k l ≡ Less) strict (pairs_at keys' places') (pairs_at keys places) (ascending_of places' keys' listing') (ascending_of places keys listing) (λ k.
+      let old = walked keys places (order_walk_of places keys listing) k in
+      let new = walked keys' places' (order_walk_of places' keys' listing') k in (
+        λ c. old.0 (subst (λ ks. Contains ks k) alike (new.1 c)),
+        λ c. new.0 (subst (λ ks. Contains ks k) (sym alike) (old.1 c)),
+      ))

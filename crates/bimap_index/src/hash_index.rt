@@ -6,7 +6,7 @@ ghost use Rattle.std.proofs.Common.{ap};
 ghost use Rattle.bimap_base.specs.Numbered.{number_by};
 ghost use Rattle.bimap_base.specs.Places.{pairs_in, packed};
 ghost use Rattle.bimap_index.specs.ByHash.{ListsByHash, places_from};
-ghost use Rattle.bimap_index.specs.HashLaws.{hash_listed, hash_distinct, hash_by_place, hash_in_order, hash_respects, hash_settled};
+ghost use Rattle.bimap_index.specs.HashLaws.{hash_listed, hash_distinct, hash_in_order, hash_respects, hash_settled, hash_walks_alike};
 
 use crate::index::Index;
 use crate::made::{CopiedIndex, DefaultIndex, EmptyIndex, PackedIndex};
@@ -160,13 +160,13 @@ impl<K: Eq + Hash, B: BuildHasher> PackedIndex<K> for HashIndex<B> {
 
     ghost is_packed = { λ h to new. (length (pairs_in h.hashed) ≤ to) × (new ≡ packed (pairs_in h.hashed) to) };
 
-    fn packed(&self, to: usize) -> Result<Hashed, NoMemory> {
+    fn packed(&self, _alloc: Global, to: usize) -> Result<Hashed, NoMemory> {
         self.hashed.packed(to)
     }
 
-    fn adopt(&mut self, packed: Hashed) {
+    fn adopt<S: Side<K>, M: Meter>(&mut self, packed: Hashed, _side: S, _meter: &mut M) {
         self.hashed = packed;
     }
 
-    ghost by_place = { λ h. hash_by_place K.eq (number_by B.Hasher.finish B.Hasher.write B.build_hasher K.hash_input h.builder) h.hashed };
+    ghost walks_alike = { λ h other. hash_walks_alike K.eq (number_by B.Hasher.finish B.Hasher.write B.build_hasher K.hash_input h.builder) (number_by B.Hasher.finish B.Hasher.write B.build_hasher K.hash_input other.builder) h.hashed other.hashed };
 }

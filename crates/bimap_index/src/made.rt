@@ -1,10 +1,12 @@
 //! Indexes made from nothing, from another one, and for a store that was packed.
-ghost use Rattle.std.specs.Prelude.{◌≡◌, ◌≤◌, ◌<◌, ℕ, Option, None, IfOk, IfErr, length};
-ghost use Rattle.std.specs.List.{AllPairs};
+ghost use Rattle.std.specs.Prelude.{◌≡◌, ◌≤◌, ◌+◌, ◌*◌, ℕ, List, Option, None, IfOk, IfErr, length};
+ghost use Rattle.bimap_base.specs.PairsAt.{pairs_at};
+ghost use Rattle.bimap_base.specs.Places.{pairs_in};
+ghost use Rattle.bimap_base.specs.Slots.{pair_at};
 ghost use Rattle.bimap_index.specs.Listed.{IsPackedSide};
 
 use crate::index::Index;
-use bimap_base::NoMemory;
+use bimap_base::{Meter, NoMemory, Side};
 use std::alloc::Global;
 
 /// An index that is made from nothing.
@@ -35,29 +37,31 @@ pub trait CopiedIndex<K: Eq>: Index<K> {
         ensures err { IfErr result (λ _. ¬ is_infallible self.now) };
 }
 
-/// An index that is walked in the order of places, and can follow a store whose pairs are moved to its first places.
+/// An index that can follow a store whose pairs are moved to its first places.
 ///
 /// `packed` takes all memory and changes nothing, and `adopt` takes none: so a store and two indexes are packed together,
 /// or not at all.
 pub trait PackedIndex<K: Eq>: Index<K> {
-    /// What the index is to list.
+    /// What the index adopts.
     type Packed: Drop;
 
-    /// It is what the index is to list in a store packed to so many places.
+    /// It is what the index adopts of a store packed to so many places.
     ghost is_packed: { Self → ℕ → Self.Packed → Type 0 };
 
-    /// What the index is to list in a store packed to `to` places, in time in proportion to its cells. It looks at no key.
+    /// What the index is to adopt of a store packed to `to` places, in time in proportion to the cells. It looks at no key.
     /// A refusal makes nothing.
-    fn packed(&self, to: usize) -> Result<Self::Packed, NoMemory>
+    fn packed(&self, alloc: Global, to: usize) -> Result<Self::Packed, NoMemory>
         requires { length (Self.places self.now) ≤ to }
         ensures { IfOk result (λ packed. is_packed self.now to packed) };
 
-    /// Lists that, in place of what it lists. It takes no memory.
-    fn adopt(&mut self, packed: Self::Packed)
-        requires { (to : ℕ) × is_packed self.old to packed }
-        ensures listing { (to : ℕ) (f g : ℕ → Option K) → is_packed self.old to packed → Self.is_listing self.old f → IsPackedSide f g to → Self.is_listing self.new g }
-        ensures cells { (to : ℕ) → is_packed self.old to packed → Self.cells self.new ≡ to };
+    /// Lists the places of the packed side, in place of what it lists. It takes no memory.
+    fn adopt<S: Side<K>, M: Meter>(&mut self, packed: Self::Packed, side: S, meter: &mut M)
+        requires { (to : ℕ) × (f : ℕ → Option K) × is_packed self.old to packed × Self.is_listing self.old f × IsPackedSide f (S.key_at side) to }
+        ensures listing { Self.is_listing self.new (S.key_at side) }
+        ensures cells { (to : ℕ) → is_packed self.old to packed → Self.cells self.new ≡ to }
+        ensures comparisons { M.comparisons meter.new ≤ M.comparisons meter.old + length (Self.places self.old) * Self.effort (length (Self.places self.old)) }
+        ensures touches { M.touches meter.new ≤ M.touches meter.old + length (Self.places self.old) * (64 * (Self.effort (length (Self.places self.old)) + 1)) };
 
-    /// The walk goes by ascending places.
-    ghost by_place: { (index : Self) (f : ℕ → Option K) → Self.is_listing index f → AllPairs (λ a b. a < b) (Self.places index) };
+    /// The keys and the order of their places decide the order of a walk.
+    ghost walks_alike: { (index other : Self) (keys moved : List (Option K)) → Self.is_listing index (pair_at keys) → Self.is_listing other (pair_at moved) → pairs_in moved ≡ pairs_in keys → pairs_at moved (Self.places other) ≡ pairs_at keys (Self.places index) };
 }

@@ -1,13 +1,13 @@
 //! The ordered index as an index of a side. It knows places and routes, and no node.
-ghost use Rattle.std.specs.Prelude.{◌≡◌, ⊤, length};
+ghost use Rattle.std.specs.Prelude.{◌≡◌, ◌≤◌, ⊤, [], length};
 ghost use Rattle.bimap_base.specs.Digits.{most_height};
 ghost use Rattle.bimap_base.specs.Keyed.{standing};
 ghost use Rattle.bimap_tree.specs.Route.{IsRoute};
 ghost use Rattle.bimap_index.specs.ByOrder.{ListsByOrder};
-ghost use Rattle.bimap_index.specs.OrderLaws.{order_listed, order_distinct, order_in_order, order_respects, order_settled};
+ghost use Rattle.bimap_index.specs.OrderLaws.{order_listed, order_distinct, order_in_order, order_respects, order_settled, order_walks_alike};
 
 use crate::index::Index;
-use crate::made::{CopiedIndex, DefaultIndex, EmptyIndex};
+use crate::made::{CopiedIndex, DefaultIndex, EmptyIndex, PackedIndex};
 use bimap_base::{ByOrder, Keys, Meter, NoMemory, Side};
 use bimap_tree::{Ordered, Route};
 use std::alloc::Global;
@@ -127,4 +127,27 @@ impl<K: Ord> CopiedIndex<K> for Ordered {
     fn copied(&self, alloc: Global) -> Result<Self, NoMemory> {
         Ok(Ordered::new(alloc))
     }
+}
+
+impl<K: Ord> PackedIndex<K> for Ordered {
+    type Packed = Ordered;
+
+    ghost is_packed = { λ o to new. (length o.places ≤ to) × (new.places ≡ []) × (length new.nodes ≡ to) };
+
+    fn packed(&self, alloc: Global, to: usize) -> Result<Ordered, NoMemory> {
+        let mut packed = Ordered::new(alloc);
+        packed.grow(to)?;
+        Ok(packed)
+    }
+
+    fn adopt<S: Side<K>, M: Meter>(&mut self, packed: Ordered, side: S, meter: &mut M) {
+        let len = self.len();
+        let keys = ByOrder::new(side);
+        *self = packed;
+        for place in 0..len {
+            self.insert(&keys, place, meter);
+        }
+    }
+
+    ghost walks_alike = { λ o other. order_walks_alike K.cmp K.eq K.total K.matches_eq o.places other.places };
 }

@@ -25,8 +25,7 @@ use Rattle.bimap_base.proofs.Walked.{IsWalk, walk_of, walked, long_walked, liste
 use Rattle.bimap_base.proofs.Results.{OnErr-then}
 use Rattle.bimap_index.specs.ByOrder.{ListsByOrder}
 use Rattle.bimap_index.specs.ByHash.{ListsByHash, places_from}
-use Rattle.bimap_index.specs.HashLaws.{hash_settled, hash_listed, hash_distinct, hash_by_place}
-use Rattle.bimap_index.proofs.Placed.{pairs_by_place}
+use Rattle.bimap_index.specs.HashLaws.{hash_settled, hash_listed, hash_distinct, hash_by_place, pairs_by_place}
 use Rattle.bimap_core.proofs.Ascending.{order_walk, order_ascends}
 use Rattle.bimap_core.proofs.Permuted.{walk_permuted}
 use Rattle.bimap_core.specs.Store.{holding_of}

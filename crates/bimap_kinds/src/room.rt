@@ -2,7 +2,7 @@
 ghost use Rattle.bimap_base.specs.Capacity.{IsReservation, IsShrink};
 
 use crate::map::BijectiveMap;
-use bimap_base::NoMemory;
+use bimap_base::{Count, NoMemory};
 use bimap_index::{Index, PackedIndex};
 
 impl<L: Eq, R: Eq, I: Index<L>, J: Index<R>> BijectiveMap<L, R, I, J> {
@@ -25,18 +25,19 @@ impl<L: Eq + Drop, R: Eq + Drop, I: PackedIndex<L>, J: PackedIndex<R>> Bijective
     ghost use Rattle.bimap_kinds.specs.Held.{holding};
 
     /// Makes the capacity `least`, exactly, or the length where that is more. It never adds to it: where it would, nothing
-    /// changes and no memory is taken. A refusal changes nothing. Time is in proportion to the old capacity.
+    /// changes and no memory is taken. A refusal changes nothing. Time is in proportion to the old capacity, and for each
+    /// ordered side the length times its logarithm more, as the places are linked anew there, with a search for each.
     ///
     ///     seats.shrink_to(0); // Ok(())
     ///     seats.capacity(); // 3
     pub fn shrink_to(&mut self, least: usize) -> Result<(), NoMemory>
         ensures { IsShrink (holding self.old) least result (holding self.new) }
     {
-        self.table.shrink_to(least)
+        self.table.shrink_to(least, &mut Count::new())
     }
 
     /// Makes the capacity the length, exactly. Where it is so already, no memory is taken. A refusal changes nothing. Time
-    /// is in proportion to the old capacity.
+    /// is that of `shrink_to`.
     ///
     ///     seats.shrink_to_fit(); // Ok(())
     ///     seats.capacity(); // 3

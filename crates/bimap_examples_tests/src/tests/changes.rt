@@ -57,5 +57,8 @@ fn makes_and_takes_room(rt: HostRuntime) -> Result<(), Fail> {
     let mut seats = hashed(alloc)?;
     assert!(&rt; seats.shrink_to_fit() == Ok(()));
     assert!(&rt; seats.capacity() == 3);
+    let mut seats = ordered(alloc)?;
+    assert!(&rt; seats.shrink_to_fit() == Ok(()));
+    assert!(&rt; seats.capacity() == 3);
     Ok(())
 }

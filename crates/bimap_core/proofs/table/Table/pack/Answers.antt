@@ -20,17 +20,29 @@ packed-requires-2 g c =
     let listing = g.met.J.Index.settled map.right (right_at map.pairs) map.right_listing in
     places_fit map.pairs c.args.to c.requires (λ p. p.1) (g.J.Index.places map.right) (g.met.J.Index.listed map.right (right_at map.pairs) listing) (g.met.J.Index.distinct map.right (right_at map.pairs) listing)
 
+pub adopt-requires : goal.adopt-requires
+adopt-requires g c =
+    let map = c.args.self.now in
+    let slots = map.pairs in
+    rw (c.new.ensures, c.in_ok-pack.ensures.ok) (c.args.to, left_at slots, c.in_ok-left.ensures, g.met.I.Index.settled map.left (left_at slots) map.left_listing, packed_side (λ p. p.0) slots c.args.to)
+
+pub adopt-requires-2 : goal.adopt-requires-2
+adopt-requires-2 g c =
+    let map = c.args.self.now in
+    let slots = map.pairs in
+    rw (c.new-2.ensures, c.in_ok-pack.ensures.ok) (c.args.to, right_at slots, c.in_ok-right.ensures, g.met.J.Index.settled map.right (right_at slots) map.right_listing, packed_side (λ p. p.1) slots c.args.to)
+
 pub invariant_of-self-2 : goal.invariant_of-self-2
 invariant_of-self-2 g c =
     let map = c.args.self.now in
     let slots = map.pairs in
     let to = c.args.to in
-    let left = g.met.I.Index.settled map.left (left_at slots) map.left_listing in
-    let right = g.met.J.Index.settled map.right (right_at slots) map.right_listing in
     let long = long_packed slots to c.requires in
+    let left = rw (c.new.ensures, c.in_ok-pack.ensures.ok) at c.adopt.ensures.listing in
+    let right = rw (c.new-2.ensures, c.in_ok-pack.ensures.ok) at c.adopt-2.ensures.listing in
     rw c.in_ok-pack.ensures.ok record {
-      left_listing = merely (c.adopt.ensures.listing to (left_at slots) _ c.in_ok-left.ensures left (packed_side (λ p. p.0) slots to));
-      right_listing = merely (c.adopt-2.ensures.listing to (right_at slots) _ c.in_ok-right.ensures right (packed_side (λ p. p.1) slots to));
+      left_listing = merely left;
+      right_listing = merely right;
       left_cells = omega (arith, long, c.adopt.ensures.cells to c.in_ok-left.ensures);
       right_cells = omega (arith, long, c.adopt-2.ensures.cells to c.in_ok-right.ensures);
       apart = subst (λ z. IsApart g.L.PartialEq.eq g.R.PartialEq.eq z) (sym (pairs_packed (pairs_in slots) to)) map.apart;

@@ -3,9 +3,9 @@ use Rattle.bimap_index.proofs.Packing.{hash_packed, cells_packed}
 use Rattle.bimap_index.proofs.hash_index.HashIndexPackedIndex.adopt.Goals as goal
 
 pub returns-clause-listing : goal.returns-clause-listing
-returns-clause-listing g c to f g' is listing side =
+returns-clause-listing g c =
     hash_packed g.K.PartialEq.eq (number_by g.B.Hasher.Hasher.finish g.B.Hasher.Hasher.write g.B.BuildHasher.build_hasher g.K.Hash.hash_input c.args.self.now.builder) g.met.K.Eq.laws
-    c.args.self.now.hashed c.args.packed f g' to listing side is.1
+    c.args.self.now.hashed c.args.packed c.requires.1 (g.S.Side.key_at c.args._side) c.requires.0 c.requires.3 c.requires.4 c.requires.2.1
 
 pub returns-clause-cells : goal.returns-clause-cells
 returns-clause-cells g c to is = cells_packed c.args.self.now.hashed c.args.packed to is.0 is.1

@@ -1,7 +1,6 @@
-use Rattle.std.proofs.Common.{◌∙◌, sym}
 use Rattle.bimap_base.proofs.Walked.{fits_walked}
-use Rattle.bimap_index.proofs.Placed.{pairs_by_place}
 use Rattle.bimap_core.proofs.Permuted.{walk_apart}
+use Rattle.bimap_core.proofs.Shrinking.{walk_kept}
 use Rattle.bimap_kinds.proofs.Walk.{the_walk, ordered, shrink_walked}
 use Rattle.bimap_kinds.proofs.map.BijectiveMap.shrink_to.Goals as goal
 
@@ -24,6 +23,6 @@ returns g c =
     let after = c.shrink_to.new.self in
     let places' = g.I.Index.places after.left in
     let walk' = the_walk (λ p. p.0) g.I.Index.is_listing g.I.Index.places g.met.I.Index.listed g.met.I.Index.distinct g.met.I.Index.settled after.pairs after.left after.left_listing in
-    let store = pairs_by_place table.pairs places (g.met.I.PackedIndex.by_place table.left _ (g.met.I.Index.settled _ _ table.left_listing)) walk.live in
-    let store' = pairs_by_place after.pairs places' (g.met.I.PackedIndex.by_place after.left _ (g.met.I.Index.settled _ _ after.left_listing)) walk'.live in
-    shrink_walked table.pairs places walk after.pairs places' (store' ∙ c.shrink_to.ensures.pairs ∙ sym store) c.args.least c.shrink_to.result c.shrink_to.ensures
+    let same = walk_kept g.met.L.Eq.laws g.met.R.Eq.laws g.I.Index.is_listing g.I.Index.places g.met.I.PackedIndex.walks_alike table.pairs after.pairs table.left after.left
+    (g.met.I.Index.settled _ _ table.left_listing) (g.met.I.Index.settled _ _ after.left_listing) walk walk' table.apart c.shrink_to.ensures.answer.pairs in
+    shrink_walked table.pairs places walk after.pairs places' same c.args.least c.shrink_to.result c.shrink_to.ensures.answer
