@@ -1,4 +1,4 @@
-//! What only a bimap with a hashed side has: builders, rooms that shrink, walks by place, and counted hashes.
+//! What only a bimap with a hashed side has: builders, walks by place, and counted hashes.
 use bimap::Bijection;
 
 mod counting;

@@ -16,6 +16,7 @@ mod many;
 mod odd_values;
 mod ordered_walks;
 mod own_calls;
+mod shrinks;
 mod walks;
 mod whole;
 
@@ -26,6 +27,7 @@ fn letters<B: CopyKind<char, u32> + Taken<char, u32> + Walked<char, u32> + Walke
     alloc: Global,
 ) -> Result<(), Fail> {
     capacities::all::<B>(rt, alloc);
+    shrinks::all::<B>(rt, alloc)?;
     walks::gives_each_once::<B>(rt, alloc)?;
     whole::letters::<B>(rt, alloc)
 }

@@ -1,11 +1,11 @@
 //! Each value that a bimap was given is dropped once, and not before it is let go.
 use super::counted::{Counted, Ledger};
-use bimap::{BiHashMap, Bijection, BijectiveMap};
-use bimap_calls::{Kind, Taken, crowded, over_each_kind};
+use bimap::{Bijection, BijectiveMap};
+use bimap_calls::{Kind, Taken, over_each_kind};
 use bimap_index::{EmptyIndex, HashIndex};
 use bimap_tree::Ordered;
 use std::alloc::{AllocError, Global};
-use std::hash::{BuildHasher, BuildHasherDefault, FoldHasher};
+use std::hash::{BuildHasherDefault, FoldHasher};
 use std::process::Abort;
 use std::test::Fail;
 
@@ -139,10 +139,10 @@ fn retained_and_cleared<B: Bijection<Counted, Counted> + Drop>(
     clear_all(rt, bimap, ledger)
 }
 
-fn shrunk_and_cleared<LS: BuildHasher + Drop, RS: BuildHasher + Drop>(
+fn shrunk_and_cleared<B: Kind<Counted, Counted>>(
     rt: &impl Abort,
     alloc: Global,
-    mut bimap: BiHashMap<Counted, Counted, LS, RS>,
+    mut bimap: B,
 ) -> Result<(), Fail> {
     let mut ledger = Ledger::new(alloc);
     retain_some(rt, &mut bimap, &mut ledger)?;
@@ -199,6 +199,7 @@ fn all<B: Kind<Counted, Counted> + Taken<Counted, Counted>>(
     handed_back(rt, alloc, B::empty(alloc))?;
     undone(rt, alloc, B::empty(alloc))?;
     retained_and_cleared(rt, alloc, B::empty(alloc))?;
+    shrunk_and_cleared(rt, alloc, B::empty(alloc))?;
     for (steps, given) in [(0, 0), (1, 1), (20, 20), (39, 39), (40, 40), (50, 40)] {
         given_up(rt, alloc, B::empty(alloc), steps, given)?;
     }
@@ -213,11 +214,4 @@ fn each_value_is_dropped_once(rt: HostRuntime) -> Result<(), Fail> {
         given_up_at_both_ends::<HashIndex<BuildHasherDefault<FoldHasher>>>(&rt, rt.alloc(), steps)?;
     }
     Ok(())
-}
-
-#[test]
-fn a_shrink_drops_nothing(rt: HostRuntime) -> Result<(), Fail> {
-    let alloc = rt.alloc();
-    shrunk_and_cleared(&rt, alloc, BiHashMap::<Counted, Counted>::new(alloc))?;
-    shrunk_and_cleared(&rt, alloc, crowded::<Counted, Counted>(alloc))
 }

@@ -11,7 +11,7 @@ use std::test::Fail;
 const TWO: [(u32, u32); 2] = [(1, 11), (2, 12)];
 
 // A call that changes the room, and what it makes of twenty places that hold two pairs.
-fn resize(map: &mut BiHashMap<u32, u32>, call: u32) -> (Result<(), NoMemory>, usize) {
+fn resize<B: Kind<u32, u32>>(map: &mut B, call: u32) -> (Result<(), NoMemory>, usize) {
     match call {
         0 => (map.reserve(50), 52),
         1 => (map.shrink_to(10), 10),
@@ -20,10 +20,11 @@ fn resize(map: &mut BiHashMap<u32, u32>, call: u32) -> (Result<(), NoMemory>, us
 }
 
 // How often the call was refused, or `None` where a refusal changed something.
-fn refusals_of(alloc: Global, call: u32) -> Result<Option<u64>, AllocError> {
-    let Ok(mut map) = BiHashMap::with_capacity(alloc, 20) else {
+fn refusals_of<B: Kind<u32, u32>>(alloc: Global, call: u32) -> Result<Option<u64>, AllocError> {
+    let mut map = B::empty(alloc);
+    if map.reserve(20).is_err() {
         return Ok(None);
-    };
+    }
     for (left, right) in TWO {
         let _ = map.insert(left, right);
     }
@@ -42,13 +43,23 @@ fn refusals_of(alloc: Global, call: u32) -> Result<Option<u64>, AllocError> {
     Ok(None)
 }
 
-#[test]
-fn a_refused_change_of_room_leaves_it(rt: HostRuntime) -> Result<(), Fail> {
+// Each call is refused once for each block that it asks for, or more often.
+fn refused<B: Kind<u32, u32>>(rt: &impl Abort, alloc: Global, blocks: u64) -> Result<(), Fail> {
     for call in 0..3u32 {
-        let met = refusals_of(rt.alloc(), call)?;
-        assert!(rt; met.is_some_and(|met| met >= 5), "{call}: {met:?}");
+        let met = refusals_of::<B>(alloc, call)?;
+        assert!(rt; met.is_some_and(|met| met >= blocks), "{call}: {met:?}");
     }
     Ok(())
+}
+
+#[test]
+fn a_refused_change_of_room_leaves_it(rt: HostRuntime) -> Result<(), Fail> {
+    let alloc = rt.alloc();
+    refused::<BiBTreeMap<u32, u32>>(&rt, alloc, 3)?;
+    refused::<BiHashMap<u32, u32>>(&rt, alloc, 5)?;
+    refused::<BiBTreeHashMap<u32, u32>>(&rt, alloc, 4)?;
+    refused::<BiHashBTreeMap<u32, u32>>(&rt, alloc, 4)?;
+    refused::<Crowded<u32, u32>>(&rt, alloc, 5)
 }
 
 // Twenty places are made once memory eases, after as many refusals as they ask for blocks, or more.
@@ -145,19 +156,23 @@ fn a_reserved_room_needs_no_memory(rt: HostRuntime) -> Result<(), Fail> {
     Ok(())
 }
 
-#[test]
-fn what_leaves_the_room_needs_no_memory(rt: HostRuntime) -> Result<(), Fail> {
-    let Ok(mut map) = BiHashMap::with_capacity(rt.alloc(), 5) else {
-        return Err(Fail::from("no memory"));
-    };
+fn kept<B: Kind<u32, u32>>(rt: &impl Abort, alloc: Global) -> Result<(), Fail> {
+    let mut map = B::empty(alloc);
+    map.reserve(5)?;
     let _ = map.insert(1, 1);
     let fits = map.shrink_to_fit() == Ok(());
-    let famine = Famine::begin(rt.alloc(), 0)?;
+    let famine = Famine::begin(alloc, 0)?;
     let struck = map.insert(1, 2) == Ok(Overwritten::Left(1, 1));
     let same = map.shrink_to(usize::MAX) == Ok(()) && map.shrink_to_fit() == Ok(());
     let nothing = map.reserve(0) == Ok(());
     drop(famine);
     assert!(rt; fits && struck && same && nothing);
     assert!(rt; map.capacity() == 1 && shows(&map, &[(1, 2)]));
+    Ok(())
+}
+
+#[test]
+fn what_leaves_the_room_needs_no_memory(rt: HostRuntime) -> Result<(), Fail> {
+    over_each_kind!(kept, u32, u32, &rt, ?);
     Ok(())
 }
