@@ -3,17 +3,17 @@ use Rattle.std.specs.Prelude.{◌≡◌, ◌↔◌, Bool, true, false, List, [],
 use denote.Param.Members.{Mut, Called}
 use denote.Ref.{Bor}
 
--- a call of f at the two values of p may answer b, and leave f'
-pub record TestedAt {F L R : Type 0} (g : Mut F (Bor L × (Bor R × Unit {0})) Bool) (f : F) (p : L × R) (b : Bool) (f' : F) : Type 0 where
+-- a call of f at the two values of p may answer a, and leave f'
+pub record TestedAt {F L R A : Type 0} (g : Mut F (Bor L × (Bor R × Unit {0})) A) (f : F) (p : L × R) (a : A) (f' : F) : Type 0 where
   pub left : Bor L
   pub right : Bor R
   pub shows_left : left.now ≡ p.0
   pub shows_right : right.now ≡ p.1
-  pub called : Called g f (left, (right, tt)) b f'
+  pub called : Called g f (left, (right, tt)) a f'
 
 -- f may be called at the two values of p
-abbrev pub MayTestPair : {F L R : Type 0} → Mut F (Bor L × (Bor R × Unit {0})) Bool → F → L × R → Type 0
-MayTestPair {F} {L} {R} g f p = (left : Bor L) (right : Bor R) → left.now ≡ p.0 → right.now ≡ p.1 → g.pre f (left, (right, tt))
+abbrev pub MayTestPair : {F L R A : Type 0} → Mut F (Bor L × (Bor R × Unit {0})) A → F → L × R → Type 0
+MayTestPair {F} {L} {R} {A} g f p = (left : Bor L) (right : Bor R) → left.now ≡ p.0 → right.now ≡ p.1 → g.pre f (left, (right, tt))
 
 module _ {F L R : Type 0} (g : Mut F (Bor L × (Bor R × Unit {0})) Bool) where
   -- f was called at each pair of the list in turn, each call in the state that the one before left

@@ -2,6 +2,7 @@ pub mod Sets
 pub mod Answer
 pub mod Survivors
 pub mod Kept
+pub mod Visited
 pub mod Undoing
 pub mod Fitting
 pub mod Holding

@@ -6,6 +6,7 @@ ghost use Rattle.bimap_base.specs.Sets.{shares, IsApart, HasLeft, HasRight};
 ghost use Rattle.bimap_base.specs.Holding.{Holding, IsFoundByLeft, IsFoundByRight, IsInsertion, IsInsertionWithoutOverwriting, IsInsertionUnder, IsRemovalByLeft, IsRemovalByRight, IsRetention, IsUndoing};
 ghost use Rattle.bimap_base.specs.Kept.{MayTest};
 ghost use Rattle.bimap_base.specs.Undoing.{IsUndoable};
+ghost use Rattle.bimap_base.specs.Visited.{MayVisit, IsVisited};
 
 use crate::overwritten::Overwritten;
 use crate::policy::{OnHeld, Policy};
@@ -51,6 +52,11 @@ pub trait Bijection<L: Eq + Drop, R: Eq + Drop> {
     /// Takes out the pair of a right, or answers `None` where it is not held.
     fn remove_by_right(&mut self, right: &R) -> Option<(L, R)>
         ensures { IsRemovalByRight R.eq (holding self.old) right.now result (holding self.new) };
+
+    /// Calls the closure once on each pair, in an open order.
+    fn for_each<F: FnMut(&L, &R)>(&self, f: F)
+        requires { MayVisit F.FnMut f (holding self.now).pairs }
+        ensures { IsVisited F.FnMut f (holding self.now).pairs };
 
     /// Calls the closure once on each pair, in an open order, and takes out those on which it answers false.
     fn retain<F: FnMut(&L, &R) -> bool>(&mut self, f: F)

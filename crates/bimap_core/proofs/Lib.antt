@@ -5,6 +5,7 @@ pub mod Inserted
 pub mod Removing
 pub mod Linking
 pub mod Retaining
+pub mod Visiting
 pub mod Reserving
 pub mod Permuted
 pub mod Undoing

@@ -2,6 +2,7 @@
 #![tactic(auto)]
 
 mod copy;
+mod for_each;
 mod insert;
 mod pack;
 mod ranks;

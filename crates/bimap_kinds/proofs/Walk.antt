@@ -15,6 +15,7 @@ use Rattle.bimap_base.specs.Capacity.{IsReservation, IsShrink}
 use Rattle.bimap_base.specs.Exchange.{IsRemoving}
 use Rattle.bimap_base.specs.Holding.{Holding, IsRetention}
 use Rattle.bimap_base.specs.Kept.{MayTest}
+use Rattle.bimap_base.specs.Visited.{MayVisit, IsVisited}
 use Rattle.bimap_base.specs.declared.refusal.NoMemory.{NoMemory}
 use Rattle.bimap_base.specs.PairsAt.{pairs_at}
 use Rattle.bimap_base.specs.Places.{pairs_in}
@@ -137,6 +138,22 @@ module _ {F L R : Type 0} (g : Mut F (Bor L × (Bor R × Unit {0})) Bool) {same_
           kept = λ q. let w = walked slots' places' walk' q in (λ c. (h.kept.kept q).0 (w.1 c), λ c. w.0 ((h.kept.kept q).1 c));
         };
         room = h.room;
+      }
+
+-- what `for_each` visits, in the order of a walk
+module _ {F L R : Type 0} (g : Mut F (Bor L × (Bor R × Unit {0})) (Unit {0})) {same_left : L → L → Bool} {same_right : R → R → Bool} (equal_left : IsEquivalence same_left) (equal_right : IsEquivalence same_right)
+    (slots : List (Option (L × R))) (places : List ℕ) (walk : IsWalk slots places) (apart : IsApart same_left same_right (pairs_in slots)) where
+  pub may_visit_walked : (f : F) → MayVisit g f (pairs_at slots places) → MayVisit g f (pairs_in slots)
+  may_visit_walked f may =
+      record { at = λ ps later left right rest moved calls. may.at ps later left right rest (IsPermutation-trans (pairs_at slots places) (pairs_in slots) (ps ++ (left.now, right.now) ∷ rest) (walk_permuted equal_left equal_right slots places walk apart) moved) calls }
+
+  pub visited_walked : (f : F) → IsVisited g f (pairs_in slots) → IsVisited g f (pairs_at slots places)
+  visited_walked f h =
+      record {
+        order = h.order;
+        last = h.last;
+        each_once = IsPermutation-trans (pairs_at slots places) (pairs_in slots) h.order (walk_permuted equal_left equal_right slots places walk apart) h.each_once;
+        calls = h.calls;
       }
 
 -- a hashed index is walked in the order of the store

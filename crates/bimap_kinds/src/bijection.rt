@@ -49,6 +49,10 @@ impl<L: Eq + Drop, R: Eq + Drop, I: Index<L>, J: Index<R>> Bijection<L, R>
         BijectiveMap::remove_by_right(self, right)
     }
 
+    fn for_each<F: FnMut(&L, &R)>(&self, f: F) {
+        self.table.for_each(f)
+    }
+
     fn retain<F: FnMut(&L, &R) -> bool>(&mut self, f: F) {
         self.retain_by_place(f)
     }

@@ -1,3 +1,4 @@
 pub mod Keeping
+pub mod Visiting
 pub mod Removal
 pub mod Undone

@@ -95,6 +95,10 @@ impl<L: Eq + Drop, R: Eq + Drop> Bijection<L, R> for Plain<L, R> {
         scan::take_right(&mut self.pairs, right)
     }
 
+    fn for_each<F: FnMut(&L, &R)>(&self, f: F) {
+        scan::visit(&self.pairs, f)
+    }
+
     fn retain<F: FnMut(&L, &R) -> bool>(&mut self, f: F) {
         changes::keep(&mut self.pairs, f)
     }

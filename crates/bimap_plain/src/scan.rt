@@ -1,5 +1,7 @@
 //! What looks through pairs one by one, and takes one out.
 ghost use Rattle.std.specs.Prelude.{◌≡◌, ◌+◌, ◌<◌, true, Contains, MatchOption, MatchBool, IfNone, OnSome, vec_len, vec_capacity};
+ghost use Rattle.bimap_base.specs.Kept.{MayTestPair, TestedAt};
+ghost use Rattle.bimap_base.specs.Visited.{MayVisit, IsVisited};
 ghost use Rattle.bimap_base.specs.Sets.{IsApart, HasLeft, LacksLeft, IsWithoutLeft, HasRight, LacksRight, IsWithoutRight};
 
 pub fn has_left<L: Eq, R>(pairs: &[(L, R)], left: &L) -> bool
@@ -40,6 +42,22 @@ pub fn find_right<'a, L, R: Eq>(pairs: &'a [(L, R)], right: &R) -> Option<&'a (L
         }
     }
     None
+}
+
+pub fn visit<L, R, F: FnMut(&L, &R)>(pairs: &[(L, R)], mut f: F)
+    requires { MayVisit F.FnMut f pairs.now }
+    ensures { IsVisited F.FnMut f pairs.now }
+{
+    for i in 0..pairs.len() {
+        tell(&mut f, &pairs[i]);
+    }
+}
+
+fn tell<L, R, F: FnMut(&L, &R)>(f: &mut F, pair: &(L, R))
+    requires { MayTestPair F.FnMut f.old pair.now }
+    ensures { TestedAt F.FnMut f.old pair.now tt f.new }
+{
+    f(&pair.0, &pair.1)
 }
 
 #[tactic(auto, using(crate::proofs::Removal::lacked_left))]
