@@ -15,6 +15,7 @@ mod runs;
 mod tour;
 mod undo_runs;
 mod undone;
+mod visited;
 
 fn letters<B: CopyKind<char, u32> + Walked<char, u32>>(
     rt: &impl Abort,
@@ -26,6 +27,7 @@ fn letters<B: CopyKind<char, u32> + Walked<char, u32>>(
     replaced::values::<B>(rt, alloc)?;
     runs::all::<B>(rt, alloc)?;
     undo_runs::all::<B>(rt, alloc)?;
+    visited::all(rt, alloc, B::empty(alloc));
     undone::all::<B>(rt, alloc)
 }
 

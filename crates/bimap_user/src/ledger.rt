@@ -3,6 +3,7 @@ ghost use Rattle.std.specs.Prelude.{◌≡◌, ◌<◌, ◌≤◌, length, Conta
 ghost use Rattle.bimap.specs.Sets.{IsWithPut, LacksRight};
 ghost use Rattle.bimap.specs.Answer.{IsAnswer, IsRefusalUnder};
 ghost use Rattle.bimap.specs.Holding.{IsFull};
+ghost use Rattle.bimap.specs.Visited.{MayVisit, IsVisited};
 
 use bimap::{Bijection, NotInsertedWith, OnHeld, Overwritten, Policy};
 
@@ -31,6 +32,17 @@ pub fn seats_taken<G: Eq + Drop, S: Eq + Drop, B: Bijection<G, S>>(ledger: &B) -
     ensures within { result ≤ (B.holding ledger.now).room }
 {
     ledger.len()
+}
+
+/// Shows each guest with the seat to a visitor, once and in an open order.
+pub fn show_seats<G: Eq + Drop, S: Eq + Drop, B: Bijection<G, S>, F: FnMut(&G, &S)>(
+    ledger: &B,
+    visitor: F,
+)
+    requires { MayVisit F.FnMut visitor (B.holding ledger.now).pairs }
+    ensures { IsVisited F.FnMut visitor (B.holding ledger.now).pairs }
+{
+    ledger.for_each(visitor)
 }
 
 /// Seats a guest while a place is free, and so is never refused.

@@ -1,6 +1,6 @@
 //! Guests and seats, over every bimap.
 use bimap::{BiBTreeMap, BiHashMap, Bijection, NotInserted, NotInsertedWith, Overwritten};
-use bimap_user::{seat_guest, seat_in_free_place, seat_new, seats_taken};
+use bimap_user::{seat_guest, seat_in_free_place, seat_new, seats_taken, show_seats};
 use std::process::Abort;
 
 // Whether these guests alone have these seats.
@@ -40,6 +40,16 @@ fn each_free_place_is_given<B: Bijection<char, u32>>(rt: &impl Abort, ledger: &m
     assert!(rt; shows(ledger, &[('e', 4)]));
 }
 
+// The sum of the seats that are shown, and of one for each.
+fn shown_sum<B: Bijection<char, u32>>(ledger: &B) -> u32 {
+    let mut sum = 0u32;
+    show_seats(
+        ledger,
+        |_: &char, seat: &u32| sum = sum.wrapping_add(*seat).wrapping_add(1),
+    );
+    sum
+}
+
 // Seats new guests alone.
 fn each_is_new<B: Bijection<char, u32>>(rt: &impl Abort, ledger: &mut B) {
     assert!(rt; seat_new(ledger, 'a', 1) == Ok(()));
@@ -47,6 +57,7 @@ fn each_is_new<B: Bijection<char, u32>>(rt: &impl Abort, ledger: &mut B) {
     assert!(rt; seat_new(ledger, 'c', 2) == Err(NotInserted::Occupied('c', 2)));
     assert!(rt; seat_new(ledger, 'a', 3) == Err(NotInserted::Occupied('a', 3)));
     assert!(rt; shows(ledger, &[('a', 1), ('b', 2)]));
+    assert!(rt; shown_sum(ledger) == 5);
 }
 
 fn seats_all<B: Bijection<char, u32>>(rt: &impl Abort, ledger: &mut B) {
