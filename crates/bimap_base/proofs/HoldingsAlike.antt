@@ -2,14 +2,15 @@
 use Rattle.std.proofs.Common.{◌≡◌, ◌∙◌, Bool, Option, length, sym, arith}
 use Rattle.std.specs.Prelude.{Contains, Result, OnErr}
 use Rattle.std.specs.Borrow.{Bor}
-use Rattle.bimap_base.specs.Sets.{IsSameSet}
-use Rattle.bimap_base.specs.Holding.{Holding, IsFull, IsFoundByLeft, IsFoundByRight, IsRemovalByLeft, IsRemovalByRight, IsRoomAfter, IsInsertionUnder, IsUndoing}
+use Rattle.bimap_base.specs.Sets.{IsSameSet, HasLeft}
+use Rattle.bimap_base.specs.Holding.{Holding, IsFull, IsFoundByLeft, IsFoundByRight, IsRemovalByLeft, IsRemovalByRight, IsRoomAfter, IsInsertionUnder, IsInterning, IsUndoing}
 use Rattle.bimap_base.specs.declared.overwritten.Overwritten.{Overwritten}
 use Rattle.bimap_base.specs.declared.policy.Policy.{Policy}
+use Rattle.bimap_base.specs.declared.refusal.NotInserted.{NotInserted}
 use Rattle.bimap_base.specs.declared.refusal.NotInsertedWith.{NotInsertedWith}
 use Rattle.bimap_base.specs.declared.refusal.UndoStopped.{UndoStopped}
 use Rattle.bimap_base.proofs.Results.{MatchOption-then, IfSome-then, IfNone-then, IfOk-then, IfErr-then, OnOk-then, OnErr-then}
-use Rattle.bimap_base.proofs.SetsAlike.{LacksLeft-same, LacksRight-same, IsWithoutLeft-same, IsWithoutRight-same, SomeShares-back, IsAnswer-same, IsAllowed-same, IsRefusalUnder-same, IsWithPut-same, IsUndone-same}
+use Rattle.bimap_base.proofs.SetsAlike.{turned, HasLeft-same, LacksLeft-same, LacksRight-same, IsWithoutLeft-same, IsWithoutRight-same, SomeShares-back, IsAnswer-same, IsAllowed-same, IsRefusal-same, IsRefusalUnder-same, IsWithPut-same, IsUndone-same}
 
 module _ {L R : Type 0} where
   pub record AreAlike (h k : Holding L R) : Type 0 where
@@ -71,6 +72,21 @@ module _ {L R : Type 0} where
           unchanged = unchanged;
           room = room_alike pair i.room;
         }
+
+        -- where a held left, or an `Err`, left the very holding, it left the very other
+        pub interning_alike : (pair : L × R) (result : Result R (NotInserted L R)) → (HasLeft same_left (Contains h.pairs) pair.0 → k' ≡ k) → OnErr result (k' ≡ k) → IsInterning same_left same_right h pair result h' → IsInterning same_left same_right k pair result k'
+        interning_alike pair result held unchanged i =
+            let back = turned (Contains h.pairs) (Contains k.pairs) like.members in
+            record {
+              answer = IfOk-then result (λ right w. (w.0, (after.members (w.0, right)).0 w.1, w.2)) i.answer;
+              held = λ has. let was = HasLeft-same (Contains k.pairs) (Contains h.pairs) back same_left pair.0 has in ((i.held was).0, held was);
+              put = λ lacks. OnOk-then result (IsWithPut-same (Contains h.pairs) (Contains k.pairs) like.members same_left same_right (Contains h'.pairs) (Contains k'.pairs) pair after.members) (i.put (LacksLeft-same (Contains k.pairs) (Contains h.pairs) back same_left pair.0 lacks));
+              count = λ lacks. OnOk-then result (λ e. omega (arith, after.long, e, like.long)) (i.count (LacksLeft-same (Contains k.pairs) (Contains h.pairs) back same_left pair.0 lacks));
+              kept = λ p was. (after.members p).0 (i.kept p ((like.members p).1 was));
+              refused = IfErr-then result (λ e. IsRefusal-same (Contains h.pairs) (Contains k.pairs) like.members same_left same_right (IsFull h) (IsFull k) pair e full_alike) i.refused;
+              unchanged = unchanged;
+              room = room_alike pair i.room;
+            }
 
         pub undoing_alike : (left : L) (answer : Overwritten L R) (result : Result (L × R) (UndoStopped L R)) → OnErr result (k' ≡ k) → IsUndoing same_left same_right h left answer result h' → IsUndoing same_left same_right k left answer result k'
         undoing_alike left answer result unchanged u = record {

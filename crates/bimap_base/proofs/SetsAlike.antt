@@ -1,11 +1,13 @@
 -- What is said of a set is said of one with the same members.
 use Rattle.std.proofs.Common.{Bool, inl, inr}
 use Rattle.bimap_base.specs.Sets.{IsSameSet, NoneShares, SomeShares, IsWithPut, HasLeft, LacksLeft, HasRight, LacksRight, IsWithoutLeft, IsWithoutRight}
-use Rattle.bimap_base.specs.Answer.{IsAnswer, IsOnlyStruck, IsAllowed, IsRefusalUnder}
+use Rattle.bimap_base.specs.Answer.{IsAnswer, IsOnlyStruck, IsAllowed, IsRefusal, IsRefusalUnder}
 use Rattle.bimap_base.specs.Undoing.{IsUndoable, IsUndone}
 use Rattle.bimap_base.specs.declared.overwritten.Overwritten.{Overwritten}
 use Rattle.bimap_base.specs.declared.overwritten.Overwritten.TheVariants.{Neither, Left, Right, Pair, Both}
 use Rattle.bimap_base.specs.declared.policy.Policy.{Policy}
+use Rattle.bimap_base.specs.declared.refusal.NotInserted.{NotInserted}
+use Rattle.bimap_base.specs.declared.refusal.NotInserted.TheVariants.{Occupied, Memory as MemoryAlone}
 use Rattle.bimap_base.specs.declared.refusal.NotInsertedWith.{NotInsertedWith}
 use Rattle.bimap_base.specs.declared.refusal.NotInsertedWith.TheVariants.{LeftHeld, RightHeld, Memory}
 
@@ -58,6 +60,10 @@ module _ {L R : Type 0} (S T : L × R → Type 0) (same : IsSameSet S T) where
           by_right = h.by_right;
           only = λ s there. h.only s ((same s).1 there);
         }
+
+    pub IsRefusal-same : (NoPlace NoRoom : Type 0) (new : L × R) (e : NotInserted L R) → (NoPlace → NoRoom) → IsRefusal eql eqr S NoPlace new e → IsRefusal eql eqr T NoRoom new e
+    IsRefusal-same NoPlace NoRoom new (Occupied l r) full h = (h.0, (h.1.0, (same h.1.0).0 h.1.1, h.1.2))
+    IsRefusal-same NoPlace NoRoom new (MemoryAlone l r) full h = (h.0, NoneShares-same new h.1, full h.2)
 
     pub IsAllowed-same : (new : L × R) (policy : Policy) → IsAllowed eql eqr S new policy → IsAllowed eql eqr T new policy
     IsAllowed-same new policy h =

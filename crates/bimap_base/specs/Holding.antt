@@ -1,8 +1,8 @@
 -- What a contract sees of a bimap, and what each call answers and leaves: one record a call, one fact a field.
-use Rattle.std.specs.Prelude.{◌≡◌, ℕ, ◌<◌, ◌≤◌, ◌+◌, Bool, true, Option, Result, List, length, Contains, IfSome, IfNone, IfOk, IfErr, OnOk, OnErr, MatchOption}
+use Rattle.std.specs.Prelude.{◌≡◌, ℕ, ◌<◌, ◌≤◌, ◌+◌, Bool, true, Option, Result, List, length, Contains, IfSome, IfNone, IfOk, IfErr, IsOk, OnOk, OnErr, MatchOption}
 use Rattle.std.specs.Borrow.{Bor}
 use denote.Param.Members.{Mut}
-use Rattle.bimap_base.specs.Sets.{NoneShares, SomeShares, IsWithPut, LacksLeft, IsWithoutLeft, LacksRight, IsWithoutRight}
+use Rattle.bimap_base.specs.Sets.{NoneShares, SomeShares, IsWithPut, HasLeft, LacksLeft, IsWithoutLeft, LacksRight, IsWithoutRight}
 use Rattle.bimap_base.specs.Answer.{IsAnswer, IsRefusal, IsAllowed, IsRefusalUnder, IsBoth, named_count}
 use Rattle.bimap_base.specs.Kept.{IsKept, IsKeptInTurn}
 use Rattle.bimap_base.specs.Undoing.{IsUndone}
@@ -79,6 +79,17 @@ module _ {L R : Type 0} (same_left : L → L → Bool) (same_right : R → R →
     pub put : OnOk result (IsWithPut same_left same_right (Contains old.pairs) pair (Contains new.pairs))
     pub count : IfOk result (λ answer. length new.pairs + named_count answer ≡ length old.pairs + 1)
     pub refused : IfErr result (IsRefusalUnder same_left same_right (Contains old.pairs) (IsFull old) pair policy)
+    pub unchanged : OnErr result (new ≡ old)
+    pub room : IsRoomAfter old pair new
+
+  -- the answer is the right held for an equal left, and the given pair is put in only where none was held
+  pub record IsInterning (old : Holding L R) (pair : L × R) (result : Result R (NotInserted L R)) (new : Holding L R) : Type 0 where
+    pub answer : IfOk result (λ right. (l : L) × Contains new.pairs (l, right) × (same_left l pair.0 ≡ true))
+    pub held : HasLeft same_left (Contains old.pairs) pair.0 → IsOk result × (new ≡ old)
+    pub put : LacksLeft same_left (Contains old.pairs) pair.0 → OnOk result (IsWithPut same_left same_right (Contains old.pairs) pair (Contains new.pairs))
+    pub count : LacksLeft same_left (Contains old.pairs) pair.0 → OnOk result (length new.pairs ≡ length old.pairs + 1)
+    pub kept : (p : L × R) → Contains old.pairs p → Contains new.pairs p
+    pub refused : IfErr result (IsRefusal same_left same_right (Contains old.pairs) (IsFull old) pair)
     pub unchanged : OnErr result (new ≡ old)
     pub room : IsRoomAfter old pair new
 
