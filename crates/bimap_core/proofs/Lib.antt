@@ -2,6 +2,7 @@ pub mod Places
 pub mod Counted
 pub mod Inserting
 pub mod Inserted
+pub mod Interned
 pub mod Removing
 pub mod Linking
 pub mod Retaining

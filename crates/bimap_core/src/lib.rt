@@ -4,6 +4,7 @@
 mod copy;
 mod for_each;
 mod insert;
+mod intern;
 mod pack;
 mod ranks;
 mod remove;

@@ -103,6 +103,23 @@ impl<L: Eq, R: Eq, I: Index<L>, J: Index<R>> Table<L, R, I, J> {
             .seek(LeftSide::new(&self.pairs), left, spot, meter)
     }
 
+    // The same for a right.
+    pub(crate) fn seek_right<M: Meter>(
+        &self,
+        right: &R,
+        spot: &mut J::Spot,
+        meter: &mut M,
+    ) -> Option<usize>
+        ensures found { IsFoundAt (λ p. p.1) R.eq self.now.pairs right.now result }
+        ensures leads { IfNone result (J.leads self.now.right (right_at self.now.pairs) right.now spot.new) }
+        ensures is_for { J.is_for self.now.right right.now spot.new }
+        ensures comparisons { M.comparisons meter.new ≤ M.comparisons meter.old + J.effort (length (J.places self.now.right)) }
+        ensures touches { M.touches meter.new ≤ M.touches meter.old + J.effort (length (J.places self.now.right)) }
+    {
+        self.right
+            .seek(RightSide::new(&self.pairs), right, spot, meter)
+    }
+
     // The same for a right, where the place of the equal left, if any, is known: its right is asked first.
     pub(crate) fn seek_right_beside<M: Meter>(
         &self,
@@ -118,12 +135,14 @@ impl<L: Eq, R: Eq, I: Index<L>, J: Index<R>> Table<L, R, I, J> {
         ensures comparisons { M.comparisons meter.new ≤ M.comparisons meter.old + 2 * J.effort (length (J.places self.now.right)) }
         ensures touches { M.touches meter.new ≤ M.touches meter.old + J.effort (length (J.places self.now.right)) }
     {
-        let rights = RightSide::new(&self.pairs);
         if let Some(place) = by_left {
-            if self.right.is_known(rights, place, right, meter) {
+            if self
+                .right
+                .is_known(RightSide::new(&self.pairs), place, right, meter)
+            {
                 return Some(place);
             }
         }
-        self.right.seek(rights, right, spot, meter)
+        self.seek_right(right, spot, meter)
     }
 }

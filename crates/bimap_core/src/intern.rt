@@ -1,0 +1,50 @@
+//! The partner of a left, which is put in where there is none. Each key is searched once, and nothing changes before the
+//! answer is decided.
+ghost use Rattle.std.specs.Prelude.{◌≡◌, ◌+◌, ◌*◌, ◌≤◌, OnErr, Contains, length};
+ghost use Rattle.bimap_base.specs.Holding.{IsInterning};
+ghost use Rattle.bimap_base.specs.Places.{pairs_in};
+ghost use Rattle.bimap_base.specs.Sets.{HasLeft};
+
+use crate::table::Table;
+use bimap_base::{Meter, NotInserted};
+use bimap_index::Index;
+
+impl<L: Eq + Drop, R: Copy + Eq + Drop, I: Index<L>, J: Index<R>> Table<L, R, I, J> {
+    ghost use Rattle.bimap_core.specs.Store.{holding_of};
+
+    /// The right held for an equal left, where nothing changes; else the pair is put in, and its right answered.
+    ///
+    /// It takes memory only where no equal left is held and no place is free. An `Err` hands the pair back, and nothing
+    /// has changed.
+    pub fn get_by_left_or_insert<M: Meter>(
+        &mut self,
+        left: L,
+        right: R,
+        meter: &mut M,
+    ) -> Result<R, NotInserted<L, R>>
+        ensures answer { IsInterning L.eq R.eq (holding_of self.old.pairs) (left, right) result (holding_of self.new.pairs) }
+        ensures held_slots { HasLeft L.eq (Contains (pairs_in self.old.pairs)) left → self.new.pairs ≡ self.old.pairs }
+        ensures held_places { HasLeft L.eq (Contains (pairs_in self.old.pairs)) left → I.places self.new.left ≡ I.places self.old.left }
+        ensures slots { OnErr result (self.new.pairs ≡ self.old.pairs) }
+        ensures places { OnErr result (I.places self.new.left ≡ I.places self.old.left) }
+        ensures comparisons { M.comparisons meter.new ≤ M.comparisons meter.old + I.effort (length (I.places self.old.left)) + J.effort (length (J.places self.old.right)) }
+        ensures touches { M.touches meter.new ≤ M.touches meter.old + 65 * (I.effort (length (I.places self.old.left)) + 1) + 65 * (J.effort (length (J.places self.old.right)) + 1) }
+    {
+        let mut left_spot = self.left.spot();
+        if let Some(place) = self.seek_left(&left, &mut left_spot, meter) {
+            let Some((_, held)) = self.pairs.at(place) else {
+                unreachable!()
+            };
+            return Ok(*held);
+        }
+        let mut right_spot = self.right.spot();
+        if self.seek_right(&right, &mut right_spot, meter).is_some() {
+            return Err(NotInserted::Occupied(left, right));
+        }
+        if self.make_room().is_err() {
+            return Err(NotInserted::Memory(left, right));
+        }
+        let _place = self.put(left, right, &left_spot, &right_spot, meter);
+        Ok(right)
+    }
+}
