@@ -9,9 +9,9 @@ mod undone;
 pub mod value;
 
 pub use bimap_base::{
-    Bijection, ExtendStopped, ItemRefused, NoMemory, NoRoom, NotInserted, NotInsertedWith,
-    NotReplaced, OnHeld, Overwritten, Policy, UndoStopped, extend_with, from_iter_with,
-    replace_left, replace_right,
+    Bijection, ExtendStopped, Interning, ItemRefused, NoMemory, NoRoom, NotInserted,
+    NotInsertedWith, NotReplaced, OnHeld, Overwritten, Policy, UndoStopped, extend_with,
+    from_iter_with, replace_left, replace_right,
 };
 pub use bimap_kinds::{BiBTreeHashMap, BiBTreeMap, BiHashBTreeMap, BiHashMap, BijectiveMap};
 pub use call::{Call, Reply, RunRefused};

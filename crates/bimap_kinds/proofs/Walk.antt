@@ -119,6 +119,10 @@ pub unchanged_walked : {T E L R : Type 0} (r : Result T E) (slots slots' : List 
 unchanged_walked (Ok x) slots slots' places places' e f = tt
 unchanged_walked (Err x) slots slots' places places' e f = λ i. record { pairs = pairs_at (e i) (f i); room = length (e i) }
 
+-- nothing changed where the store and the listed places are the same
+pub walked_same : {L R : Type 0} (slots slots' : List (Option (L × R))) (places places' : List ℕ) → slots' ≡ slots → places' ≡ places → walked_by slots' places' ≡ walked_by slots places
+walked_same slots slots' places places' e f = λ i. record { pairs = pairs_at (e i) (f i); room = length (e i) }
+
 -- what `retain` leaves, in the order of a walk
 module _ {F L R : Type 0} (g : Mut F (Bor L × (Bor R × Unit {0})) Bool) {same_left : L → L → Bool} {same_right : R → R → Bool} (equal_left : IsEquivalence same_left) (equal_right : IsEquivalence same_right)
     (slots : List (Option (L × R))) (places : List ℕ) (walk : IsWalk slots places) (apart : IsApart same_left same_right (pairs_in slots)) where

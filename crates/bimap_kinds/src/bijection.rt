@@ -5,7 +5,9 @@ ghost use Rattle.bimap_base.specs.Undoing.{IsUndoable};
 ghost use Rattle.bimap_kinds.specs.Held.{holding};
 
 use crate::map::BijectiveMap;
-use bimap_base::{Bijection, NoMemory, NotInsertedWith, Overwritten, Policy, UndoStopped};
+use bimap_base::{
+    Bijection, Interning, NoMemory, NotInserted, NotInsertedWith, Overwritten, Policy, UndoStopped,
+};
 use bimap_index::Index;
 
 impl<L: Eq + Drop, R: Eq + Drop, I: Index<L>, J: Index<R>> Bijection<L, R>
@@ -74,5 +76,12 @@ impl<L: Eq + Drop, R: Eq + Drop, I: Index<L>, J: Index<R>> Bijection<L, R>
         ensures { IsUndoing L.eq R.eq (holding self.old) left.now answer result (holding self.new) }
     {
         BijectiveMap::undo_insert(self, left, answer)
+    }
+}
+
+impl<L: Eq + Drop, R: Copy + Eq + Drop, I: Index<L>, J: Index<R>> Interning<L, R>
+    for BijectiveMap<L, R, I, J> {
+    fn get_by_left_or_insert(&mut self, left: L, right: R) -> Result<R, NotInserted<L, R>> {
+        BijectiveMap::get_by_left_or_insert(self, left, right)
     }
 }

@@ -1,6 +1,6 @@
 //! Insertions. There is one, under a policy, and each of the others is it under a policy of its own.
 ghost use Rattle.std.specs.Prelude.{◌≡◌, ◌+◌, ◌*◌, ◌≤◌, length};
-ghost use Rattle.bimap_base.specs.Holding.{IsInsertion, IsInsertionWithoutOverwriting, IsInsertionUnder};
+ghost use Rattle.bimap_base.specs.Holding.{IsInsertion, IsInsertionWithoutOverwriting, IsInsertionUnder, IsInterning};
 
 use crate::map::BijectiveMap;
 use bimap_base::{
@@ -88,5 +88,38 @@ impl<L: Eq + Drop, R: Eq + Drop, I: Index<L>, J: Index<R>> BijectiveMap<L, R, I,
         ensures touches { M.touches meter.new ≤ M.touches meter.old + 200 * (I.effort (length (holding self.old).pairs) + 1) + 200 * (J.effort (length (holding self.old).pairs) + 1) }
     {
         self.table.insert_with(left, right, policy, meter)
+    }
+}
+
+impl<L: Eq + Drop, R: Copy + Eq + Drop, I: Index<L>, J: Index<R>> BijectiveMap<L, R, I, J> {
+    ghost use Rattle.bimap_kinds.specs.Held.{holding};
+
+    /// The right held for an equal left, where nothing changes and the given pair is dropped; else the pair is put in, and
+    /// its right answered. It costs one search by left, and one by right where no equal left is held.
+    ///
+    /// It takes memory only where no equal left is held and as many pairs are held as there is room for. An `Err` hands the
+    /// pair back, and nothing has changed: another pair has the right, or there was no memory.
+    ///
+    ///     seats.get_by_left_or_insert('a', 4); // Ok(3)
+    ///     seats.get_by_left_or_insert('d', 4); // Ok(4)
+    ///     seats.get_by_left_or_insert('e', 1); // Err(NotInserted::Occupied('e', 1))
+    pub fn get_by_left_or_insert(&mut self, left: L, right: R) -> Result<R, NotInserted<L, R>>
+        ensures { IsInterning L.eq R.eq (holding self.old) (left, right) result (holding self.new) }
+    {
+        self.get_by_left_or_insert_metered(left, right, &mut Count::new())
+    }
+
+    /// The same as `get_by_left_or_insert`, counted.
+    pub fn get_by_left_or_insert_metered<M: Meter>(
+        &mut self,
+        left: L,
+        right: R,
+        meter: &mut M,
+    ) -> Result<R, NotInserted<L, R>>
+        ensures answer { IsInterning L.eq R.eq (holding self.old) (left, right) result (holding self.new) }
+        ensures comparisons { M.comparisons meter.new ≤ M.comparisons meter.old + I.effort (length (holding self.old).pairs) + J.effort (length (holding self.old).pairs) }
+        ensures touches { M.touches meter.new ≤ M.touches meter.old + 65 * (I.effort (length (holding self.old).pairs) + 1) + 65 * (J.effort (length (holding self.old).pairs) + 1) }
+    {
+        self.table.get_by_left_or_insert(left, right, meter)
     }
 }

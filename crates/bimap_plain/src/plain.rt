@@ -6,7 +6,9 @@ ghost use Rattle.bimap_base.specs.Undoing.{IsUndoable};
 ghost use Rattle.bimap_plain.specs.Plain.{shown};
 
 use crate::{changes, scan};
-use bimap_base::{Bijection, NoMemory, NotInsertedWith, Overwritten, Policy, UndoStopped};
+use bimap_base::{
+    Bijection, Interning, NoMemory, NotInsertedWith, Overwritten, Policy, UndoStopped,
+};
 use std::alloc::Global;
 
 /// Pairs in a vector, whose capacity is the room.
@@ -126,3 +128,5 @@ impl<L: Eq + Drop, R: Eq + Drop> Bijection<L, R> for Plain<L, R> {
 
     ghost fits = { λ s. s.fits };
 }
+
+impl<L: Eq + Drop, R: Copy + Eq + Drop> Interning<L, R> for Plain<L, R> {}

@@ -21,6 +21,16 @@ fn inserts(rt: HostRuntime) -> Result<(), Fail> {
 }
 
 #[test]
+fn interns(rt: HostRuntime) -> Result<(), Fail> {
+    let alloc = rt.alloc();
+    let mut seats = ordered(alloc)?;
+    assert!(&rt; seats.get_by_left_or_insert('a', 4) == Ok(3));
+    assert!(&rt; seats.get_by_left_or_insert('d', 4) == Ok(4));
+    assert!(&rt; seats.get_by_left_or_insert('e', 1) == Err(NotInserted::Occupied('e', 1)));
+    Ok(())
+}
+
+#[test]
 fn removes_and_undoes(rt: HostRuntime) -> Result<(), Fail> {
     let alloc = rt.alloc();
     let mut seats = ordered(alloc)?;

@@ -1,0 +1,20 @@
+//! What a caller knows of names that are numbered as they come.
+ghost use Rattle.std.specs.Prelude.{◌≡◌, true, Contains, IfOk, OnErr};
+
+use bimap::{Interning, NotInserted};
+
+/// The number of a name: the one that it has, or else `fresh`. No name loses its number.
+///
+/// Costs a search where the name has a number, and else an insertion. It takes memory only where it has none and no place
+/// is free. An `Err` hands both back, and nothing has changed: another name has `fresh`, or there was no memory.
+pub fn number_of<L: Eq + Drop, B: Interning<L, u32>>(
+    names: &mut B,
+    name: L,
+    fresh: u32,
+) -> Result<u32, NotInserted<L, u32>>
+    ensures has { IfOk result (λ number. (l : L) × Contains (B.holding names.new).pairs (l, number) × (L.eq l name ≡ true)) }
+    ensures kept { (p : _) → Contains (B.holding names.old).pairs p → Contains (B.holding names.new).pairs p }
+    ensures unchanged { OnErr result (B.holding names.new ≡ B.holding names.old) }
+{
+    names.get_by_left_or_insert(name, fresh)
+}
