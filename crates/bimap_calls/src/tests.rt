@@ -2,12 +2,14 @@
 //!
 //! A test that calls over the kinds is proved anew at each of them, so there is one for each pair of types.
 use crate::{CopyKind, Kind, Tagged, Walked, over_each_kind};
+use bimap::Interning;
 use std::alloc::Global;
 use std::process::Abort;
 use std::test::Fail;
 
 mod examples;
 mod insertions;
+mod interned;
 mod items;
 mod items_under;
 mod replaced;
@@ -17,11 +19,12 @@ mod undo_runs;
 mod undone;
 mod visited;
 
-fn letters<B: CopyKind<char, u32> + Walked<char, u32>>(
+fn letters<B: CopyKind<char, u32> + Interning<char, u32> + Walked<char, u32>>(
     rt: &impl Abort,
     alloc: Global,
 ) -> Result<(), Fail> {
     insertions::all::<B>(rt, alloc)?;
+    interned::all::<B>(rt, alloc)?;
     items::letters::<B>(rt, alloc)?;
     items_under::all::<B>(rt, alloc);
     replaced::values::<B>(rt, alloc)?;

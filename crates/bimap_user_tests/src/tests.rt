@@ -4,3 +4,4 @@ mod looks;
 mod meter;
 mod metered;
 mod metered_ends;
+mod names;

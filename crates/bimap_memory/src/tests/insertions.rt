@@ -1,14 +1,14 @@
 //! Each growth of an insertion refused.
 use super::FIVE;
-use bimap::{Bijection, NoRoom, NotInserted, NotInsertedWith, Overwritten};
+use bimap::{Interning, NoRoom, NotInserted, NotInsertedWith, Overwritten};
 use bimap_calls::{Kind, ONCE, over_each_kind, shows};
 use bimap_famine::Famine;
 use std::alloc::{AllocError, Global};
 use std::process::Abort;
 use std::test::Fail;
 
-// An insertion that strikes nothing, by one of the three calls.
-fn put<B: Bijection<u32, u32>>(bimap: &mut B, call: u32, left: u32, right: u32) -> Option<bool> {
+// An insertion that strikes nothing, by one of the four calls.
+fn put<B: Interning<u32, u32>>(bimap: &mut B, call: u32, left: u32, right: u32) -> Option<bool> {
     match call {
         0 => match bimap.insert(left, right) {
             Ok(answer) => (answer == Overwritten::Neither).then_some(true),
@@ -16,6 +16,10 @@ fn put<B: Bijection<u32, u32>>(bimap: &mut B, call: u32, left: u32, right: u32) 
         },
         1 => match bimap.insert_no_overwrite(left, right) {
             Ok(()) => Some(true),
+            Err(refused) => (refused == NotInserted::Memory(left, right)).then_some(false),
+        },
+        2 => match bimap.get_by_left_or_insert(left, right) {
+            Ok(answer) => (answer == right).then_some(true),
             Err(refused) => (refused == NotInserted::Memory(left, right)).then_some(false),
         },
         _ => match bimap.insert_with(left, right, ONCE) {
@@ -27,7 +31,7 @@ fn put<B: Bijection<u32, u32>>(bimap: &mut B, call: u32, left: u32, right: u32) 
 
 // Inserts the pair at `at` under a famine that eases, and answers how often it was refused, or `None` where an answer
 // was wrong or a refusal changed something.
-fn put_in_famine<B: Bijection<u32, u32>>(
+fn put_in_famine<B: Interning<u32, u32>>(
     alloc: Global,
     bimap: &mut B,
     call: u32,
@@ -51,7 +55,10 @@ fn put_in_famine<B: Bijection<u32, u32>>(
 }
 
 // How many refusals the five insertions met.
-fn refusals<B: Kind<u32, u32>>(alloc: Global, call: u32) -> Result<Option<u64>, AllocError> {
+fn refusals<B: Kind<u32, u32> + Interning<u32, u32>>(
+    alloc: Global,
+    call: u32,
+) -> Result<Option<u64>, AllocError> {
     let mut bimap = B::empty(alloc);
     let mut all = 0u64;
     for at in 0..5usize {
@@ -63,8 +70,11 @@ fn refusals<B: Kind<u32, u32>>(alloc: Global, call: u32) -> Result<Option<u64>, 
     Ok(shows(&bimap, &FIVE).then_some(all))
 }
 
-fn refused_in_turn<B: Kind<u32, u32>>(rt: &impl Abort, alloc: Global) -> Result<(), Fail> {
-    for call in 0..3u32 {
+fn refused_in_turn<B: Kind<u32, u32> + Interning<u32, u32>>(
+    rt: &impl Abort,
+    alloc: Global,
+) -> Result<(), Fail> {
+    for call in 0..4u32 {
         let met = refusals::<B>(alloc, call)?;
         assert!(rt; met.is_some_and(|met| met >= 6), "{call}: {met:?}");
     }

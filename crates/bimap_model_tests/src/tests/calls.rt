@@ -1,5 +1,5 @@
 //! Each call on a bimap and on its model. A call answers whether the two agree.
-use bimap::{Bijection, NotInserted, NotInsertedWith, Overwritten, Policy};
+use bimap::{Bijection, Interning, NotInserted, NotInsertedWith, Overwritten, Policy};
 use bimap_model::{Exact, Model, Noted, exact_answer, exact_pair, is_kept, noted_answer};
 use std::alloc::AllocError;
 use std::cell::Cell;
@@ -32,6 +32,28 @@ pub fn insert_no_overwrite<B: Bijection<Noted, Noted>>(
             Ok(!strikes)
         }
         Err(NotInserted::Occupied(left, right)) => Ok(strikes && exact_pair((left, right)) == pair),
+        Err(NotInserted::Memory(_, _)) => Ok(false),
+    }
+}
+
+pub fn get_by_left_or_insert<B: Interning<Noted, Noted>>(
+    bimap: &mut B,
+    model: &mut Model,
+    pair: Pair,
+) -> Result<bool, AllocError> {
+    let held = model.of_left(pair.0.0);
+    let strikes = model.struck_by(pair).did_overwrite();
+    match bimap.get_by_left_or_insert(Noted::new(pair.0), Noted::new(pair.1)) {
+        Ok(answer) => match held {
+            Some((_, right)) => Ok(answer.exact() == right),
+            None => {
+                model.put(pair)?;
+                Ok(!strikes && answer.exact() == pair.1)
+            }
+        },
+        Err(NotInserted::Occupied(left, right)) => {
+            Ok(held.is_none() && strikes && exact_pair((left, right)) == pair)
+        }
         Err(NotInserted::Memory(_, _)) => Ok(false),
     }
 }

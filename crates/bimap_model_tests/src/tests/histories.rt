@@ -1,9 +1,9 @@
 //! The histories.
 use super::calls::{
-    Pair, clear, insert, insert_no_overwrite, insert_with, remove_by_left, remove_by_right, retain,
-    show_the_same, undo_insert,
+    Pair, clear, get_by_left_or_insert, insert, insert_no_overwrite, insert_with, remove_by_left,
+    remove_by_right, retain, show_the_same, undo_insert,
 };
-use bimap::{Bijection, OnHeld, Overwritten, Policy};
+use bimap::{Bijection, Interning, OnHeld, Overwritten, Policy};
 use bimap_calls::{Kind, Walked, over_each_kind};
 use bimap_model::{Dice, Exact, Model, Noted, exact_pair};
 use std::alloc::{AllocError, Global};
@@ -57,14 +57,14 @@ fn there_and_back<B: Bijection<Noted, Noted>>(
 }
 
 // One call of chance.
-fn call<B: Bijection<Noted, Noted>>(
+fn call<B: Interning<Noted, Noted>>(
     bimap: &mut B,
     model: &mut Model,
     dice: &mut Dice,
     names: u32,
 ) -> Result<bool, AllocError> {
     let both = pair(dice, names);
-    match dice.roll(20) {
+    match dice.roll(22) {
         0..=5 => insert(bimap, model, both),
         6..=7 => insert_no_overwrite(bimap, model, both),
         8..=10 => {
@@ -76,6 +76,7 @@ fn call<B: Bijection<Noted, Noted>>(
         13 => Ok(retain(bimap, model, dice.roll(3))),
         14..=16 => there_and_back(bimap, model, both),
         17..=18 => undo_insert(bimap, model, both.0, answer(dice, names)),
+        19..=20 => get_by_left_or_insert(bimap, model, both),
         _ => {
             if dice.roll(8) == 0 {
                 clear(bimap, model);
@@ -102,7 +103,7 @@ fn walks_the_same<B: Walked<Noted, Noted>>(
 }
 
 // The first call of a history at which the two do not agree, or its length where a walk in the end shows other pairs.
-fn first_wrong<B: Kind<Noted, Noted> + Walked<Noted, Noted>>(
+fn first_wrong<B: Kind<Noted, Noted> + Walked<Noted, Noted> + Interning<Noted, Noted>>(
     alloc: Global,
     seed: u32,
 ) -> Result<Option<u32>, AllocError> {
@@ -120,7 +121,7 @@ fn first_wrong<B: Kind<Noted, Noted> + Walked<Noted, Noted>>(
     Ok((!walks_the_same(alloc, &bimap, &model)?).then_some(CALLS))
 }
 
-fn all_agree<B: Kind<Noted, Noted> + Walked<Noted, Noted>>(
+fn all_agree<B: Kind<Noted, Noted> + Walked<Noted, Noted> + Interning<Noted, Noted>>(
     rt: &impl Abort,
     alloc: Global,
 ) -> Result<(), Fail> {

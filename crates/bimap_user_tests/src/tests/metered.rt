@@ -1,6 +1,6 @@
-//! The five counted calls on hits, misses and the empty bimap: what the caller's meter says lies within their bounds.
+//! The six counted calls on hits, misses and the empty bimap: what the caller's meter says lies within their bounds.
 use super::meter::{Counter, at_zero};
-use bimap::{BiBTreeMap, Overwritten};
+use bimap::{BiBTreeMap, NotInserted, Overwritten};
 use std::alloc::Global;
 use std::process::Abort;
 use std::test::Fail;
@@ -108,6 +108,40 @@ fn insertions_are_counted(rt: HostRuntime) -> Result<(), Fail> {
             let last = partner(length);
             let both = Overwritten::Both((1, 1999), (length, last));
             inserts(&rt, bimap()?, (1, last), both, height);
+        }
+    }
+    Ok(())
+}
+
+// The right of a left, or the pair is put in: one search by left, and one by right where no equal left is held.
+fn interns<R: Abort>(
+    rt: &R,
+    mut bimap: BiBTreeMap<u32, u32>,
+    pair: (u32, u32),
+    answer: Result<u32, NotInserted<u32, u32>>,
+    height: u64,
+) {
+    let least = if bimap.is_empty() { 0 } else { 1 };
+    let mut meter = at_zero(rt);
+    assert!(rt; bimap.get_by_left_or_insert_metered(pair.0, pair.1, &mut meter) == answer);
+    let touches = height.saturating_add(1).saturating_mul(130);
+    assert!(rt;
+        is_within(&meter, least, height.saturating_mul(2), touches),
+        "{pair:?}"
+    );
+}
+
+#[test]
+fn internings_are_counted(rt: HostRuntime) -> Result<(), Fail> {
+    for (length, height) in LENGTHS {
+        let bimap = || of_length(rt.alloc(), length);
+        interns(&rt, bimap()?, (3000, 3000), Ok(3000), height);
+        interns(&rt, bimap()?, (0, 0), Ok(0), height);
+        if length >= 1 {
+            interns(&rt, bimap()?, (1, 3000), Ok(1999), height);
+            interns(&rt, bimap()?, (length, 1999), Ok(partner(length)), height);
+            let occupied = Err(NotInserted::Occupied(0, 1999));
+            interns(&rt, bimap()?, (0, 1999), occupied, height);
         }
     }
     Ok(())
