@@ -1,11 +1,11 @@
 //! A ledger of guests and their seats, in which no guest takes a seat from another.
-ghost use Rattle.std.specs.Prelude.{◌≡◌, ◌<◌, ◌≤◌, length, Contains, IfOk, IfErr, OnOk, OnErr};
-ghost use Rattle.bimap.specs.Sets.{IsWithPut, LacksRight};
+ghost use Rattle.std.specs.Prelude.{◌≡◌, ◌+◌, ◌<◌, ◌≤◌, false, length, Contains, IfOk, IfErr, OnOk, OnErr};
+ghost use Rattle.bimap.specs.Sets.{shares, IsWithPut, LacksRight};
 ghost use Rattle.bimap.specs.Answer.{IsAnswer, IsRefusalUnder};
 ghost use Rattle.bimap.specs.Holding.{IsFull};
 ghost use Rattle.bimap.specs.Visited.{MayVisit, IsVisited};
 
-use bimap::{Bijection, NotInsertedWith, OnHeld, Overwritten, Policy};
+use bimap::{Bijection, NoMemory, NotInsertedWith, OnHeld, Overwritten, Policy};
 
 /// Gives a guest a seat that nobody has. A guest who has another seat leaves it.
 pub fn seat_guest<G: Eq + Drop, S: Eq + Drop, B: Bijection<G, S>>(
@@ -54,10 +54,43 @@ pub fn seat_in_free_place<G: Eq + Drop, S: Eq + Drop, B: Bijection<G, S>>(
     requires { length (B.holding ledger.old).pairs < (B.holding ledger.old).room }
     ensures left { IsAnswer G.eq S.eq (Contains (B.holding ledger.old).pairs) (guest, seat) result }
     ensures seated { IsWithPut G.eq S.eq (Contains (B.holding ledger.old).pairs) (guest, seat) (Contains (B.holding ledger.new).pairs) }
+    ensures count { length (B.holding ledger.new).pairs ≤ length (B.holding ledger.old).pairs + 1 }
     ensures room { (B.holding ledger.new).room ≡ (B.holding ledger.old).room }
 {
     match ledger.insert(guest, seat) {
         Ok(answer) => answer,
         Err(_) => unreachable!(),
     }
+}
+
+/// Seats two guests while two places are free, and so refuses neither.
+#[tactic(auto, using(bimap::proofs::LookUps::other_stays))]
+fn seat_both_in_free_places<G: Eq + Drop, S: Eq + Drop, B: Bijection<G, S>>(
+    ledger: &mut B,
+    first: (G, S),
+    second: (G, S),
+)
+    requires { length (B.holding ledger.old).pairs + 2 ≤ (B.holding ledger.old).room }
+    ensures second { Contains (B.holding ledger.new).pairs second }
+    ensures first { shares G.eq S.eq first second ≡ false → Contains (B.holding ledger.new).pairs first }
+    ensures others { (p : G × S) → Contains (B.holding ledger.old).pairs p → shares G.eq S.eq p first ≡ false → shares G.eq S.eq p second ≡ false → Contains (B.holding ledger.new).pairs p }
+{
+    let _ = seat_in_free_place(ledger, first.0, first.1);
+    let _ = seat_in_free_place(ledger, second.0, second.1);
+}
+
+/// Seats two guests, or neither: places for both are asked for first, and after that neither is refused.
+pub fn seat_both<G: Eq + Drop, S: Eq + Drop, B: Bijection<G, S>>(
+    ledger: &mut B,
+    first: (G, S),
+    second: (G, S),
+) -> Result<(), NoMemory>
+    ensures second { OnOk result (Contains (B.holding ledger.new).pairs second) }
+    ensures first { OnOk result (shares G.eq S.eq first second ≡ false → Contains (B.holding ledger.new).pairs first) }
+    ensures others { OnOk result ((p : G × S) → Contains (B.holding ledger.old).pairs p → shares G.eq S.eq p first ≡ false → shares G.eq S.eq p second ≡ false → Contains (B.holding ledger.new).pairs p) }
+    ensures unchanged { OnErr result (B.holding ledger.new ≡ B.holding ledger.old) }
+{
+    ledger.reserve(2)?;
+    seat_both_in_free_places(ledger, first, second);
+    Ok(())
 }

@@ -1,6 +1,6 @@
 //! Guests and seats, over every bimap.
 use bimap::{BiBTreeMap, BiHashMap, Bijection, NotInserted, NotInsertedWith, Overwritten};
-use bimap_user::{seat_guest, seat_in_free_place, seat_new, seats_taken, show_seats};
+use bimap_user::{seat_both, seat_guest, seat_in_free_place, seat_new, seats_taken, show_seats};
 use std::process::Abort;
 
 // Whether these guests alone have these seats.
@@ -60,12 +60,23 @@ fn each_is_new<B: Bijection<char, u32>>(rt: &impl Abort, ledger: &mut B) {
     assert!(rt; shown_sum(ledger) == 5);
 }
 
+// Seats two guests at a time.
+fn each_two_are_seated<B: Bijection<char, u32>>(rt: &impl Abort, ledger: &mut B) {
+    assert!(rt; seat_guest(ledger, 'a', 1) == Ok(Overwritten::Neither));
+    assert!(rt; seat_both(ledger, ('b', 2), ('c', 3)).is_ok());
+    assert!(rt; shows(ledger, &[('a', 1), ('b', 2), ('c', 3)]));
+    assert!(rt; seat_both(ledger, ('d', 2), ('a', 4)).is_ok());
+    assert!(rt; shows(ledger, &[('a', 4), ('d', 2), ('c', 3)]));
+}
+
 fn seats_all<B: Bijection<char, u32>>(rt: &impl Abort, ledger: &mut B) {
     each_is_new(rt, ledger);
     ledger.clear();
     each_keeps_a_seat(rt, ledger);
     ledger.clear();
     each_free_place_is_given(rt, ledger);
+    ledger.clear();
+    each_two_are_seated(rt, ledger);
 }
 
 #[test]
