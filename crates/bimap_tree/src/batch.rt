@@ -66,6 +66,8 @@ impl Batch {
         ensures batch { IsBatch index.now.places self.new }
         ensures comparisons { M.comparisons meter.new ≡ M.comparisons meter.old }
         ensures touches { M.touches meter.new ≤ M.touches meter.old + 63 + 3 * most_height (length index.now.places) }
+        ensures has { HasRank self.new rank }
+        ensures kept { HasRank self.old rank → self.new ≡ self.old }
         ensures held { HasRank self.old rank → M.touches meter.new ≡ M.touches meter.old }
     {
         if !self.has(rank) {
@@ -82,6 +84,8 @@ impl Batch {
         ensures batch { IsBatch index.now.places self.new }
         ensures comparisons { M.comparisons meter.new ≡ M.comparisons meter.old }
         ensures touches { M.touches meter.new ≤ M.touches meter.old + 63 + 3 * most_height (length index.now.places) }
+        ensures has { HasRank self.new rank }
+        ensures kept { HasRank self.old rank → self.new ≡ self.old }
         ensures held { HasRank self.old rank → M.touches meter.new ≡ M.touches meter.old }
     {
         if !self.has(rank) {
