@@ -53,7 +53,8 @@ pub trait Bijection<L: Eq + Drop, R: Eq + Drop> {
     fn remove_by_right(&mut self, right: &R) -> Option<(L, R)>
         ensures { IsRemovalByRight R.eq (holding self.old) right.now result (holding self.new) };
 
-    /// Calls the closure once on each pair, in an open order.
+    /// Calls the closure once on each pair, in an open order. Each kind of bimap here takes no memory for it, and time in
+    /// proportion to the capacity.
     fn for_each<F: FnMut(&L, &R)>(&self, f: F)
         requires { MayVisit F.FnMut f (holding self.now).pairs }
         ensures { IsVisited F.FnMut f (holding self.now).pairs };

@@ -1,5 +1,5 @@
 -- Buffers that are filled with the places of trees.
-use Rattle.std.proofs.Common.{◌≡◌, ℕ, ◌+◌, ◌≤◌, ◌<◌, List, [], ◌∷◌, ◌++◌, length, take, Option, Some, None, refl, sym, subst, ◌∙◌, ap, arith, length-append, length-take-le, append_assoc}
+use Rattle.std.proofs.Common.{◌≡◌, ℕ, ◌+◌, ◌≤◌, ◌<◌, List, [], ◌∷◌, ◌++◌, length, take, Option, Some, refl, sym, subst, ◌∙◌, ap, arith, length-append, length-take-le, append_assoc}
 use Rattle.std.specs.Prelude.{min, slice_get, slice_set}
 use Rattle.std.proofs.lemmas.List.{take_all, take-append-le, take_more_set}
 use Rattle.bimap_base.specs.declared.cells.Node.{Node}
@@ -18,15 +18,6 @@ stay w f b xs h few long =
       long = long;
       places = sym (take-append-le f (take f b) xs (omega (arith, n)) ∙ take_all f (take f b) (omega (arith, n)));
     }
-
-pub fewer : (v w f : ℕ) (old xs new : List ℕ) (n : ℕ) → w ≤ v → IsFilled v f old xs new n → IsFilled w f old xs new n
-fewer v w f old xs new n h k = record {
-  enough = omega (arith, h, k.enough);
-  most = k.most;
-  within = k.within;
-  long = k.long;
-  places = k.places;
-}
 
 -- what stands in front is enough
 pub cut : (w f : ℕ) (old xs ys new : List ℕ) (n : ℕ) → f ≤ length old → w ≤ f + length xs → IsFilled w f old xs new n → IsFilled w f old (xs ++ ys) new n
@@ -120,11 +111,6 @@ parts ns at node t h =
 
 pub below : (ns : List Node) (root : Option ℕ) (p : ℕ) (node : Node) (t : Tree) → Stands ns root t → IsBalanced t → root ≡ Some p → slice_get ns p ≡ Some node → CanFill ns p node t
 below ns root p node t h b e f = record { tree = Stands-at ns root (Some p) t e h; node_is = f; balanced = b }
-
--- a tree of some levels has a place
-pub has_place : (ns : List Node) (root : Option ℕ) (t : Tree) → Stands ns root t → 1 ≤ height t → root ≡ None → (n : ℕ) → n < 0
-has_place ns root leaf h l e = absurd (omega arith)
-has_place ns root (fork x p y) h l e = absurd (let z = h.root_is ∙ e in cc)
 
 -- a tree of two levels was filled in
 pub low_filled : (f : ℕ) (old new : List ℕ) (n : ℕ) (ns : List Node) (p : ℕ) (node : Node) (t : Tree) → CanFill ns p node t → height t ≤ 2 → ((l r : Tree) → node ≡ node_of l r → height l ≤ 1 → height r ≤ 1 → IsFilled 64 f old (reading l ++ p ∷ reading r) new n) → IsFilled 64 f old (reading t) new n

@@ -1,5 +1,5 @@
 -- Places in order, many at a time.
-use Rattle.std.proofs.Common.{◌≡◌, ℕ, suc, ◌+◌, ◌-◌, ◌≤◌, ◌<◌, List, [], ◌∷◌, ◌++◌, length, drop, refl, ◌∙◌, ap, arith, zero-add, length-drop, zero}
+use Rattle.std.proofs.Common.{◌≡◌, ℕ, suc, ◌+◌, ◌-◌, ◌≤◌, ◌<◌, List, [], ◌∷◌, ◌++◌, length, drop, refl, ◌∙◌, ap, arith, zero-add, zero}
 use Rattle.std.proofs.lemmas.List.{drop-append-le}
 use Rattle.bimap_tree.specs.Tree.{Tree, fork, reading, size}
 use Rattle.bimap_tree.proofs.Shown.{size-reading}
@@ -25,6 +25,3 @@ drop_end (x ∷ xs) (suc n) e = drop_end xs n (omega (arith, e))
 
 pub drop_here : (t l r : Tree) (at rank : ℕ) → t ≡ fork l at r → rank ≡ size l → drop rank (reading t) ≡ at ∷ reading r
 drop_here t l r at rank e h = drop_left t l r at rank e (omega (arith, h)) ∙ ap (λ z. z ++ at ∷ reading r) (drop_end (reading l) rank (omega (arith, h, size-reading l)))
-
-pub left_length : (l : Tree) (rank : ℕ) → rank ≤ size l → length (drop rank (reading l)) ≡ size l - rank
-left_length l rank h = omega (arith, length-drop rank (reading l), size-reading l)

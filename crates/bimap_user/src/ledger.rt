@@ -1,5 +1,5 @@
 //! A ledger of guests and their seats, in which no guest takes a seat from another.
-ghost use Rattle.std.specs.Prelude.{◌≡◌, ◌+◌, ◌<◌, ◌≤◌, false, length, Contains, IfOk, IfErr, OnOk, OnErr};
+ghost use Rattle.std.specs.Prelude.{◌≡◌, ◌+◌, ◌<◌, ◌≤◌, false, length, max, Contains, IfOk, IfErr, OnOk, OnErr};
 ghost use Rattle.bimap.specs.Sets.{shares, IsWithPut, LacksRight};
 ghost use Rattle.bimap.specs.Answer.{IsAnswer, IsRefusalUnder};
 ghost use Rattle.bimap.specs.Holding.{IsFull};
@@ -71,6 +71,7 @@ fn seat_both_in_free_places<G: Eq + Drop, S: Eq + Drop, B: Bijection<G, S>>(
     second: (G, S),
 )
     requires { length (B.holding ledger.old).pairs + 2 ≤ (B.holding ledger.old).room }
+    ensures room { (B.holding ledger.new).room ≡ (B.holding ledger.old).room }
     ensures second { Contains (B.holding ledger.new).pairs second }
     ensures first { shares G.eq S.eq first second ≡ false → Contains (B.holding ledger.new).pairs first }
     ensures others { (p : G × S) → Contains (B.holding ledger.old).pairs p → shares G.eq S.eq p first ≡ false → shares G.eq S.eq p second ≡ false → Contains (B.holding ledger.new).pairs p }
@@ -80,11 +81,15 @@ fn seat_both_in_free_places<G: Eq + Drop, S: Eq + Drop, B: Bijection<G, S>>(
 }
 
 /// Seats two guests, or neither: places for both are asked for first, and after that neither is refused.
+///
+/// It takes memory only where fewer than two places are free, and then makes no more than are wanted. An `Err` changes
+/// nothing.
 pub fn seat_both<G: Eq + Drop, S: Eq + Drop, B: Bijection<G, S>>(
     ledger: &mut B,
     first: (G, S),
     second: (G, S),
 ) -> Result<(), NoMemory>
+    ensures room { OnOk result ((B.holding ledger.new).room ≡ max (B.holding ledger.old).room (length (B.holding ledger.old).pairs + 2)) }
     ensures second { OnOk result (Contains (B.holding ledger.new).pairs second) }
     ensures first { OnOk result (shares G.eq S.eq first second ≡ false → Contains (B.holding ledger.new).pairs first) }
     ensures others { OnOk result ((p : G × S) → Contains (B.holding ledger.old).pairs p → shares G.eq S.eq p first ≡ false → shares G.eq S.eq p second ≡ false → Contains (B.holding ledger.new).pairs p) }
