@@ -24,7 +24,7 @@ pub trait Bijection<L: Eq + Drop, R: Eq + Drop> {
     fn len(&self) -> usize
         ensures { result ≡ length (holding self.now).pairs };
 
-    /// The number of places for pairs.
+    /// The number of places for pairs. Each kind of bimap here answers in constant time.
     fn capacity(&self) -> usize
         ensures { result ≡ (holding self.now).room };
 
@@ -55,6 +55,10 @@ pub trait Bijection<L: Eq + Drop, R: Eq + Drop> {
 
     /// Calls the closure once on each pair, in an open order. Each kind of bimap here takes no memory for it, and time in
     /// proportion to the capacity.
+    ///
+    ///     // the sum of the seats
+    ///     let mut sum = 0u32;
+    ///     seats.for_each(|_: &char, seat: &u32| sum = sum.wrapping_add(*seat));
     fn for_each<F: FnMut(&L, &R)>(&self, f: F)
         requires { MayVisit F.FnMut f (holding self.now).pairs }
         ensures { IsVisited F.FnMut f (holding self.now).pairs };
@@ -70,7 +74,10 @@ pub trait Bijection<L: Eq + Drop, R: Eq + Drop> {
         ensures room { (holding self.new).room ≡ (holding self.old).room };
 
     /// Makes the room at least the length plus `more`, exactly. Where it is so already, no memory is taken. A refusal
-    /// changes nothing.
+    /// changes nothing. Each kind of bimap here takes time in proportion to the new room.
+    ///
+    ///     // after this, two insertions can't be refused
+    ///     seats.reserve(2)?;
     fn reserve(&mut self, more: usize) -> Result<(), NoMemory>
         ensures { IsReservation (holding self.old) more result (holding self.new) };
 

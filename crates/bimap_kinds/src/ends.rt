@@ -13,7 +13,7 @@ use bimap_tree::Ordered;
 impl<L: Ord, R: Eq, J: Index<R>> BijectiveMap<L, R, Ordered, J> {
     ghost use Rattle.bimap_kinds.specs.Held.{holding};
 
-    /// The pair with the least left, or `None` where no pair is held, in time logarithmic in the length.
+    /// The pair with the least left, or `None` where no pair is held, in time logarithmic in the length. It takes no memory.
     ///
     ///     seats.first_by_left(); // Some((&'a', &3))
     pub fn first_by_left(&self) -> Option<(&L, &R)>
@@ -22,7 +22,7 @@ impl<L: Ord, R: Eq, J: Index<R>> BijectiveMap<L, R, Ordered, J> {
         self.first_by_left_metered(&mut Count::new())
     }
 
-    /// The pair with the greatest left, or `None` where no pair is held, in time logarithmic in the length.
+    /// The pair with the greatest left, or `None` where no pair is held, in time logarithmic in the length. It takes no memory.
     ///
     ///     seats.last_by_left(); // Some((&'c', &2))
     pub fn last_by_left(&self) -> Option<(&L, &R)>
@@ -32,6 +32,7 @@ impl<L: Ord, R: Eq, J: Index<R>> BijectiveMap<L, R, Ordered, J> {
     }
 
     /// The pair with exactly so many lefts below its own, or `None` from the length on, in time logarithmic in the length.
+    /// It takes no memory.
     ///
     ///     seats.pair_at_left_rank(1); // Some((&'b', &1))
     pub fn pair_at_left_rank(&self, rank: usize) -> Option<(&L, &R)>
@@ -41,7 +42,7 @@ impl<L: Ord, R: Eq, J: Index<R>> BijectiveMap<L, R, Ordered, J> {
     }
 
     /// How many lefts are below this one, which need not be held: the rank of its pair, where it is. In time logarithmic in
-    /// the length.
+    /// the length, and without memory.
     ///
     ///     seats.left_rank(&'c'); // 2
     pub fn left_rank(&self, left: &L) -> usize
@@ -149,7 +150,7 @@ impl<L: Eq, R: Ord, I: Index<L>> BijectiveMap<L, R, I, Ordered> {
     ghost use Rattle.bimap_kinds.specs.Held.{holding, by_right};
     ghost use Rattle.bimap_kinds.specs.Sorted.{IsByRight};
 
-    /// The pair with the least right, or `None` where no pair is held, in time logarithmic in the length.
+    /// The pair with the least right, or `None` where no pair is held, in time logarithmic in the length. It takes no memory.
     ///
     ///     seats.first_by_right(); // Some((&'b', &1))
     pub fn first_by_right(&self) -> Option<(&L, &R)>
@@ -159,7 +160,7 @@ impl<L: Eq, R: Ord, I: Index<L>> BijectiveMap<L, R, I, Ordered> {
         self.first_by_right_metered(&mut Count::new())
     }
 
-    /// The pair with the greatest right, or `None` where no pair is held, in time logarithmic in the length.
+    /// The pair with the greatest right, or `None` where no pair is held, in time logarithmic in the length. It takes no memory.
     ///
     ///     seats.last_by_right(); // Some((&'a', &3))
     pub fn last_by_right(&self) -> Option<(&L, &R)>
@@ -170,6 +171,7 @@ impl<L: Eq, R: Ord, I: Index<L>> BijectiveMap<L, R, I, Ordered> {
     }
 
     /// The pair with exactly so many rights below its own, or `None` from the length on, in time logarithmic in the length.
+    /// It takes no memory.
     ///
     ///     seats.pair_at_right_rank(1); // Some((&'c', &2))
     pub fn pair_at_right_rank(&self, rank: usize) -> Option<(&L, &R)>
@@ -180,7 +182,7 @@ impl<L: Eq, R: Ord, I: Index<L>> BijectiveMap<L, R, I, Ordered> {
     }
 
     /// How many rights are below this one, which need not be held: the rank of its pair, where it is. In time logarithmic in
-    /// the length.
+    /// the length, and without memory.
     ///
     ///     seats.right_rank(&3); // 2
     pub fn right_rank(&self, right: &R) -> usize

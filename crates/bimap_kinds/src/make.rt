@@ -52,8 +52,8 @@ impl<L: Eq, R: Eq, I: DefaultIndex<L>, J: DefaultIndex<R>> BijectiveMap<L, R, I,
         Self::empty(alloc)
     }
 
-    /// The empty bimap of exactly this capacity, in time in proportion to it. At 0 it takes no memory. A refusal makes
-    /// nothing.
+    /// The empty bimap of exactly this capacity, in time and with memory in proportion to it. At 0 it takes no memory. A
+    /// refusal makes nothing.
     ///
     ///     let seats: BiBTreeMap<char, u32> = BiBTreeMap::with_capacity(alloc, 16)?;
     ///     seats.capacity(); // 16

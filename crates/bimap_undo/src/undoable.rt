@@ -114,7 +114,8 @@ impl<B: Bijection<L, R> + Drop, L: CopyLeft + Drop, R: Eq + Drop> Undoable<B, L,
 
     /// Inserts all items in order where the policy lets each overwrite what it shares a value with, or none of them.
     ///
-    /// Costs one [`insert_with`](Undoable::insert_with) an item. Each is recorded, so that a mark may lie between them.
+    /// Costs one [`insert_with`](Undoable::insert_with) an item, and takes memory as that does. Each is recorded, so that a
+    /// mark may lie between them.
     /// The first item that is refused ends it: it is handed back with its number and the reason, no more are asked for,
     /// and [`back_to`](Undoable::back_to) takes those before it back, for which it asks for no memory. Then exactly the
     /// pairs of before are held, and the marks of before stand for what they did. Places that were made stay.

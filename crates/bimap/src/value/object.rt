@@ -41,7 +41,7 @@ pub trait JsonObject<L: JsonKey + Drop, R: JsonValue + Drop>: Bijection<L, R> + 
     /// The bimap of an object's entries, inserted in ascending byte order of their keys. A later one may strike earlier
     /// ones: of several entries with equal rights the one with the greatest key stays.
     ///
-    /// Takes memory for each entry. A fault makes nothing.
+    /// Costs one reading and one insertion an entry, and takes memory for them. A fault makes nothing.
     fn from_value(alloc: Global, value: &Value) -> Result<Self, JsonFault>
         ensures { ReadsObject L.reads_key R.reads L.eq R.eq Self.holding (view value.now) result };
 }
@@ -72,7 +72,7 @@ pub fn write_walk<'a, L: JsonKey + 'a, R: JsonValue + 'a, I: IntoIterator<Item =
 
 /// Inserts an object's entries into an empty bimap in ascending byte order of their keys, and answers it.
 ///
-/// A fault drops it.
+/// Costs one reading and one insertion an entry, and takes memory for them. A fault drops the bimap.
 pub fn read_into<L: JsonKey + Drop, R: JsonValue + Drop, B: Bijection<L, R> + Drop>(
     alloc: Global,
     empty: B,
