@@ -22,14 +22,15 @@ use Rattle.bimap_base.specs.Places.{pairs_in}
 use Rattle.bimap_base.specs.Sets.{IsApart}
 use Rattle.bimap_base.specs.Slots.{pair_at, left_at, right_at, IsLive}
 use Rattle.bimap_base.proofs.HoldingsAlike.{AreAlike}
-use Rattle.bimap_base.proofs.Walked.{IsWalk, walk_of, walked, long_walked, listed_long, pairs_walked}
+use Rattle.bimap_base.proofs.Walked.{IsWalk, walk_of, walked, long_walked, fits_walked, listed_long, pairs_walked}
 use Rattle.bimap_base.proofs.Results.{OnErr-then}
 use Rattle.bimap_index.specs.ByOrder.{ListsByOrder}
 use Rattle.bimap_index.specs.ByHash.{ListsByHash, places_from}
 use Rattle.bimap_index.specs.HashLaws.{hash_settled, hash_listed, hash_distinct, hash_by_place, pairs_by_place}
 use Rattle.bimap_core.proofs.Ascending.{order_walk, order_ascends}
-use Rattle.bimap_core.proofs.Permuted.{walk_permuted}
+use Rattle.bimap_core.proofs.Permuted.{walk_apart, walk_permuted}
 use Rattle.bimap_core.specs.Store.{holding_of}
+use Rattle.bimap_core.specs.declared.table.Table.{Table}
 use Rattle.bimap_kinds.specs.Sorted.{IsByRight}
 
 -- the holding of a store whose pairs are walked by these places
@@ -167,6 +168,44 @@ hash_walk {P} {K} key {same} {number} slots numbers h =
     let listing = hash_settled same number numbers side h in
     let walk = walk_of key slots (places_from 0 numbers) (hash_listed same number numbers side listing) (hash_distinct same number numbers side listing) in
     pairs_by_place slots (places_from 0 numbers) (hash_by_place same number numbers side listing) walk.live
+
+-- what a bimap says of its table
+abbrev pub AreFacts : {L R : Type 0} → (L → L → Bool) → (R → R → Bool) → (L → L → Ordering) → List (Option (L × R)) → List ℕ → List ℕ → Type 0
+AreFacts same_left same_right order slots places places' = record {
+  apart : IsApart same_left same_right (pairs_at slots places);
+  ascending : AllPairs (λ p q. order p.0 q.0 ≡ Less) (pairs_at slots places);
+  fits : length (pairs_at slots places) ≤ length slots;
+  lefts : length places ≡ length (pairs_at slots places);
+  rights : length places' ≡ length (pairs_at slots places);
+}
+
+-- it has a walk by either index, of which that by the left ascends
+pub facts_walked : {L R : Type 0} {same_left : L → L → Bool} {same_right : R → R → Bool} → IsEquivalence same_left → IsEquivalence same_right → (order : L → L → Ordering) (slots : List (Option (L × R))) (places : List ℕ) → IsWalk slots places → AllPairs (λ p q. order p.0 q.0 ≡ Less) (pairs_at slots places) → (places' : List ℕ) → IsWalk slots places' → IsApart same_left same_right (pairs_in slots) → AreFacts same_left same_right order slots places places'
+facts_walked lefts rights order slots places walk ascending places' walk' apart = record {
+  apart = walk_apart lefts rights slots places walk apart;
+  ascending = ascending;
+  fits = fits_walked slots places walk;
+  lefts = as_many slots places walk places walk;
+  rights = as_many slots places walk places' walk';
+}
+
+module _ {L R I J LeftSpot RightSpot : Type 0} {left_eq : _} {right_eq : _} {left : _} {right : _} (table : Table L R I J LeftSpot RightSpot left_eq right_eq left right) where
+  -- by the laws of the left index
+  module _ (listed : (index : I) (f : ℕ → Option L) → left.is_listing index f → (p : ℕ) → Contains (left.places index) p ↔ IsSome (f p)) (distinct : (index : I) (f : ℕ → Option L) → left.is_listing index f → AllPairs (λ a b. a ≢ b) (left.places index)) (settled : (index : I) (f : ℕ → Option L) → ∥ left.is_listing index f ∥₁ → left.is_listing index f) where
+    pub left_walk : IsWalk table.pairs (left.places table.left)
+    left_walk = the_walk (λ p. p.0) left.is_listing left.places listed distinct settled table.pairs table.left table.left_listing
+
+    pub table_alike : AreAlike (holding_of table.pairs) (walked_by table.pairs (left.places table.left))
+    table_alike = alike table.pairs (left.places table.left) left_walk
+
+    pub table_facts : ((index : I) (f : ℕ → Option L) → left.is_listing index f → AllPairs (λ a b. (k l : L) → f a ≡ Some k → f b ≡ Some l → left.walk_order index k l ≡ Less) (left.places index)) → IsEquivalence left_eq.eq → IsEquivalence right_eq.eq → (places' : List ℕ) → IsWalk table.pairs places' → AreFacts left_eq.eq right_eq.eq (left.walk_order table.left) table.pairs (left.places table.left) places'
+    table_facts in_order lefts rights places' walk' =
+        facts_walked lefts rights (left.walk_order table.left) table.pairs (left.places table.left) left_walk
+        (ordered table.pairs (left.places table.left) left_walk (left.walk_order table.left) (in_order table.left _ (settled table.left _ table.left_listing))) places' walk' table.apart
+
+  -- by those of the right one
+  pub right_walk : ((index : J) (f : ℕ → Option R) → right.is_listing index f → (p : ℕ) → Contains (right.places index) p ↔ IsSome (f p)) → ((index : J) (f : ℕ → Option R) → right.is_listing index f → AllPairs (λ a b. a ≢ b) (right.places index)) → ((index : J) (f : ℕ → Option R) → ∥ right.is_listing index f ∥₁ → right.is_listing index f) → IsWalk table.pairs (right.places table.right)
+  right_walk listed distinct settled = the_walk (λ p. p.1) right.is_listing right.places listed distinct settled table.pairs table.right table.right_listing
 
 -- the walk by an ordered right
 pub sorted_walk : {L R : Type 0} {order : R → R → Ordering} {same : R → R → Bool} → IsTotalOrder order → ((x y : R) → same x y ≡ eq_by_cmp order x y) → (slots : List (Option (L × R))) (places : List ℕ) → IsWalk slots places → (places' : List ℕ) → ∥ ListsByOrder order places' (right_at slots) ∥₁ → IsByRight order (pairs_at slots places) (pairs_at slots places')

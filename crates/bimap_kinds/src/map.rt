@@ -21,6 +21,9 @@ pub struct BijectiveMap<L: Eq, R: Eq, I: Index<L>, J: Index<R>> {
     pub ghost ascending: { AllPairs (λ p q. I.walk_order table.left p.0 q.0 ≡ Less) (pairs_at table.pairs (I.places table.left)) } by { Prim.hlevel props },
     /// There is a place for each pair held.
     pub ghost fits: { length (pairs_at table.pairs (I.places table.left)) ≤ length table.pairs },
+    // Each index lists as many places as pairs are held, so what a table says of its indexes is said of the length.
+    ghost lefts: { length (I.places table.left) ≡ length (pairs_at table.pairs (I.places table.left)) },
+    ghost rights: { length (J.places table.right) ≡ length (pairs_at table.pairs (I.places table.left)) },
 }
 
 /// The bimap of two ordered sides: its pairs ascend by left, and walks and ranges go in order by either side.

@@ -1,16 +1,12 @@
-use Rattle.bimap_kinds.proofs.Walk.{the_walk, may_visit_walked, visited_walked}
+use Rattle.bimap_kinds.proofs.Walk.{left_walk, may_visit_walked, visited_walked}
 use Rattle.bimap_kinds.proofs.bijection.BijectiveMapBijection.for_each.Goals as goal
 
 pub for_each-requires : goal.for_each-requires
 for_each-requires g c =
     let table = c.args.self.now.table in
-    let places = g.I.Index.places table.left in
-    let walk = the_walk (λ p. p.0) g.I.Index.is_listing g.I.Index.places g.met.I.Index.listed g.met.I.Index.distinct g.met.I.Index.settled table.pairs table.left table.left_listing in
-    may_visit_walked g.F.FnMut g.met.L.Eq.laws g.met.R.Eq.laws table.pairs places walk table.apart c.args.f c.requires
+    may_visit_walked g.F.FnMut g.met.L.Eq.laws g.met.R.Eq.laws table.pairs _ (left_walk table g.met.I.Index.listed g.met.I.Index.distinct g.met.I.Index.settled) table.apart c.args.f c.requires
 
 pub returns : goal.returns
 returns g c =
     let table = c.args.self.now.table in
-    let places = g.I.Index.places table.left in
-    let walk = the_walk (λ p. p.0) g.I.Index.is_listing g.I.Index.places g.met.I.Index.listed g.met.I.Index.distinct g.met.I.Index.settled table.pairs table.left table.left_listing in
-    visited_walked g.F.FnMut g.met.L.Eq.laws g.met.R.Eq.laws table.pairs places walk table.apart c.args.f c.for_each.ensures
+    visited_walked g.F.FnMut g.met.L.Eq.laws g.met.R.Eq.laws table.pairs _ (left_walk table g.met.I.Index.listed g.met.I.Index.distinct g.met.I.Index.settled) table.apart c.args.f c.for_each.ensures

@@ -1,15 +1,5 @@
-use Rattle.bimap_base.proofs.Walked.{fits_walked}
-use Rattle.bimap_core.proofs.Permuted.{walk_apart}
-use Rattle.bimap_kinds.proofs.Walk.{the_walk, ordered}
+use Rattle.bimap_kinds.proofs.Walk.{right_walk, table_facts}
 use Rattle.bimap_kinds.proofs.map.BijectiveMap.over.Goals as goal
 
 pub invariant_of-result : goal.invariant_of-result
-invariant_of-result g c =
-    let table = c.new.result in
-    let places = g.I.Index.places table.left in
-    let walk = the_walk (λ p. p.0) g.I.Index.is_listing g.I.Index.places g.met.I.Index.listed g.met.I.Index.distinct g.met.I.Index.settled table.pairs table.left table.left_listing in
-    record {
-      apart = walk_apart g.met.L.Eq.laws g.met.R.Eq.laws table.pairs places walk table.apart;
-      ascending = ordered table.pairs places walk (g.I.Index.walk_order table.left) (g.met.I.Index.in_order table.left _ (g.met.I.Index.settled _ _ table.left_listing));
-      fits = fits_walked table.pairs places walk;
-    }
+invariant_of-result g c = table_facts c.new.result g.met.I.Index.listed g.met.I.Index.distinct g.met.I.Index.settled g.met.I.Index.in_order g.met.L.Eq.laws g.met.R.Eq.laws _ (right_walk c.new.result g.met.J.Index.listed g.met.J.Index.distinct g.met.J.Index.settled)

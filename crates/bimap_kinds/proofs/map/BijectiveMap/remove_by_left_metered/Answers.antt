@@ -1,41 +1,10 @@
 use Rattle.bimap_base.proofs.HoldingsAlike.{removal_left_alike}
-use Rattle.bimap_base.proofs.Walked.{fits_walked}
-use Rattle.bimap_core.specs.Store.{holding_of}
-use Rattle.bimap_core.proofs.Permuted.{walk_apart}
-use Rattle.bimap_kinds.proofs.Walk.{the_walk, walked_by, alike, as_many, ordered}
+use Rattle.bimap_kinds.proofs.Walk.{table_alike, right_walk, table_facts}
 use Rattle.bimap_kinds.proofs.map.BijectiveMap.remove_by_left_metered.Goals as goal
 
 pub invariant_of-self : goal.invariant_of-self
-invariant_of-self g c =
-    let table = c.remove_by_left.new.self in
-    let places = g.I.Index.places table.left in
-    let walk = the_walk (λ p. p.0) g.I.Index.is_listing g.I.Index.places g.met.I.Index.listed g.met.I.Index.distinct g.met.I.Index.settled table.pairs table.left table.left_listing in
-    record {
-      apart = walk_apart g.met.L.Eq.laws g.met.R.Eq.laws table.pairs places walk table.apart;
-      ascending = ordered table.pairs places walk (g.I.Index.walk_order table.left) (g.met.I.Index.in_order table.left _ (g.met.I.Index.settled _ _ table.left_listing));
-      fits = fits_walked table.pairs places walk;
-    }
+invariant_of-self g c = table_facts c.remove_by_left.new.self g.met.I.Index.listed g.met.I.Index.distinct g.met.I.Index.settled g.met.I.Index.in_order g.met.L.Eq.laws g.met.R.Eq.laws _ (right_walk c.remove_by_left.new.self g.met.J.Index.listed g.met.J.Index.distinct g.met.J.Index.settled)
 
 pub returns-clause-answer : goal.returns-clause-answer
 returns-clause-answer g c =
-    let table = c.args.self.now.table in
-    let places = g.I.Index.places table.left in
-    let walk = the_walk (λ p. p.0) g.I.Index.is_listing g.I.Index.places g.met.I.Index.listed g.met.I.Index.distinct g.met.I.Index.settled table.pairs table.left table.left_listing in
-    let after = c.remove_by_left.new.self in
-    let places' = g.I.Index.places after.left in
-    let walk' = the_walk (λ p. p.0) g.I.Index.is_listing g.I.Index.places g.met.I.Index.listed g.met.I.Index.distinct g.met.I.Index.settled after.pairs after.left after.left_listing in
-    removal_left_alike (holding_of table.pairs) (walked_by table.pairs places) (alike table.pairs places walk) (holding_of after.pairs) (walked_by after.pairs places') (alike after.pairs places' walk') g.L.PartialEq.eq c.args.left.now c.remove_by_left.result c.remove_by_left.ensures.answer
-
-pub returns-clause-comparisons : goal.returns-clause-comparisons
-returns-clause-comparisons g c =
-    let table = c.args.self.now.table in
-    let walk = the_walk (λ p. p.0) g.I.Index.is_listing g.I.Index.places g.met.I.Index.listed g.met.I.Index.distinct g.met.I.Index.settled table.pairs table.left table.left_listing in
-    let other = the_walk (λ p. p.1) g.J.Index.is_listing g.J.Index.places g.met.J.Index.listed g.met.J.Index.distinct g.met.J.Index.settled table.pairs table.right table.right_listing in
-    rw (as_many table.pairs (g.I.Index.places table.left) walk (g.I.Index.places table.left) walk, as_many table.pairs (g.I.Index.places table.left) walk (g.J.Index.places table.right) other) at c.remove_by_left.ensures.comparisons
-
-pub returns-clause-touches : goal.returns-clause-touches
-returns-clause-touches g c =
-    let table = c.args.self.now.table in
-    let walk = the_walk (λ p. p.0) g.I.Index.is_listing g.I.Index.places g.met.I.Index.listed g.met.I.Index.distinct g.met.I.Index.settled table.pairs table.left table.left_listing in
-    let other = the_walk (λ p. p.1) g.J.Index.is_listing g.J.Index.places g.met.J.Index.listed g.met.J.Index.distinct g.met.J.Index.settled table.pairs table.right table.right_listing in
-    rw (as_many table.pairs (g.I.Index.places table.left) walk (g.I.Index.places table.left) walk, as_many table.pairs (g.I.Index.places table.left) walk (g.J.Index.places table.right) other) at c.remove_by_left.ensures.touches
+    removal_left_alike _ _ (table_alike c.args.self.now.table g.met.I.Index.listed g.met.I.Index.distinct g.met.I.Index.settled) _ _ (table_alike c.remove_by_left.new.self g.met.I.Index.listed g.met.I.Index.distinct g.met.I.Index.settled) g.L.PartialEq.eq c.args.left.now c.remove_by_left.result c.remove_by_left.ensures.answer

@@ -1,32 +1,15 @@
-use Rattle.bimap_base.proofs.Walked.{fits_walked}
-use Rattle.bimap_core.proofs.Permuted.{walk_apart}
-use Rattle.bimap_kinds.proofs.Walk.{the_walk, ordered, may_test_walked, retention_walked}
+use Rattle.bimap_kinds.proofs.Walk.{left_walk, right_walk, table_facts, may_test_walked, retention_walked}
 use Rattle.bimap_kinds.proofs.map.BijectiveMap.retain_by_place.Goals as goal
+
+pub invariant_of-self : goal.invariant_of-self
+invariant_of-self g c = table_facts c.retain.new.self g.met.I.Index.listed g.met.I.Index.distinct g.met.I.Index.settled g.met.I.Index.in_order g.met.L.Eq.laws g.met.R.Eq.laws _ (right_walk c.retain.new.self g.met.J.Index.listed g.met.J.Index.distinct g.met.J.Index.settled)
 
 pub retain-requires : goal.retain-requires
 retain-requires g c =
     let table = c.args.self.now.table in
-    let places = g.I.Index.places table.left in
-    let walk = the_walk (λ p. p.0) g.I.Index.is_listing g.I.Index.places g.met.I.Index.listed g.met.I.Index.distinct g.met.I.Index.settled table.pairs table.left table.left_listing in
-    may_test_walked g.F.FnMut g.met.L.Eq.laws g.met.R.Eq.laws table.pairs places walk table.apart c.args.f c.requires
-
-pub invariant_of-self : goal.invariant_of-self
-invariant_of-self g c =
-    let table = c.retain.new.self in
-    let places = g.I.Index.places table.left in
-    let walk = the_walk (λ p. p.0) g.I.Index.is_listing g.I.Index.places g.met.I.Index.listed g.met.I.Index.distinct g.met.I.Index.settled table.pairs table.left table.left_listing in
-    record {
-      apart = walk_apart g.met.L.Eq.laws g.met.R.Eq.laws table.pairs places walk table.apart;
-      ascending = ordered table.pairs places walk (g.I.Index.walk_order table.left) (g.met.I.Index.in_order table.left _ (g.met.I.Index.settled _ _ table.left_listing));
-      fits = fits_walked table.pairs places walk;
-    }
+    may_test_walked g.F.FnMut g.met.L.Eq.laws g.met.R.Eq.laws table.pairs _ (left_walk table g.met.I.Index.listed g.met.I.Index.distinct g.met.I.Index.settled) table.apart c.args.f c.requires
 
 pub returns : goal.returns
 returns g c =
     let table = c.args.self.now.table in
-    let places = g.I.Index.places table.left in
-    let walk = the_walk (λ p. p.0) g.I.Index.is_listing g.I.Index.places g.met.I.Index.listed g.met.I.Index.distinct g.met.I.Index.settled table.pairs table.left table.left_listing in
-    let after = c.retain.new.self in
-    let places' = g.I.Index.places after.left in
-    let walk' = the_walk (λ p. p.0) g.I.Index.is_listing g.I.Index.places g.met.I.Index.listed g.met.I.Index.distinct g.met.I.Index.settled after.pairs after.left after.left_listing in
-    retention_walked g.F.FnMut g.met.L.Eq.laws g.met.R.Eq.laws table.pairs places walk table.apart c.args.f after.pairs places' walk' c.retain.ensures
+    retention_walked g.F.FnMut g.met.L.Eq.laws g.met.R.Eq.laws table.pairs _ (left_walk table g.met.I.Index.listed g.met.I.Index.distinct g.met.I.Index.settled) table.apart c.args.f _ _ (left_walk c.retain.new.self g.met.I.Index.listed g.met.I.Index.distinct g.met.I.Index.settled) c.retain.ensures

@@ -1,5 +1,5 @@
 use Rattle.bimap_core.proofs.Ascending.{order_walk}
-use Rattle.bimap_kinds.proofs.Walk.{the_walk, all_live, sorted_walk}
+use Rattle.bimap_kinds.proofs.Walk.{left_walk, all_live, sorted_walk}
 use Rattle.bimap_kinds.proofs.walks_ordered.BijectiveMap+L+R+I+Ordered.right_values.Goals as goal
 
 pub right_values-requires : goal.right_values-requires
@@ -10,4 +10,4 @@ right_values-requires g c =
 pub returns-clause-sorted : goal.returns-clause-sorted
 returns-clause-sorted g c =
     let table = c.args.self.now.table in
-    sorted_walk g.met.R.Ord.total g.met.R.Ord.matches_eq table.pairs (g.I.Index.places table.left) (the_walk (λ p. p.0) g.I.Index.is_listing g.I.Index.places g.met.I.Index.listed g.met.I.Index.distinct g.met.I.Index.settled table.pairs table.left table.left_listing) table.right.places table.right_listing
+    sorted_walk g.met.R.Ord.total g.met.R.Ord.matches_eq table.pairs _ (left_walk table g.met.I.Index.listed g.met.I.Index.distinct g.met.I.Index.settled) table.right.places table.right_listing
