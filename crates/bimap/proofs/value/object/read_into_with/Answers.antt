@@ -1,12 +1,17 @@
 use Rattle.bimap_base.specs.Answer.{IsRefusalUnder}
 use Rattle.bimap_base.specs.Holding.{IsFull}
-use Rattle.std.proofs.Common.{Contains, ap, sym, subst, Err, length, string_bytes, arith}
+use Rattle.std.proofs.Common.{◌↔◌, Contains, ap, sym, subst, Err, length, string_bytes, arith}
 use Rattle.serde_json.specs.View.{members_view, view}
 use Rattle.bimap.specs.JsonReading.{Reads, ReadsNothing}
-use Rattle.bimap.specs.JsonObjects.{entries_of}
+use Rattle.bimap.specs.JsonObjects.{Entry, StopsUnder, entries_of}
 use Rattle.bimap.proofs.JsonEntries.{map_has}
 use Rattle.bimap.proofs.JsonReading.{IsReading, reading_first, reading_more, reading_stops, reading_done, left_kept, right_kept}
+use Rattle.bimap.proofs.value.object.read_into_with.Goals.{In-Ok, In-Some-next}
 use Rattle.bimap.proofs.value.object.read_into_with.Goals as goal
+
+-- its key was read
+read_key : (g : _) (c : In-Ok g) → g.L.JsonKey.reads_key (string_bytes c.in-Some-next.key.now) c.in-Ok.left
+read_key g c = subst (λ t. g.L.JsonKey.reads_key t c.in-Ok.left) c.as_str.ensures.value c.in-Ok.ensures
 
 pub loop-key-init : goal.loop-key-init
 loop-key-init g c = record {
@@ -25,7 +30,7 @@ loop-key-preserved g c =
     record {
       reading = reading_more key val g.L.PartialEq.eq g.R.PartialEq.eq c.args.policy all (entries_of (members_view c.next.new.self)) (string_bytes c.in-Some-next.key.now, view c.in-Some-next.value.now) held (g.B.Bijection.holding c.insert_with.new.self).pairs c.loop-key.at p
           (subst (λ l. IsReading key val g.L.PartialEq.eq g.R.PartialEq.eq c.args.policy all (entries_of (members_view l)) held c.loop-key.at) c.in-Some-next.ensures.steps i.reading)
-          (subst (λ t. key t c.in-Ok.left) c.as_str.ensures.value c.in-Ok.ensures, c.in-Ok-from_json.ensures)
+          (read_key g (goal.at.loop-key-preserved g c).In-Ok, c.in-Ok-from_json.ensures)
           c.in-Ok-insert_with.ensures.allowed c.in-Ok-insert_with.ensures.put;
       counted = omega (arith, ap length c.in-Some-next.ensures.steps, i.counted);
     }
@@ -33,61 +38,38 @@ loop-key-preserved g c =
 pub overflow_add-at : goal.overflow_add-at
 overflow_add-at g c = omega (arith, ap length c.in-Some-next.ensures.steps, c.loop-key.invariant.counted, ap length c.iter-entries.ensures.rest, c.iter-entries.ensures.fits)
 
-pub returns-in-Err-Bad : goal.returns-in-Err-Bad
-returns-in-Err-Bad g c =
+-- the entry that was read last stops the reading
+stops : (g : _) (c : In-Some-next g) (P : (g.row.L.Denot × g.row.R.Denot → Type 0) → Entry → Type 0) → ((S : g.row.L.Denot × g.row.R.Denot → Type 0) → ((p : g.row.L.Denot × g.row.R.Denot) → Contains (g.B.Bijection.holding c.loop-key.bimap).pairs p ↔ S p) → P S (string_bytes c.in-Some-next.key.now, view c.in-Some-next.value.now))
+    → StopsUnder g.L.JsonKey.reads_key g.R.JsonValue.reads g.L.PartialEq.eq g.R.PartialEq.eq (view c.args.value.now) c.args.policy c.loop-key.at P
+stops g c P why =
     let key = g.L.JsonKey.reads_key in
     let val = g.R.JsonValue.reads in
     let held = (g.B.Bijection.holding c.loop-key.bimap).pairs in
-    reading_stops key val g.L.PartialEq.eq g.R.PartialEq.eq c.args.policy (view c.args.value.now) (entries_of (members_view c.iter-entries.result)) (entries_of (members_view c.next.new.self)) (string_bytes c.in-Some-next.key.now, view c.in-Some-next.value.now) held c.loop-key.at (λ S e. ReadsNothing (key e.0))
+    let all = entries_of (members_view c.iter-entries.result) in
+    reading_stops key val g.L.PartialEq.eq g.R.PartialEq.eq c.args.policy (view c.args.value.now) all (entries_of (members_view c.next.new.self)) (string_bytes c.in-Some-next.key.now, view c.in-Some-next.value.now) held c.loop-key.at P
     (map_has (view c.args.value.now) c.in-Some.map.now.entries c.iter-entries.result c.in-Some.ensures c.iter-entries.ensures.rest c.iter-entries.ensures.ordered)
-    (subst (λ l. IsReading key val g.L.PartialEq.eq g.R.PartialEq.eq c.args.policy (entries_of (members_view c.iter-entries.result)) (entries_of (members_view l)) held c.loop-key.at) c.in-Some-next.ensures.steps c.loop-key.invariant.reading)
+    (subst (λ l. IsReading key val g.L.PartialEq.eq g.R.PartialEq.eq c.args.policy all (entries_of (members_view l)) held c.loop-key.at) c.in-Some-next.ensures.steps c.loop-key.invariant.reading) why
+
+pub returns-in-Err-Bad : goal.returns-in-Err-Bad
+returns-in-Err-Bad g c =
+    let key = g.L.JsonKey.reads_key in
+    stops g (goal.at.returns-in-Err-Bad g c).In-Some-next (λ S e. ReadsNothing (key e.0))
     (λ S same l t. subst (λ e. Reads (key c.as_str.result.now) (Err e)) c.in-Err-Bad.field-0-is c.in-Err-Bad.ensures l (subst (λ s. key s l) (sym c.as_str.ensures.value) t))
 
 pub returns-in-Err-Bad-from_json : goal.returns-in-Err-Bad-from_json
 returns-in-Err-Bad-from_json g c =
-    let key = g.L.JsonKey.reads_key in
     let val = g.R.JsonValue.reads in
-    let held = (g.B.Bijection.holding c.loop-key.bimap).pairs in
-    reading_stops key val g.L.PartialEq.eq g.R.PartialEq.eq c.args.policy (view c.args.value.now) (entries_of (members_view c.iter-entries.result)) (entries_of (members_view c.next.new.self)) (string_bytes c.in-Some-next.key.now, view c.in-Some-next.value.now) held c.loop-key.at (λ S e. ((l : g.row.L.Denot) × key e.0 l) × ReadsNothing (val e.1))
-    (map_has (view c.args.value.now) c.in-Some.map.now.entries c.iter-entries.result c.in-Some.ensures c.iter-entries.ensures.rest c.iter-entries.ensures.ordered)
-    (subst (λ l. IsReading key val g.L.PartialEq.eq g.R.PartialEq.eq c.args.policy (entries_of (members_view c.iter-entries.result)) (entries_of (members_view l)) held c.loop-key.at) c.in-Some-next.ensures.steps c.loop-key.invariant.reading)
-    (λ S same. ((c.in-Ok.left, subst (λ t. key t c.in-Ok.left) c.as_str.ensures.value c.in-Ok.ensures), subst (λ e. Reads (val (view c.in-Some-next.value.now)) (Err e)) c.in-Err-Bad-from_json.field-0-is c.in-Err-Bad-from_json.ensures))
+    stops g (goal.at.returns-in-Err-Bad-from_json g c).In-Some-next (λ S e. ((l : g.row.L.Denot) × g.L.JsonKey.reads_key e.0 l) × ReadsNothing (val e.1))
+    (λ S same. ((c.in-Ok.left, read_key g (goal.at.returns-in-Err-Bad-from_json g c).In-Ok), subst (λ e. Reads (val (view c.in-Some-next.value.now)) (Err e)) c.in-Err-Bad-from_json.field-0-is c.in-Err-Bad-from_json.ensures))
 
 pub returns-in-Err-Memory : goal.returns-in-Err-Memory
-returns-in-Err-Memory g c =
-    let key = g.L.JsonKey.reads_key in
-    let val = g.R.JsonValue.reads in
-    let held = (g.B.Bijection.holding c.loop-key.bimap).pairs in (
-      c.loop-key.at,
-      reading_stops key val g.L.PartialEq.eq g.R.PartialEq.eq c.args.policy (view c.args.value.now) (entries_of (members_view c.iter-entries.result)) (entries_of (members_view c.next.new.self)) (string_bytes c.in-Some-next.key.now, view c.in-Some-next.value.now) held c.loop-key.at (λ S e. Unit {0})
-          (map_has (view c.args.value.now) c.in-Some.map.now.entries c.iter-entries.result c.in-Some.ensures c.iter-entries.ensures.rest c.iter-entries.ensures.ordered)
-          (subst (λ l. IsReading key val g.L.PartialEq.eq g.R.PartialEq.eq c.args.policy (entries_of (members_view c.iter-entries.result)) (entries_of (members_view l)) held c.loop-key.at) c.in-Some-next.ensures.steps c.loop-key.invariant.reading)
-          (λ S same. tt),
-    )
+returns-in-Err-Memory g c = (c.loop-key.at, stops g (goal.at.returns-in-Err-Memory g c).In-Some-next (λ S e. Unit {0}) (λ S same. tt))
 
 pub returns-in-Err-Memory-from_json : goal.returns-in-Err-Memory-from_json
-returns-in-Err-Memory-from_json g c =
-    let key = g.L.JsonKey.reads_key in
-    let val = g.R.JsonValue.reads in
-    let held = (g.B.Bijection.holding c.loop-key.bimap).pairs in (
-      c.loop-key.at,
-      reading_stops key val g.L.PartialEq.eq g.R.PartialEq.eq c.args.policy (view c.args.value.now) (entries_of (members_view c.iter-entries.result)) (entries_of (members_view c.next.new.self)) (string_bytes c.in-Some-next.key.now, view c.in-Some-next.value.now) held c.loop-key.at (λ S e. Unit {0})
-          (map_has (view c.args.value.now) c.in-Some.map.now.entries c.iter-entries.result c.in-Some.ensures c.iter-entries.ensures.rest c.iter-entries.ensures.ordered)
-          (subst (λ l. IsReading key val g.L.PartialEq.eq g.R.PartialEq.eq c.args.policy (entries_of (members_view c.iter-entries.result)) (entries_of (members_view l)) held c.loop-key.at) c.in-Some-next.ensures.steps c.loop-key.invariant.reading)
-          (λ S same. tt),
-    )
+returns-in-Err-Memory-from_json g c = (c.loop-key.at, stops g (goal.at.returns-in-Err-Memory-from_json g c).In-Some-next (λ S e. Unit {0}) (λ S same. tt))
 
 pub returns-in-Err-Memory-insert_with : goal.returns-in-Err-Memory-insert_with
-returns-in-Err-Memory-insert_with g c =
-    let key = g.L.JsonKey.reads_key in
-    let val = g.R.JsonValue.reads in
-    let held = (g.B.Bijection.holding c.loop-key.bimap).pairs in (
-      c.loop-key.at,
-      reading_stops key val g.L.PartialEq.eq g.R.PartialEq.eq c.args.policy (view c.args.value.now) (entries_of (members_view c.iter-entries.result)) (entries_of (members_view c.next.new.self)) (string_bytes c.in-Some-next.key.now, view c.in-Some-next.value.now) held c.loop-key.at (λ S e. Unit {0})
-          (map_has (view c.args.value.now) c.in-Some.map.now.entries c.iter-entries.result c.in-Some.ensures c.iter-entries.ensures.rest c.iter-entries.ensures.ordered)
-          (subst (λ l. IsReading key val g.L.PartialEq.eq g.R.PartialEq.eq c.args.policy (entries_of (members_view c.iter-entries.result)) (entries_of (members_view l)) held c.loop-key.at) c.in-Some-next.ensures.steps c.loop-key.invariant.reading)
-          (λ S same. tt),
-    )
+returns-in-Err-Memory-insert_with g c = (c.loop-key.at, stops g (goal.at.returns-in-Err-Memory-insert_with g c).In-Some-next (λ S e. Unit {0}) (λ S same. tt))
 
 pub returns : goal.returns
 returns g c =
@@ -101,28 +83,16 @@ returns g c =
 
 pub returns-in-Err-LeftHeld : goal.returns-in-Err-LeftHeld
 returns-in-Err-LeftHeld g c =
-    let key = g.L.JsonKey.reads_key in
-    let val = g.R.JsonValue.reads in
-    let held = (g.B.Bijection.holding c.loop-key.bimap).pairs in
-    reading_stops key val g.L.PartialEq.eq g.R.PartialEq.eq c.args.policy (view c.args.value.now) (entries_of (members_view c.iter-entries.result)) (entries_of (members_view c.next.new.self)) (string_bytes c.in-Some-next.key.now, view c.in-Some-next.value.now) held c.loop-key.at _
-    (map_has (view c.args.value.now) c.in-Some.map.now.entries c.iter-entries.result c.in-Some.ensures c.iter-entries.ensures.rest c.iter-entries.ensures.ordered)
-    (subst (λ l. IsReading key val g.L.PartialEq.eq g.R.PartialEq.eq c.args.policy (entries_of (members_view c.iter-entries.result)) (entries_of (members_view l)) held c.loop-key.at) c.in-Some-next.ensures.steps c.loop-key.invariant.reading)
-    (λ S same. (
-      (c.in-Ok.left, c.in-Ok-from_json.right),
-      (subst (λ t. key t c.in-Ok.left) c.as_str.ensures.value c.in-Ok.ensures, c.in-Ok-from_json.ensures),
-      left_kept key val g.L.PartialEq.eq g.R.PartialEq.eq c.args.policy (Contains held) S (IsFull (g.B.Bijection.holding c.loop-key.bimap)) (c.in-Ok.left, c.in-Ok-from_json.right) c.in-Err-LeftHeld.field-0-0 c.in-Err-LeftHeld.field-0-1 same (subst (IsRefusalUnder g.L.PartialEq.eq g.R.PartialEq.eq (Contains held) (IsFull (g.B.Bijection.holding c.loop-key.bimap)) (c.in-Ok.left, c.in-Ok-from_json.right) c.args.policy) c.in-Err-LeftHeld.field-0-is c.in-Err-LeftHeld.ensures.refused),
-    ))
+    let held = g.B.Bijection.holding c.loop-key.bimap in
+    let pair : g.row.L.Denot × g.row.R.Denot = (c.in-Ok.left, c.in-Ok-from_json.right) in
+    let why = subst (IsRefusalUnder g.L.PartialEq.eq g.R.PartialEq.eq (Contains held.pairs) (IsFull held) pair c.args.policy) c.in-Err-LeftHeld.field-0-is c.in-Err-LeftHeld.ensures.refused in
+    stops g (goal.at.returns-in-Err-LeftHeld g c).In-Some-next _
+    (λ S same. (pair, (read_key g (goal.at.returns-in-Err-LeftHeld g c).In-Ok, c.in-Ok-from_json.ensures), left_kept g.L.JsonKey.reads_key g.R.JsonValue.reads g.L.PartialEq.eq g.R.PartialEq.eq c.args.policy (Contains held.pairs) S (IsFull held) pair c.in-Err-LeftHeld.field-0-0 c.in-Err-LeftHeld.field-0-1 same why))
 
 pub returns-in-Err-RightHeld : goal.returns-in-Err-RightHeld
 returns-in-Err-RightHeld g c =
-    let key = g.L.JsonKey.reads_key in
-    let val = g.R.JsonValue.reads in
-    let held = (g.B.Bijection.holding c.loop-key.bimap).pairs in
-    reading_stops key val g.L.PartialEq.eq g.R.PartialEq.eq c.args.policy (view c.args.value.now) (entries_of (members_view c.iter-entries.result)) (entries_of (members_view c.next.new.self)) (string_bytes c.in-Some-next.key.now, view c.in-Some-next.value.now) held c.loop-key.at _
-    (map_has (view c.args.value.now) c.in-Some.map.now.entries c.iter-entries.result c.in-Some.ensures c.iter-entries.ensures.rest c.iter-entries.ensures.ordered)
-    (subst (λ l. IsReading key val g.L.PartialEq.eq g.R.PartialEq.eq c.args.policy (entries_of (members_view c.iter-entries.result)) (entries_of (members_view l)) held c.loop-key.at) c.in-Some-next.ensures.steps c.loop-key.invariant.reading)
-    (λ S same. (
-      (c.in-Ok.left, c.in-Ok-from_json.right),
-      (subst (λ t. key t c.in-Ok.left) c.as_str.ensures.value c.in-Ok.ensures, c.in-Ok-from_json.ensures),
-      right_kept key val g.L.PartialEq.eq g.R.PartialEq.eq c.args.policy (Contains held) S (IsFull (g.B.Bijection.holding c.loop-key.bimap)) (c.in-Ok.left, c.in-Ok-from_json.right) c.in-Err-RightHeld.field-0-0 c.in-Err-RightHeld.field-0-1 same (subst (IsRefusalUnder g.L.PartialEq.eq g.R.PartialEq.eq (Contains held) (IsFull (g.B.Bijection.holding c.loop-key.bimap)) (c.in-Ok.left, c.in-Ok-from_json.right) c.args.policy) c.in-Err-RightHeld.field-0-is c.in-Err-RightHeld.ensures.refused),
-    ))
+    let held = g.B.Bijection.holding c.loop-key.bimap in
+    let pair : g.row.L.Denot × g.row.R.Denot = (c.in-Ok.left, c.in-Ok-from_json.right) in
+    let why = subst (IsRefusalUnder g.L.PartialEq.eq g.R.PartialEq.eq (Contains held.pairs) (IsFull held) pair c.args.policy) c.in-Err-RightHeld.field-0-is c.in-Err-RightHeld.ensures.refused in
+    stops g (goal.at.returns-in-Err-RightHeld g c).In-Some-next _
+    (λ S same. (pair, (read_key g (goal.at.returns-in-Err-RightHeld g c).In-Ok, c.in-Ok-from_json.ensures), right_kept g.L.JsonKey.reads_key g.R.JsonValue.reads g.L.PartialEq.eq g.R.PartialEq.eq c.args.policy (Contains held.pairs) S (IsFull held) pair c.in-Err-RightHeld.field-0-0 c.in-Err-RightHeld.field-0-1 same why))
