@@ -20,5 +20,6 @@ pub mod SameAscending
 pub mod SameSets
 pub mod SetsAlike
 pub mod Survivors
+pub mod Testing
 pub mod Undoing
 pub mod Walked

@@ -1,5 +1,5 @@
 -- Equality of sets of pairs, found by asking one of them for each pair of the other.
-use Rattle.std.proofs.Common.{◌≡◌, ◌↔◌, inl, inr, ◌&&◌, Bool, true, false, List, [], ◌∷◌, ◌++◌, length, refl, sym, ap, ◌∙◌, subst, true≢false, append_assoc, append-nil}
+use Rattle.std.proofs.Common.{◌≡◌, ◌↔◌, inl, inr, ◌&&◌, Bool, true, false, List, [], ◌∷◌, ◌++◌, length, sym, ap, ◌∙◌, subst, true≢false, append_assoc, append-nil}
 use Rattle.std.specs.Prelude.{Contains}
 use Rattle.std.specs.Cmp.{IsEquivalence, first_so, second_so}
 use Rattle.std.proofs.lemmas.Bool.{or_left, false_from_ne_true}
@@ -7,7 +7,7 @@ use Rattle.std.proofs.lemmas.List.Elements.{Contains-append_right, Contains-push
 use Rattle.bimap_base.specs.Same.{same, HasEqual}
 use Rattle.bimap_base.specs.Sets.{IsApart, LacksLeft}
 use Rattle.bimap_base.proofs.Apart.{apart_unique}
-use Rattle.bimap_base.proofs.Members.{head_in, none_in}
+use Rattle.bimap_base.proofs.Members.{head_in}
 use Rattle.bimap_base.proofs.SameSets.{same_decides}
 
 module _ {L R : Type 0} (same_left : L → L → Bool) (same_right : R → R → Bool) where
@@ -16,9 +16,6 @@ module _ {L R : Type 0} (same_left : L → L → Bool) (same_right : R → R →
     pub before : List (L × R)
     pub split : xs ≡ before ++ rest
     pub met : (p : L × R) → Contains before p → HasEqual same_left same_right (Contains ys) p
-
-  pub met_none : (xs ys : List (L × R)) → IsMetUpTo xs xs ys
-  met_none xs ys = record { before = []; split = refl; met = λ p there. none_in p there }
 
   pub met_more : (xs rest ys : List (L × R)) (p : L × R) → IsMetUpTo xs (p ∷ rest) ys → HasEqual same_left same_right (Contains ys) p → IsMetUpTo xs rest ys
   met_more xs rest ys p so_far one =

@@ -31,7 +31,3 @@ module _ {T E : Type 0} where
   pub OnErr-then : {P Q : Type 0} (r : Result T E) → (P → Q) → OnErr r P → OnErr r Q
   OnErr-then (Ok x) step p = p
   OnErr-then (Err e) step p = step p
-
-  pub OnErr-both : {P Q S : Type 0} (r : Result T E) → (P → Q → S) → OnErr r P → OnErr r Q → OnErr r S
-  OnErr-both (Ok x) step p q = p
-  OnErr-both (Err e) step p q = step p q

@@ -8,29 +8,10 @@ use denote.Ref.{Bor}
 use Rattle.bimap_base.specs.Sets.{IsApart}
 use Rattle.bimap_base.specs.Kept.{TestedAt, TestsInTurn, answered_true, IsKept}
 use Rattle.bimap_base.proofs.Members.{head_in, more_in, cases_in}
+use Rattle.bimap_base.proofs.Testing.{tests_push, true_push, false_push}
 use Rattle.bimap_base.proofs.Apart.{apart_head, apart_tail, apart_more, apart_none}
 
 module _ {F L R : Type 0} (g : Mut F (Bor L × (Bor R × Unit {0})) Bool) where
-  pub tests_push : (f : F) (ps : List (L × R)) (bs : List Bool) (m : F) (p : L × R) (b : Bool) (t : F) → TestsInTurn g f ps bs m → TestedAt g m p b t → TestsInTurn g f (ps ++ p ∷ []) (bs ++ b ∷ []) t
-  tests_push f [] [] m p b t h k = (t, subst (λ (x : F). TestedAt g x p b t) (sym h) k, refl)
-  tests_push f [] (c ∷ bs) m p b t h k = absurd h
-  tests_push f (q ∷ ps) [] m p b t h k = absurd h
-  tests_push f (q ∷ ps) (c ∷ bs) m p b t h k = (h.0, h.1, tests_push h.0 ps bs m p b t h.2 k)
-
-  pub true_push : (f : F) (ps : List (L × R)) (bs : List Bool) (m : F) (p : L × R) → TestsInTurn g f ps bs m → answered_true g (ps ++ p ∷ []) (bs ++ true ∷ []) ≡ answered_true g ps bs ++ p ∷ []
-  true_push f [] [] m p h = refl
-  true_push f [] (c ∷ bs) m p h = absurd h
-  true_push f (q ∷ ps) [] m p h = absurd h
-  true_push f (q ∷ ps) (true ∷ bs) m p h = ap (λ xs. q ∷ xs) (true_push h.0 ps bs m p h.2)
-  true_push f (q ∷ ps) (false ∷ bs) m p h = true_push h.0 ps bs m p h.2
-
-  pub false_push : (f : F) (ps : List (L × R)) (bs : List Bool) (m : F) (p : L × R) → TestsInTurn g f ps bs m → answered_true g (ps ++ p ∷ []) (bs ++ false ∷ []) ≡ answered_true g ps bs
-  false_push f [] [] m p h = refl
-  false_push f [] (c ∷ bs) m p h = absurd h
-  false_push f (q ∷ ps) [] m p h = absurd h
-  false_push f (q ∷ ps) (true ∷ bs) m p h = ap (λ xs. q ∷ xs) (false_push h.0 ps bs m p h.2)
-  false_push f (q ∷ ps) (false ∷ bs) m p h = false_push h.0 ps bs m p h.2
-
   among : (ps : List (L × R)) (bs : List Bool) (q : L × R) → Contains (answered_true g ps bs) q → Contains ps q
   among [] bs q m = m
   among (p ∷ ps) [] q m = absurd (omega (arith, m.1))
@@ -92,9 +73,9 @@ module _ {F L R : Type 0} (g : Mut F (Bor L × (Bor R × Unit {0})) Bool) where
       answers = going.answers ++ true ∷ [];
       rest = tail;
       all = all_is;
-      left = going.left ∙ ap (λ xs. answered_true g going.tested going.answers ++ xs) rest_is ∙ sym (append_assoc (answered_true g going.tested going.answers) (p ∷ []) tail) ∙ ap (λ xs. xs ++ tail) (sym (true_push first going.tested going.answers f p going.calls));
-      count = omega (arith, going.count, length-append (answered_true g going.tested going.answers) (p ∷ []), ap length (true_push first going.tested going.answers f p going.calls));
-      calls = tests_push first going.tested going.answers f p true t going.calls h;
+      left = going.left ∙ ap (λ xs. answered_true g going.tested going.answers ++ xs) rest_is ∙ sym (append_assoc (answered_true g going.tested going.answers) (p ∷ []) tail) ∙ ap (λ xs. xs ++ tail) (sym (true_push g first going.tested going.answers f p going.calls));
+      count = omega (arith, going.count, length-append (answered_true g going.tested going.answers) (p ∷ []), ap length (true_push g first going.tested going.answers f p going.calls));
+      calls = tests_push g first going.tested going.answers f p true t going.calls h;
     }
 
     pub refused : (items' : List (L × R)) → items' ≡ take kept items ++ drop (suc kept) items → TestedAt g f p false t → Going first t old items' kept
@@ -104,9 +85,9 @@ module _ {F L R : Type 0} (g : Mut F (Bor L × (Bor R × Unit {0})) Bool) where
       answers = going.answers ++ false ∷ [];
       rest = tail;
       all = all_is;
-      left = e ∙ ap (λ xs. xs ++ tail) (ap (take kept) going.left ∙ cut (answered_true g going.tested going.answers) going.rest kept going.count ∙ sym (false_push first going.tested going.answers f p going.calls));
-      count = going.count ∙ ap length (sym (false_push first going.tested going.answers f p going.calls));
-      calls = tests_push first going.tested going.answers f p false t going.calls h;
+      left = e ∙ ap (λ xs. xs ++ tail) (ap (take kept) going.left ∙ cut (answered_true g going.tested going.answers) going.rest kept going.count ∙ sym (false_push g first going.tested going.answers f p going.calls));
+      count = going.count ∙ ap length (sym (false_push g first going.tested going.answers f p going.calls));
+      calls = tests_push g first going.tested going.answers f p false t going.calls h;
     }
 
   module _ (first f : F) (old items : List (L × R)) (kept : ℕ) (going : Going first f old items kept) (end : length items ≤ kept) where

@@ -4,7 +4,7 @@ use Rattle.std.specs.Prelude.{Contains}
 use Rattle.std.specs.Cmp.{IsEquivalence}
 use Rattle.std.proofs.lemmas.List.Elements.{Contains-append_left, Contains-append_right, Contains-append_cases, Contains-push_cases, Contains-push}
 use Rattle.bimap_plain.specs.Plain.{IsCleared}
-use Rattle.bimap_base.specs.Sets.{shares, NoneShares, SomeShares, HasLeft, HasRight, IsApart, IsWithPut, IsWithoutLeft, IsWithoutRight, LacksLeft, LacksRight}
+use Rattle.bimap_base.specs.Sets.{shares, NoneShares, IsApart, IsWithPut, IsWithoutLeft, IsWithoutRight, LacksLeft, LacksRight}
 use Rattle.bimap_base.specs.Answer.{IsOnlyStruck, AreBothStruck}
 use Rattle.std.proofs.lemmas.Bool.{or_parts, or_from, or_right}
 use Rattle.bimap_base.proofs.Members.{head_in, more_in, cases_in, none_in}
@@ -177,9 +177,3 @@ module _ {L R : Type 0} (same_left : L → L → Bool) (same_right : R → R →
 module _ {L R : Type 0} (same_left : L → L → Bool) (same_right : R → R → Bool) where
   pub none_shares : (xs : List (L × R)) (l : L) (r : R) → LacksLeft same_left (Contains xs) l → LacksRight same_right (Contains xs) r → NoneShares same_left same_right (Contains xs) (l, r)
   none_shares xs l r h k q m = or_from (same_left q.0 l) (same_right q.1 r) (h q m) (k q m)
-
-  pub some_left : (xs : List (L × R)) (l : L) (r : R) → HasLeft same_left (Contains xs) l → SomeShares same_left same_right (Contains xs) (l, r)
-  some_left xs l r h = (h.0, h.1, ap (λ b. b || same_right h.0.1 r) h.2)
-
-  pub some_right : (xs : List (L × R)) (l : L) (r : R) → HasRight same_right (Contains xs) r → SomeShares same_left same_right (Contains xs) (l, r)
-  some_right xs l r h = (h.0, h.1, or_right (same_left h.0.0 l) (same_right h.0.1 r) h.2)

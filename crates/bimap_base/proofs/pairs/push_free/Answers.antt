@@ -1,4 +1,4 @@
-use Rattle.std.proofs.Common.{◌≡◌, ◌∙◌, ◌+◌, arith, ap}
+use Rattle.std.proofs.Common.{◌∙◌, ◌+◌, arith, ap}
 use Rattle.std.proofs.lemmas.List.{length_push}
 use Rattle.bimap_base.specs.declared.pairs.Slot.TheVariants.{Free}
 use Rattle.bimap_base.proofs.FreeList.{IsGrown-start, IsGrown-push}
