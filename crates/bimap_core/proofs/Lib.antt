@@ -15,3 +15,4 @@ pub mod OneOut
 pub mod Ascending
 pub mod InTurn
 pub mod Below
+pub mod Writing

@@ -1,5 +1,5 @@
 -- An index beside the store, under writes at one place. Once for both sides: `key` is the side.
-use Rattle.std.proofs.Common.{◌≡◌, ◌≢◌, ℕ, ◌<◌, ◌≤◌, Bool, true, false, List, length, Option, Some, None, IsSome, is_some, refl, sym, ap, subst, ◌∙◌, inl, inr, arith}
+use Rattle.std.proofs.Common.{◌≡◌, ◌≢◌, ℕ, ◌<◌, ◌≤◌, Bool, true, false, List, length, Option, Some, None, refl, sym, ap, subst, ◌∙◌, inl, inr, arith}
 use Rattle.std.specs.Prelude.{IfSome, IsSomeAnd, slice_set, Result, Ok, Err, OnOk, OnErr, max}
 use Rattle.std.specs.Option.{option_map}
 use Rattle.std.specs.Cmp.{IsEquivalence}
@@ -32,10 +32,6 @@ module _ {P K : Type 0} (key : P → K) (same : K → K → Bool) where
       by : (o : Option P) → IsSomeAnd o (λ p. same (key p) k ≡ true) → (p : P) × (o ≡ Some p)
       by None h = absurd h
       by (Some p) h = (p, refl)
-
-  -- a live place has a key
-  pub key_of_live : (slots : List (Option P)) (place : ℕ) (p : P) → pair_at slots place ≡ Some p → IsSome (keys_in slots place)
-  key_of_live slots place p was = ap (λ z. is_some (option_map key z)) was
 
   -- where each place has what it had, so does the side
   pub keys_kept : (old new : List (Option P)) → ((place : ℕ) → pair_at new place ≡ pair_at old place) → keys_in old ≡ keys_in new

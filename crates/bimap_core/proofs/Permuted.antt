@@ -71,16 +71,17 @@ module _ {X : Type 0} where
       back p (inl e) away = absurd (away (sym e))
       back p (inr c) away = c
 
+-- pairs of which no two share a value are each there once
+distinct : {L R : Type 0} (same_left : L → L → Bool) (same_right : R → R → Bool) → IsEquivalence same_left → (pairs : List (L × R)) → IsApart same_left same_right pairs → AllPairs (λ p q. p ≢ q) pairs
+distinct same_left same_right equal pairs all i j d before inside e =
+    let p = get_or pairs i d in
+    true≢false (sym (left_of_two (same_left p.0 p.0) (same_right p.1 p.1) (equal.refl p.0)) ∙ ap (shares same_left same_right p) e ∙ all i j d before inside)
+
 module _ {L R : Type 0} {same_left : L → L → Bool} {same_right : R → R → Bool} (equal_left : IsEquivalence same_left) (equal_right : IsEquivalence same_right) (slots : List (Option (L × R))) (places : List ℕ) (walk : IsWalk slots places) (apart : IsApart same_left same_right (pairs_in slots)) where
   -- no two pairs that a walk gives share a value
   pub walk_apart : IsApart same_left same_right (pairs_at slots places)
   walk_apart = apart_walked same_left same_right slots places walk (apart_at_places same_left same_right equal_left equal_right slots apart)
 
-  distinct : (pairs : List (L × R)) → IsApart same_left same_right pairs → AllPairs (λ p q. p ≢ q) pairs
-  distinct pairs all i j d before inside e =
-      let p = get_or pairs i d in
-      true≢false (sym (left_of_two (same_left p.0 p.0) (same_right p.1 p.1) (equal_left.refl p.0)) ∙ ap (shares same_left same_right p) e ∙ all i j d before inside)
-
   -- they are those of the store in another order
   pub walk_permuted : IsPermutation (pairs_at slots places) (pairs_in slots)
-  walk_permuted = permuted (pairs_at slots places) (pairs_in slots) (distinct (pairs_at slots places) walk_apart) (distinct (pairs_in slots) apart) (λ p. let w = walked slots places walk p in (w.1, w.0))
+  walk_permuted = permuted (pairs_at slots places) (pairs_in slots) (distinct same_left same_right equal_left (pairs_at slots places) walk_apart) (distinct same_left same_right equal_left (pairs_in slots) apart) (λ p. let w = walked slots places walk p in (w.1, w.0))

@@ -14,7 +14,8 @@ use Rattle.bimap_base.specs.declared.overwritten.Overwritten.{Overwritten}
 use Rattle.bimap_base.specs.declared.overwritten.Overwritten.TheVariants.{Neither, Both}
 use Rattle.bimap_base.proofs.Fits.{NamesOne}
 use Rattle.bimap_core.specs.Store.{holding_of, IsAloneAt}
-use Rattle.bimap_core.proofs.Places.{held_at, place_of, live_within, pairs_kept, length-pairs_in, shares_symm}
+use Rattle.bimap_core.proofs.Places.{held_at, place_of, live_within, pairs_kept, length-pairs_in}
+use Rattle.bimap_base.proofs.Apart.{shares_symm}
 use Rattle.bimap_core.proofs.Counted.{count_over, count_new, count_out}
 use Rattle.bimap_core.proofs.Removing.{without}
 

@@ -11,7 +11,8 @@ use Rattle.bimap_base.specs.Kept.{TestedAt}
 use Rattle.bimap_base.specs.Places.{pairs_in}
 use Rattle.bimap_base.specs.Slots.{pair_at}
 use Rattle.bimap_base.specs.Visited.{VisitsInTurn, MayVisit, IsVisited}
-use Rattle.bimap_core.proofs.Retaining.{pairs_in-append, pairs_in-none, head_at}
+use Rattle.bimap_base.proofs.Packing.{pairs_in-append}
+use Rattle.bimap_core.proofs.Retaining.{pairs_in-none, head_at}
 
 module _ {F L R : Type 0} (g : Mut F (Bor L × (Bor R × Unit {0})) (Unit {0})) where
   -- the places below `place` were visited, and f is the closure now

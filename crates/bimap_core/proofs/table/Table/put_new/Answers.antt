@@ -1,9 +1,7 @@
-use Rattle.std.proofs.Common.{arith, Some}
-use Rattle.std.specs.Prelude.{slice_set}
-use Rattle.std.proofs.lemmas.Grind.{merely}
-use Rattle.std.proofs.lemmas.List.{length-set}
-use Rattle.bimap_core.proofs.Places.{fits_in, apart_set, left_unequal, right_unequal}
+use Rattle.std.proofs.Common.{arith}
+use Rattle.bimap_core.proofs.Places.{left_unequal, right_unequal}
 use Rattle.bimap_core.proofs.Linking.{may_put}
+use Rattle.bimap_core.proofs.Writing.{facts_put}
 use Rattle.bimap_core.proofs.table.Table.put_new.Goals as goal
 
 pub relink-requires-clause-may : goal.relink-requires-clause-may
@@ -29,17 +27,7 @@ relink-requires-2-clause-may g c =
 pub invariant_of-self : goal.invariant_of-self
 invariant_of-self g c =
     let map = c.args.self.now in
-    let slots = map.pairs in
-    let place = c.put-place.result in
-    let pair : g.row.L.Denot × g.row.R.Denot = (c.args.left, c.args.right) in
-    let inside = c.put-place.ensures.there in
-    let left = rw (c.new.ensures, c.put-place.ensures.now) at c.relink.ensures.listing in
-    let right = rw (c.new-2.ensures, c.put-place.ensures.now) at c.relink-2.ensures.listing in
-    rw c.put-place.ensures.now record {
-      left_listing = merely left;
-      right_listing = merely right;
-      left_cells = omega (arith, length-set slots place (Some pair), map.left_cells, c.relink.ensures.cells);
-      right_cells = omega (arith, length-set slots place (Some pair), map.right_cells, c.relink-2.ensures.cells);
-      apart = apart_set g.L.PartialEq.eq g.R.PartialEq.eq g.met.L.Eq.laws g.met.R.Eq.laws slots place pair inside (c.requires.alone place c.put-place.ensures.was_free) map.apart;
-      fits = fits_in (slice_set slots place (Some pair));
-    }
+    let put = c.put-place.ensures in
+    rw put.now
+    (facts_put g.met.L.Eq.laws g.met.R.Eq.laws map.pairs c.put-place.result put.there map.apart (rw (c.new.ensures, put.now) at c.relink.ensures.listing) (rw (c.new-2.ensures, put.now) at c.relink-2.ensures.listing)
+      (omega (arith, map.left_cells, c.relink.ensures.cells)) (omega (arith, map.right_cells, c.relink-2.ensures.cells)) (c.args.left, c.args.right) (c.requires.alone c.put-place.result put.was_free))

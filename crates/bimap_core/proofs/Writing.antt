@@ -1,0 +1,60 @@
+-- What a table says of its store and its indexes, after a write at one place.
+use Rattle.std.proofs.Common.{◌≡◌, ◌≢◌, ℕ, ◌<◌, ◌≤◌, Bool, true, false, List, length, Option, Some, None, arith}
+use Rattle.std.specs.Prelude.{IsSomeAnd, slice_set}
+use Rattle.std.specs.Cmp.{IsEquivalence}
+use Rattle.std.proofs.lemmas.Grind.{merely}
+use Rattle.std.proofs.lemmas.List.{length-set}
+use Rattle.bimap_base.specs.Places.{pairs_in}
+use Rattle.bimap_base.specs.Sets.{shares, IsApart}
+use Rattle.bimap_base.specs.Slots.{pair_at}
+use Rattle.bimap_index.specs.Listed.{IsWithout, IsAlike, MayLink}
+use Rattle.bimap_core.proofs.Linking.{keys_in, alike_put, taken_without, may_over}
+use Rattle.bimap_core.proofs.Places.{fits_in, live_within, pair_of, apart_set, apart_taken}
+
+module _ {L R : Type 0} where
+  -- of this store, two facts of its indexes, and the numbers of their cells
+  abbrev pub AreFacts : (L → L → Bool) → (R → R → Bool) → List (Option (L × R)) → Type 0 → Type 0 → ℕ → ℕ → Type 0
+  AreFacts same_left same_right slots LeftLists RightLists left_cells right_cells = record {
+    left_listing : ∥ LeftLists ∥₁;
+    right_listing : ∥ RightLists ∥₁;
+    left_cells : length slots ≤ left_cells;
+    right_cells : length slots ≤ right_cells;
+    apart : IsApart same_left same_right (pairs_in slots);
+    fits : length (pairs_in slots) ≤ length slots;
+  }
+
+  module _ {same_left : L → L → Bool} {same_right : R → R → Bool} (lefts : IsEquivalence same_left) (rights : IsEquivalence same_right) (slots : List (Option (L × R))) (place : ℕ) (inside : place < length slots) (apart : IsApart same_left same_right (pairs_in slots)) {LeftLists RightLists : Type 0} {left_cells right_cells : ℕ} (left : LeftLists) (right : RightLists) (in_left : length slots ≤ left_cells) (in_right : length slots ≤ right_cells) where
+    pub facts_put : (pair : L × R) → ((other : ℕ) (p : L × R) → other ≢ place → pair_at slots other ≡ Some p → shares same_left same_right p pair ≡ false) → AreFacts same_left same_right (slice_set slots place (Some pair)) LeftLists RightLists left_cells right_cells
+    facts_put pair alone = record {
+      left_listing = merely left;
+      right_listing = merely right;
+      left_cells = omega (arith, length-set slots place (Some pair));
+      right_cells = omega (arith, length-set slots place (Some pair));
+      apart = apart_set same_left same_right lefts rights slots place pair inside alone apart;
+      fits = fits_in (slice_set slots place (Some pair));
+    }
+
+    pub facts_taken : AreFacts same_left same_right (slice_set slots place None) LeftLists RightLists left_cells right_cells
+    facts_taken = record {
+      left_listing = merely left;
+      right_listing = merely right;
+      left_cells = omega (arith, length-set slots place None);
+      right_cells = omega (arith, length-set slots place None);
+      apart = apart_taken same_left same_right lefts rights slots place inside apart;
+      fits = fits_in (slice_set slots place None);
+    }
+
+-- an index still lists its side where a pair was written over one with an equal key
+pub lists_over : {P K X : Type 0} (key : P → K) {same : K → K → Bool} → IsEquivalence same → {IsListing : X → (ℕ → Option K) → Type 0} → ((index : X) (f g : ℕ → Option K) → ((p : ℕ) → IsAlike same (f p) (g p)) → IsListing index f → IsListing index g)
+    → ((index : X) (f : ℕ → Option K) → ∥ IsListing index f ∥₁ → IsListing index f)
+    → (slots : List (Option P)) (place : ℕ) (p : P) → place < length slots → IsSomeAnd (pair_at slots place) (λ q. same (key q) (key p) ≡ true) → (index : X) → ∥ IsListing index (keys_in key same slots) ∥₁ → IsListing index (keys_in key same (slice_set slots place (Some p)))
+lists_over key {same} equal respects settled slots place p inside was index listing =
+    let k = pair_of (pair_at slots place) (λ q. same (key q) (key p) ≡ true) was in
+    respects index (keys_in key same slots) (keys_in key same (slice_set slots place (Some p))) (alike_put key same slots place equal k.0 p inside k.1 k.2) (settled index (keys_in key same slots) listing)
+
+-- a place whose pair was written over may be listed again
+pub may_swap : {P K X : Type 0} (key : P → K) (same : K → K → Bool) (IsListing : X → (ℕ → Option K) → Type 0) (index : X) (slots : List (Option P)) (place : ℕ) (old p : P) → pair_at slots place ≡ Some old → ((other : ℕ) (q : P) → other ≢ place → pair_at slots other ≡ Some q → same (key q) (key p) ≡ false)
+    → ((f : ℕ → Option K) → IsWithout f (keys_in key same slots) place → IsListing index f) → MayLink IsListing same index (keys_in key same (slice_set slots place (Some p))) place (key p)
+may_swap key same IsListing index slots place old p was alone listing =
+    let inside = live_within slots place old was in
+    may_over key same slots place IsListing index p inside alone (listing (keys_in key same (slice_set slots place None)) (taken_without key same slots place inside))
