@@ -87,6 +87,23 @@ module _ {P : Type 0} (slots : List (Option P)) (places : List ℕ) (walk : IsWa
       pub parted_at_rank : pairs_at slots places ≡ take rank (pairs_at slots places) ++ p ∷ drop (suc rank) (pairs_at slots places)
       parted_at_rank = sym (take-append-drop rank (pairs_at slots places)) ∙ ap (λ xs. take rank (pairs_at slots places) ++ xs) (drop-cons (pairs_at slots places) rank p inside ∙ ap (λ q. q ∷ drop (suc rank) (pairs_at slots places)) (sym pair_at_rank))
 
+-- the same of the walk by an ordered side
+module _ {P K : Type 0} (key : P → K) {order : K → K → Ordering} {same : K → K → Bool} (total : IsTotalOrder order) (agrees : (x y : K) → same x y ≡ eq_by_cmp order x y) (slots : List (Option P)) (places : List ℕ) (listing : ∥ ListsByOrder order places (λ place. option_map key (pair_at slots place)) ∥₁) (rank : ℕ) where
+  pub none_ranked : slice_get places rank ≡ None → slice_get (pairs_at slots places) rank ≡ None
+  none_ranked = none_at_rank slots places (order_walk key total agrees slots places listing) rank
+
+  pub all_ranked : slice_get places rank ≡ None → pairs_at slots places ≡ take rank (pairs_at slots places) ++ drop (suc rank) (pairs_at slots places)
+  all_ranked = all_kept slots places (order_walk key total agrees slots places listing) rank
+
+  pub live_ranked : (place : ℕ) → slice_get places rank ≡ Some place → IsLive slots place
+  live_ranked = live_at_rank slots places (order_walk key total agrees slots places listing) rank
+
+  pub some_ranked : (place : ℕ) → slice_get places rank ≡ Some place → (p : P) → pair_at slots place ≡ Some p → slice_get (pairs_at slots places) rank ≡ Some p
+  some_ranked = some_at_rank slots places (order_walk key total agrees slots places listing) rank
+
+  pub parted_ranked : (place : ℕ) → slice_get places rank ≡ Some place → (p : P) → pair_at slots place ≡ Some p → pairs_at slots places ≡ take rank (pairs_at slots places) ++ p ∷ drop (suc rank) (pairs_at slots places)
+  parted_ranked = parted_at_rank slots places (order_walk key total agrees slots places listing) rank
+
 module _ {L R K : Type 0} {same_left : L → L → Bool} {same_right : R → R → Bool} (equal_left : IsEquivalence same_left) (equal_right : IsEquivalence same_right) (key : L × R → K) {order : K → K → Ordering} {same : K → K → Bool} (total : IsTotalOrder order) (agrees : (x y : K) → same x y ≡ eq_by_cmp order x y)
     (slots slots' : List (Option (L × R))) (places places' : List ℕ) (listing : ∥ ListsByOrder order places (λ place. option_map key (pair_at slots place)) ∥₁) (listing' : ∥ ListsByOrder order places' (λ place. option_map key (pair_at slots' place)) ∥₁) (apart : IsApart same_left same_right (pairs_in slots))
     (place : ℕ) (p : L × R) (was : pair_at slots place ≡ Some p) (now : slots' ≡ slice_set slots place None) where

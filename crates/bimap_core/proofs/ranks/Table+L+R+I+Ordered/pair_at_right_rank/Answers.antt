@@ -1,21 +1,12 @@
 use Rattle.std.proofs.Common.{sym, refl}
-use Rattle.bimap_core.proofs.Ascending.{order_walk, none_at_rank, live_at_rank, some_at_rank}
+use Rattle.bimap_core.proofs.Ascending.{none_ranked, live_ranked, some_ranked}
 use Rattle.bimap_core.proofs.ranks.Table+L+R+I+Ordered.pair_at_right_rank.Goals as goal
 
 pub returns-in_err-place-clause-pair : goal.returns-in_err-place-clause-pair
-returns-in_err-place-clause-pair g c =
-    let t = c.args.self.now in
-    let walk = order_walk (λ p. p.1) g.met.R.Ord.total g.met.R.Ord.matches_eq t.pairs t.right.places t.right_listing in
-    rw (none_at_rank t.pairs t.right.places walk c.args.rank (rw c.place_at.ensures.place at c.in_err-place.was), c.from_residual.ensures) refl
+returns-in_err-place-clause-pair g c = rw (none_ranked (λ p. p.1) g.met.R.Ord.total g.met.R.Ord.matches_eq c.args.self.now.pairs c.args.self.now.right.places c.args.self.now.right_listing c.args.rank (rw c.place_at.ensures.place at c.in_err-place.was), c.from_residual.ensures) refl
 
 pub held-requires : goal.held-requires
-held-requires g c =
-    let t = c.args.self.now in
-    let walk = order_walk (λ p. p.1) g.met.R.Ord.total g.met.R.Ord.matches_eq t.pairs t.right.places t.right_listing in
-    live_at_rank t.pairs t.right.places walk c.args.rank c.in_ok-place.place (rw c.place_at.ensures.place at c.in_ok-place.was)
+held-requires g c = live_ranked (λ p. p.1) g.met.R.Ord.total g.met.R.Ord.matches_eq c.args.self.now.pairs c.args.self.now.right.places c.args.self.now.right_listing c.args.rank c.in_ok-place.place (rw c.place_at.ensures.place at c.in_ok-place.was)
 
 pub returns-clause-pair : goal.returns-clause-pair
-returns-clause-pair g c =
-    let t = c.args.self.now in
-    let walk = order_walk (λ p. p.1) g.met.R.Ord.total g.met.R.Ord.matches_eq t.pairs t.right.places t.right_listing in
-    sym (some_at_rank t.pairs t.right.places walk c.args.rank c.in_ok-place.place (rw c.place_at.ensures.place at c.in_ok-place.was) _ c.held.ensures)
+returns-clause-pair g c = sym (some_ranked (λ p. p.1) g.met.R.Ord.total g.met.R.Ord.matches_eq c.args.self.now.pairs c.args.self.now.right.places c.args.self.now.right_listing c.args.rank c.in_ok-place.place (rw c.place_at.ensures.place at c.in_ok-place.was) _ c.held.ensures)
