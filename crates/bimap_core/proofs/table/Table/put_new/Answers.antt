@@ -30,4 +30,4 @@ invariant_of-self g c =
     let put = c.put-place.ensures in
     rw put.now
     (facts_put g.met.L.Eq.laws g.met.R.Eq.laws map.pairs c.put-place.result put.there map.apart (rw (c.new.ensures, put.now) at c.relink.ensures.listing) (rw (c.new-2.ensures, put.now) at c.relink-2.ensures.listing)
-      (omega (arith, map.left_cells, c.relink.ensures.cells)) (omega (arith, map.right_cells, c.relink-2.ensures.cells)) (c.args.left, c.args.right) (c.requires.alone c.put-place.result put.was_free))
+    (omega (arith, map.left_cells, c.relink.ensures.cells)) (omega (arith, map.right_cells, c.relink-2.ensures.cells)) (c.args.left, c.args.right) (c.requires.alone c.put-place.result put.was_free))

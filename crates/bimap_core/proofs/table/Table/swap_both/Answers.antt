@@ -18,5 +18,5 @@ invariant_of-self g c =
     let map = c.args.self.now in
     rw c.swap_in-old.ensures.now
     (facts_put g.met.L.Eq.laws g.met.R.Eq.laws map.pairs c.args.place (live_within map.pairs c.args.place c.swap_in-old.result c.swap_in-old.ensures.was) map.apart
-      (rw (c.new-3.ensures, c.swap_in-old.ensures.now) at c.relink.ensures.listing) (rw (c.new-4.ensures, c.swap_in-old.ensures.now) at c.relink-2.ensures.listing)
-      (omega (arith, map.left_cells, c.unlink.ensures.cells, c.relink.ensures.cells)) (omega (arith, map.right_cells, c.unlink-2.ensures.cells, c.relink-2.ensures.cells)) (c.args.left, c.args.right) c.requires.alone)
+    (rw (c.new-3.ensures, c.swap_in-old.ensures.now) at c.relink.ensures.listing) (rw (c.new-4.ensures, c.swap_in-old.ensures.now) at c.relink-2.ensures.listing)
+    (omega (arith, map.left_cells, c.unlink.ensures.cells, c.relink.ensures.cells)) (omega (arith, map.right_cells, c.unlink-2.ensures.cells, c.relink-2.ensures.cells)) (c.args.left, c.args.right) c.requires.alone)
