@@ -91,26 +91,28 @@ module _ {L R : Type 0} (same_left : L → L → Bool) (same_right : R → R →
 
   -- the pair at a place is taken out
   module _ (xs zs ys : List (L × R)) (i : ℕ) (p seen : L × R) (same : zs ≡ xs) (inside : i < length xs) (value : p ≡ get_or zs i p) (read : seen ≡ get_or zs i seen) (items : ys ≡ take i zs ++ drop (suc i) zs) (apart : IsApart same_left same_right xs) where
-    pub read_again : seen ≡ p
+    read_again : seen ≡ p
     read_again = read ∙ same_read zs i seen p (subst (λ ws. i < length ws) (sym same) inside) ∙ sym value
 
-    pub cut_at : xs ≡ take i xs ++ p ∷ drop (suc i) xs
+    cut_at : xs ≡ take i xs ++ p ∷ drop (suc i) xs
     cut_at = parted xs i p inside ∙ ap (λ w. take i xs ++ w ∷ drop (suc i) xs) (ap (λ ws. get_or ws i p) (sym same) ∙ sym value)
 
-    pub left_over : ys ≡ take i xs ++ drop (suc i) xs
+    left_over : ys ≡ take i xs ++ drop (suc i) xs
     left_over = items ∙ ap (λ ws. take i ws ++ drop (suc i) ws) same
 
-    pub taken_member : Contains xs p
+    taken_member : Contains xs p
     taken_member = subst (λ ws. Contains ws p) (sym cut_at) (Contains-append_right (take i xs) (p ∷ drop (suc i) xs) p (head_in p (drop (suc i) xs)))
 
     pub taken_apart : IsApart same_left same_right ys
     taken_apart = subst (IsApart same_left same_right) (sym left_over) (apart_without (take i xs) (drop (suc i) xs) p (subst (IsApart same_left same_right) cut_at apart))
 
-    pub taken_left : (l : L) → same_left seen.0 l ≡ true → IsWithoutLeft same_left (Contains xs) l (Contains ys)
-    taken_left l e = without_left (take i xs) (drop (suc i) xs) xs ys p l cut_at left_over apart (ap (λ (w : L × R). same_left w.0 l) (sym read_again) ∙ e)
+    -- by its left
+    pub taken_left : (l : L) → same_left seen.0 l ≡ true → (Contains xs p × (same_left p.0 l ≡ true)) × IsWithoutLeft same_left (Contains xs) l (Contains ys)
+    taken_left l e = let f = ap (λ (w : L × R). same_left w.0 l) (sym read_again) ∙ e in ((taken_member, f), without_left (take i xs) (drop (suc i) xs) xs ys p l cut_at left_over apart f)
 
-    pub taken_right : (r : R) → same_right seen.1 r ≡ true → IsWithoutRight same_right (Contains xs) r (Contains ys)
-    taken_right r e = without_right (take i xs) (drop (suc i) xs) xs ys p r cut_at left_over apart (ap (λ (w : L × R). same_right w.1 r) (sym read_again) ∙ e)
+    -- and by its right
+    pub taken_right : (r : R) → same_right seen.1 r ≡ true → (Contains xs p × (same_right p.1 r ≡ true)) × IsWithoutRight same_right (Contains xs) r (Contains ys)
+    taken_right r e = let f = ap (λ (w : L × R). same_right w.1 r) (sym read_again) ∙ e in ((taken_member, f), without_right (take i xs) (drop (suc i) xs) xs ys p r cut_at left_over apart f)
 
 module _ {L R : Type 0} (same_left : L → L → Bool) (same_right : R → R → Bool) where
   -- what is left without a left and without a right
