@@ -5,7 +5,7 @@ pub mod Split
 pub mod Searches
 pub mod Ranks
 pub mod Filling
-pub mod Walks
+pub mod Rows
 pub mod Index
 pub mod Rooms
 pub mod Distinct

@@ -1,5 +1,5 @@
 -- What a buffer holds into which places were put behind those that stood there.
-use Rattle.std.specs.Prelude.{◌≡◌, ℕ, ◌+◌, ◌≤◌, ◌<◌, ◌++◌, min, List, [], ◌∷◌, Option, Some, None, length, take, slice_get}
+use Rattle.std.specs.Prelude.{◌≡◌, ℕ, ◌+◌, ◌≤◌, ◌<◌, ◌++◌, min, List, [], ◌∷◌, Option, Some, None, length, take, drop, slice_get}
 use Rattle.bimap_base.specs.declared.cells.Node.{Node}
 use Rattle.bimap_tree.specs.Tree.{Tree, Stands, IsBalanced}
 
@@ -21,3 +21,11 @@ pub record IsFilled (wanted filled : ℕ) (old added new : List ℕ) (count : �
   pub within : count < 64
   pub long : length new ≡ 64
   pub places : take count new ≡ take count (take filled old ++ added)
+
+-- the buffer begins with so many of the listed places, from this rank on, and the place of a rank is among them
+pub record IsRow (places : List ℕ) (rank : ℕ) (buffer : List ℕ) (from count : ℕ) : Type 0 where
+  pub low : from ≤ rank
+  pub high : rank < from + count
+  pub most : from + count ≤ length places
+  pub within : count < 64
+  pub same : take count buffer ≡ take count (drop from places)

@@ -5,6 +5,7 @@ pub mod Order
 pub mod Start
 pub mod Search
 pub mod Link
+pub mod Part
 pub mod Path
 pub mod Route
 pub mod Remove

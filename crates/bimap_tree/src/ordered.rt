@@ -1,9 +1,10 @@
 //! The listed places in the order of their keys. It knows places, ranks and counts, and no key's value.
-ghost use Rattle.std.specs.Prelude.{◌≡◌, ◌≢◌, ◌⊎◌, ℕ, ◌+◌, ◌-◌, ◌*◌, ◌<◌, ◌≤◌, [], length, max, min, take, drop, slice_get, Some, None, IsOk, OnOk, OnErr, IsSome, IfSome, IfNone};
+ghost use Rattle.std.specs.Prelude.{◌≡◌, ◌≢◌, ◌⊎◌, ℕ, ◌+◌, ◌-◌, ◌*◌, ◌<◌, ◌≤◌, [], length, max, slice_get, Some, None, IsOk, OnOk, OnErr, IsSome, IfSome, IfNone};
 ghost use Rattle.std.specs.List.{AllPairs, Contains};
 ghost use Rattle.std.specs.declared.cmp.Ordering.TheVariants.{Equal};
 ghost use Rattle.bimap_base.specs.Digits.{most_height};
 ghost use Rattle.bimap_base.specs.Keyed.{standing, Ascends, Adds, Drops};
+ghost use Rattle.bimap_tree.specs.Filled.{IsRow};
 ghost use Rattle.bimap_tree.specs.Tree.{Tree, height};
 ghost use Rattle.bimap_tree.specs.Index.{IsBalancedIndex};
 ghost use Rattle.bimap_tree.specs.Route.{IsRoute};
@@ -14,7 +15,7 @@ use crate::rise::put_at;
 use crate::route::{Route, route_under};
 use crate::search::{find_under, place_under, rank_under};
 use crate::steer::{AfterKey, ToKey, ToPlace};
-use crate::walk::fill_from;
+use crate::walk::fill_around;
 use bimap_base::{Cells, Keys, Meter, NoMemory};
 use std::alloc::Global;
 use std::marker::Model;
@@ -268,23 +269,23 @@ impl Ordered {
         place_under(&self.cells, self.root, rank, meter)
     }
 
-    /// Puts the places from a rank on into a buffer, until there are at least as many as are wanted, and answers how many. It takes time logarithmic in the length, once for all of them.
-    pub fn places_from<M: Meter>(
+    /// Puts the places of some ranks in a row into a buffer, with this rank among them, and answers the first of these ranks and
+    /// how many they are: by one descent, in time logarithmic in the length, once for all of them. They are those of a tree of
+    /// at most so many places, the place before it and the one behind it.
+    pub fn places_around<M: Meter>(
         &self,
         rank: usize,
-        wanted: usize,
+        most: usize,
         buffer: &mut [usize; 64],
         meter: &mut M,
-    ) -> usize
-        requires rank { rank ≤ length self.now.places }
-        requires wanted { wanted ≤ 57 }
-        ensures enough { min wanted (length self.now.places - rank) ≤ result }
-        ensures most { result ≤ length self.now.places - rank }
-        ensures within { result < 64 }
-        ensures places { take result buffer.new ≡ take result (drop rank self.now.places) }
+    ) -> (usize, usize)
+        requires rank { rank < length self.now.places }
+        requires least { 2 ≤ most }
+        requires most { most ≤ 60 }
+        ensures row { IsRow self.now.places rank buffer.new result.0 result.1 }
         ensures comparisons { M.comparisons meter.new ≡ M.comparisons meter.old }
-        ensures touches { M.touches meter.new ≤ M.touches meter.old + result + 3 * most_height (length self.now.places) }
+        ensures touches { M.touches meter.new ≤ M.touches meter.old + 60 + 2 * most_height (length self.now.places) }
     {
-        fill_from(&self.cells, self.root, rank, wanted, buffer, meter)
+        fill_around(&self.cells, self.root, rank, most, buffer, meter)
     }
 }

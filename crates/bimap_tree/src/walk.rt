@@ -1,11 +1,21 @@
 //! Places in order, many at a time. It knows trees and ranks, and no key.
-ghost use Rattle.std.specs.Prelude.{◌≡◌, ℕ, ◌+◌, ◌*◌, ◌<◌, ◌≤◌, ◌++◌, ◌∷◌, [], length, drop};
+ghost use Rattle.std.specs.Prelude.{◌≡◌, ℕ, ◌+◌, ◌*◌, ◌<◌, ◌≤◌, ◌^◌, ◌++◌, ◌∷◌, Some, length};
 ghost use Rattle.bimap_base.specs.declared.cells.Node.{Node};
-ghost use Rattle.bimap_tree.specs.Filled.{CanFill, IsFilled, place_in};
+ghost use Rattle.bimap_tree.specs.Filled.{CanFill, IsFilled, IsRow, place_in};
+ghost use Rattle.bimap_tree.specs.Part.{IsPart};
 ghost use Rattle.bimap_tree.specs.Tree.{Tree, Stands, IsBalanced, node_of, height, size, reading};
 
-use crate::link::measure;
 use bimap_base::{Cells, Meter, Node};
+
+// A tree of the index, whose first place has the rank `start`, with the place before its places and the one behind them.
+#[derive(Clone, Copy)]
+pub struct Part {
+    start: usize,
+    before: Option<usize>,
+    behind: Option<usize>,
+    at: usize,
+    node: Node,
+}
 
 // Puts a place behind those that stand there, if there is one. It has no branch: where there is none, what it writes isn't counted.
 fn put(buffer: &mut [usize; 64], filled: usize, place: Option<usize>) -> usize
@@ -28,133 +38,130 @@ fn fill_two_levels(buffer: &mut [usize; 64], filled: usize, at: usize, node: Nod
     put(buffer, before + 1, node.right)
 }
 
-// The same of at most three levels.
-fn fill_three_levels<M: Meter>(
+// Puts the places of a tree, whose root's node is given, behind those that stand there.
+#[cycle(fill)]
+#[inline(always)]
+fn fill_tree<M: Meter>(
     cells: &Cells,
     at: usize,
     node: Node,
     buffer: &mut [usize; 64],
     filled: usize,
     meter: &mut M,
-) -> usize
-    requires tree { (t : Tree) × CanFill cells.now at node t × (height t ≤ 3) }
-    requires room { filled < 57 }
+)
+    requires tree { (t : Tree) × CanFill cells.now at node t × (filled + size t < 62) }
     requires long { length buffer.old ≡ 64 }
-    ensures filled { (t : Tree) → CanFill cells.now at node t → height t ≤ 3 → IsFilled 64 filled buffer.old (reading t) buffer.new result }
+    ensures filled { (t : Tree) → CanFill cells.now at node t → filled + size t < 62 → IsFilled 64 filled buffer.old (reading t) buffer.new (filled + size t) }
     ensures comparisons { M.comparisons meter.new ≡ M.comparisons meter.old }
-    ensures touches { (t : Tree) → CanFill cells.now at node t → height t ≤ 3 → M.touches meter.new + 1 ≤ M.touches meter.old + size t }
+    ensures touches { (t : Tree) → CanFill cells.now at node t → M.touches meter.new + 1 ≤ M.touches meter.old + size t }
 {
     if node.height < 3 {
-        return fill_two_levels(buffer, filled, at, node);
+        fill_two_levels(buffer, filled, at, node);
+        return;
     }
     let (Some(left), Some(right)) = (node.left, node.right) else {
         unreachable!();
     };
-    let left_node = cells.read(left, meter);
-    let right_node = cells.read(right, meter);
-    let before = fill_two_levels(buffer, filled, left, left_node);
-    buffer[before] = at;
-    fill_two_levels(buffer, before + 1, right, right_node)
+    fill_high(cells, at, left, right, buffer, filled, meter);
 }
 
-// Puts the places of a tree, whose root's node is given, behind those that stand there, until there are as many as are wanted: small trees whole. Both children are read before either tree is walked, so that neither waits for the other.
-fn fill_under<M: Meter>(
+// The same of a tree whose root has these children. Both are read before either tree is walked, so that neither waits for the other, and the size of one tells where the other begins.
+#[cycle(fill)]
+fn fill_high<M: Meter>(
     cells: &Cells,
     at: usize,
-    node: Node,
-    wanted: usize,
+    left: usize,
+    right: usize,
     buffer: &mut [usize; 64],
     filled: usize,
     meter: &mut M,
-) -> usize
-    requires tree { (t : Tree) × CanFill cells.now at node t }
-    requires room { (filled < wanted) × (wanted ≤ 57) }
+)
+    requires tree { (node : Node) × (t : Tree) × CanFill cells.now at node t × (node.left ≡ Some left) × (node.right ≡ Some right) × (filled + size t < 62) }
     requires long { length buffer.old ≡ 64 }
-    ensures filled { (t : Tree) → CanFill cells.now at node t → IsFilled wanted filled buffer.old (reading t) buffer.new result }
+    ensures filled { (node : Node) (t : Tree) → CanFill cells.now at node t → node.left ≡ Some left → node.right ≡ Some right → filled + size t < 62 → IsFilled 64 filled buffer.old (reading t) buffer.new (filled + size t) }
     ensures comparisons { M.comparisons meter.new ≡ M.comparisons meter.old }
-    ensures touches { (t : Tree) → CanFill cells.now at node t → (M.touches meter.new + 1 ≤ M.touches meter.old + size t) × (M.touches meter.new + filled + 1 ≤ M.touches meter.old + result + height t) }
+    ensures touches { (node : Node) (t : Tree) → CanFill cells.now at node t → node.left ≡ Some left → node.right ≡ Some right → M.touches meter.new + 1 ≤ M.touches meter.old + size t }
 {
-    if node.height <= 3 {
-        return fill_three_levels(cells, at, node, buffer, filled, meter);
-    }
-    let (Some(left), Some(right)) = (node.left, node.right) else {
-        unreachable!();
-    };
     let left_node = cells.read(left, meter);
-    if wanted - filled <= left_node.size {
-        return fill_under(cells, left, left_node, wanted, buffer, filled, meter);
-    }
     let right_node = cells.read(right, meter);
-    let before = fill_under(cells, left, left_node, wanted, buffer, filled, meter);
-    buffer[before] = at;
-    if before + 1 == wanted {
-        return wanted;
-    }
-    fill_under(cells, right, right_node, wanted, buffer, before + 1, meter)
+    let middle = filled + left_node.size;
+    fill_tree(cells, left, left_node, buffer, filled, meter);
+    buffer[middle] = at;
+    fill_tree(cells, right, right_node, buffer, middle + 1, meter);
 }
 
-// The same of a tree at a root.
-fn fill_all<M: Meter>(
-    cells: &Cells,
-    root: Option<usize>,
-    wanted: usize,
-    buffer: &mut [usize; 64],
-    filled: usize,
-    meter: &mut M,
-) -> usize
-    requires tree { (t : Tree) × Stands cells.now root t × IsBalanced t }
-    requires room { (filled < 64) × (wanted ≤ 57) }
-    requires long { length buffer.old ≡ 64 }
-    ensures filled { (t : Tree) → Stands cells.now root t → IsBalanced t → IsFilled wanted filled buffer.old (reading t) buffer.new result }
-    ensures comparisons { M.comparisons meter.new ≡ M.comparisons meter.old }
-    ensures touches { (t : Tree) → Stands cells.now root t → IsBalanced t → (M.touches meter.new ≤ M.touches meter.old + size t) × (M.touches meter.new + filled ≤ M.touches meter.old + result + height t) }
-{
-    match root {
-        None => filled,
-        Some(at) => {
-            if filled >= wanted {
-                return filled;
-            }
-            let node = cells.read(at, meter);
-            fill_under(cells, at, node, wanted, buffer, filled, meter)
-        }
-    }
-}
-
-// Puts the places of a tree from a rank on into a buffer, until there are as many as are wanted, and answers how many stand there.
-pub fn fill_from<M: Meter>(
+// Goes down to a tree of few places, among which, with the one before it and the one behind it, is the one at a rank.
+fn part_around<M: Meter>(
     cells: &Cells,
     root: Option<usize>,
     rank: usize,
-    wanted: usize,
-    buffer: &mut [usize; 64],
+    most: usize,
     meter: &mut M,
-) -> usize
-    requires tree { (t : Tree) × Stands cells.now root t × IsBalanced t × (rank ≤ size t) }
-    requires wanted { wanted ≤ 57 }
-    requires long { length buffer.old ≡ 64 }
-    ensures filled { (t : Tree) → Stands cells.now root t → IsBalanced t → rank ≤ size t → IsFilled wanted 0 [] (drop rank (reading t)) buffer.new result }
+) -> Part
+    requires tree { (t : Tree) × Stands cells.now root t × IsBalanced t × (rank < size t) × (size t < 2 ^ 64) }
+    requires most { 2 ≤ most }
+    ensures part { (t : Tree) → Stands cells.now root t → IsBalanced t → rank < size t → (s : Tree) × IsPart cells.now (reading t) rank result s × (M.touches meter.new + 2 * height s ≤ M.touches meter.old + 2 * height t + 1) }
+    ensures few { result.node.size ≤ most }
     ensures comparisons { M.comparisons meter.new ≡ M.comparisons meter.old }
-    ensures touches { (t : Tree) → Stands cells.now root t → IsBalanced t → rank ≤ size t → (M.touches meter.new ≤ M.touches meter.old + result + 3 * height t) × (result < wanted → M.touches meter.new ≤ M.touches meter.old + result + 2 * height t) }
 {
-    match root {
-        None => 0,
-        Some(at) => {
-            let node = cells.read(at, meter);
-            let before = measure(cells, node.left, meter).size;
-            if before < rank {
-                return fill_from(cells, node.right, rank - before - 1, wanted, buffer, meter);
-            }
-            if rank == before {
-                buffer[0] = at;
-                return fill_all(cells, node.right, wanted, buffer, 1, meter);
-            }
-            let filled = fill_from(cells, node.left, rank, wanted, buffer, meter);
-            if filled >= wanted {
-                return filled;
-            }
-            buffer[filled] = at;
-            fill_all(cells, node.right, wanted, buffer, filled + 1, meter)
+    let Some(at) = root else {
+        unreachable!();
+    };
+    let mut part = Part {
+        start: 0,
+        before: None,
+        behind: None,
+        at,
+        node: cells.read(at, meter),
+    };
+    while part.node.size > most {
+        let (Some(left), Some(right)) = (part.node.left, part.node.right) else {
+            unreachable!();
+        };
+        let left_node = cells.read(left, meter);
+        let middle = part.start + left_node.size;
+        if rank < middle {
+            part = Part {
+                start: part.start,
+                before: part.before,
+                behind: Some(part.at),
+                at: left,
+                node: left_node,
+            };
+        } else {
+            let right_node = cells.read(right, meter);
+            part = Part {
+                start: middle + 1,
+                before: Some(part.at),
+                behind: part.behind,
+                at: right,
+                node: right_node,
+            };
         }
     }
+    part
+}
+
+// Puts the places of some ranks in a row into a buffer, this rank among them, and answers the first of these ranks and how many they are. They are those of a tree, the place before it and the one behind it, so that few branches are wrongly guessed.
+pub fn fill_around<M: Meter>(
+    cells: &Cells,
+    root: Option<usize>,
+    rank: usize,
+    most: usize,
+    buffer: &mut [usize; 64],
+    meter: &mut M,
+) -> (usize, usize)
+    requires tree { (t : Tree) × Stands cells.now root t × IsBalanced t × (rank < size t) × (size t < 2 ^ 64) }
+    requires least { 2 ≤ most }
+    requires most { most ≤ 60 }
+    requires long { length buffer.old ≡ 64 }
+    ensures row { (t : Tree) → Stands cells.now root t → IsBalanced t → rank < size t → IsRow (reading t) rank buffer.new result.0 result.1 }
+    ensures comparisons { M.comparisons meter.new ≡ M.comparisons meter.old }
+    ensures touches { (t : Tree) → Stands cells.now root t → IsBalanced t → rank < size t → M.touches meter.new ≤ M.touches meter.old + 60 + 2 * height t }
+{
+    let part = part_around(cells, root, rank, most, meter);
+    let first = put(buffer, 0, part.before);
+    fill_tree(cells, part.at, part.node, buffer, first, meter);
+    let count = put(buffer, first + part.node.size, part.behind);
+    (part.start - first, count)
 }

@@ -67,6 +67,6 @@ impl Window {
             return None;
         }
         self.back -= 1;
-        Some(self.behind.place_back(index, self.back, &mut Count::new()))
+        Some(self.behind.place(index, self.back, &mut Count::new()))
     }
 }

@@ -139,12 +139,12 @@ fn places_by_rank(rt: HostRuntime) -> Result<(), Fail> {
     let mut walked = 0usize;
     for rank in 0..1000usize {
         if rank == walked {
-            let filled = index.places_from(rank, 57, &mut buffer, &mut meter);
-            assert!(rt; filled >= if rank < 943 { 57 } else { 1000 - rank });
+            let (from, filled) = index.places_around(rank, 60, &mut buffer, &mut meter);
+            assert!(rt; from <= rank && rank < from + filled);
             for (behind, place) in buffer[..filled].iter().enumerate() {
-                assert_eq!(rt; *place, rank + behind);
+                assert_eq!(rt; *place, from + behind);
             }
-            walked = rank + filled;
+            walked = from + filled;
         }
     }
     assert_eq!(rt; walked, 1000);
@@ -159,12 +159,12 @@ fn walk_by_batches<R: Abort>(rt: &R, index: &Ordered) -> (u64, u64)
     let (mut to, mut fro) = (at_zero(rt), at_zero(rt));
     for rank in 0..1000usize {
         assert_eq!(rt; ahead.place(index, rank, &mut to), rank);
-        assert_eq!(rt; behind.place_back(index, 999 - rank, &mut fro), 999 - rank);
+        assert_eq!(rt; behind.place(index, 999 - rank, &mut fro), 999 - rank);
     }
     (to.touches, fro.touches)
 }
 
-// One batch has eight places or more, and eighteen have 57 or more: each takes a descent of at most twenty levels.
+// The batches but the first are of whole trees of up to sixty places: each takes a descent of at most twenty levels.
 #[test]
 fn batches_touch_a_place_about_once(rt: HostRuntime) -> Result<(), Fail> {
     let numbers = thousand(rt.alloc())?;
