@@ -36,8 +36,8 @@ impl<L: Ord + Drop, R: Eq + Drop, J: Index<R>> BijectiveMap<L, R, Ordered, J> {
 
     /// Calls the closure once on each pair, by ascending left, and takes out those on which it answers false.
     ///
-    /// It takes no memory, and the room stays. Time is the length times its logarithm, and that of a removal more for each
-    /// pair that is taken out.
+    /// It takes no memory, and the room stays. Time is that of a walk, which descends once for dozens of pairs, and for each
+    /// pair that is taken out that of a removal and a descent more.
     ///
     ///     seats.retain(|_: &char, seat: &u32| *seat >= 2);
     ///     seats.len(); // 2
