@@ -14,6 +14,7 @@ mod items;
 mod items_under;
 mod replaced;
 mod runs;
+mod steps;
 mod tour;
 mod undo_runs;
 mod undone;
@@ -23,15 +24,16 @@ fn letters<B: CopyKind<char, u32> + Interning<char, u32> + Walked<char, u32>>(
     rt: &impl Abort,
     alloc: Global,
 ) -> Result<(), Fail> {
+    steps::all::<B>(rt, alloc)?;
+    examples::positions_of_letters::<B>(rt, alloc);
     insertions::all::<B>(rt, alloc)?;
-    interned::all::<B>(rt, alloc)?;
     items::letters::<B>(rt, alloc)?;
     items_under::all::<B>(rt, alloc);
-    replaced::values::<B>(rt, alloc)?;
     runs::all::<B>(rt, alloc)?;
     undo_runs::all::<B>(rt, alloc)?;
     visited::all(rt, alloc, B::empty(alloc));
-    undone::all::<B>(rt, alloc)
+    undone::in_full::<B>(rt, alloc);
+    Ok(())
 }
 
 #[test]
@@ -40,20 +42,16 @@ fn each_kind_answers_as_the_rows_say(rt: HostRuntime) -> Result<(), Fail> {
     Ok(())
 }
 
-fn tagged_pairs<B: Kind<Tagged, Tagged>>(rt: &impl Abort, alloc: Global) -> Result<(), Fail> {
+fn tagged<B: Kind<Tagged, Tagged>>(rt: &impl Abort, alloc: Global) -> Result<(), Fail> {
     items_under::hands_back::<B>(rt, alloc);
     runs::hands_back::<B>(rt, alloc);
-    replaced::tags::<B>(rt, alloc)
-}
-
-fn tagged_lefts<B: Kind<Tagged, u32>>(rt: &impl Abort, alloc: Global) -> Result<(), Fail> {
+    replaced::tags::<B>(rt, alloc);
     replaced::left_struck::<B>(rt, alloc);
     undone::exact_values::<B>(rt, alloc)
 }
 
 #[test]
 fn each_kind_keeps_the_very_values(rt: HostRuntime) -> Result<(), Fail> {
-    over_each_kind!(tagged_pairs, Tagged, Tagged, &rt, ?);
-    over_each_kind!(tagged_lefts, Tagged, u32, &rt, ?);
+    over_each_kind!(tagged, Tagged, Tagged, &rt, ?);
     Ok(())
 }

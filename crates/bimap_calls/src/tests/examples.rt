@@ -1,10 +1,14 @@
 //! The Rust crate's own examples.
 use crate::{Kind, over_each_kind};
-use bimap::Overwritten;
+use bimap::{Bijection, Overwritten};
 use std::alloc::Global;
 use std::process::Abort;
 
 type Text = &'static str;
+
+fn inserts<B: Bijection<Text, Text>>(bimap: &mut B, element: Text, symbol: Text) -> bool {
+    bimap.insert(element, symbol) == Ok(Overwritten::Neither)
+}
 
 fn symbols_of_elements<B: Kind<Text, Text>>(rt: &impl Abort, alloc: Global) {
     let mut bimap = B::empty(alloc);
@@ -14,7 +18,7 @@ fn symbols_of_elements<B: Kind<Text, Text>>(rt: &impl Abort, alloc: Global) {
         ("bromine", "Br"),
         ("neodymium", "Nd"),
     ] {
-        assert!(rt; bimap.insert(element, symbol) == Ok(Overwritten::Neither));
+        assert!(rt; inserts(&mut bimap, element, symbol));
     }
     assert!(rt; bimap.get_by_left(&"bromine") == Some(&"Br"));
     assert!(rt; bimap.get_by_left(&"oxygen").is_none());
@@ -31,18 +35,13 @@ fn elements_and_symbols(rt: HostRuntime) {
     over_each_kind!(symbols_of_elements, Text, Text, &rt);
 }
 
-fn positions_of_letters<B: Kind<char, u8>>(rt: &impl Abort, alloc: Global) {
+pub(super) fn positions_of_letters<B: Kind<char, u32>>(rt: &impl Abort, alloc: Global) {
     let mut bimap = B::empty(alloc);
     for position in 1..=26u8 {
         let letter = char::from(b'A' + (position - 1));
-        assert!(rt; bimap.insert(letter, position) == Ok(Overwritten::Neither));
+        assert!(rt; bimap.insert(letter, position as u32) == Ok(Overwritten::Neither));
     }
     assert_eq!(rt; bimap.len(), 26);
     assert!(rt; bimap.get_by_left(&'A') == Some(&1));
     assert!(rt; bimap.get_by_right(&26) == Some(&'Z'));
-}
-
-#[test]
-fn letters_of_the_alphabet_and_their_positions(rt: HostRuntime) {
-    over_each_kind!(positions_of_letters, char, u8, &rt);
 }

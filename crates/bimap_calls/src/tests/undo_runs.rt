@@ -2,55 +2,82 @@
 use crate::{Kind, insert_all, shows};
 use bimap::{Bijection, Overwritten, undo_run};
 use bimap_plain::Plain;
-use std::alloc::Global;
+use std::alloc::{AllocError, Global};
 use std::process::Abort;
 use std::test::Fail;
 
-fn three_insertions<B: Bijection<char, u32> + Drop>(
-    rt: &impl Abort,
-    alloc: Global,
-    mut bimap: B,
-) -> Result<(), Fail> {
-    let entries = insert_all(alloc, &mut bimap, &[('a', 1), ('a', 2), ('b', 2)])?;
-    let wanted = vec![in alloc;
-        ('a', Overwritten::Neither),
-        ('a', Overwritten::Left('a', 1)),
-        ('b', Overwritten::Right('a', 2)),
-    ]?;
-    assert_eq!(rt; entries, wanted);
-    assert!(rt; shows(&bimap, &[('b', 2)]));
-    assert!(rt; undo_run(&mut bimap, entries).is_ok());
-    assert!(rt; shows(&bimap, &[]));
-    bimap.insert('a', 1).ok().ok_or("no memory")?;
-    let none = insert_all(alloc, &mut bimap, &[])?;
-    assert!(rt; undo_run(&mut bimap, none).is_ok());
-    assert!(rt; shows(&bimap, &[('a', 1)]));
-    Ok(())
+/// The pairs before, the insertions, their entries, and the pairs after them.
+struct Trail {
+    before: &'static [(char, u32)],
+    insertions: &'static [(char, u32)],
+    entries: &'static [(char, Overwritten<char, u32>)],
+    after: &'static [(char, u32)],
 }
 
-fn two_that_strike_two<B: Bijection<char, u32> + Drop>(
-    rt: &impl Abort,
-    alloc: Global,
-    mut bimap: B,
-) -> Result<(), Fail> {
-    let pairs = [('a', 1), ('b', 2), ('c', 3), ('d', 4)];
-    let before = insert_all(alloc, &mut bimap, &pairs)?;
-    assert_eq!(rt; before.len(), 4);
-    let entries = insert_all(alloc, &mut bimap, &[('a', 2), ('c', 4), ('e', 5)])?;
-    let wanted = vec![in alloc;
+// One insertion of each kind, and none.
+const OF_ONE_PAIR: &[Trail] = &[
+    Trail {
+        before: &[],
+        insertions: &[('a', 1), ('a', 2), ('b', 2)],
+        entries: &[
+            ('a', Overwritten::Neither),
+            ('a', Overwritten::Left('a', 1)),
+            ('b', Overwritten::Right('a', 2)),
+        ],
+        after: &[('b', 2)],
+    },
+    Trail {
+        before: &[('a', 1)],
+        insertions: &[],
+        entries: &[],
+        after: &[('a', 1)],
+    },
+];
+
+const OF_TWO_PAIRS: &[Trail] = &[Trail {
+    before: &[('a', 1), ('b', 2), ('c', 3), ('d', 4)],
+    insertions: &[('a', 2), ('c', 4), ('e', 5)],
+    entries: &[
         ('a', Overwritten::Both(('a', 1), ('b', 2))),
         ('c', Overwritten::Both(('c', 3), ('d', 4))),
         ('e', Overwritten::Neither),
-    ]?;
-    assert_eq!(rt; entries, wanted);
-    assert!(rt; undo_run(&mut bimap, entries).is_ok());
-    assert!(rt; shows(&bimap, &pairs));
+    ],
+    after: &[('a', 2), ('c', 4), ('e', 5)],
+}];
+
+// Whether the insertions give the entries, and undoing these gives the pairs before.
+fn is_right<B: Bijection<char, u32>>(
+    alloc: Global,
+    bimap: &mut B,
+    trail: &Trail,
+) -> Result<bool, AllocError> {
+    let before = insert_all(alloc, bimap, trail.before)?;
+    if before.len() != trail.before.len() || !shows(bimap, trail.before) {
+        return Ok(false);
+    }
+    let entries = insert_all(alloc, bimap, trail.insertions)?;
+    if entries.as_slice() != trail.entries || !shows(bimap, trail.after) {
+        return Ok(false);
+    }
+    Ok(undo_run(bimap, entries).is_ok() && shows(bimap, trail.before))
+}
+
+// The trails in turn, on one bimap.
+fn are_right<B: Bijection<char, u32> + Drop>(
+    rt: &impl Abort,
+    alloc: Global,
+    mut bimap: B,
+    trails: &[Trail],
+) -> Result<(), Fail> {
+    for (number, trail) in trails.iter().enumerate() {
+        assert!(rt; is_right(alloc, &mut bimap, trail)?, "{number}");
+    }
     Ok(())
 }
 
 pub(super) fn all<B: Kind<char, u32>>(rt: &impl Abort, alloc: Global) -> Result<(), Fail> {
-    three_insertions(rt, alloc, B::empty(alloc))?;
-    two_that_strike_two(rt, alloc, B::empty(alloc))
+    are_right(rt, alloc, B::empty(alloc), OF_ONE_PAIR)?;
+    are_right(rt, alloc, B::empty(alloc), OF_TWO_PAIRS)
 }
 
 // An undo that needs a place more, where none can be added: the entry comes back, and those before it.
