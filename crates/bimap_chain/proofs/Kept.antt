@@ -1,5 +1,5 @@
 -- Cells as they are kept.
-use Rattle.std.proofs.Common.{◌≡◌, ℕ, zero, suc, ◌-◌, ◌%◌, ◌<◌, ◌≤◌, Bool, true, false, List, [], ◌∷◌, ◌++◌, length, take, map, replicate, None, Some, refl, sym, ◌∙◌, ap, arith, get_or, bit_and}
+use Rattle.std.proofs.Common.{◌≡◌, ℕ, zero, suc, ◌-◌, ◌%◌, ◌<◌, ◌≤◌, Bool, true, false, List, [], ◌∷◌, ◌++◌, length, take, map, replicate, Option, None, Some, refl, sym, ◌∙◌, ap, arith, get_or, bit_and}
 use Rattle.std.specs.Prelude.{slice_index_or, slice_set, ◌==◌}
 use Rattle.std.specs.Int.{IsPowerOfTwo}
 use Rattle.std.proofs.lemmas.List.{length-map, take_all, map-append, get_or-map}
@@ -45,12 +45,17 @@ pub map-replicated : {A B : Type 0} (f : A → B) (n : ℕ) (a : A) → map f (r
 map-replicated f zero a = refl
 map-replicated f (suc n) a = ap (λ z. f a ∷ z) (map-replicated f n a)
 
--- heads that were filled with 0 lead nowhere
-pub empty : (n k : ℕ) → slice_index_or (map link_of (replicate n 0)) k None ≡ None
-empty zero zero = refl
-empty zero (suc k) = refl
-empty (suc n) zero = refl
-empty (suc n) (suc k) = empty n k
+-- links that were filled with 0 lead nowhere
+pub emptied : (xs : List ℕ) (n : ℕ) (places : List (Option ℕ)) → map link_of xs ≡ places → n ≡ length xs → map link_of (replicate n 0) ≡ replicate (length places) None
+emptied xs n places e l =
+    let k : n ≡ length places = omega (arith, l, length-map xs link_of, ap length e) in
+    map-replicated link_of n 0 ∙ ap (λ k. replicate k None) k
+
+-- what stands everywhere, and is the default too
+pub everywhere : {A : Type 0} (n k : ℕ) (a : A) → slice_index_or (replicate n a) k a ≡ a
+everywhere zero k a = refl
+everywhere (suc n) zero a = refl
+everywhere (suc n) (suc k) a = everywhere n k a
 
 -- what stands there, written again
 pub set_same : {A : Type 0} (xs : List A) (i : ℕ) (x d : A) → i < length xs → slice_index_or xs i d ≡ x → slice_set xs i x ≡ xs

@@ -1,6 +1,6 @@
 -- One place is listed, or taken out, and one link or head is written: the chains stand again.
 use Rattle.std.proofs.Common.{◌≡◌, ◌≢◌, ℕ, zero, suc, ◌+◌, ◌%◌, ◌<◌, ◌≤◌, true, false, List, [], ◌∷◌, length, Option, None, Some, refl, sym, ◌∙◌, ap, subst, arith, ◌⊎◌, inl, inr, eq-eqb, length-set, get_or-set_same, get_or-set_other}
-use Rattle.std.specs.Prelude.{◌^◌, slice_index_or, slice_set, IfSome}
+use Rattle.std.specs.Prelude.{slice_index_or, slice_set, IfSome}
 use Rattle.bimap_chain.specs.Chains.{Numbers, number_at, is_of, last_below, NoneWithin, IsThreaded, IsListed, GoesOver, Links, link_or_head}
 use Rattle.bimap_chain.proofs.Below.{found, last_here, last_lower, same_last, skipped, same_above}
 use Rattle.bimap_chain.proofs.Walk.{leads, of_bucket}
@@ -197,10 +197,10 @@ unlisted c links heads b number place over next left links' heads' t own held o 
     ∙ sym (last_lower (length heads) b (slice_set c place None) place (ap (is_of (length heads) b) (get_or-set_same c place None None inn))))
     written
 
--- a place to which a chain leads is told by a link
-pub few : (c : Numbers) (n b m : ℕ) (at : Option ℕ) → at ≡ last_below c n b m → m ≤ 2 ^ 63 → IfSome at (λ p. p < 2 ^ 63)
-few c n b m None e h = tt
-few c n b m (Some p) e h = omega (arith, (found n b c m p (sym e)).0)
+-- a place to which a chain leads is as low as the end
+pub few : (c : Numbers) (n b m k : ℕ) (at : Option ℕ) → at ≡ last_below c n b m → m ≤ k → IfSome at (λ p. p < k)
+few c n b m k None e h = tt
+few c n b m k (Some p) e h = omega (arith, (found n b c m p (sym e)).0)
 
 -- the place that goes over another is listed, whatever is written at that one
 pub over_listed : (c : Numbers) (n b place : ℕ) (v over : Option ℕ) → GoesOver c n b place over → IfSome over (λ p. IsListed (slice_set c place v) p)

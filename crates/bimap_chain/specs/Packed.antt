@@ -1,5 +1,5 @@
 -- How the cells of a hashed index are kept. No public clause cites this module.
-use Rattle.std.specs.Prelude.{ℕ, ◌^◌, ◌<◌, ◌≤◌, List, map, length, Option, None, Some, ◌==◌, if◌then◌else◌}
+use Rattle.std.specs.Prelude.{ℕ, ◌*◌, ◌^◌, ◌<◌, ◌≤◌, List, map, length, Option, None, Some, ◌==◌, if◌then◌else◌}
 use Rattle.std.specs.Int.{IsPowerOfTwo}
 use Rattle.bimap_base.specs.Packed.{link_of}
 use Rattle.bimap_chain.specs.declared.threads.Cell.{Cell}
@@ -22,17 +22,13 @@ numbers_of threads = map number_in threads.cells.items
 abbrev pub links_of : Threads → List (Option ℕ)
 links_of threads = map next_in threads.cells.items
 
--- the heads of the chains
-abbrev pub heads_of : Threads → List (Option ℕ)
-heads_of threads = map link_of threads.heads.items
-
--- there is a head for each cell, the heads are as many as a power of two, or none, and a link tells each place
+-- there are at least two heads for each cell, the heads are as many as a power of two, or none, and a link tells each place
 pub record IsSized (cells heads : ℕ) : Type 0 where
-  pub enough : cells ≤ heads
+  pub enough : 2 * cells ≤ heads
   pub few : cells ≤ 2 ^ 63
   pub power : 0 < heads → IsPowerOfTwo heads
 
 -- the cells are threaded
 pub record IsSound (threads : Threads) : Type 0 where
-  pub sized : IsSized (length threads.cells.items) (length threads.heads.items)
-  pub threaded : IsThreaded (numbers_of threads) (links_of threads) (heads_of threads)
+  pub sized : IsSized (length threads.cells.items) (length threads.heads)
+  pub threaded : IsThreaded (numbers_of threads) (links_of threads) threads.heads

@@ -3,6 +3,7 @@ ghost use Rattle.std.specs.Prelude.{◌≡◌, ◌<◌, ◌≤◌, ◌-◌, ℕ,
 ghost use Rattle.bimap_base.specs.Places.{pairs_in, packed};
 ghost use Rattle.bimap_chain.specs.Chains.{number_at, IsListed, AreNumbered, Matches};
 
+use crate::heads::Heads;
 use crate::threads::Threads;
 use bimap_base::{NoMemory, Spread};
 use std::alloc::Global;
@@ -38,7 +39,7 @@ impl Hashed {
         Hashed {
             threads: Threads {
                 cells: Vec::new(alloc),
-                heads: Vec::new(alloc),
+                heads: Heads::new(alloc),
             },
         }
     }

@@ -5,6 +5,8 @@
 #![tactic(auto)]
 
 mod hashed;
+mod heads;
+mod link;
 mod threads;
 
 pub use hashed::Hashed;

@@ -1,11 +1,12 @@
 //! The cells of a hashed index, and the chains that thread them. It knows numbers and places, and no keys.
-ghost use Rattle.std.specs.Prelude.{◌≡◌, ◌+◌, ◌<◌, ◌≤◌, ◌-◌, ◌%◌, ◌^◌, ℕ, ◌++◌, length, None, Some, replicate, slice_set, slice_index_or, OnOk, OnErr, IfSome, IfNone, vec_len, vec_capacity, nat_eq};
+ghost use Rattle.std.specs.Prelude.{◌≡◌, ◌+◌, ◌<◌, ◌≤◌, ◌-◌, ◌%◌, ◌^◌, ◌++◌, length, None, Some, replicate, slice_set, slice_index_or, OnOk, OnErr, IfSome, nat_eq};
 ghost use Rattle.std.specs.Option.{option_eq};
 ghost use Rattle.std.specs.Int.{IsPowerOfTwo};
-ghost use Rattle.bimap_base.specs.Packed.{link_of};
 ghost use Rattle.bimap_chain.specs.Chains.{IsThreaded, IsListed, GoesOver, Links, link_or_head, number_at};
-ghost use Rattle.bimap_chain.specs.Packed.{numbers_of, links_of, heads_of, IsSized, IsSound};
+ghost use Rattle.bimap_chain.specs.Packed.{numbers_of, links_of, IsSized, IsSound};
 
+use crate::heads::Heads;
+use crate::link::{link_to, place_of};
 use bimap_base::NoMemory;
 
 /// A cell: the number under which its place is listed, and the next place of its chain plus one, or 0 for none. A place
@@ -16,34 +17,17 @@ pub(crate) struct Cell {
     link: usize,
 }
 
-/// A cell for each place, and by bucket the first place of its chain plus one, or 0 for none.
+/// A cell for each place, and the heads, at least two for each cell.
 #[derive(Drop)]
 pub(crate) struct Threads {
     pub(crate) cells: Vec<Cell>,
-    pub(crate) heads: Vec<usize>,
+    pub(crate) heads: Heads,
 }
 
 const FREE: usize = usize::MAX;
 
 // More cells than this fit no memory.
-const MOST: usize = usize::MAX / 2 + 1;
-
-fn link_to(place: Option<usize>) -> usize
-    requires { IfSome place (λ p. p < 2 ^ 63) }
-    ensures told { link_of result ≡ place }
-    ensures not_free { result < 2 ^ 64 - 1 }
-{
-    match place {
-        None => 0,
-        Some(place) => place + 1,
-    }
-}
-
-fn place_of(link: usize) -> Option<usize>
-    ensures { result ≡ link_of link }
-{
-    if link == 0 { None } else { Some(link - 1) }
-}
+const MOST: usize = usize::MAX / 4 + 1;
 
 // How many heads there are to be for so many cells, unless these fit no memory.
 fn heads_for(heads: usize, cells: usize) -> Option<usize>
@@ -53,10 +37,10 @@ fn heads_for(heads: usize, cells: usize) -> Option<usize>
 {
     if cells > MOST {
         None
-    } else if cells <= heads {
+    } else if 2 * cells <= heads {
         Some(heads)
     } else {
-        Some(cells.next_power_of_two())
+        Some((2 * cells).next_power_of_two())
     }
 }
 
@@ -93,28 +77,28 @@ impl Threads {
 
     /// The first place of the bucket.
     pub(crate) fn head(&self, bucket: usize) -> Option<usize>
-        requires { bucket < length (heads_of self.now) }
-        ensures { result ≡ slice_index_or (heads_of self.now) bucket None }
+        requires { bucket < length self.now.heads }
+        ensures { result ≡ slice_index_or self.now.heads bucket None }
     {
-        place_of(self.heads[bucket])
+        self.heads.get(bucket)
     }
 
     /// The bucket of a number.
     pub(crate) fn bucket(&self, number: u64) -> usize
-        requires some { 0 < length (heads_of self.now) }
-        requires power { 0 < length self.now.heads.items → IsPowerOfTwo (length self.now.heads.items) }
-        ensures value { result ≡ number % length (heads_of self.now) }
-        ensures bound { result < length (heads_of self.now) }
+        requires some { 0 < length self.now.heads }
+        requires power { 0 < length self.now.heads → IsPowerOfTwo (length self.now.heads) }
+        ensures value { result ≡ number % length self.now.heads }
+        ensures bound { result < length self.now.heads }
     {
         number as usize & (self.heads.len() - 1)
     }
 
     /// The place of the bucket whose link goes over the given place, or `None` where that is the head.
     pub(crate) fn over(&self, bucket: usize, place: usize) -> Option<usize>
-        requires threaded { IsThreaded (numbers_of self.now) (links_of self.now) (heads_of self.now) }
-        requires bucket { bucket < length (heads_of self.now) }
+        requires threaded { IsThreaded (numbers_of self.now) (links_of self.now) self.now.heads }
+        requires bucket { bucket < length self.now.heads }
         requires place { place < length (numbers_of self.now) }
-        ensures { GoesOver (numbers_of self.now) (length (heads_of self.now)) bucket place result }
+        ensures { GoesOver (numbers_of self.now) (length self.now.heads) bucket place result }
     {
         let mut over = None;
         let mut end = self.cells.len();
@@ -132,9 +116,9 @@ impl Threads {
 
     /// What stands in that link or head.
     pub(crate) fn link(&self, bucket: usize, over: Option<usize>) -> Option<usize>
-        requires bucket { bucket < length (heads_of self.now) }
+        requires bucket { bucket < length self.now.heads }
         requires over { IfSome over (λ p. p < length (links_of self.now)) }
-        ensures { result ≡ link_or_head (links_of self.now) (heads_of self.now) bucket over }
+        ensures { result ≡ link_or_head (links_of self.now) self.now.heads bucket over }
     {
         match over {
             None => self.head(bucket),
@@ -144,19 +128,19 @@ impl Threads {
 
     /// Writes that link or head.
     pub(crate) fn set_link(&mut self, bucket: usize, over: Option<usize>, to: Option<usize>)
-        requires bucket { bucket < length (heads_of self.old) }
+        requires bucket { bucket < length self.old.heads }
         requires over { IfSome over (λ p. p < length (numbers_of self.old)) }
         requires listed { IfSome over (λ p. IsListed (numbers_of self.old) p) }
-        requires to { IfSome to (λ p. p < 2 ^ 63) }
+        requires to_link { IfSome to (λ p. p < 2 ^ 63) }
+        requires to_head { IfSome to (λ p. p < length self.old.heads) }
         ensures numbers { numbers_of self.new ≡ numbers_of self.old }
-        ensures links { Links bucket over to (links_of self.old) (heads_of self.old) (links_of self.new) (heads_of self.new) }
+        ensures links { Links bucket over to (links_of self.old) self.old.heads (links_of self.new) self.new.heads }
         ensures cells { length self.new.cells.items ≡ length self.old.cells.items }
-        ensures heads { length self.new.heads.items ≡ length self.old.heads.items }
+        ensures heads { length self.new.heads ≡ length self.old.heads }
     {
-        let link = link_to(to);
         match over {
-            None => self.heads[bucket] = link,
-            Some(place) => self.cells[place].link = link,
+            None => self.heads.set(bucket, to),
+            Some(place) => self.cells[place].link = link_to(to),
         }
     }
 
@@ -187,18 +171,6 @@ impl Threads {
         };
     }
 
-    /// Takes room for more cells and heads. Both stay, whatever the answer.
-    fn reserve(&mut self, cells: usize, heads: usize) -> Result<(), NoMemory>
-        ensures cells { self.new.cells.items ≡ self.old.cells.items }
-        ensures heads { self.new.heads.items ≡ self.old.heads.items }
-        ensures more_cells { OnOk result (vec_len self.new.cells + cells ≤ vec_capacity self.new.cells) }
-        ensures more_heads { OnOk result (vec_len self.new.heads + heads ≤ vec_capacity self.new.heads) }
-    {
-        let refused = self.cells.try_reserve_exact(cells).is_err()
-            || self.heads.try_reserve_exact(heads).is_err();
-        if refused { Err(NoMemory) } else { Ok(()) }
-    }
-
     /// Makes cells for all places below `to`, and threads the chains anew. A refusal changes nothing.
     pub(crate) fn grow(&mut self, to: usize) -> Result<(), NoMemory>
         requires sound { IsSound self.old }
@@ -207,12 +179,13 @@ impl Threads {
         ensures ok { OnOk result (numbers_of self.new ≡ numbers_of self.old ++ replicate (to - length (numbers_of self.old)) None) }
         ensures err { OnErr result (numbers_of self.new ≡ numbers_of self.old) }
     {
-        let cells = self.cells.len();
-        let heads = self.heads.len();
-        let Some(wanted) = heads_for(heads, to) else {
+        let Some(wanted) = heads_for(self.heads.len(), to) else {
             return Err(NoMemory);
         };
-        self.reserve(to - cells, wanted - heads)?;
+        if self.cells.try_reserve_exact(to - self.cells.len()).is_err() {
+            return Err(NoMemory);
+        }
+        self.heads.grow(wanted)?;
         let free = Cell {
             number: 0,
             link: FREE,
@@ -220,20 +193,17 @@ impl Threads {
         let Ok(()) = self.cells.resize(to, free) else {
             unreachable!()
         };
-        let Ok(()) = self.heads.resize(wanted, 0) else {
-            unreachable!()
-        };
         self.thread();
         Ok(())
     }
 
-    /// Threads the chains anew, by the numbers that the cells keep.
+    /// Threads the chains anew under empty heads, by the numbers that the cells keep.
     pub(crate) fn thread(&mut self)
-        requires { IsSized (length self.old.cells.items) (length self.old.heads.items) }
+        requires sized { IsSized (length self.old.cells.items) (length self.old.heads) }
+        requires empty { self.old.heads ≡ replicate (length self.old.heads) None }
         ensures numbers { numbers_of self.new ≡ numbers_of self.old }
         ensures sound { IsSound self.new }
     {
-        self.heads.fill(0);
         let cells = self.cells.len();
         for place in 0..cells {
             if let Some(number) = self.number(place) {
@@ -256,6 +226,7 @@ impl Threads {
             link: FREE,
         };
         self.cells.fill(free);
+        self.heads.clear();
         self.thread();
     }
 }

@@ -1,7 +1,7 @@
 use Rattle.std.proofs.Common.{◌∙◌, Bool, length, arith, sym, ap, subst}
 use Rattle.std.specs.Prelude.{IsTrue}
 use Rattle.bimap_chain.specs.Chains.{number_at, Matches, AreNumbered}
-use Rattle.bimap_chain.specs.Packed.{numbers_of, links_of, heads_of}
+use Rattle.bimap_chain.specs.Packed.{numbers_of, links_of}
 use Rattle.bimap_chain.proofs.Walk.{arrived, arrived_listed, gone_on, nothing_left, keyed, hit, miss, is_some_of, is_other, its_number}
 use Rattle.bimap_chain.proofs.hashed.Hashed.find_under.Goals as goal
 use Rattle.bimap_chain.proofs.hashed.Hashed.find_under.Goals.{else-has_number-via-then-has_number+else-same, else-has_number-via-else-has_number}
@@ -43,7 +43,7 @@ loop-at-preserved g c =
       | else-has_number-via-then-has_number+else-same w ↦ miss key_at test (numbers_of threads) place w.same.result w.same.ensures w.if-same.false
       | else-has_number-via-else-has_number w ↦ λ m. is_other _ number c.has_number.ensures w.if-has_number.false (its_number key_at number_of test (numbers_of threads) place number numbered own m)
     ] in
-    gone_on key_at number_of test (numbers_of threads) (links_of threads) (heads_of threads) c.bucket-bucket.result number c.loop-at.end place _ c.self.invariant.threaded numbered own c.bucket-bucket.ensures.value c.loop-at.invariant c.in-Some.is absent c.next-at.ensures
+    gone_on key_at number_of test (numbers_of threads) (links_of threads) threads.heads c.bucket-bucket.result number c.loop-at.end place _ c.self.invariant.threaded numbered own c.bucket-bucket.ensures.value c.loop-at.invariant c.in-Some.is absent c.next-at.ensures
 
 pub returns-clause-absent : goal.returns-clause-absent
 returns-clause-absent g c = λ p m.
@@ -54,5 +54,5 @@ returns-clause-absent g c = λ p m.
     let test : g.row.S-Key.Denot → Bool = λ k. g.S.Spread.same_key k c.args.key.now in
     let numbered = subst (λ v. AreNumbered key_at number_of v) (sym c.self.view_is) c.requires.numbered in
     let own = λ (k : g.row.S-Key.Denot) (t : IsTrue (test k)). g.met.S.Spread.alike c.args.spread.now k c.args.key.now t ∙ sym c.requires.number in
-    nothing_left key_at number_of test (numbers_of threads) (length (heads_of threads)) c.bucket-bucket.result number c.loop-at.end numbered own c.bucket-bucket.ensures.value c.loop-at.invariant c.in_default.is p
+    nothing_left key_at number_of test (numbers_of threads) (length threads.heads) c.bucket-bucket.result number c.loop-at.end numbered own c.bucket-bucket.ensures.value c.loop-at.invariant c.in_default.is p
     (subst (λ v. Matches key_at test v p) (sym c.self.view_is) m)

@@ -1,8 +1,7 @@
-use Rattle.std.proofs.Common.{◌≡◌, ◌<◌, ◌∙◌, suc, length, arith, sym, subst, ap, Some, map}
+use Rattle.std.proofs.Common.{◌≡◌, ◌<◌, ◌∙◌, suc, length, arith, sym, subst, ap, Some}
 use Rattle.std.proofs.lemmas.List.{length-map}
-use Rattle.bimap_base.specs.Packed.{link_of}
 use Rattle.bimap_chain.specs.Chains.{number_at, IsThreaded, Links}
-use Rattle.bimap_chain.specs.Packed.{number_in, numbers_of, links_of, heads_of}
+use Rattle.bimap_chain.specs.Packed.{number_in, numbers_of, links_of}
 use Rattle.bimap_chain.proofs.Sized.{as_sized}
 use Rattle.bimap_chain.proofs.Relink.{few, over_listed, link_over, listed}
 use Rattle.bimap_chain.proofs.hashed.Hashed.insert_under.Goals as goal
@@ -12,7 +11,7 @@ list-requires-clause-next c =
     let old = c.self.inside.threads in
     let i = c.self.invariant in
     let within : c.args.place < length (numbers_of old) = omega (arith, ap length c.self.view_is, c.requires.cell) in
-    few _ _ _ (suc c.args.place) _ (c.link-next.ensures ∙ link_over _ _ _ _ _ _ i.threaded c.bucket-bucket.ensures.bound within c.over-over.ensures) (omega (arith, i.sized.few, length-map old.cells.items number_in))
+    few _ _ _ (suc c.args.place) _ _ (c.link-next.ensures ∙ link_over _ _ _ _ _ _ i.threaded c.bucket-bucket.ensures.bound within c.over-over.ensures) (omega (arith, i.sized.few, length-map old.cells.items number_in))
 
 pub set_link-requires-clause-listed : goal.set_link-requires-clause-listed
 set_link-requires-clause-listed c = rw c.list.ensures.numbers (over_listed _ _ _ _ _ _ c.over-over.ensures)
@@ -25,11 +24,11 @@ invariant_of-self c =
     let place = c.args.place in
     let within : place < length (numbers_of old) = omega (arith, ap length c.self.view_is, c.requires.cell) in
     let same = c.set_link.ensures.numbers ∙ c.list.ensures.numbers in
-    let heads : heads_of c.list.new.self ≡ heads_of old = ap (λ h. map link_of h.items) c.list.ensures.heads in
-    let written = subst (λ v. Links c.bucket-bucket.result c.over-over.result (Some place) v (heads_of old) (links_of new) (heads_of new)) c.list.ensures.links
-    (subst (λ v. Links c.bucket-bucket.result c.over-over.result (Some place) (links_of c.list.new.self) v (links_of new) (heads_of new)) heads c.set_link.ensures.links) in
+    let heads : c.list.new.self.heads ≡ old.heads = c.list.ensures.heads in
+    let written = subst (λ v. Links c.bucket-bucket.result c.over-over.result (Some place) v old.heads (links_of new) new.heads) c.list.ensures.links
+    (subst (λ v. Links c.bucket-bucket.result c.over-over.result (Some place) (links_of c.list.new.self) v (links_of new) new.heads) heads c.set_link.ensures.links) in
     record {
-      sized = as_sized _ _ _ _ i.sized (c.set_link.ensures.cells ∙ c.list.ensures.cells) (c.set_link.ensures.heads ∙ ap (λ h. length h.items) c.list.ensures.heads);
-      threaded = subst (λ v. IsThreaded v (links_of new) (heads_of new)) (sym same)
+      sized = as_sized _ _ _ _ i.sized (c.set_link.ensures.cells ∙ c.list.ensures.cells) (c.set_link.ensures.heads ∙ ap length c.list.ensures.heads);
+      threaded = subst (λ v. IsThreaded v (links_of new) new.heads) (sym same)
           (listed _ _ _ _ c.args.number place _ _ _ _ i.threaded c.bucket-bucket.ensures.value within (ap (λ v. number_at v place) c.self.view_is ∙ c.requires.free) c.over-over.ensures c.link-next.ensures written);
     }

@@ -1,8 +1,7 @@
-use Rattle.std.proofs.Common.{◌≡◌, ◌∙◌, length, arith, sym, subst, ap, map}
+use Rattle.std.proofs.Common.{◌≡◌, ◌∙◌, length, arith, sym, subst, ap}
 use Rattle.std.proofs.lemmas.List.{length-map}
-use Rattle.bimap_base.specs.Packed.{link_of}
 use Rattle.bimap_chain.specs.Chains.{IsThreaded, Links}
-use Rattle.bimap_chain.specs.Packed.{number_in, numbers_of, links_of, heads_of}
+use Rattle.bimap_chain.specs.Packed.{number_in, numbers_of, links_of}
 use Rattle.bimap_chain.proofs.Sized.{as_sized}
 use Rattle.bimap_chain.proofs.Relink.{few, over_listed, listed_within, unlisted}
 use Rattle.bimap_chain.proofs.hashed.Hashed.remove.Goals as goal
@@ -10,13 +9,21 @@ use Rattle.bimap_chain.proofs.hashed.Hashed.remove.Goals as goal
 pub set_link-requires-clause-listed : goal.set_link-requires-clause-listed
 set_link-requires-clause-listed c = rw c.unlist.ensures.numbers (over_listed _ _ _ _ _ _ c.over-over.ensures)
 
-pub set_link-requires-clause-to : goal.set_link-requires-clause-to
-set_link-requires-clause-to c =
+pub set_link-requires-clause-to_link : goal.set_link-requires-clause-to_link
+set_link-requires-clause-to_link c =
     let old = c.self.inside.threads in
     let i = c.self.invariant in
     let held = sym c.number.ensures ∙ c.in-Some.is in
     let within = listed_within (numbers_of old) c.args.place c.in-Some.number held in
-    few _ _ _ _ _ (c.next-next.ensures ∙ i.threaded.links_lead c.args.place c.in-Some.number held) (omega (arith, i.sized.few, length-map old.cells.items number_in))
+    few _ _ _ _ _ _ (c.next-next.ensures ∙ i.threaded.links_lead c.args.place c.in-Some.number held) (omega (arith, i.sized.few, length-map old.cells.items number_in))
+
+pub set_link-requires-clause-to_head : goal.set_link-requires-clause-to_head
+set_link-requires-clause-to_head c =
+    let old = c.self.inside.threads in
+    let i = c.self.invariant in
+    let held = sym c.number.ensures ∙ c.in-Some.is in
+    let within = listed_within (numbers_of old) c.args.place c.in-Some.number held in
+    few _ _ _ _ _ _ (c.next-next.ensures ∙ i.threaded.links_lead c.args.place c.in-Some.number held) (omega (arith, i.sized.enough, length-map old.cells.items number_in, ap length c.unlist.ensures.heads))
 
 pub invariant_of-self : goal.invariant_of-self
 invariant_of-self c =
@@ -26,11 +33,11 @@ invariant_of-self c =
     let place = c.args.place in
     let held = sym c.number.ensures ∙ c.in-Some.is in
     let same = c.set_link.ensures.numbers ∙ c.unlist.ensures.numbers in
-    let heads : heads_of c.unlist.new.self ≡ heads_of old = ap (λ h. map link_of h.items) c.unlist.ensures.heads in
-    let written = subst (λ v. Links c.bucket-bucket.result c.over-over.result c.next-next.result v (heads_of old) (links_of new) (heads_of new)) c.unlist.ensures.links
-    (subst (λ v. Links c.bucket-bucket.result c.over-over.result c.next-next.result (links_of c.unlist.new.self) v (links_of new) (heads_of new)) heads c.set_link.ensures.links) in
+    let heads : c.unlist.new.self.heads ≡ old.heads = c.unlist.ensures.heads in
+    let written = subst (λ v. Links c.bucket-bucket.result c.over-over.result c.next-next.result v old.heads (links_of new) new.heads) c.unlist.ensures.links
+    (subst (λ v. Links c.bucket-bucket.result c.over-over.result c.next-next.result (links_of c.unlist.new.self) v (links_of new) new.heads) heads c.set_link.ensures.links) in
     record {
-      sized = as_sized _ _ _ _ i.sized (c.set_link.ensures.cells ∙ c.unlist.ensures.cells) (c.set_link.ensures.heads ∙ ap (λ h. length h.items) c.unlist.ensures.heads);
-      threaded = subst (λ v. IsThreaded v (links_of new) (heads_of new)) (sym same)
+      sized = as_sized _ _ _ _ i.sized (c.set_link.ensures.cells ∙ c.unlist.ensures.cells) (c.set_link.ensures.heads ∙ ap length c.unlist.ensures.heads);
+      threaded = subst (λ v. IsThreaded v (links_of new) new.heads) (sym same)
           (unlisted _ _ _ _ c.in-Some.number place _ _ _ _ _ i.threaded c.bucket-bucket.ensures.value held c.over-over.ensures c.next-next.ensures written);
     }

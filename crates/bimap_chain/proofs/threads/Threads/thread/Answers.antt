@@ -1,9 +1,8 @@
-use Rattle.std.proofs.Common.{◌≡◌, ◌<◌, ◌∙◌, ◌+◌, length, ap, sym, refl, subst, arith, add-one, None, Some, map}
+use Rattle.std.proofs.Common.{◌≡◌, ◌<◌, ◌∙◌, ◌+◌, length, ap, sym, refl, subst, arith, add-one, None, Some}
 use Rattle.std.specs.Prelude.{slice_index_or, slice_set}
 use Rattle.std.proofs.lemmas.List.{length-map}
-use Rattle.bimap_base.specs.Packed.{link_of}
-use Rattle.bimap_chain.specs.Packed.{number_in, next_in, numbers_of, links_of, heads_of}
-use Rattle.bimap_chain.proofs.Kept.{empty, set_same}
+use Rattle.bimap_chain.specs.Packed.{number_in, next_in, numbers_of, links_of}
+use Rattle.bimap_chain.proofs.Kept.{everywhere, set_same}
 use Rattle.bimap_chain.proofs.Sized.{as_sized}
 use Rattle.bimap_chain.proofs.Relink.{few}
 use Rattle.bimap_chain.proofs.Rethread.{ThreadedBelow, begun, passed, put_first}
@@ -13,22 +12,19 @@ use Rattle.bimap_chain.proofs.threads.Threads.thread.Goals.{in-Some, in_default}
 pub loop-place-init : goal.loop-place-init
 loop-place-init c =
     let old = c.args.self.now in
-    let filled = c.fill.ensures.items (λ y e. e) in
-    let heads = c.fill.new.self in
-    let long : length heads.items ≡ length old.heads.items = omega (arith, heads.ok, old.heads.ok, c.fill.ensures.len) in
     record {
       numbers = refl;
       cells = omega (arith, c.len-cells.ensures, old.cells.ok);
-      sized = as_sized _ _ _ _ c.requires refl long;
+      sized = c.requires.sized;
       threaded = begun _ _ _ (length-map old.cells.items next_in ∙ sym (length-map old.cells.items number_in))
-          (omega (arith, c.requires.enough, length-map old.cells.items number_in, length-map heads.items link_of))
-          (λ k l. ap (λ v. slice_index_or (map link_of v) k None) filled ∙ empty _ k);
+          (omega (arith, c.requires.sized.enough, length-map old.cells.items number_in))
+          (λ k l. ap (λ v. slice_index_or v k None) c.requires.empty ∙ everywhere _ k None);
     }
 
 pub list-requires-clause-next : goal.list-requires-clause-next
 list-requires-clause-next c =
     let i = c.loop-place.invariant in
-    few _ _ _ _ _ (c.head-next.ensures ∙ i.threaded.heads_begin _ c.bucket-bucket.ensures.bound) (omega (arith, i.sized.few, i.cells, c.loop-place-test.true))
+    few _ _ _ _ _ _ (c.head-next.ensures ∙ i.threaded.heads_begin _ c.bucket-bucket.ensures.bound) (omega (arith, i.sized.few, i.cells, c.loop-place-test.true))
 
 pub loop-place-preserved : goal.loop-place-preserved
 loop-place-preserved c =
@@ -41,16 +37,16 @@ loop-place-preserved c =
           let within : place < length (numbers_of old) = omega (arith, c.loop-place-test.true, i.cells, length-map old.cells.items number_in) in
           let same : numbers_of w.set_link.new.self ≡ numbers_of old = w.set_link.ensures.numbers ∙ w.list.ensures.numbers ∙ set_same (numbers_of old) place (Some w.in-Some.number) None within held in
           let long : length w.set_link.new.self.cells.items ≡ length old.cells.items = w.set_link.ensures.cells ∙ w.list.ensures.cells in
-          let heads : length w.set_link.new.self.heads.items ≡ length old.heads.items = w.set_link.ensures.heads ∙ ap (λ h. length h.items) w.list.ensures.heads in
-          let first = put_first (numbers_of old) (links_of old) (heads_of old) w.bucket-bucket.result w.in-Some.number place (place + 1) w.head-next.result i.threaded (add-one place) w.bucket-bucket.ensures.value held w.head-next.ensures in
+          let heads : length w.set_link.new.self.heads ≡ length old.heads = w.set_link.ensures.heads ∙ ap length w.list.ensures.heads in
+          let first = put_first (numbers_of old) (links_of old) old.heads w.bucket-bucket.result w.in-Some.number place (place + 1) w.head-next.result i.threaded (add-one place) w.bucket-bucket.ensures.value held w.head-next.ensures in
           let links = w.set_link.ensures.links.0 ∙ w.list.ensures.links in
-          let begin = w.set_link.ensures.links.1 ∙ ap (λ h. slice_set (map link_of h.items) w.bucket-bucket.result (Some place)) w.list.ensures.heads in
+          let begin = w.set_link.ensures.links.1 ∙ ap (λ h. slice_set h w.bucket-bucket.result (Some place)) w.list.ensures.heads in
           rw w.self-is record {
             numbers = same ∙ i.numbers;
             cells = long ∙ i.cells;
             sized = as_sized _ _ _ _ i.sized long heads;
-            threaded = subst (λ n. ThreadedBelow n (links_of w.set_link.new.self) (heads_of w.set_link.new.self) (place + 1)) (sym same)
-                (subst (λ n. ThreadedBelow (numbers_of old) n (heads_of w.set_link.new.self) (place + 1)) (sym links) (subst (λ n. ThreadedBelow (numbers_of old) (slice_set (links_of old) place w.head-next.result) n (place + 1)) (sym begin) first));
+            threaded = subst (λ n. ThreadedBelow n (links_of w.set_link.new.self) w.set_link.new.self.heads (place + 1)) (sym same)
+                (subst (λ n. ThreadedBelow (numbers_of old) n w.set_link.new.self.heads (place + 1)) (sym links) (subst (λ n. ThreadedBelow (numbers_of old) (slice_set (links_of old) place w.head-next.result) n (place + 1)) (sym begin) first));
           }
       | in_default w ↦
           rw w.self-is record {

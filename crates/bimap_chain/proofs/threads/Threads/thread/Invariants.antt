@@ -1,5 +1,5 @@
 use Rattle.std.proofs.Common.{◌≡◌, length}
-use Rattle.bimap_chain.specs.Packed.{numbers_of, links_of, heads_of, IsSized}
+use Rattle.bimap_chain.specs.Packed.{numbers_of, links_of, IsSized}
 use Rattle.bimap_chain.proofs.Rethread.{ThreadedBelow}
 use Rattle.bimap_chain.proofs.threads.Threads.thread.Given as goal
 
@@ -7,6 +7,6 @@ abbrev pub invariant-loop-place : goal.invariant-loop-place
 invariant-loop-place l = record {
   numbers : numbers_of l.self ≡ numbers_of l.fn.self;
   cells : length l.self.cells.items ≡ l.cells;
-  sized : IsSized (length l.self.cells.items) (length l.self.heads.items);
-  threaded : ThreadedBelow (numbers_of l.self) (links_of l.self) (heads_of l.self) l.place;
+  sized : IsSized (length l.self.cells.items) (length l.self.heads);
+  threaded : ThreadedBelow (numbers_of l.self) (links_of l.self) l.self.heads l.place;
 }
