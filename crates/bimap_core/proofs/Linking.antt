@@ -1,5 +1,5 @@
 -- An index beside the store, under writes at one place. Once for both sides: `key` is the side.
-use Rattle.std.proofs.Common.{◌≡◌, ◌≢◌, ℕ, ◌<◌, ◌≤◌, Bool, true, false, List, length, Option, Some, None, refl, sym, ap, subst, ◌∙◌, inl, inr, arith}
+use Rattle.std.proofs.Common.{◌≡◌, ◌≢◌, ℕ, ◌<◌, ◌≤◌, Bool, true, false, List, length, Option, Some, None, is_some, refl, sym, ap, subst, ◌∙◌, inl, inr, arith}
 use Rattle.std.specs.Prelude.{IfSome, IsSomeAnd, slice_set, Result, Ok, Err, OnOk, OnErr, max}
 use Rattle.std.specs.Option.{option_map}
 use Rattle.std.specs.Cmp.{IsEquivalence}
@@ -25,13 +25,13 @@ module _ {P K : Type 0} (key : P → K) (same : K → K → Bool) where
       here None h = tt
       here (Some place) h = at (pair_at slots place) h
 
-  -- the place that was found has a pair
-  pub found_live : (slots : List (Option P)) (k : K) (place : ℕ) → IsSomeAnd (pair_at slots place) (λ p. same (key p) k ≡ true) → (p : P) × (pair_at slots place ≡ Some p)
-  found_live slots k place h = by (pair_at slots place) h
+  -- the place that was found has a pair, and so a key on the other side
+  pub found_beside : {Q : Type 0} (other : P → Q) (slots : List (Option P)) (k : K) (o : Option ℕ) → IsFoundBy (keys_in slots) same k o → (place : ℕ) → o ≡ Some place → is_some (option_map other (pair_at slots place)) ≡ true
+  found_beside other slots k o f place e = by (pair_at slots place) (rw e at (found_at slots k o f).here)
     where
-      by : (o : Option P) → IsSomeAnd o (λ p. same (key p) k ≡ true) → (p : P) × (o ≡ Some p)
+      by : (p : Option P) → IsSomeAnd p (λ p. same (key p) k ≡ true) → is_some (option_map other p) ≡ true
       by None h = absurd h
-      by (Some p) h = (p, refl)
+      by (Some p) h = refl
 
   -- where each place has what it had, so does the side
   pub keys_kept : (old new : List (Option P)) → ((place : ℕ) → pair_at new place ≡ pair_at old place) → keys_in old ≡ keys_in new

@@ -34,15 +34,19 @@ module _ {L R : Type 0} where
       fits = fits_in (slice_set slots place (Some pair));
     }
 
-    pub facts_taken : AreFacts same_left same_right (slice_set slots place None) LeftLists RightLists left_cells right_cells
-    facts_taken = record {
-      left_listing = merely left;
-      right_listing = merely right;
-      left_cells = omega (arith, length-set slots place None);
-      right_cells = omega (arith, length-set slots place None);
-      apart = apart_taken same_left same_right lefts rights slots place inside apart;
-      fits = fits_in (slice_set slots place None);
-    }
+  -- the same where the pair of a place is taken out, of which both indexes were left without
+  pub facts_taken : {same_left : L → L → Bool} {same_right : R → R → Bool} → IsEquivalence same_left → IsEquivalence same_right → (slots : List (Option (L × R))) (place : ℕ) (p : L × R) → pair_at slots place ≡ Some p → IsApart same_left same_right (pairs_in slots) → (LeftLists : (ℕ → Option L) → Type 0) (RightLists : (ℕ → Option R) → Type 0) → ((f : ℕ → Option L) → IsWithout f (keys_in (λ p. p.0) same_left slots) place → LeftLists f) → ((f : ℕ → Option R) → IsWithout f (keys_in (λ p. p.1) same_right slots) place → RightLists f)
+      → (left_cells right_cells : ℕ) → length slots ≤ left_cells → length slots ≤ right_cells → AreFacts same_left same_right (slice_set slots place None) (LeftLists (keys_in (λ p. p.0) same_left (slice_set slots place None))) (RightLists (keys_in (λ p. p.1) same_right (slice_set slots place None))) left_cells right_cells
+  facts_taken {same_left} {same_right} lefts rights slots place p was apart LeftLists RightLists left right left_cells right_cells in_left in_right =
+      let inside = live_within slots place p was in
+      record {
+        left_listing = merely (left _ (taken_without (λ p. p.0) same_left slots place inside));
+        right_listing = merely (right _ (taken_without (λ p. p.1) same_right slots place inside));
+        left_cells = omega (arith, length-set slots place None);
+        right_cells = omega (arith, length-set slots place None);
+        apart = apart_taken same_left same_right lefts rights slots place inside apart;
+        fits = fits_in (slice_set slots place None);
+      }
 
 -- an index still lists its side where a pair was written over one with an equal key
 pub lists_over : {P K X : Type 0} (key : P → K) {same : K → K → Bool} → IsEquivalence same → {IsListing : X → (ℕ → Option K) → Type 0} → ((index : X) (f g : ℕ → Option K) → ((p : ℕ) → IsAlike same (f p) (g p)) → IsListing index f → IsListing index g)

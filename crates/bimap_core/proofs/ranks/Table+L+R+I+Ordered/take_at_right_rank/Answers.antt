@@ -1,5 +1,4 @@
-use Rattle.std.proofs.Common.{sym, ap, refl, ◌∙◌, length, None}
-use Rattle.std.proofs.lemmas.List.{length-set}
+use Rattle.std.proofs.Common.{sym, refl}
 use Rattle.bimap_core.proofs.Ascending.{none_ranked, all_ranked, live_ranked, some_ranked, parted_ranked, walked_without, store_without}
 use Rattle.bimap_core.proofs.ranks.Table+L+R+I+Ordered.take_at_right_rank.Goals as goal
 
@@ -27,6 +26,3 @@ returns-clause-removed g c =
     let t = c.args.self.now in
     let n = c.take.new.self in
     store_without g.met.L.Eq.laws g.met.R.Eq.laws (λ p. p.1) g.met.R.Ord.total g.met.R.Ord.matches_eq t.pairs n.pairs t.right.places n.right.places t.right_listing n.right_listing t.apart c.in_ok-taken.taken c.take.result c.take.ensures.was c.take.ensures.pairs
-
-pub returns-clause-room : goal.returns-clause-room
-returns-clause-room g c = ap length c.take.ensures.pairs ∙ length-set c.args.self.now.pairs c.in_ok-taken.taken None

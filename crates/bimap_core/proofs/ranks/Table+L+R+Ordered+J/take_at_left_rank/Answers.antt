@@ -1,5 +1,4 @@
-use Rattle.std.proofs.Common.{sym, ap, refl, ◌∙◌, length, None}
-use Rattle.std.proofs.lemmas.List.{length-set}
+use Rattle.std.proofs.Common.{sym, refl}
 use Rattle.bimap_core.proofs.Ascending.{none_ranked, all_ranked, live_ranked, some_ranked, parted_ranked, walked_without}
 use Rattle.bimap_core.proofs.ranks.Table+L+R+Ordered+J.take_at_left_rank.Goals as goal
 
@@ -21,6 +20,3 @@ returns-clause-rest g c =
     let n = c.take.new.self in
     walked_without g.met.L.Eq.laws g.met.R.Eq.laws (λ p. p.0) g.met.L.Ord.total g.met.L.Ord.matches_eq t.pairs n.pairs t.left.places n.left.places t.left_listing n.left_listing t.apart c.in_ok-taken.taken c.take.result c.take.ensures.was c.take.ensures.pairs
     _ _ (parted_ranked (λ p. p.0) g.met.L.Ord.total g.met.L.Ord.matches_eq c.args.self.now.pairs c.args.self.now.left.places c.args.self.now.left_listing c.args.rank c.in_ok-taken.taken (rw c.place_at.ensures.place at c.in_ok-taken.was) c.take.result c.take.ensures.was)
-
-pub returns-clause-room : goal.returns-clause-room
-returns-clause-room g c = ap length c.take.ensures.pairs ∙ length-set c.args.self.now.pairs c.in_ok-taken.taken None
