@@ -1,7 +1,7 @@
 -- The chains threaded anew, place by place.
 use Rattle.std.proofs.Common.{◌≡◌, ℕ, suc, ◌%◌, ◌<◌, ◌≤◌, List, length, Option, None, Some, sym, ◌∙◌, ap, subst, arith, ◌⊎◌, inl, inr, length-set, get_or-set_same, get_or-set_other}
 use Rattle.std.specs.Prelude.{slice_index_or, slice_set}
-use Rattle.bimap_chain.specs.Chains.{Numbers, number_at, is_of, last_below, IsThreaded}
+use Rattle.bimap_chain.specs.Chains.{Numbers, number_at, is_of, last_below}
 use Rattle.bimap_chain.proofs.Below.{last_here, last_lower}
 use Rattle.bimap_chain.proofs.Relink.{listed_within, is_own, is_others, same_or_not}
 
@@ -61,11 +61,3 @@ put_first c links heads b number place done old t e own held read =
           ])
           ∙ ap (λ r. last_below c r (m % r) q) (sym long);
     }
-
-pub finished : (c : Numbers) (links heads : List (Option ℕ)) (done : ℕ) → ThreadedBelow c links heads done → done ≡ length c → IsThreaded c links heads
-finished c links heads done t e = record {
-  as_many_links = t.as_many_links;
-  enough_heads = t.enough_heads;
-  heads_begin = λ k i. t.heads_begin k i ∙ ap (last_below c (length heads) k) e;
-  links_lead = λ q m a. t.links_lead q m (omega (arith, listed_within c q m a)) a;
-}

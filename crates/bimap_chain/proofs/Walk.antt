@@ -27,9 +27,6 @@ pub record AtStep (c : Numbers) (n b place : ℕ) (over : Option ℕ) (end : ℕ
 pub came_to : (c : Numbers) (n b place : ℕ) (over : Option ℕ) (end next : ℕ) {at : Option ℕ} → AtStep c n b place over end at → at ≡ Some next → (next < end) × (next < length c)
 came_to c n b place over end next s e = let f = found n b c end next (sym s.at_last ∙ e) in (f.0, omega (arith, f.0, s.within))
 
-pub started : (c : Numbers) (links heads : List (Option ℕ)) (b place : ℕ) → IsThreaded c links heads → b < length heads → place < length c → AtStep c (length heads) b place None (length c) (slice_index_or heads b None)
-started c links heads b place t l r = record { at_last = t.heads_begin b l; above = r; within = omega arith; over_end = refl }
-
 pub stepped : (c : Numbers) (links heads : List (Option ℕ)) (b place : ℕ) (over : Option ℕ) (end next : ℕ) {at : Option ℕ} (read : Option ℕ) → IsThreaded c links heads → AtStep c (length heads) b place over end at → at ≡ Some next → place < next → read ≡ slice_index_or links next None → AtStep c (length heads) b place (Some next) next read
 stepped c links heads b place over end next read t s e l r =
     let f = found (length heads) b c end next (sym s.at_last ∙ e) in
