@@ -185,29 +185,11 @@ back_string_json s = record { as_value = s; reads = refl; only = λ k e. (bytes_
 
 -- at each type
 
-pub back_u8 : (n : ℕ) → n < 256 → ReadsBack nat_eq (IsUnsignedText 8 (decimal n)) n
-back_u8 = back_unsigned 8 (omega arith)
-
-pub back_u8_json : (n : ℕ) → n < 256 → ReadsBack nat_eq (IsUnsignedValue 8 (number (unsigned n))) n
-back_u8_json = back_unsigned_json 8 (omega arith)
-
 pub narrow_u8 : (s : List ℕ) (n : ℕ) → IsUnsignedText 64 s n → (n < 256 → ⊥) → (k : ℕ) → IsUnsignedText 8 s k → ⊥
 narrow_u8 = narrow_unsigned 8 (omega arith)
 
-pub back_u32 : (n : ℕ) → n < 4294967296 → ReadsBack nat_eq (IsUnsignedText 32 (decimal n)) n
-back_u32 = back_unsigned 32 (omega arith)
-
-pub back_u32_json : (n : ℕ) → n < 4294967296 → ReadsBack nat_eq (IsUnsignedValue 32 (number (unsigned n))) n
-back_u32_json = back_unsigned_json 32 (omega arith)
-
 pub narrow_u32 : (s : List ℕ) (n : ℕ) → IsUnsignedText 64 s n → (n < 4294967296 → ⊥) → (k : ℕ) → IsUnsignedText 32 s k → ⊥
 narrow_u32 = narrow_unsigned 32 (omega arith)
-
-pub back_u64 : (n : ℕ) → n < 18446744073709551616 → ReadsBack nat_eq (IsUnsignedText 64 (decimal n)) n
-back_u64 = back_unsigned 64 (omega arith)
-
-pub back_u64_json : (n : ℕ) → n < 18446744073709551616 → ReadsBack nat_eq (IsUnsignedValue 64 (number (unsigned n))) n
-back_u64_json = back_unsigned_json 64 (omega arith)
 
 pub back_i32 : (z : ℤ) → FitsSigned w32 z → ReadsBack int_eq (IsSignedText 31 (signed_decimal z)) z
 back_i32 z h = back_signed 31 (omega arith) z (fits_within_32 z h)

@@ -17,7 +17,7 @@ impl JsonKey for u8 {
 
     ghost reads_key = { IsUnsignedText 8 };
 
-    #[tactic(auto, using(crate::proofs::JsonTexts::back_u8))]
+    #[tactic(auto, using(crate::proofs::JsonTexts::back_unsigned))]
     fn to_key(&self, alloc: Global) -> Result<String, NoMemory> {
         let key: u8 = *self;
         Ok(key.to_string(alloc)?)
@@ -40,7 +40,7 @@ impl JsonValue for u8 {
 
     ghost reads = { IsUnsignedValue 8 };
 
-    #[tactic(auto, using(crate::proofs::JsonTexts::back_u8_json))]
+    #[tactic(auto, using(crate::proofs::JsonTexts::back_unsigned_json))]
     fn to_json(&self, _alloc: Global) -> Result<Value, NoMemory>
         ensures json { IfOk result (λ v. view v ≡ number (unsigned self.now)) }
         ensures reads_back { ReadsBack nat_eq (IsUnsignedValue 8 (number (unsigned self.now))) self.now }
@@ -66,7 +66,7 @@ impl JsonKey for u32 {
 
     ghost reads_key = { IsUnsignedText 32 };
 
-    #[tactic(auto, using(crate::proofs::JsonTexts::back_u32))]
+    #[tactic(auto, using(crate::proofs::JsonTexts::back_unsigned))]
     fn to_key(&self, alloc: Global) -> Result<String, NoMemory> {
         let key: u32 = *self;
         Ok(key.to_string(alloc)?)
@@ -89,7 +89,7 @@ impl JsonValue for u32 {
 
     ghost reads = { IsUnsignedValue 32 };
 
-    #[tactic(auto, using(crate::proofs::JsonTexts::back_u32_json))]
+    #[tactic(auto, using(crate::proofs::JsonTexts::back_unsigned_json))]
     fn to_json(&self, _alloc: Global) -> Result<Value, NoMemory>
         ensures json { IfOk result (λ v. view v ≡ number (unsigned self.now)) }
         ensures reads_back { ReadsBack nat_eq (IsUnsignedValue 32 (number (unsigned self.now))) self.now }
@@ -115,7 +115,7 @@ impl JsonKey for u64 {
 
     ghost reads_key = { IsUnsignedText 64 };
 
-    #[tactic(auto, using(crate::proofs::JsonTexts::back_u64))]
+    #[tactic(auto, using(crate::proofs::JsonTexts::back_unsigned))]
     fn to_key(&self, alloc: Global) -> Result<String, NoMemory> {
         let key: u64 = *self;
         Ok(key.to_string(alloc)?)
@@ -134,7 +134,7 @@ impl JsonValue for u64 {
 
     ghost reads = { IsUnsignedValue 64 };
 
-    #[tactic(auto, using(crate::proofs::JsonTexts::back_u64_json))]
+    #[tactic(auto, using(crate::proofs::JsonTexts::back_unsigned_json))]
     fn to_json(&self, _alloc: Global) -> Result<Value, NoMemory>
         ensures json { IfOk result (λ v. view v ≡ number (unsigned self.now)) }
         ensures reads_back { ReadsBack nat_eq (IsUnsignedValue 64 (number (unsigned self.now))) self.now }
