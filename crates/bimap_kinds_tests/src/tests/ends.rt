@@ -24,111 +24,68 @@ fn put_all<B: Bijection<u32, u32>>(bimap: &mut B, pairs: u32) -> Result<(), Fail
     Ok(())
 }
 
-fn by_left(alloc: Global, pairs: u32) -> Result<BTreeMap<u32, u32>, AllocError> {
+// A pair as an entry of the map by left, or of the one by right, and back.
+fn turned(by_right: bool, (a, b): (u32, u32)) -> (u32, u32) {
+    if by_right { (b, a) } else { (a, b) }
+}
+
+fn copied((a, b): (&u32, &u32)) -> (u32, u32) {
+    (*a, *b)
+}
+
+fn entries(alloc: Global, pairs: u32, by_right: bool) -> Result<BTreeMap<u32, u32>, AllocError> {
     let mut map = BTreeMap::new(alloc);
     for at in 0..pairs {
-        let (left, right) = pair(at);
-        map.insert(left, right)?;
+        let (value, other) = turned(by_right, pair(at));
+        map.insert(value, other)?;
     }
     Ok(map)
 }
 
-fn by_right(alloc: Global, pairs: u32) -> Result<BTreeMap<u32, u32>, AllocError> {
-    let mut map = BTreeMap::new(alloc);
-    for at in 0..pairs {
-        let (left, right) = pair(at);
-        map.insert(right, left)?;
-    }
-    Ok(map)
-}
-
-// The pair of an entry of the map by left, and of the one by right.
-fn as_it_is((left, right): (&u32, &u32)) -> (u32, u32) {
-    (*left, *right)
-}
-
-fn turned((right, left): (&u32, &u32)) -> (u32, u32) {
-    (*left, *right)
-}
-
-// Compares the ends and each rank of a side with those of a map by its values.
-macro_rules! assert_ranks {
-    ($rt:expr, $bimap:expr, $map:expr, $pair:ident, $first:ident, $last:ident, $at:ident, $rank:ident) => {{
-        assert!($rt; $bimap.$first().map(as_it_is) == $map.first_key_value().map($pair));
-        assert!($rt; $bimap.$last().map(as_it_is) == $map.last_key_value().map($pair));
-        let mut rank = 0usize;
-        for (value, other) in $map.iter() {
-            assert!($rt; $bimap.$at(rank).map(as_it_is) == Some($pair((value, other))), "{rank}");
-            assert_eq!($rt; $bimap.$rank(value), rank);
-            rank = rank.saturating_add(1);
+// Compares the ends and each rank of a side with those of a map by its values, while the ends are taken out of both.
+macro_rules! assert_ends {
+    ($rt:expr, $empty:expr, $by_right:expr, $first:ident, $last:ident, $at:ident, $rank:ident, $pop_first:ident, $pop_last:ident) => {{
+        for length in LENGTHS {
+            let mut bimap = $empty;
+            put_all(&mut bimap, length)?;
+            let mut map = entries($rt.alloc(), length, $by_right)?;
+            let room = bimap.capacity();
+            for at in 0..POPS {
+                let first = map.first_key_value().map(copied);
+                let last = map.last_key_value().map(copied);
+                assert!($rt; bimap.$first().map(copied) == first.map(|entry| turned($by_right, entry)));
+                assert!($rt; bimap.$last().map(copied) == last.map(|entry| turned($by_right, entry)));
+                let mut rank = 0usize;
+                for (value, other) in map.iter() {
+                    let wanted = turned($by_right, (*value, *other));
+                    assert!($rt; bimap.$at(rank).map(copied) == Some(wanted), "{rank}");
+                    assert_eq!($rt; bimap.$rank(value), rank);
+                    rank = rank.saturating_add(1);
+                }
+                assert!($rt; bimap.$at(rank).is_none() && bimap.$at(usize::MAX).is_none());
+                assert_eq!($rt; bimap.$rank(&u32::MAX), rank);
+                let (popped, wanted) = if at % 3 == 0 {
+                    (bimap.$pop_first(), map.pop_first())
+                } else {
+                    (bimap.$pop_last(), map.pop_last())
+                };
+                assert!($rt; popped == wanted.map(|entry| turned($by_right, entry)), "{length} {at}");
+            }
+            assert!($rt; bimap.is_empty() && bimap.capacity() == room);
         }
-        assert!($rt; $bimap.$at(rank).is_none() && $bimap.$at(usize::MAX).is_none());
-        assert_eq!($rt; $bimap.$rank(&u32::MAX), rank);
     }};
 }
 
 macro_rules! assert_lefts {
-    ($rt:expr, $empty:expr) => {{
-        for length in LENGTHS {
-            let mut bimap = $empty;
-            put_all(&mut bimap, length)?;
-            let mut map = by_left($rt.alloc(), length)?;
-            let room = bimap.capacity();
-            for at in 0..POPS {
-                assert_ranks!(
-                    $rt,
-                    bimap,
-                    map,
-                    as_it_is,
-                    first_by_left,
-                    last_by_left,
-                    pair_at_left_rank,
-                    left_rank
-                );
-                if at % 3 == 0 {
-                    assert!($rt; bimap.pop_first_by_left() == map.pop_first(), "{length} {at}");
-                } else {
-                    assert!($rt; bimap.pop_last_by_left() == map.pop_last(), "{length} {at}");
-                }
-            }
-            assert!($rt; bimap.is_empty() && bimap.capacity() == room);
-        }
-    }};
+    ($rt:expr, $empty:expr) => {
+        assert_ends!($rt, $empty, false, first_by_left, last_by_left, pair_at_left_rank, left_rank, pop_first_by_left, pop_last_by_left)
+    };
 }
 
 macro_rules! assert_rights {
-    ($rt:expr, $empty:expr) => {{
-        for length in LENGTHS {
-            let mut bimap = $empty;
-            put_all(&mut bimap, length)?;
-            let mut map = by_right($rt.alloc(), length)?;
-            let room = bimap.capacity();
-            for at in 0..POPS {
-                assert_ranks!(
-                    $rt,
-                    bimap,
-                    map,
-                    turned,
-                    first_by_right,
-                    last_by_right,
-                    pair_at_right_rank,
-                    right_rank
-                );
-                let popped = if at % 3 == 0 {
-                    bimap.pop_first_by_right()
-                } else {
-                    bimap.pop_last_by_right()
-                };
-                let wanted = if at % 3 == 0 {
-                    map.pop_first()
-                } else {
-                    map.pop_last()
-                };
-                assert!($rt; popped == wanted.map(|(right, left)| (left, right)), "{length} {at}");
-            }
-            assert!($rt; bimap.is_empty() && bimap.capacity() == room);
-        }
-    }};
+    ($rt:expr, $empty:expr) => {
+        assert_ends!($rt, $empty, true, first_by_right, last_by_right, pair_at_right_rank, right_rank, pop_first_by_right, pop_last_by_right)
+    };
 }
 
 #[test]
