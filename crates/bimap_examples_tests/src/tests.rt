@@ -1,7 +1,10 @@
 //! What the examples share: the bimaps that they begin with.
+mod any;
 mod changes;
+mod json;
 mod looks;
 mod made;
+mod marks;
 mod sides;
 
 use bimap::{BiBTreeMap, BiHashMap, ExtendStopped};
