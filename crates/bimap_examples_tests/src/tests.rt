@@ -5,6 +5,7 @@ mod json;
 mod looks;
 mod made;
 mod marks;
+mod recipes;
 mod sides;
 
 use bimap::{BiBTreeMap, BiHashMap, ExtendStopped};
