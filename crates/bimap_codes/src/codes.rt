@@ -1,15 +1,25 @@
 //! Names with their codes, each once. It names the facade alone, and has no proof of its own.
-ghost use Rattle.std.specs.Prelude.{◌≡◌, Contains, IfOk, OnOk, OnErr};
+ghost use Rattle.std.specs.Prelude.{◌≡◌, ◌≤◌, [], length, List, Contains, IfOk, IfErr, OnOk, OnErr};
+ghost use Rattle.std.specs.Iterator.{IsFiniteIterable};
 ghost use Rattle.bimap.specs.BTree.{holding};
+ghost use Rattle.bimap.specs.Extension.{IsExtensionUnder, IsExtensionStoppedUnder, IsRefusedNextUnder};
 ghost use Rattle.bimap.specs.Holding.{IsFoundByLeft, IsFoundByRight};
 ghost use Rattle.bimap.specs.JsonObjects.{IsObjectOf, IsEntryOf, EachReadsBack, ReadsObjectUnder};
 ghost use Rattle.bimap.specs.Sets.{IsWithPut, LacksLeft, LacksRight};
 ghost use Rattle.bimap.specs.View.{view};
 
 use bimap::value::{JsonFault, JsonKey, JsonObject, JsonValue, Value, read_into_with};
-use bimap::{BiBTreeHashMap, NoMemory, NotInserted, OnHeld, Policy};
+use bimap::{
+    BiBTreeHashMap, ItemRefused, NoMemory, NotInserted, OnHeld, Policy, extend_with, from_iter_with,
+};
 use std::alloc::Global;
 use std::hash::Hash;
+
+// Each name and each code once.
+const ONCE: Policy = Policy {
+    left: OnHeld::Refuse,
+    right: OnHeld::Refuse,
+};
 
 /// The table of a JSON object, whose keys are the names. Of entries that repeat a name or a code the first is told, by its
 /// place in the byte order of the names.
@@ -21,11 +31,23 @@ pub fn read_codes<L: JsonKey + Ord + Drop, R: JsonValue + Eq + Hash + Drop>(
 ) -> Result<BiBTreeHashMap<L, R>, JsonFault>
     ensures { ReadsObjectUnder L.reads_key R.reads L.eq R.eq holding (view object.now) (record { left = OnHeld.Refuse; right = OnHeld.Refuse }) result }
 {
-    let once = Policy {
-        left: OnHeld::Refuse,
-        right: OnHeld::Refuse,
-    };
-    read_into_with(alloc, BiBTreeHashMap::new(alloc), object, once)
+    read_into_with(alloc, BiBTreeHashMap::new(alloc), object, ONCE)
+}
+
+/// An empty table, filled with names and their codes. The first that repeats a name or a code ends it, and is handed back
+/// with its number.
+///
+/// Costs one insertion an item, and takes memory only where no place is free. An `Err` leaves no table.
+pub fn collect_codes<L: Ord + Drop, R: Eq + Hash + Drop, I: IntoIterator<Item = (L, R)>>(
+    empty: BiBTreeHashMap<L, R>,
+    items: I,
+) -> Result<BiBTreeHashMap<L, R>, ItemRefused<L, R>>
+    requires empty { (holding empty).pairs ≡ [] }
+    requires ends { IsFiniteIterable I.into_iter_gives I.IntoIter.can_next I.IntoIter.remaining items }
+    ensures table { IfOk result (λ codes. IsExtensionUnder L.eq R.eq (I.into_iter_gives items) I.IntoIter.next_gives (holding empty) (record { left = OnHeld.Refuse; right = OnHeld.Refuse }) (holding codes)) }
+    ensures refused { IfErr result (λ e. (taken : List (L × R)) × IsRefusedNextUnder L.eq R.eq (I.into_iter_gives items) I.IntoIter.next_gives (Contains []) ((holding empty).room ≤ length taken) taken (record { left = OnHeld.Refuse; right = OnHeld.Refuse }) e) }
+{
+    from_iter_with(empty, items, ONCE)
 }
 
 /// The JSON object of the table. What it says reads back as what is held.
@@ -67,4 +89,18 @@ pub fn assign<L: Ord + Drop, R: Eq + Hash + Drop>(
     ensures unchanged { OnErr result (holding codes.new ≡ holding codes.old) }
 {
     codes.insert_no_overwrite(name, code)
+}
+
+/// Gives new names free codes, in order. The first of which either is taken ends it, and is handed back with its number.
+///
+/// Costs one insertion an item, and takes memory where no place is free. An `Err` keeps what was assigned before it.
+pub fn assign_all<L: Ord + Drop, R: Eq + Hash + Drop, I: IntoIterator<Item = (L, R)>>(
+    codes: &mut BiBTreeHashMap<L, R>,
+    items: I,
+) -> Result<(), ItemRefused<L, R>>
+    requires { IsFiniteIterable I.into_iter_gives I.IntoIter.can_next I.IntoIter.remaining items }
+    ensures assigned { OnOk result (IsExtensionUnder L.eq R.eq (I.into_iter_gives items) I.IntoIter.next_gives (holding codes.old) (record { left = OnHeld.Refuse; right = OnHeld.Refuse }) (holding codes.new)) }
+    ensures stopped { IfErr result (λ e. IsExtensionStoppedUnder L.eq R.eq (I.into_iter_gives items) I.IntoIter.next_gives (holding codes.old) (record { left = OnHeld.Refuse; right = OnHeld.Refuse }) e (holding codes.new)) }
+{
+    extend_with(codes, items, ONCE)
 }

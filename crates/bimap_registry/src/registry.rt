@@ -5,6 +5,7 @@ ghost use Rattle.std.specs.Ordering.{nat_cmp};
 ghost use Rattle.std.specs.declared.cmp.Ordering.TheVariants.{Less};
 ghost use Rattle.std.specs.Iterator.{IsFiniteIterable};
 ghost use Rattle.bimap.specs.BTree.{holding};
+ghost use Rattle.bimap.specs.Capacity.{IsShrink};
 ghost use Rattle.bimap.specs.Exchange.{IsReplacementOfLeft, IsReplacementOfRight};
 ghost use Rattle.bimap.specs.Extension.{IsExtensionUnder};
 ghost use Rattle.bimap.specs.Holding.{IsFoundByLeft, IsFoundByRight, IsInsertionWithoutOverwriting};
@@ -14,7 +15,8 @@ ghost use Rattle.bimap_registry.specs.Batch.{IsTakenBack};
 
 use bimap::btree::Iter;
 use bimap::{
-    BiBTreeMap, ItemRefused, NotInserted, NotReplaced, OnHeld, Policy, replace_left, replace_right,
+    BiBTreeMap, ItemRefused, NoMemory, NotInserted, NotReplaced, OnHeld, Policy, replace_left,
+    replace_right,
 };
 use bimap_undo::Undoable;
 use std::alloc::Global;
@@ -76,6 +78,15 @@ pub fn renumber(registry: &mut Registry, from: &u32, to: u32) -> Result<u32, Not
     ensures { IsReplacementOfLeft nat_eq (holding registry.old) from.now to result (holding registry.new) }
 {
     replace_left(registry, from, to)
+}
+
+/// Gives back the places that no member has, and takes memory for the others anew.
+///
+/// Costs time in proportion to the places, and for both sides a search a member. An `Err` changes nothing.
+pub fn give_back_room(registry: &mut Registry) -> Result<(), NoMemory>
+    ensures { IsShrink (holding registry.old) 0 result (holding registry.new) }
+{
+    registry.shrink_to_fit()
 }
 
 /// Registers all of these in a registry with a record of its changes, or none: the first of which the id or the name is

@@ -1,6 +1,8 @@
 //! What the lines ask for, and a batch that is undone.
 use crate::line::{BadLine, Request, parse_line};
-use crate::registry::{Registry, id_of, name_of, register, register_all, rename, renumber};
+use crate::registry::{
+    Registry, give_back_room, id_of, name_of, register, register_all, rename, renumber,
+};
 use bimap::{BiBTreeMap, NotInserted, NotInsertedWith};
 use std::process::Abort;
 use std::test::Fail;
@@ -62,6 +64,15 @@ fn either_taken_is_refused(rt: HostRuntime) {
     );
     assert_eq!(rt; renumber(&mut registry, &2, 7), Ok(2));
     assert_eq!(rt; id_of(&registry, &text(&rt, "bob")).copied(), Some(7));
+}
+
+#[test]
+fn spare_room_is_given_back(rt: HostRuntime) {
+    let mut registry = two(&rt);
+    assert_eq!(rt; registry.capacity(), 4);
+    assert_eq!(rt; give_back_room(&mut registry), Ok(()));
+    assert_eq!(rt; (registry.len(), registry.capacity()), (2, 2));
+    assert_eq!(rt; id_of(&registry, &text(&rt, "bob")).copied(), Some(2));
 }
 
 #[test]

@@ -1,8 +1,9 @@
 //! Guests with their seats, one each. It names the facade alone, and has no proof of its own.
-ghost use Rattle.std.specs.Prelude.{◌≡◌, ◌≤◌, ◌&&◌, nat_le, nat_lt, Contains, IfOk, OnOk, OnErr};
+ghost use Rattle.std.specs.Prelude.{◌≡◌, ◌≤◌, ◌-◌, ◌&&◌, nat_le, nat_lt, length, slice_get, option_map, Contains, IfOk, OnOk, OnErr};
 ghost use Rattle.std.specs.List.{filter};
+ghost use Rattle.std.specs.Map.Iter.{deref_pair};
 ghost use Rattle.bimap.specs.Answer.{IsAnswer};
-ghost use Rattle.bimap.specs.BTree.{holding, by_right};
+ghost use Rattle.bimap.specs.BTree.{holding, by_right, IsByRight};
 ghost use Rattle.bimap.specs.Holding.{IsFoundByLeft, IsFoundByRight, IsInsertion, IsRemovalByLeft};
 ghost use Rattle.bimap.specs.Sets.{IsWithPut, LacksRight};
 
@@ -83,4 +84,20 @@ pub fn row<G: Eq + Hash>(
     ensures { result ≡ filter (λ p. nat_le first p.1 && nat_lt p.1 end) (by_right seats.now) }
 {
     seats.right_range(first..end)
+}
+
+/// The guest on the first seat that is taken, and the seat. It takes logarithmic time, and no memory.
+pub fn first_taken<G: Eq + Hash, S: Ord>(seats: &BiHashBTreeMap<G, S>) -> Option<(&G, &S)>
+    ensures pair { option_map deref_pair result ≡ slice_get (by_right seats.now) 0 }
+    ensures sorted { IsByRight S.cmp (holding seats.now).pairs (by_right seats.now) }
+{
+    seats.first_by_right()
+}
+
+/// The guest on the last seat that is taken, and the seat. It takes logarithmic time, and no memory.
+pub fn last_taken<G: Eq + Hash, S: Ord>(seats: &BiHashBTreeMap<G, S>) -> Option<(&G, &S)>
+    ensures pair { option_map deref_pair result ≡ slice_get (by_right seats.now) (length (by_right seats.now) - 1) }
+    ensures sorted { IsByRight S.cmp (holding seats.now).pairs (by_right seats.now) }
+{
+    seats.last_by_right()
 }
