@@ -1,3 +1,4 @@
+use Rattle.std.proofs.Common.{rules}
 use Rattle.bimap_base.proofs.HoldingsAlike.{interning_alike}
 use Rattle.bimap_kinds.proofs.Walk.{table_alike, right_walk, table_facts, unchanged_walked, walked_same}
 use Rattle.bimap_kinds.proofs.map.BijectiveMap.get_by_left_or_insert_metered.Goals as goal
@@ -10,3 +11,6 @@ returns-clause-answer g c =
     interning_alike _ _ (table_alike c.args.self.now.table g.met.I.Index.listed g.met.I.Index.distinct g.met.I.Index.settled) _ _ (table_alike c.get_by_left_or_insert.new.self g.met.I.Index.listed g.met.I.Index.distinct g.met.I.Index.settled) g.L.PartialEq.eq g.R.PartialEq.eq (c.args.left, c.args.right) c.get_by_left_or_insert.result
     (λ has. walked_same _ _ _ _ (c.get_by_left_or_insert.ensures.held_slots has) (c.get_by_left_or_insert.ensures.held_places has))
     (unchanged_walked c.get_by_left_or_insert.result _ _ _ _ c.get_by_left_or_insert.ensures.slots c.get_by_left_or_insert.ensures.places) c.get_by_left_or_insert.ensures.answer
+
+pub returns-clause-comparisons : goal.returns-clause-comparisons
+returns-clause-comparisons g c = search rules

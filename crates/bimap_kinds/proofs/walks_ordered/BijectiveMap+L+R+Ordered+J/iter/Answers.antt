@@ -6,3 +6,6 @@ pub iter-requires : goal.iter-requires
 iter-requires g c =
     let table = c.args.self.now.table in
     all_live table.pairs table.left.places (order_walk (λ p. p.0) g.met.L.Ord.total g.met.L.Ord.matches_eq table.pairs table.left.places table.left_listing)
+
+pub returns-clause-rest : goal.returns-clause-rest
+returns-clause-rest g c = search

@@ -1,0 +1,4 @@
+use Rattle.bimap_kinds.proofs.ends.BijectiveMap+L+R+I+Ordered.first_by_right.Goals as goal
+
+pub returns-clause-pair : goal.returns-clause-pair
+returns-clause-pair g c = search

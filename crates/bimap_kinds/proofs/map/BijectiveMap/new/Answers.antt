@@ -1,0 +1,4 @@
+use Rattle.bimap_kinds.proofs.map.BijectiveMap.new.Goals as goal
+
+pub returns-clause-room : goal.returns-clause-room
+returns-clause-room g c = search
