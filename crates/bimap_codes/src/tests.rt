@@ -42,19 +42,35 @@ fn a_table_is_read_both_ways(rt: HostRuntime) -> Result<(), Fail> {
     Ok(())
 }
 
+type Codes = BiBTreeHashMap<char, u32>;
+
+type Items = [(char, u32); 3];
+
+fn collected(alloc: Global, items: Items) -> Result<Codes, ItemRefused<char, u32>> {
+    collect_codes(BiBTreeHashMap::new(alloc), items)
+}
+
+fn assigned(codes: &mut Codes, items: Items) -> Result<(), ItemRefused<char, u32>> {
+    assign_all(codes, items)
+}
+
 #[test]
-fn items_are_taken_until_one_repeats(rt: HostRuntime) -> Result<(), Fail> {
-    let alloc = rt.alloc();
+fn a_name_that_repeats_ends_a_table(rt: HostRuntime) {
+    let refused = collected(rt.alloc(), [('a', 1), ('b', 2), ('a', 3)]).err();
     let why = NotInsertedWith::LeftHeld('a', 3);
-    let empty = BiBTreeHashMap::new(alloc);
-    let refused = collect_codes(empty, [('a', 1), ('b', 2), ('a', 3)]).err();
     assert_eq!(&rt; refused, Some(ItemRefused { taken: 2, why }));
-    let empty = BiBTreeHashMap::with_capacity(alloc, 4)?;
-    let mut codes = collect_codes(empty, [('a', 1), ('b', 2)])?;
-    assert_eq!(&rt; assign_all(&mut codes, [('c', 3)]), Ok(()));
-    let why = NotInsertedWith::RightHeld('e', 2);
-    let refused = assign_all(&mut codes, [('d', 4), ('e', 2), ('f', 6)]);
+}
+
+#[test]
+fn a_code_that_is_taken_ends_an_assignment(rt: HostRuntime) -> Result<(), Fail> {
+    let mut codes = collected(rt.alloc(), [('a', 1), ('b', 2), ('c', 3)])?;
+    assert_eq!(&rt;
+        assigned(&mut codes, [('d', 4), ('e', 5), ('f', 6)]),
+        Ok(())
+    );
+    let refused = assigned(&mut codes, [('g', 7), ('h', 2), ('i', 9)]);
+    let why = NotInsertedWith::RightHeld('h', 2);
     assert_eq!(&rt; refused, Err(ItemRefused { taken: 1, why }));
-    assert_eq!(&rt; (codes.len(), name_of(&codes, &4)), (4, Some(&'d')));
+    assert_eq!(&rt; (codes.len(), name_of(&codes, &7)), (7, Some(&'g')));
     Ok(())
 }
