@@ -8,6 +8,10 @@ use crate::link::{child, measure};
 use crate::steer::Steer;
 use bimap_base::{Cells, Meter};
 
+// From so many places on, a turn to the right is a branch with an exit, of which the compiler makes no select: a processor
+// guesses the turn, and reads the next node while it awaits the keys. In a smaller tree wrong guesses cost more than the wait.
+pub const FAR: usize = 16_384;
+
 // The place with the key sought.
 pub fn find_under<S: Steer, M: Meter>(
     cells: &Cells,
@@ -20,6 +24,7 @@ pub fn find_under<S: Steer, M: Meter>(
     ensures comparisons { (t : Tree) → Stands cells.now root t → M.comparisons meter.new ≤ M.comparisons meter.old + height t }
     ensures touches { (t : Tree) → Stands cells.now root t → M.touches meter.new ≤ M.touches meter.old + height t }
 {
+    let is_far = cells.places() >= FAR;
     let mut root = root;
     while let Some(at) = root {
         let node = cells.read(at, meter);
@@ -27,7 +32,15 @@ pub fn find_under<S: Steer, M: Meter>(
         if side.is_eq() {
             return Some(at);
         }
-        root = child(node, side.is_lt());
+        let turn = side.is_lt();
+        if is_far && turn {
+            root = node.right;
+            if root.is_none() {
+                break;
+            }
+        } else {
+            root = child(node, turn);
+        }
     }
     None
 }
