@@ -11,9 +11,10 @@ use bimap::{BiBTreeHashMap, BiBTreeMap, BiHashBTreeMap, BiHashMap};
 use calls::{changes, removals, total};
 use report::Report;
 use std::env;
-use std::io::{self, ErrorKind};
+use std::io::{self, ErrorKind, Print};
+use std::time::Clock;
 
-// The calls over one kind of bimap, from the empty one to the empty one.
+// Times the calls over one kind of bimap, from the empty one to the empty one.
 macro_rules! measure {
     ($rt:expr, $report:expr, $kind:ident) => {{
         let mut bimap: $kind<u64, u64> = $kind::new($rt.alloc());
@@ -22,8 +23,25 @@ macro_rules! measure {
         let start = report.start($rt)?;
         let sum = total(bimap.iter());
         report.end($rt, "walk", start, sum)?;
-        removals($rt, &report, &mut bimap)?;
+        removals($rt, &report, &mut bimap)
     }};
+}
+
+// One kind a function: their calls in one function take minutes to prove, and apart seconds.
+fn ordered<R: AllocGlobal + Clock + Print>(rt: &R, report: &Report) -> io::Result<()> {
+    measure!(rt, report, BiBTreeMap)
+}
+
+fn ordered_left<R: AllocGlobal + Clock + Print>(rt: &R, report: &Report) -> io::Result<()> {
+    measure!(rt, report, BiBTreeHashMap)
+}
+
+fn ordered_right<R: AllocGlobal + Clock + Print>(rt: &R, report: &Report) -> io::Result<()> {
+    measure!(rt, report, BiHashBTreeMap)
+}
+
+fn hashed<R: AllocGlobal + Clock + Print>(rt: &R, report: &Report) -> io::Result<()> {
+    measure!(rt, report, BiHashMap)
 }
 
 fn main(rt: HostRuntime) -> io::Result<()> {
@@ -36,9 +54,8 @@ fn main(rt: HostRuntime) -> io::Result<()> {
         },
     };
     let report = Report::new(pairs, words.next().is_some());
-    measure!(&rt, report, BiBTreeMap);
-    measure!(&rt, report, BiBTreeHashMap);
-    measure!(&rt, report, BiHashBTreeMap);
-    measure!(&rt, report, BiHashMap);
-    Ok(())
+    ordered(&rt, &report)?;
+    ordered_left(&rt, &report)?;
+    ordered_right(&rt, &report)?;
+    hashed(&rt, &report)
 }

@@ -1,23 +1,45 @@
-//! Examples of making a bimap.
+//! Examples of making a bimap. Each has a test of its own: kinds that meet in one function take minutes to prove.
 use super::ordered;
 use bimap::{BiBTreeMap, BiHashMap, Overwritten};
 use std::hash::RandomState;
 use std::test::Fail;
 
 #[test]
-fn makes(rt: HostRuntime) -> Result<(), Fail> {
+fn makes_without_places(rt: HostRuntime) {
     let alloc = rt.alloc();
     let seats: BiBTreeMap<char, u32> = BiBTreeMap::new(alloc);
     assert!(&rt; seats.capacity() == 0);
+}
+
+#[test]
+fn makes_empty(rt: HostRuntime) {
+    let alloc = rt.alloc();
     let seats: BiHashMap<char, u32> = BiHashMap::empty(alloc);
     assert!(&rt; seats.len() == 0);
+}
+
+#[test]
+fn makes_with_places(rt: HostRuntime) -> Result<(), Fail> {
+    let alloc = rt.alloc();
     let seats: BiBTreeMap<char, u32> = BiBTreeMap::with_capacity(alloc, 16)?;
     assert!(&rt; seats.capacity() == 16);
+    Ok(())
+}
+
+#[test]
+fn makes_of_items(rt: HostRuntime) -> Result<(), Fail> {
+    let alloc = rt.alloc();
     let seats: BiBTreeMap<char, u32> = BiBTreeMap::from_iter(
         alloc,
         [('a', 3), ('b', 1), ('c', 2)],
     )?;
     assert!(&rt; seats == ordered(alloc)?);
+    Ok(())
+}
+
+#[test]
+fn copies(rt: HostRuntime) -> Result<(), Fail> {
+    let seats = ordered(rt.alloc())?;
     assert!(&rt; seats.clone()? == seats);
     Ok(())
 }
@@ -28,10 +50,22 @@ fn makes_under_handed_builders(rt: HostRuntime) -> Result<(), Fail> {
     let (left, right) = (RandomState::new(&rt)?, RandomState::new(&rt)?);
     let mut seats = BiHashMap::with_hashers(alloc, left, right);
     assert!(&rt; seats.insert('a', 3) == Ok(Overwritten::Neither));
+    Ok(())
+}
+
+#[test]
+fn makes_places_under_handed_builders(rt: HostRuntime) -> Result<(), Fail> {
+    let alloc = rt.alloc();
     let (left, right) = (RandomState::new(&rt)?, RandomState::new(&rt)?);
     let seats: BiHashMap<char, u32, RandomState, RandomState> =
         BiHashMap::with_capacity_and_hashers(alloc, 16, left, right)?;
     assert!(&rt; seats.capacity() == 16);
+    Ok(())
+}
+
+#[test]
+fn makes_of_items_under_handed_builders(rt: HostRuntime) -> Result<(), Fail> {
+    let alloc = rt.alloc();
     let (left, right) = (RandomState::new(&rt)?, RandomState::new(&rt)?);
     let seats = BiHashMap::from_iter_with_hashers(alloc, left, right, [('a', 3), ('b', 1)])?;
     assert!(&rt; seats.len() == 2);
