@@ -1,12 +1,9 @@
 -- Nodes as they are kept.
-use Rattle.std.proofs.Common.{◌≡◌, ℕ, zero, suc, ◌+◌, ◌/◌, ◌%◌, ◌≤◌, ◌<◌, ◌^◌, Some, List, [], ◌∷◌, ◌++◌, length, take, map, refl, sym, ◌∙◌, ap, arith}
-use Rattle.std.specs.Prelude.{slice_get, slice_set, option_map, get_or}
+use Rattle.std.proofs.Common.{◌≡◌, ℕ, zero, suc, ◌+◌, ◌≤◌, ◌<◌, ◌^◌, List, [], ◌∷◌, ◌++◌, length, take, map, refl, sym, ◌∙◌, ap, arith}
+use Rattle.std.specs.Prelude.{slice_get, slice_set, option_map}
 use Rattle.std.proofs.lemmas.List.{length-map, map-set, take_all}
-use Rattle.std.proofs.lemmas.Option.{slice_get-map, slice_get_read}
-use Rattle.bimap_base.specs.declared.cells.Node.{Node}
-use Rattle.bimap_base.specs.declared.cells.NarrowCell.{NarrowCell}
+use Rattle.std.proofs.lemmas.Option.{slice_get-map}
 use Rattle.bimap_base.specs.Digits.{most_height}
-use Rattle.bimap_base.specs.Packed.{narrow_node, resized}
 use Rattle.bimap_base.proofs.Digits.{bits-least}
 
 -- a height that fits so few places fits a narrow cell
@@ -35,16 +32,3 @@ get-mapped f xs all same ns e k h =
 -- a node written over another
 pub map-written : {A B : Type 0} (f : A → B) (xs : List A) (i : ℕ) (x : A) (ns : List B) (n : B) → map f xs ≡ ns → f x ≡ n → map f (slice_set xs i x) ≡ slice_set ns i n
 map-written f xs i x ns n e d = map-set f xs i x ∙ ap (λ z. slice_set z i (f x)) e ∙ ap (λ z. slice_set ns i z) d
-
--- the node that a cell keeps, as it is read there
-pub kept_at : {A B : Type 0} (f : A → B) (xs : List A) (i : ℕ) (x : A) (ns : List B) (n : B) → map f xs ≡ ns → i < length ns → x ≡ get_or xs i x → slice_get ns i ≡ Some n → f x ≡ n
-kept_at f xs i x ns n e within read told =
-    let cell : slice_get xs i ≡ Some x = slice_get_read xs (length xs) i x refl (omega (arith, within, length-map xs f, ap length e)) read in
-    let both : Some (f x) ≡ Some n = sym (ap (λ z. option_map f z) cell) ∙ sym (slice_get-map f xs i) ∙ ap (λ z. slice_get z i) e ∙ told in
-    cc
-
--- a narrow cell whose last word tells another size and the same height
-pub narrow_resized : (cell : NarrowCell) (count size : ℕ) → count / 2 ^ 26 ≡ cell.count / 2 ^ 26 → count % 2 ^ 26 ≡ size → narrow_node record { left = cell.left; right = cell.right; count = count } ≡ resized (narrow_node cell) size
-narrow_resized cell count size tall few =
-    let resized_to : ℕ → ℕ → Node = λ h s. record { left = (narrow_node cell).left; right = (narrow_node cell).right; height = h; size = s } in
-    ap (λ h. resized_to h (count % 2 ^ 26)) tall ∙ ap (λ s. resized_to (cell.count / 2 ^ 26) s) few

@@ -33,7 +33,3 @@ IsFew (Wide cells) = Unit {0}
 abbrev pub IsThere : ℕ → Option ℕ → Type 0
 IsThere n None = Unit {0}
 IsThere n (Some place) = place < n
-
--- the same node with this size
-abbrev pub resized : Node → ℕ → Node
-resized node size = record { left = node.left; right = node.right; height = node.height; size = size }

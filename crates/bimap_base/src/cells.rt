@@ -1,7 +1,7 @@
 //! The nodes of an index, one for each place.
-ghost use Rattle.std.specs.Prelude.{◌≡◌, ℕ, ◌+◌, ◌/◌, ◌%◌, ◌<◌, ◌≤◌, ◌^◌, max, Some, [], length, map, slice_get, slice_set, vec_len, OnOk, OnErr, IfOk, IsOk};
+ghost use Rattle.std.specs.Prelude.{◌≡◌, ℕ, ◌+◌, ◌<◌, ◌≤◌, ◌^◌, max, Some, [], length, map, slice_get, slice_set, vec_len, OnOk, OnErr, IfOk, IsOk};
 ghost use Rattle.bimap_base.specs.Digits.{most_height};
-ghost use Rattle.bimap_base.specs.Packed.{IsThere, link_of, narrow_node, wide_node, resized};
+ghost use Rattle.bimap_base.specs.Packed.{IsThere, link_of, narrow_node, wide_node};
 
 use crate::meter::Meter;
 use crate::refusal::NoMemory;
@@ -56,7 +56,7 @@ const NO_WIDE_CELL: WideCell = WideCell {
     size: 0,
 };
 
-/// A node for each place below a number, in 12 bytes where there are fewer than 2^26, and else in 32. There is no way to a node but `read`, `write` and `resize`, which count a touch each.
+/// A node for each place below a number, in 12 bytes where there are fewer than 2^26, and else in 32. There is no way to a node but `read` and `write`, which count a touch each.
 #[derive(Drop)]
 pub struct Cells {
     kept: Kept,
@@ -117,15 +117,6 @@ impl NarrowCell {
             size: count % WIDE,
         }
     }
-}
-
-// The last word of a narrow cell that tells this size, and the height that it told before.
-fn resized_count(count: u32, size: usize) -> u32
-    requires { size < 2 ^ 26 }
-    ensures height { result / 2 ^ 26 ≡ count / 2 ^ 26 }
-    ensures size { result % 2 ^ 26 ≡ size }
-{
-    (count as usize / WIDE * WIDE + size) as u32
 }
 
 impl WideCell {
@@ -264,24 +255,6 @@ impl Cells {
         match &mut self.kept {
             Kept::Narrow(cells) => cells[place] = NarrowCell::of(node),
             Kept::Wide(cells) => cells[place] = WideCell::of(node),
-        }
-    }
-
-    /// Makes this the size that the node of a place tells. Its children and its height stay, and are not written.
-    pub fn resize<M: Meter>(&mut self, place: usize, size: usize, meter: &mut M)
-        requires place { place < length self.old }
-        requires size { size ≤ length self.old }
-        ensures written { (node : Node) → slice_get self.old place ≡ Some node → self.new ≡ slice_set self.old place (resized node size) }
-        ensures comparisons { M.comparisons meter.new ≡ M.comparisons meter.old }
-        ensures touches { M.touches meter.new ≡ M.touches meter.old + 1 }
-    {
-        meter.touched();
-        match &mut self.kept {
-            Kept::Narrow(cells) => {
-                let cell = &mut cells[place];
-                cell.count = resized_count(cell.count, size);
-            }
-            Kept::Wide(cells) => cells[place].size = size,
         }
     }
 }

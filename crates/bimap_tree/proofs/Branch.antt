@@ -1,11 +1,9 @@
 -- A place with a tree on the side of a turn, and one on the other.
-use Rattle.std.proofs.Common.{◌≡◌, ℕ, ◌+◌, ◌≤◌, ◌<◌, max, Bool, true, false, not, List, Option, Some, None, length, refl, sym, ap, ◌∙◌, arith, true≢false}
-use Rattle.std.specs.Prelude.{slice_get, slice_set, nat_eq}
-use Rattle.std.specs.Option.{option_eq}
-use Rattle.std.proofs.lemmas.Bool.{eqb-true}
+use Rattle.std.proofs.Common.{◌≡◌, ℕ, ◌+◌, ◌≤◌, ◌<◌, max, Bool, true, false, not, List, Some, length, refl, sym, ap, ◌∙◌, arith}
+use Rattle.std.specs.Prelude.{slice_get, slice_set}
 use Rattle.bimap_base.specs.declared.cells.Node.{Node}
 use Rattle.bimap_tree.specs.Tree.{Tree, height, size, root_of, IsBalanced, Shows, is_at, occurs, Stands, branch, node_on, near_of, far_of}
-use Rattle.bimap_base.specs.Packed.{IsThere, resized}
+use Rattle.bimap_base.specs.Packed.{IsThere}
 use Rattle.bimap_tree.specs.Link.{Measures}
 use Rattle.bimap_tree.specs.declared.link.Subtree.{Subtree}
 use Rattle.bimap_tree.proofs.Shown.{get-written, Shows-keeps, opened, there}
@@ -58,26 +56,6 @@ node_is false n m a b c d =
     ∙ ap (λ x. record { left = m.left; right = x; height = n.height; size = n.size }) b
     ∙ ap (λ x. record { left = m.left; right = m.right; height = x; size = n.size }) c
     ∙ ap (λ x. record { left = m.left; right = m.right; height = m.height; size = x }) d
-
--- links that are found equal are one
-pub same_link : (x y : Option ℕ) → option_eq nat_eq x y ≡ true → x ≡ y
-same_link None None e = refl
-same_link None (Some q) e = absurd (true≢false (sym e))
-same_link (Some p) None e = absurd (true≢false (sym e))
-same_link (Some p) (Some q) e = ap Some (eqb-true p q e)
-
--- another size changes no child
-near-resized : (turn : Bool) (n : Node) (size : ℕ) → near_of turn (resized n size) ≡ near_of turn n
-near-resized true n size = refl
-near-resized false n size = refl
-
-far-resized : (turn : Bool) (n : Node) (size : ℕ) → far_of turn (resized n size) ≡ far_of turn n
-far-resized true n size = refl
-far-resized false n size = refl
-
--- a node that differs from another in its size alone is that one with this size
-pub resized_is : (turn : Bool) (n m : Node) → near_of turn m ≡ near_of turn n → far_of turn m ≡ far_of turn n → m.height ≡ n.height → resized n m.size ≡ m
-resized_is turn n m near far tall = node_is turn (resized n m.size) m (near-resized turn n m.size ∙ sym near) (far-resized turn n m.size ∙ sym far) (sym tall) refl
 
 -- what the nodes show of it
 pub record Parts (ns : List Node) (turn : Bool) (near : Tree) (p : ℕ) (far : Tree) : Type 0 where

@@ -1,10 +1,10 @@
 //! Going up a route, from a tree at its end that has grown or shrunk by one place. It knows no key and no order.
-ghost use Rattle.std.specs.Prelude.{◌≡◌, ℕ, ◌+◌, ◌*◌, ◌<◌, ◌≤◌, ◌^◌, not, Some, slice_get};
+ghost use Rattle.std.specs.Prelude.{◌≡◌, ℕ, ◌+◌, ◌*◌, ◌<◌, ◌≤◌, ◌^◌, not};
 ghost use Rattle.bimap_tree.specs.Tree.{Tree, leaf, fork, height, root_of, branch, near_of, far_of};
 ghost use Rattle.bimap_tree.specs.Link.{Measures, IsRebalanced};
 ghost use Rattle.bimap_tree.specs.Path.{Path, steps, one_if, Moves, CanRise, CanRelink, CanPut, IsRisen};
 
-use crate::link::{Subtree, child as child_of, children, link, measure, rebalance};
+use crate::link::{Subtree, children, link, measure, rebalance};
 use crate::route::Route;
 use bimap_base::{Cells, Meter, Node};
 
@@ -61,31 +61,6 @@ fn relink<M: Meter>(
     rebalance(cells, at, turn, child, sister, meter)
 }
 
-// Links a place above a child that has grown or shrunk and is as high as before. Where the link to it stands already, it writes the size alone.
-fn recount_at<M: Meter>(
-    cells: &mut Cells,
-    at: usize,
-    node: Node,
-    turn: bool,
-    child: Option<usize>,
-    grew: bool,
-    meter: &mut M,
-)
-    requires told { slice_get cells.old at ≡ Some node }
-    requires step { (sister : Tree) × (s : Tree) × (u : Tree) × CanRelink cells.old at turn grew node sister s u × (root_of u ≡ child) × (height u ≡ height s) }
-    ensures tree { (sister s u : Tree) → CanRelink cells.old at turn grew node sister s u → root_of u ≡ child → height u ≡ height s → IsRebalanced cells.old cells.new turn at u sister (branch turn u at sister) × (height (branch turn u at sister) ≡ height (branch turn s at sister)) }
-    ensures comparisons { M.comparisons meter.new ≡ M.comparisons meter.old }
-    ensures touches { M.touches meter.new ≡ M.touches meter.old + 1 }
-{
-    let more = recounted(node, turn, child, grew);
-    let was = child_of(node, turn);
-    if was == child {
-        cells.resize(at, more.size, meter);
-        return;
-    }
-    cells.write(at, more, meter);
-}
-
 // Goes up where no height moves any more: links the child, and counts its places, in each node of the way.
 fn recount<M: Meter>(
     cells: &mut Cells,
@@ -106,7 +81,7 @@ fn recount<M: Meter>(
         depth -= 1;
         let (at, turn) = route.step(depth);
         let node = cells.read(at, meter);
-        recount_at(cells, at, node, turn, child, grew, meter);
+        cells.write(at, recounted(node, turn, child, grew), meter);
         child = Some(at);
     }
     child

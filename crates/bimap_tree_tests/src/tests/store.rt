@@ -1,5 +1,5 @@
-//! The plain types, the store of pairs and the cells of an index: each call once.
-use bimap_base::{Cells, Count, Node, OnHeld, Overwritten, Pairs};
+//! The plain types and the store of pairs: each call once.
+use bimap_base::{OnHeld, Overwritten, Pairs};
 use std::test::Fail;
 
 #[test]
@@ -36,27 +36,5 @@ fn pairs_in_places(rt: HostRuntime) -> Result<(), Fail> {
     pairs.clear();
     assert_eq!(rt; (pairs.places(), pairs.len()), (2, 0));
     assert_eq!(rt; pairs.at(second), None);
-    Ok(())
-}
-
-// Each call of the cells once: a node is written, and is told of another size, which changes no more.
-#[test]
-fn nodes_in_cells(rt: HostRuntime) -> Result<(), Fail> {
-    let mut cells = Cells::new(rt.alloc());
-    assert_eq!(rt; cells.places(), 0);
-    cells.grow(3).ok().ok_or("grow")?;
-    assert_eq!(rt; cells.places(), 3);
-    let node = Node {
-        left: Some(0),
-        right: Some(2),
-        height: 1,
-        size: 2,
-    };
-    let meter = &mut Count::new();
-    cells.write(1, node, meter);
-    cells.resize(1, 3, meter);
-    let node = cells.read(1, meter);
-    assert_eq!(rt; (node.left, node.right), (Some(0), Some(2)));
-    assert_eq!(rt; (node.height, node.size), (1, 3));
     Ok(())
 }
