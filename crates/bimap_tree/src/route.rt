@@ -8,7 +8,6 @@ ghost use Rattle.bimap_tree.specs.Path.{Path, plug};
 ghost use Rattle.bimap_tree.specs.Route.{CanFollow, IsFollowed, IsRoute};
 
 use crate::link::child;
-use crate::search::FAR;
 use crate::steer::Steer;
 use bimap_base::{Cells, Meter};
 
@@ -77,7 +76,6 @@ pub fn route_under<S: Steer, M: Meter>(
     ensures comparisons { (s : Tree) → Stands cells.now root s → M.comparisons meter.new ≤ M.comparisons meter.old + height s }
     ensures touches { (s : Tree) → Stands cells.now root s → M.touches meter.new ≤ M.touches meter.old + height s }
 {
-    let is_far = cells.places() >= FAR;
     let mut root = root;
     let mut depth = depth;
     while let Some(at) = root {
@@ -88,15 +86,8 @@ pub fn route_under<S: Steer, M: Meter>(
         }
         let turn = side.is_lt();
         route.note(depth, at, turn);
+        root = child(node, turn);
         depth += 1;
-        if is_far && turn {
-            root = node.right;
-            if root.is_none() {
-                break;
-            }
-        } else {
-            root = child(node, turn);
-        }
     }
     route.depth = depth;
     root
