@@ -8,6 +8,7 @@ ghost use Rattle.bimap_tree.specs.Path.{Path, plug};
 ghost use Rattle.bimap_tree.specs.Route.{CanFollow, IsFollowed, IsRoute};
 
 use crate::link::child;
+use crate::search::FAR;
 use crate::steer::Steer;
 use bimap_base::{Cells, Meter};
 
@@ -76,6 +77,8 @@ pub fn route_under<S: Steer, M: Meter>(
     ensures comparisons { (s : Tree) → Stands cells.now root s → M.comparisons meter.new ≤ M.comparisons meter.old + height s }
     ensures touches { (s : Tree) → Stands cells.now root s → M.touches meter.new ≤ M.touches meter.old + height s }
 {
+    // To compare keys of a word takes no pointer, and wrong guesses cost more than the wait.
+    let is_far = S::has_wide_keys() && cells.places() >= FAR;
     let mut root = root;
     let mut depth = depth;
     while let Some(at) = root {
@@ -86,8 +89,15 @@ pub fn route_under<S: Steer, M: Meter>(
         }
         let turn = side.is_lt();
         route.note(depth, at, turn);
-        root = child(node, turn);
         depth += 1;
+        if is_far && turn {
+            root = node.right;
+            if root.is_none() {
+                break;
+            }
+        } else {
+            root = child(node, turn);
+        }
     }
     route.depth = depth;
     root

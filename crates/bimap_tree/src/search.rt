@@ -10,7 +10,7 @@ use bimap_base::{Cells, Meter};
 
 // From so many places on, a turn to the right is a branch with an exit, of which the compiler makes no select: a processor
 // guesses the turn, and reads the next node while it awaits the keys. In a smaller tree wrong guesses cost more than the wait.
-const FAR: usize = 16_384;
+pub const FAR: usize = 16_384;
 
 // The place with the key sought.
 pub fn find_under<S: Steer, M: Meter>(

@@ -6,6 +6,7 @@ ghost use Rattle.bimap_tree.specs.Order.{after_key};
 
 use bimap_base::{Keys, Meter};
 use std::cmp::Ordering;
+use std::mem::{ManuallyDrop, size_of, size_of_val};
 
 pub trait Steer {
     ghost live: { Self → ℕ → Type 0 };
@@ -18,6 +19,15 @@ pub trait Steer {
         ensures side { result ≡ go self.now place }
         ensures comparisons { M.comparisons meter.new ≡ M.comparisons meter.old + 1 }
         ensures touches { M.touches meter.new ≡ M.touches meter.old };
+
+    // Whether a key is wider than a word, so that a comparison most likely follows a pointer.
+    fn has_wide_keys() -> bool;
+}
+
+// A constant at each type. Its size is asked of an `Option` that holds none: `size_of` has no proof at a parameter.
+fn is_wide<K>() -> bool {
+    let no_key: Option<ManuallyDrop<K>> = None;
+    size_of_val(&no_key) > size_of::<Option<usize>>()
 }
 
 #[derive(Drop)]
@@ -34,6 +44,10 @@ impl<K: Keys> Steer for ToKey<'_, K> {
     fn side<M: Meter>(&self, place: usize, meter: &mut M) -> Ordering {
         self.keys.compare(place, self.key, meter)
     }
+
+    fn has_wide_keys() -> bool {
+        is_wide::<K::Key>()
+    }
 }
 
 #[derive(Drop)]
@@ -49,6 +63,10 @@ impl<K: Keys> Steer for ToPlace<'_, K> {
 
     fn side<M: Meter>(&self, place: usize, meter: &mut M) -> Ordering {
         self.keys.compare_places(place, self.place, meter)
+    }
+
+    fn has_wide_keys() -> bool {
+        is_wide::<K::Key>()
     }
 }
 
@@ -69,5 +87,9 @@ impl<K: Keys> Steer for AfterKey<'_, K> {
             Ordering::Equal => Ordering::Less,
             other => other,
         }
+    }
+
+    fn has_wide_keys() -> bool {
+        is_wide::<K::Key>()
     }
 }

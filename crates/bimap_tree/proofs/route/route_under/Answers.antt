@@ -1,7 +1,8 @@
-use Rattle.std.proofs.Common.{arith, true, ap, sym, ◌∙◌}
-use Rattle.bimap_tree.proofs.Descents.{costs_none, costs_on, costs_last, costs_end, cell_within, falls, goes_top, goes_none, goes_end, goes_live, goes_deep, goes_here, goes_down, wants, is_equal}
+use Rattle.std.proofs.Common.{arith, true, refl, ap, sym, ◌∙◌}
+use Rattle.bimap_tree.proofs.Descents.{costs_none, costs_on, costs_last, costs_end, cell_within, falls, goes_top, goes_none, goes_end, goes_live, goes_deep, goes_here, goes_down, goes_right, wants, is_equal, is_less}
+use Rattle.bimap_tree.proofs.Removes.{no_child}
 use Rattle.bimap_tree.proofs.route.route_under.Goals as goal
-use Rattle.bimap_tree.proofs.route.route_under.Goals.{in-Some+then-is_eq, in_default}
+use Rattle.bimap_tree.proofs.route.route_under.Goals.{in-Some+then-is_eq, in-Some+else-is_eq+then-is_far+then-turn+then-is_none, in_default}
 
 pub loop-root-init : goal.loop-root-init
 loop-root-init g c = record { goes = goes_top _ _ _ _ _ _ _; compared = costs_none _ _ 1 _; touched = costs_none _ _ 1 _ }
@@ -18,6 +19,14 @@ note-requires g c = goes_deep _ _ _ _ _ _ _ _ _ _ _ c.loop-root.invariant.goes _
 pub overflow_add-depth : goal.overflow_add-depth
 overflow_add-depth g c = omega (arith, goes_deep _ _ _ _ _ _ _ _ _ _ _ c.loop-root.invariant.goes _ c.in-Some.is _ c.read-node.ensures.node _ _ c.requires.2)
 
+pub loop-root-preserved-then-turn : goal.loop-root-preserved-then-turn
+loop-root-preserved-then-turn g c =
+    record {
+      goes = goes_right _ _ _ _ _ _ _ _ _ _ _ c.loop-root.invariant.goes _ c.in-Some.is _ c.read-node.ensures.node _ c.if-turn.true (is_less _ _ _ c.side-side.ensures.side c.is_lt-turn.ensures c.if-turn.true) _ _ c.note.ensures.places c.note.ensures.turns;
+      compared = costs_on _ _ _ _ _ _ c.loop-root.invariant.compared _ c.in-Some.is _ c.read-node.ensures.node true _ refl _ (omega arith);
+      touched = costs_on _ _ _ _ _ _ c.loop-root.invariant.touched _ c.in-Some.is _ c.read-node.ensures.node true _ refl _ (omega arith);
+    }
+
 pub loop-root-smaller : goal.loop-root-smaller
 loop-root-smaller g c = falls _ _ _ _ _ _ c.loop-root.invariant.touched _ c.in-Some.is _ c.read-node.ensures.node _ _ c.child-root.ensures _ c.requires.2.seek.tree
 
@@ -33,20 +42,28 @@ pub returns-clause-found : goal.returns-clause-found
 returns-clause-found g c path s h =
     elim c.match-root.branch [
       | in-Some+then-is_eq w ↦ w.root-is ∙ goes_here _ _ _ _ _ _ _ _ _ _ _ c.loop-root.invariant.goes _ w.in-Some.is _ w.read-node.ensures.node (is_equal _ _ _ w.side-side.ensures.side w.is_eq.ensures w.if-is_eq.true) path s h
+      | in-Some+else-is_eq+then-is_far+then-turn+then-is_none w ↦
+          let on = goes_right _ _ _ _ _ _ _ _ _ _ _ c.loop-root.invariant.goes _ w.in-Some.is _ w.read-node.ensures.node _ w.if-turn.true (is_less _ _ _ w.side-side.ensures.side w.is_lt-turn.ensures w.if-turn.true) _ _ w.note.ensures.places w.note.ensures.turns in
+          let none = no_child _ _ w.is_none.ensures w.if-is_none.true in
+          w.root-is ∙ none ∙ goes_none _ _ _ _ _ _ _ _ _ _ _ on none path s h
       | in_default w ↦ w.root-is ∙ w.in_default.is ∙ goes_none _ _ _ _ _ _ _ _ _ _ _ c.loop-root.invariant.goes w.in_default.is path s h
     ]
 
 pub returns-clause-follows : goal.returns-clause-follows
-returns-clause-follows g c =
+returns-clause-follows g c path s h =
     elim c.match-root.branch [
-      | in-Some+then-is_eq w ↦ goes_end _ _ _ _ _ _ _ _ _ _ _ c.loop-root.invariant.goes _ (w.root-is ∙ sym w.in-Some.is)
-      | in_default w ↦ goes_end _ _ _ _ _ _ _ _ _ _ _ c.loop-root.invariant.goes _ w.root-is
+      | in-Some+then-is_eq w ↦ rw w.route-is (rw w.depth-is (goes_end _ _ _ _ _ _ _ _ _ _ _ c.loop-root.invariant.goes _ (w.root-is ∙ sym w.in-Some.is) path s h))
+      | in-Some+else-is_eq+then-is_far+then-turn+then-is_none w ↦
+          let on = goes_right _ _ _ _ _ _ _ _ _ _ _ c.loop-root.invariant.goes _ w.in-Some.is _ w.read-node.ensures.node _ w.if-turn.true (is_less _ _ _ w.side-side.ensures.side w.is_lt-turn.ensures w.if-turn.true) _ _ w.note.ensures.places w.note.ensures.turns in
+          rw w.route-is (rw w.depth-is (goes_end _ _ _ _ _ _ _ _ _ _ _ on _ w.root-is path s h))
+      | in_default w ↦ rw w.route-is (rw w.depth-is (goes_end _ _ _ _ _ _ _ _ _ _ _ c.loop-root.invariant.goes _ w.root-is path s h))
     ]
 
 pub returns-clause-comparisons : goal.returns-clause-comparisons
 returns-clause-comparisons g c t h =
     elim c.match-root.branch [
       | in-Some+then-is_eq w ↦ omega (arith, ap g.M.Meter.comparisons w.meter-is, costs_last _ _ _ _ _ _ c.loop-root.invariant.compared _ w.in-Some.is _ w.read-node.ensures.node true (g.M.Meter.comparisons w.side-side.new.meter) (omega arith) t h)
+      | in-Some+else-is_eq+then-is_far+then-turn+then-is_none w ↦ omega (arith, ap g.M.Meter.comparisons w.meter-is, costs_last _ _ _ _ _ _ c.loop-root.invariant.compared _ w.in-Some.is _ w.read-node.ensures.node true (g.M.Meter.comparisons w.side-side.new.meter) (omega arith) t h)
       | in_default w ↦ omega (arith, ap g.M.Meter.comparisons w.meter-is, costs_end _ _ _ _ _ _ c.loop-root.invariant.compared t h)
     ]
 
@@ -54,5 +71,6 @@ pub returns-clause-touches : goal.returns-clause-touches
 returns-clause-touches g c t h =
     elim c.match-root.branch [
       | in-Some+then-is_eq w ↦ omega (arith, ap g.M.Meter.touches w.meter-is, costs_last _ _ _ _ _ _ c.loop-root.invariant.touched _ w.in-Some.is _ w.read-node.ensures.node true (g.M.Meter.touches w.side-side.new.meter) (omega arith) t h)
+      | in-Some+else-is_eq+then-is_far+then-turn+then-is_none w ↦ omega (arith, ap g.M.Meter.touches w.meter-is, costs_last _ _ _ _ _ _ c.loop-root.invariant.touched _ w.in-Some.is _ w.read-node.ensures.node true (g.M.Meter.touches w.side-side.new.meter) (omega arith) t h)
       | in_default w ↦ omega (arith, ap g.M.Meter.touches w.meter-is, costs_end _ _ _ _ _ _ c.loop-root.invariant.touched t h)
     ]
