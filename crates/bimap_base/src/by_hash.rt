@@ -1,9 +1,10 @@
 //! A side of a store by the numbers that a builder gives its keys.
-ghost use Rattle.std.specs.Prelude.{◌≡◌};
+ghost use Rattle.std.specs.Prelude.{◌≡◌, ◌%◌};
 ghost use Rattle.std.specs.List.{fold};
 ghost use Rattle.std.proofs.Common.{ap};
 ghost use Rattle.bimap_base.specs.Numbered.{number_by};
 
+use crate::numbered::hash_number;
 use crate::side::Side;
 use crate::spread::Spread;
 use std::hash::{BuildHasher, Hash};
@@ -42,14 +43,14 @@ impl<'a, K: Eq + Hash, S: Side<K>, B: BuildHasher> Spread for ByHash<'a, K, S, B
 
     ghost equivalence = { K.Eq.laws };
 
-    ghost alike = { λ s x y h. ap (λ w. B.Hasher.finish (fold B.Hasher.write (B.build_hasher s.builder.now) w)) (K.respects_eq x y h) };
+    ghost alike = { λ s x y h. ap (λ w. B.Hasher.finish (fold B.Hasher.write (B.build_hasher s.builder.now) w) % 4294967296) (K.respects_eq x y h) };
 
-    fn hash_key(&self, key: &K) -> u64 {
-        self.builder.hash_one(key)
+    fn hash_key(&self, key: &K) -> u32 {
+        hash_number(self.builder, key)
     }
 
-    fn hash_place(&self, place: usize) -> u64 {
-        self.builder.hash_one(self.side.key(place))
+    fn hash_place(&self, place: usize) -> u32 {
+        hash_number(self.builder, self.side.key(place))
     }
 
     fn same(&self, place: usize, key: &K) -> bool {

@@ -16,11 +16,11 @@ pub trait Spread {
     ghost same_key: { Self.Key → Self.Key → Bool };
 
     /// The hash number of a key.
-    fn hash_key(&self, key: &Self::Key) -> u64
+    fn hash_key(&self, key: &Self::Key) -> u32
         ensures { result ≡ number_of self.now key.now };
 
     /// The hash number of the key of a place.
-    fn hash_place(&self, place: usize) -> u64
+    fn hash_place(&self, place: usize) -> u32
         requires { IsSome (key_at self.now place) }
         ensures { IfSome (key_at self.now place) (λ k. result ≡ number_of self.now k) };
 

@@ -3,5 +3,6 @@ pub mod Relink
 pub mod Rethread
 pub mod Walk
 pub mod Kept
+pub mod Seen
 pub mod Sized
 pub mod Filling

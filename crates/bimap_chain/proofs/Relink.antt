@@ -206,3 +206,7 @@ few c n b m k (Some p) e h = omega (arith, (found n b c m p (sym e)).0)
 pub over_listed : (c : Numbers) (n b place : ℕ) (v over : Option ℕ) → GoesOver c n b place over → IfSome over (λ p. IsListed (slice_set c place v) p)
 over_listed c n b place v None g = tt
 over_listed c n b place v (Some p) g = let o = of_bucket n b (number_at c p) g.2 in (o.0, get_or-set_other c place p v None (omega (arith, g.0)) ∙ o.1)
+
+pub goes_listed : (c : Numbers) (n b place : ℕ) (over : Option ℕ) → GoesOver c n b place over → IfSome over (λ p. IsListed c p)
+goes_listed c n b place None g = tt
+goes_listed c n b place (Some p) g = let o = of_bucket n b (number_at c p) g.2 in (o.0, o.1)

@@ -27,6 +27,9 @@ pub record AtStep (c : Numbers) (n b place : ℕ) (over : Option ℕ) (end : ℕ
 pub came_to : (c : Numbers) (n b place : ℕ) (over : Option ℕ) (end next : ℕ) {at : Option ℕ} → AtStep c n b place over end at → at ≡ Some next → (next < end) × (next < length c)
 came_to c n b place over end next s e = let f = found n b c end next (sym s.at_last ∙ e) in (f.0, omega (arith, f.0, s.within))
 
+pub came_listed : (c : Numbers) (n b place : ℕ) (over : Option ℕ) (end next : ℕ) {at : Option ℕ} → AtStep c n b place over end at → at ≡ Some next → IsListed c next
+came_listed c n b place over end next s e = let o = of_bucket n b (number_at c next) (found n b c end next (sym s.at_last ∙ e)).1 in (o.0, o.1)
+
 pub stepped : (c : Numbers) (links heads : List (Option ℕ)) (b place : ℕ) (over : Option ℕ) (end next : ℕ) {at : Option ℕ} (read : Option ℕ) → IsThreaded c links heads → AtStep c (length heads) b place over end at → at ≡ Some next → place < next → read ≡ slice_index_or links next None → AtStep c (length heads) b place (Some next) next read
 stepped c links heads b place over end next read t s e l r =
     let f = found (length heads) b c end next (sym s.at_last ∙ e) in

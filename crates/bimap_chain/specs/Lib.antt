@@ -1,3 +1,4 @@
 pub mod Chains
 pub mod Packed
 pub mod Heads
+pub mod Cells

@@ -3,6 +3,7 @@ ghost use Rattle.std.specs.Prelude.{◌≡◌, ◌<◌, ◌≤◌, ◌-◌, ℕ,
 ghost use Rattle.bimap_base.specs.Places.{pairs_in, packed};
 ghost use Rattle.bimap_chain.specs.Chains.{number_at, IsListed, AreNumbered, Matches};
 
+use crate::cells::Cells;
 use crate::heads::Heads;
 use crate::threads::Threads;
 use bimap_base::{NoMemory, Spread};
@@ -38,7 +39,7 @@ impl Hashed {
     {
         Hashed {
             threads: Threads {
-                cells: Vec::new(alloc),
+                cells: Cells::new(alloc),
                 heads: Heads::new(alloc),
             },
         }
@@ -54,7 +55,7 @@ impl Hashed {
     }
 
     /// As `find`, by a number that the caller has.
-    pub fn find_under<S: Spread>(&self, spread: &S, number: u64, key: &S::Key) -> Option<usize>
+    pub fn find_under<S: Spread>(&self, spread: &S, number: u32, key: &S::Key) -> Option<usize>
         requires numbered { AreNumbered (S.key_at spread.now) (S.number_of spread.now) self.now }
         requires number { number ≡ S.number_of spread.now key.now }
         ensures found { IfSome result (Matches (S.key_at spread.now) (λ k. S.same_key k key.now) self.now) }
@@ -88,7 +89,7 @@ impl Hashed {
     }
 
     /// Lists the place under a number. It takes no memory.
-    pub fn insert_under(&mut self, place: usize, number: u64)
+    pub fn insert_under(&mut self, place: usize, number: u32)
         requires cell { place < length self.old }
         requires free { number_at self.old place ≡ None }
         ensures { self.new ≡ slice_set self.old place (Some number) }
@@ -145,7 +146,7 @@ impl Hashed {
     }
 
     // The number under which a place is listed.
-    fn number(&self, place: usize) -> Option<u64>
+    fn number(&self, place: usize) -> Option<u32>
         requires { place < length self.now }
         ensures { result ≡ number_at self.now place }
     {
@@ -158,7 +159,7 @@ impl Hashed {
         requires { length (pairs_in self.now) ≤ to }
         ensures { IfOk result (λ h. h ≡ packed (pairs_in self.now) to) }
     {
-        let mut kept = Hashed::new(*self.threads.cells.allocator());
+        let mut kept = Hashed::new(self.threads.cells.allocator());
         kept.grow_to(to)?;
         let mut next = 0;
         for place in 0..self.cells() {

@@ -4,6 +4,7 @@
 //! A look-up, an insertion and a removal go along one chain, whose length isn't bounded. Only `grow` asks for memory.
 #![tactic(auto)]
 
+mod cells;
 mod hashed;
 mod heads;
 mod link;

@@ -1,30 +1,20 @@
-//! The cells of a hashed index, and the chains that thread them. It knows numbers and places, and no keys.
+//! The chains of a hashed index: its cells and its heads, threaded. It knows numbers and places, and no keys.
 ghost use Rattle.std.specs.Prelude.{◌≡◌, ◌+◌, ◌<◌, ◌≤◌, ◌-◌, ◌%◌, ◌^◌, ◌++◌, length, None, Some, replicate, slice_set, slice_index_or, OnOk, OnErr, IfSome, nat_eq};
 ghost use Rattle.std.specs.Option.{option_eq};
 ghost use Rattle.std.specs.Int.{IsPowerOfTwo};
 ghost use Rattle.bimap_chain.specs.Chains.{IsThreaded, IsListed, GoesOver, Links, link_or_head, number_at};
 ghost use Rattle.bimap_chain.specs.Packed.{numbers_of, links_of, IsSized, IsSound};
 
+use crate::cells::Cells;
 use crate::heads::Heads;
-use crate::link::{link_to, place_of};
 use bimap_base::NoMemory;
-
-/// A cell: the number under which its place is listed, and the next place of its chain plus one, or 0 for none. A place
-/// that isn't listed has the link `FREE`.
-#[derive(Clone, Copy)]
-pub(crate) struct Cell {
-    number: u64,
-    link: usize,
-}
 
 /// A cell for each place, and the heads, at least two for each cell.
 #[derive(Drop)]
 pub(crate) struct Threads {
-    pub(crate) cells: Vec<Cell>,
+    pub(crate) cells: Cells,
     pub(crate) heads: Heads,
 }
-
-const FREE: usize = usize::MAX;
 
 // More cells than this fit no memory.
 const MOST: usize = usize::MAX / 4 + 1;
@@ -46,33 +36,29 @@ fn heads_for(heads: usize, cells: usize) -> Option<usize>
 
 impl Threads {
     /// The number under which the place is listed.
-    pub(crate) fn number(&self, place: usize) -> Option<u64>
+    pub(crate) fn number(&self, place: usize) -> Option<u32>
         requires { place < length (numbers_of self.now) }
         ensures { result ≡ number_at (numbers_of self.now) place }
     {
-        let cell = self.cells[place];
-        if cell.link == FREE {
-            None
-        } else {
-            Some(cell.number)
-        }
+        self.cells.number(place)
     }
 
     /// Whether a listed place is listed under the number.
-    pub(crate) fn has_number(&self, place: usize, number: u64) -> bool
+    pub(crate) fn has_number(&self, place: usize, number: u32) -> bool
         requires place { place < length (numbers_of self.now) }
         requires listed { IsListed (numbers_of self.now) place }
         ensures { result ≡ option_eq nat_eq (number_at (numbers_of self.now) place) (Some number) }
     {
-        self.cells[place].number == number
+        self.cells.has_number(place, number)
     }
 
-    /// The next place of its chain.
+    /// The next place of the chain of a listed place.
     pub(crate) fn next(&self, place: usize) -> Option<usize>
-        requires { place < length (links_of self.now) }
+        requires place { place < length (numbers_of self.now) }
+        requires listed { IsListed (numbers_of self.now) place }
         ensures { result ≡ slice_index_or (links_of self.now) place None }
     {
-        place_of(self.cells[place].link)
+        self.cells.next(place)
     }
 
     /// The first place of the bucket.
@@ -84,7 +70,7 @@ impl Threads {
     }
 
     /// The bucket of a number.
-    pub(crate) fn bucket(&self, number: u64) -> usize
+    pub(crate) fn bucket(&self, number: u32) -> usize
         requires some { 0 < length self.now.heads }
         requires power { 0 < length self.now.heads → IsPowerOfTwo (length self.now.heads) }
         ensures value { result ≡ number % length self.now.heads }
@@ -117,7 +103,8 @@ impl Threads {
     /// What stands in that link or head.
     pub(crate) fn link(&self, bucket: usize, over: Option<usize>) -> Option<usize>
         requires bucket { bucket < length self.now.heads }
-        requires over { IfSome over (λ p. p < length (links_of self.now)) }
+        requires over { IfSome over (λ p. p < length (numbers_of self.now)) }
+        requires listed { IfSome over (λ p. IsListed (numbers_of self.now) p) }
         ensures { result ≡ link_or_head (links_of self.now) self.now.heads bucket over }
     {
         match over {
@@ -132,43 +119,40 @@ impl Threads {
         requires over { IfSome over (λ p. p < length (numbers_of self.old)) }
         requires listed { IfSome over (λ p. IsListed (numbers_of self.old) p) }
         requires to_link { IfSome to (λ p. p < 2 ^ 63) }
+        requires to_cell { IfSome to (λ p. p < length (numbers_of self.old)) }
         requires to_head { IfSome to (λ p. p < length self.old.heads) }
         ensures numbers { numbers_of self.new ≡ numbers_of self.old }
         ensures links { Links bucket over to (links_of self.old) self.old.heads (links_of self.new) self.new.heads }
-        ensures cells { length self.new.cells.items ≡ length self.old.cells.items }
+        ensures cells { length self.new.cells ≡ length self.old.cells }
         ensures heads { length self.new.heads ≡ length self.old.heads }
     {
         match over {
             None => self.heads.set(bucket, to),
-            Some(place) => self.cells[place].link = link_to(to),
+            Some(place) => self.cells.set_link(place, to),
         }
     }
 
     /// Writes the number and the link of a place.
-    pub(crate) fn list(&mut self, place: usize, number: u64, next: Option<usize>)
+    pub(crate) fn list(&mut self, place: usize, number: u32, next: Option<usize>)
         requires place { place < length (numbers_of self.old) }
-        requires next { IfSome next (λ p. p < 2 ^ 63) }
+        requires next { IfSome next (λ p. p < length (numbers_of self.old)) }
         ensures numbers { numbers_of self.new ≡ slice_set (numbers_of self.old) place (Some number) }
         ensures links { links_of self.new ≡ slice_set (links_of self.old) place next }
-        ensures cells { length self.new.cells.items ≡ length self.old.cells.items }
+        ensures cells { length self.new.cells ≡ length self.old.cells }
         ensures heads { self.new.heads ≡ self.old.heads }
     {
-        let link = link_to(next);
-        self.cells[place] = Cell { number, link };
+        self.cells.list(place, number, next);
     }
 
     /// Takes a place off, without its link.
     pub(crate) fn unlist(&mut self, place: usize)
         requires { place < length (numbers_of self.old) }
         ensures numbers { numbers_of self.new ≡ slice_set (numbers_of self.old) place None }
-        ensures links { links_of self.new ≡ slice_set (links_of self.old) place (Some (2 ^ 64 - 2)) }
-        ensures cells { length self.new.cells.items ≡ length self.old.cells.items }
+        ensures links { links_of self.new ≡ slice_set (links_of self.old) place None }
+        ensures cells { length self.new.cells ≡ length self.old.cells }
         ensures heads { self.new.heads ≡ self.old.heads }
     {
-        self.cells[place] = Cell {
-            number: 0,
-            link: FREE,
-        };
+        self.cells.unlist(place);
     }
 
     /// Makes cells for all places below `to`, and threads the chains anew. A refusal changes nothing.
@@ -182,24 +166,19 @@ impl Threads {
         let Some(wanted) = heads_for(self.heads.len(), to) else {
             return Err(NoMemory);
         };
-        if self.cells.try_reserve_exact(to - self.cells.len()).is_err() {
+        let cells = self.cells.len();
+        self.cells.grow(to)?;
+        if self.heads.grow(wanted).is_err() {
+            self.cells.truncate(cells);
             return Err(NoMemory);
         }
-        self.heads.grow(wanted)?;
-        let free = Cell {
-            number: 0,
-            link: FREE,
-        };
-        let Ok(()) = self.cells.resize(to, free) else {
-            unreachable!()
-        };
         self.thread();
         Ok(())
     }
 
     /// Threads the chains anew under empty heads, by the numbers that the cells keep.
     pub(crate) fn thread(&mut self)
-        requires sized { IsSized (length self.old.cells.items) (length self.old.heads) }
+        requires sized { IsSized (length self.old.cells) (length self.old.heads) }
         requires empty { self.old.heads ≡ replicate (length self.old.heads) None }
         ensures numbers { numbers_of self.new ≡ numbers_of self.old }
         ensures sound { IsSound self.new }
@@ -221,11 +200,7 @@ impl Threads {
         ensures numbers { numbers_of self.new ≡ replicate (length (numbers_of self.old)) None }
         ensures sound { IsSound self.new }
     {
-        let free = Cell {
-            number: 0,
-            link: FREE,
-        };
-        self.cells.fill(free);
+        self.cells.clear();
         self.heads.clear();
         self.thread();
     }

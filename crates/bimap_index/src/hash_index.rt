@@ -1,5 +1,5 @@
 //! A hashed index of a side, with its builder. It knows numbers and places, and no chain.
-ghost use Rattle.std.specs.Prelude.{◌≡◌, ◌≤◌, [], length};
+ghost use Rattle.std.specs.Prelude.{◌≡◌, ◌≤◌, ◌%◌, [], length};
 ghost use Rattle.std.specs.declared.cmp.Ordering.TheVariants.{Less};
 ghost use Rattle.std.specs.List.{fold};
 ghost use Rattle.std.proofs.Common.{ap};
@@ -10,7 +10,7 @@ ghost use Rattle.bimap_index.specs.HashLaws.{hash_listed, hash_distinct, hash_in
 
 use crate::index::Index;
 use crate::made::{CopiedIndex, DefaultIndex, EmptyIndex, PackedIndex};
-use bimap_base::{ByHash, Meter, NoMemory, Side, Spread};
+use bimap_base::{ByHash, Meter, NoMemory, Side, Spread, hash_number};
 use bimap_chain::Hashed;
 use std::alloc::Global;
 use std::hash::{BuildHasher, BuildHasherDefault, FoldHasher, Hash};
@@ -43,7 +43,7 @@ impl<B> HashIndex<B> {
 }
 
 impl<K: Eq + Hash, B: BuildHasher> Index<K> for HashIndex<B> {
-    type Spot = u64;
+    type Spot = u32;
 
     ghost is_listing = { λ h. ListsByHash K.eq (number_by B.Hasher.finish B.Hasher.write B.build_hasher K.hash_input h.builder) h.hashed };
 
@@ -59,12 +59,12 @@ impl<K: Eq + Hash, B: BuildHasher> Index<K> for HashIndex<B> {
 
     ghost effort = { λ n. 0 };
 
-    fn spot(&self) -> u64 {
+    fn spot(&self) -> u32 {
         0
     }
 
-    fn spot_for(&self, key: &K) -> u64 {
-        self.builder.hash_one(key)
+    fn spot_for(&self, key: &K) -> u32 {
+        hash_number(&self.builder, key)
     }
 
     fn find<S: Side<K>, M: Meter>(&self, side: S, key: &K, _meter: &mut M) -> Option<usize> {
@@ -75,7 +75,7 @@ impl<K: Eq + Hash, B: BuildHasher> Index<K> for HashIndex<B> {
         &self,
         side: S,
         key: &K,
-        spot: &mut u64,
+        spot: &mut u32,
         _meter: &mut M,
     ) -> Option<usize> {
         let spread = ByHash::new(side, &self.builder);
@@ -94,11 +94,11 @@ impl<K: Eq + Hash, B: BuildHasher> Index<K> for HashIndex<B> {
         false
     }
 
-    fn link<S: Side<K>, M: Meter>(&mut self, _side: S, place: usize, spot: &u64, _meter: &mut M) {
+    fn link<S: Side<K>, M: Meter>(&mut self, _side: S, place: usize, spot: &u32, _meter: &mut M) {
         self.hashed.insert_under(place, *spot);
     }
 
-    fn relink<S: Side<K>, M: Meter>(&mut self, _side: S, place: usize, spot: &u64, _meter: &mut M) {
+    fn relink<S: Side<K>, M: Meter>(&mut self, _side: S, place: usize, spot: &u32, _meter: &mut M) {
         self.hashed.insert_under(place, *spot);
     }
 
@@ -131,7 +131,7 @@ impl<K: Eq + Hash, B: BuildHasher> Index<K> for HashIndex<B> {
 
     ghost in_order = { λ h. hash_in_order K.eq (number_by B.Hasher.finish B.Hasher.write B.build_hasher K.hash_input h.builder) h.hashed };
 
-    ghost respects = { λ h. hash_respects K.eq (number_by B.Hasher.finish B.Hasher.write B.build_hasher K.hash_input h.builder) K.Eq.laws (λ x y e. ap (λ w. B.Hasher.finish (fold B.Hasher.write (B.build_hasher h.builder) w)) (K.respects_eq x y e)) h.hashed };
+    ghost respects = { λ h. hash_respects K.eq (number_by B.Hasher.finish B.Hasher.write B.build_hasher K.hash_input h.builder) K.Eq.laws (λ x y e. ap (λ w. B.Hasher.finish (fold B.Hasher.write (B.build_hasher h.builder) w) % 4294967296) (K.respects_eq x y e)) h.hashed };
 
     ghost settled = { λ h. hash_settled K.eq (number_by B.Hasher.finish B.Hasher.write B.build_hasher K.hash_input h.builder) h.hashed };
 }

@@ -1,4 +1,4 @@
-use Rattle.std.proofs.Common.{◌∙◌, Bool, length, arith, sym, ap, subst}
+use Rattle.std.proofs.Common.{◌∙◌, Bool, length, sym, ap, subst}
 use Rattle.std.specs.Prelude.{IsTrue}
 use Rattle.bimap_chain.specs.Chains.{number_at, Matches, AreNumbered}
 use Rattle.bimap_chain.specs.Packed.{numbers_of, links_of}
@@ -12,8 +12,11 @@ has_number-requires-clause-place g c = (arrived _ _ _ _ _ _ _ c.loop-at.invarian
 pub has_number-requires-clause-listed : goal.has_number-requires-clause-listed
 has_number-requires-clause-listed g c = arrived_listed _ _ _ _ _ _ _ c.loop-at.invariant c.in-Some.is
 
-pub next-at-requires : goal.next-at-requires
-next-at-requires g c = omega (arith, (arrived _ _ _ _ _ _ _ c.loop-at.invariant c.in-Some.is).1, c.self.invariant.threaded.as_many_links)
+pub next-at-requires-clause-place : goal.next-at-requires-clause-place
+next-at-requires-clause-place g c = (arrived _ _ _ _ _ _ _ c.loop-at.invariant c.in-Some.is).1
+
+pub next-at-requires-clause-listed : goal.next-at-requires-clause-listed
+next-at-requires-clause-listed g c = arrived_listed _ _ _ _ _ _ _ c.loop-at.invariant c.in-Some.is
 
 pub loop-at-smaller : goal.loop-at-smaller
 loop-at-smaller g c = (arrived _ _ _ _ _ _ _ c.loop-at.invariant c.in-Some.is).0

@@ -1,17 +1,19 @@
 use Rattle.std.proofs.Common.{◌≡◌, ◌<◌, ◌∙◌, suc, length, arith, sym, subst, ap, Some}
-use Rattle.std.proofs.lemmas.List.{length-map}
 use Rattle.bimap_chain.specs.Chains.{number_at, IsThreaded, Links}
-use Rattle.bimap_chain.specs.Packed.{number_in, numbers_of, links_of}
+use Rattle.bimap_chain.specs.Packed.{numbers_of, links_of}
 use Rattle.bimap_chain.proofs.Sized.{as_sized}
-use Rattle.bimap_chain.proofs.Relink.{few, over_listed, link_over, listed}
+use Rattle.bimap_chain.proofs.Relink.{few, over_listed, goes_listed, link_over, listed}
 use Rattle.bimap_chain.proofs.hashed.Hashed.insert_under.Goals as goal
+
+pub link-next-requires-clause-listed : goal.link-next-requires-clause-listed
+link-next-requires-clause-listed c = goes_listed _ _ _ _ _ c.over-over.ensures
 
 pub list-requires-clause-next : goal.list-requires-clause-next
 list-requires-clause-next c =
     let old = c.self.inside.threads in
     let i = c.self.invariant in
     let within : c.args.place < length (numbers_of old) = omega (arith, ap length c.self.view_is, c.requires.cell) in
-    few _ _ _ (suc c.args.place) _ _ (c.link-next.ensures ∙ link_over _ _ _ _ _ _ i.threaded c.bucket-bucket.ensures.bound within c.over-over.ensures) (omega (arith, i.sized.few, length-map old.cells.items number_in))
+    few _ _ _ (suc c.args.place) _ _ (c.link-next.ensures ∙ link_over _ _ _ _ _ _ i.threaded c.bucket-bucket.ensures.bound within c.over-over.ensures) (omega (arith, within))
 
 pub set_link-requires-clause-listed : goal.set_link-requires-clause-listed
 set_link-requires-clause-listed c = rw c.list.ensures.numbers (over_listed _ _ _ _ _ _ c.over-over.ensures)

@@ -1,7 +1,7 @@
-use Rattle.std.proofs.Common.{◌≡◌, ◌∙◌, length, arith, sym, subst, ap}
+use Rattle.std.proofs.Common.{◌≡◌, ◌∙◌, length, arith, sym, subst, ap, None, length-set}
 use Rattle.std.proofs.lemmas.List.{length-map}
 use Rattle.bimap_chain.specs.Chains.{IsThreaded, Links}
-use Rattle.bimap_chain.specs.Packed.{number_in, numbers_of, links_of}
+use Rattle.bimap_chain.specs.Packed.{numbers_of, links_of}
 use Rattle.bimap_chain.proofs.Sized.{as_sized}
 use Rattle.bimap_chain.proofs.Relink.{few, over_listed, listed_within, unlisted}
 use Rattle.bimap_chain.proofs.hashed.Hashed.remove.Goals as goal
@@ -15,7 +15,14 @@ set_link-requires-clause-to_link c =
     let i = c.self.invariant in
     let held = sym c.number.ensures ∙ c.in-Some.is in
     let within = listed_within (numbers_of old) c.args.place c.in-Some.number held in
-    few _ _ _ _ _ _ (c.next-next.ensures ∙ i.threaded.links_lead c.args.place c.in-Some.number held) (omega (arith, i.sized.few, length-map old.cells.items number_in))
+    few _ _ _ _ _ _ (c.next-next.ensures ∙ i.threaded.links_lead c.args.place c.in-Some.number held) (omega (arith, i.sized.few, length-map old.cells (λ e. e.number)))
+
+pub set_link-requires-clause-to_cell : goal.set_link-requires-clause-to_cell
+set_link-requires-clause-to_cell c =
+    let old = c.self.inside.threads in
+    let held = sym c.number.ensures ∙ c.in-Some.is in
+    let within = listed_within (numbers_of old) c.args.place c.in-Some.number held in
+    few _ _ _ _ _ _ (c.next-next.ensures ∙ c.self.invariant.threaded.links_lead c.args.place c.in-Some.number held) (omega (arith, within, ap length c.unlist.ensures.numbers, length-set (numbers_of old) c.args.place None))
 
 pub set_link-requires-clause-to_head : goal.set_link-requires-clause-to_head
 set_link-requires-clause-to_head c =
@@ -23,7 +30,7 @@ set_link-requires-clause-to_head c =
     let i = c.self.invariant in
     let held = sym c.number.ensures ∙ c.in-Some.is in
     let within = listed_within (numbers_of old) c.args.place c.in-Some.number held in
-    few _ _ _ _ _ _ (c.next-next.ensures ∙ i.threaded.links_lead c.args.place c.in-Some.number held) (omega (arith, i.sized.enough, length-map old.cells.items number_in, ap length c.unlist.ensures.heads))
+    few _ _ _ _ _ _ (c.next-next.ensures ∙ i.threaded.links_lead c.args.place c.in-Some.number held) (omega (arith, i.sized.enough, length-map old.cells (λ e. e.number), ap length c.unlist.ensures.heads))
 
 pub invariant_of-self : goal.invariant_of-self
 invariant_of-self c =

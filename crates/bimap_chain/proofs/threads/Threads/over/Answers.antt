@@ -1,9 +1,11 @@
-use Rattle.std.proofs.Common.{arith}
-use Rattle.bimap_chain.proofs.Walk.{came_to, stepped, ended_none, ended_some}
+use Rattle.bimap_chain.proofs.Walk.{came_to, came_listed, stepped, ended_none, ended_some}
 use Rattle.bimap_chain.proofs.threads.Threads.over.Goals as goal
 
-pub next-at-requires : goal.next-at-requires
-next-at-requires c = omega (arith, came_to _ _ _ _ _ _ _ c.loop-at.invariant c.in-Some.is, c.requires.threaded.as_many_links)
+pub next-at-requires-clause-place : goal.next-at-requires-clause-place
+next-at-requires-clause-place c = (came_to _ _ _ _ _ _ _ c.loop-at.invariant c.in-Some.is).1
+
+pub next-at-requires-clause-listed : goal.next-at-requires-clause-listed
+next-at-requires-clause-listed c = came_listed _ _ _ _ _ _ _ c.loop-at.invariant c.in-Some.is
 
 pub loop-at-smaller : goal.loop-at-smaller
 loop-at-smaller c = (came_to _ _ _ _ _ _ _ c.loop-at.invariant c.in-Some.is).0

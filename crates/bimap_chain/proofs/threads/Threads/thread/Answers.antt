@@ -1,7 +1,7 @@
 use Rattle.std.proofs.Common.{◌≡◌, ◌<◌, ◌∙◌, ◌+◌, length, ap, sym, refl, subst, arith, add-one, None, Some}
 use Rattle.std.specs.Prelude.{slice_index_or, slice_set}
 use Rattle.std.proofs.lemmas.List.{length-map}
-use Rattle.bimap_chain.specs.Packed.{number_in, next_in, numbers_of, links_of}
+use Rattle.bimap_chain.specs.Packed.{numbers_of, links_of}
 use Rattle.bimap_chain.proofs.Kept.{everywhere, set_same}
 use Rattle.bimap_chain.proofs.Sized.{as_sized}
 use Rattle.bimap_chain.proofs.Relink.{few}
@@ -14,17 +14,17 @@ loop-place-init c =
     let old = c.args.self.now in
     record {
       numbers = refl;
-      cells = omega (arith, c.len-cells.ensures, old.cells.ok);
+      cells = omega (arith, c.len-cells.ensures);
       sized = c.requires.sized;
-      threaded = begun _ _ _ (length-map old.cells.items next_in ∙ sym (length-map old.cells.items number_in))
-          (omega (arith, c.requires.sized.enough, length-map old.cells.items number_in))
+      threaded = begun _ _ _ (length-map old.cells (λ e. e.next) ∙ sym (length-map old.cells (λ e. e.number)))
+          (omega (arith, c.requires.sized.enough, length-map old.cells (λ e. e.number)))
           (λ k l. ap (λ v. slice_index_or v k None) c.requires.empty ∙ everywhere _ k None);
     }
 
 pub list-requires-clause-next : goal.list-requires-clause-next
 list-requires-clause-next c =
     let i = c.loop-place.invariant in
-    few _ _ _ _ _ _ (c.head-next.ensures ∙ i.threaded.heads_begin _ c.bucket-bucket.ensures.bound) (omega (arith, i.sized.few, i.cells, c.loop-place-test.true))
+    few _ _ _ _ _ _ (c.head-next.ensures ∙ i.threaded.heads_begin _ c.bucket-bucket.ensures.bound) (omega (arith, i.cells, c.loop-place-test.true, length-map c.loop-place.self.cells (λ e. e.number)))
 
 pub loop-place-preserved : goal.loop-place-preserved
 loop-place-preserved c =
@@ -34,9 +34,9 @@ loop-place-preserved c =
     elim c.match-number.branch [
       | in-Some w ↦
           let held = sym c.number.ensures ∙ w.in-Some.is in
-          let within : place < length (numbers_of old) = omega (arith, c.loop-place-test.true, i.cells, length-map old.cells.items number_in) in
+          let within : place < length (numbers_of old) = omega (arith, c.loop-place-test.true, i.cells, length-map old.cells (λ e. e.number)) in
           let same : numbers_of w.set_link.new.self ≡ numbers_of old = w.set_link.ensures.numbers ∙ w.list.ensures.numbers ∙ set_same (numbers_of old) place (Some w.in-Some.number) None within held in
-          let long : length w.set_link.new.self.cells.items ≡ length old.cells.items = w.set_link.ensures.cells ∙ w.list.ensures.cells in
+          let long : length w.set_link.new.self.cells ≡ length old.cells = w.set_link.ensures.cells ∙ w.list.ensures.cells in
           let heads : length w.set_link.new.self.heads ≡ length old.heads = w.set_link.ensures.heads ∙ ap length w.list.ensures.heads in
           let first = put_first (numbers_of old) (links_of old) old.heads w.bucket-bucket.result w.in-Some.number place (place + 1) w.head-next.result i.threaded (add-one place) w.bucket-bucket.ensures.value held w.head-next.ensures in
           let links = w.set_link.ensures.links.0 ∙ w.list.ensures.links in

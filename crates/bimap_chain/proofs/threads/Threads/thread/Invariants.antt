@@ -6,7 +6,7 @@ use Rattle.bimap_chain.proofs.threads.Threads.thread.Given as goal
 abbrev pub invariant-loop-place : goal.invariant-loop-place
 invariant-loop-place l = record {
   numbers : numbers_of l.self ≡ numbers_of l.fn.self;
-  cells : length l.self.cells.items ≡ l.cells;
-  sized : IsSized (length l.self.cells.items) (length l.self.heads);
+  cells : length l.self.cells ≡ l.cells;
+  sized : IsSized (length l.self.cells) (length l.self.heads);
   threaded : ThreadedBelow (numbers_of l.self) (links_of l.self) l.self.heads l.place;
 }
