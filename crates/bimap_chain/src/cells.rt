@@ -9,7 +9,8 @@ use bimap_base::NoMemory;
 use std::alloc::Global;
 use std::marker::Model;
 
-// A cell as it is kept where there are fewer than 2^32 - 1 places, in 8 bytes: the number, and the next place of the chain plus one, or 0 for none. A place that isn't listed has the link `NARROW_FREE`.
+// A cell as it is kept where there are fewer than 2^32 - 1 places, in 8 bytes: the number, and the next place of the chain
+// plus one, or 0 for none. A place that isn't listed has the link `NARROW_FREE`.
 #[derive(Clone, Copy)]
 struct NarrowCell {
     number: u32,

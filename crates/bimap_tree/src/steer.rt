@@ -27,7 +27,9 @@ pub trait Steer {
 // A constant at each type. Its size is asked of an `Option` that holds none: `size_of` has no proof at a parameter.
 fn is_wide<K>() -> bool {
     let no_key: Option<ManuallyDrop<K>> = None;
-    size_of_val(&no_key) > size_of::<Option<usize>>()
+    let size = size_of_val(&no_key);
+    let most = size_of::<Option<usize>>();
+    size > most
 }
 
 #[derive(Drop)]
