@@ -55,6 +55,7 @@ impl Hashed {
     }
 
     /// As `find`, by a number that the caller has.
+    #[inline(always)]
     pub fn find_under<S: Spread>(&self, spread: &S, number: u32, key: &S::Key) -> Option<usize>
         requires numbered { AreNumbered (S.key_at spread.now) (S.number_of spread.now) self.now }
         requires number { number ≡ S.number_of spread.now key.now }
@@ -89,6 +90,7 @@ impl Hashed {
     }
 
     /// Lists the place under a number. It takes no memory.
+    #[inline(always)]
     pub fn insert_under(&mut self, place: usize, number: u32)
         requires cell { place < length self.old }
         requires free { number_at self.old place ≡ None }
@@ -102,6 +104,7 @@ impl Hashed {
     }
 
     /// Takes the place out. It takes no memory, and hashes nothing.
+    #[inline(always)]
     pub fn remove(&mut self, place: usize)
         requires { IsListed self.old place }
         ensures { self.new ≡ slice_set self.old place None }

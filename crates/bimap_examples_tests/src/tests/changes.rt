@@ -58,16 +58,25 @@ fn keeps_some(rt: HostRuntime) -> Result<(), Fail> {
 
 #[test]
 fn makes_and_takes_room(rt: HostRuntime) -> Result<(), Fail> {
-    let alloc = rt.alloc();
-    let mut seats = hashed(alloc)?;
+    let mut seats = hashed(rt.alloc())?;
     assert!(&rt; seats.reserve(5) == Ok(()));
     assert!(&rt; seats.capacity() == 8);
     assert!(&rt; seats.shrink_to(0) == Ok(()));
     assert!(&rt; seats.capacity() == 3);
-    let mut seats = hashed(alloc)?;
+    Ok(())
+}
+
+#[test]
+fn takes_spare_room(rt: HostRuntime) -> Result<(), Fail> {
+    let mut seats = hashed(rt.alloc())?;
     assert!(&rt; seats.shrink_to_fit() == Ok(()));
     assert!(&rt; seats.capacity() == 3);
-    let mut seats = ordered(alloc)?;
+    Ok(())
+}
+
+#[test]
+fn takes_spare_room_in_order(rt: HostRuntime) -> Result<(), Fail> {
+    let mut seats = ordered(rt.alloc())?;
     assert!(&rt; seats.shrink_to_fit() == Ok(()));
     assert!(&rt; seats.capacity() == 3);
     Ok(())

@@ -41,15 +41,19 @@ fn by_right(rt: &impl Abort, seats: &Seats) {
 }
 
 #[test]
-fn takes_the_ends_out(rt: HostRuntime) -> Result<(), Fail> {
-    let alloc = rt.alloc();
-    let mut seats = ordered(alloc)?;
+fn takes_the_ends_out_by_left(rt: HostRuntime) -> Result<(), Fail> {
+    let mut seats = ordered(rt.alloc())?;
     assert!(rt; seats.pop_first_by_left() == Some(('a', 3)));
-    let mut seats = ordered(alloc)?;
+    let mut seats = ordered(rt.alloc())?;
     assert!(rt; seats.pop_last_by_left() == Some(('c', 2)));
-    let mut seats = ordered(alloc)?;
+    Ok(())
+}
+
+#[test]
+fn takes_the_ends_out_by_right(rt: HostRuntime) -> Result<(), Fail> {
+    let mut seats = ordered(rt.alloc())?;
     assert!(rt; seats.pop_first_by_right() == Some(('b', 1)));
-    let mut seats = ordered(alloc)?;
+    let mut seats = ordered(rt.alloc())?;
     assert!(rt; seats.pop_last_by_right() == Some(('a', 3)));
     Ok(())
 }
