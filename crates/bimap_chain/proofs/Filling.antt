@@ -1,7 +1,7 @@
 -- Numbers moved, in the order of their places, to the first of new cells.
 use Rattle.std.proofs.Common.{◌≡◌, ℕ, suc, ◌+◌, ◌-◌, ◌<◌, ◌≤◌, List, [], ◌∷◌, ◌++◌, length, map, take, drop, get_or, Option, None, Some, replicate, sym, ap, ◌∙◌, arith, length-append, append_assoc}
 use Rattle.std.specs.Prelude.{slice_set}
-use Rattle.std.proofs.lemmas.List.{append-nil, map-append, length-map, take-append-drop, take_more}
+use Rattle.std.proofs.lemmas.List.{append-nil, map-append, length-map, take-append-drop, take_more, length-take-le}
 use Rattle.std.proofs.Math.Seq.{set-append_seam}
 use Rattle.bimap_base.specs.Places.{pairs_in, packed}
 use Rattle.bimap_base.proofs.Packing.{pairs_in-append}
@@ -23,6 +23,25 @@ module _ (numbers : Numbers) (place : ℕ) (inside : place < length numbers) whe
   pub room_left : (to n : ℕ) → number_at numbers place ≡ Some n → length (pairs_in numbers) ≤ to → length (pairs_in (take place numbers)) < to
   room_left to n is fits =
       omega (arith, fits, ap (λ z. length (pairs_in z)) (take-append-drop (place + 1) numbers), ap length (pairs_in-append (take (place + 1) numbers) (drop (place + 1) numbers)), length-append (pairs_in (take (place + 1) numbers)) (pairs_in (drop (place + 1) numbers)), ap length (more_seen n is), length-append (pairs_in (take place numbers)) (n ∷ []))
+
+  -- one more number stands where it stood, of as many places and more
+  pub copied_more : (to : ℕ) (o : Option ℕ) → number_at numbers place ≡ o → length numbers ≤ to → slice_set (take place numbers ++ replicate (to - place) None) place o ≡ take (place + 1) numbers ++ replicate (to - (place + 1)) None
+  copied_more to o is most =
+      let done : Numbers = take place numbers in
+      let rest : Numbers = replicate (to - (place + 1)) None in
+      let e : to - place ≡ suc (to - (place + 1)) = omega arith in
+      let long : length done ≡ place = length-take-le place numbers (omega arith) in
+      ap (λ k. slice_set (done ++ replicate k None) place o) e ∙ ap (λ k. slice_set (done ++ None ∷ rest) k o) (sym long) ∙ set-append_seam done None rest o
+      ∙ sym (append_assoc done (o ∷ []) rest) ∙ ap (λ z. z ++ rest) (sym (take_more numbers place None inside ∙ ap (λ z. done ++ z ∷ []) is))
+
+  -- a place that is still free, written free
+  pub left_free : (to : ℕ) → length numbers ≤ to → slice_set (take place numbers ++ replicate (to - place) None) place None ≡ take place numbers ++ replicate (to - place) None
+  left_free to most =
+      let done : Numbers = take place numbers in
+      let rest : Numbers = replicate (to - (place + 1)) None in
+      let e : to - place ≡ suc (to - (place + 1)) = omega arith in
+      let long : length done ≡ place = length-take-le place numbers (omega arith) in
+      ap (λ k. slice_set (done ++ replicate k None) place None) e ∙ ap (λ k. slice_set (done ++ None ∷ rest) k None) (sym long) ∙ set-append_seam done None rest None ∙ ap (λ k. done ++ replicate k None) (sym e)
 
 module _ (ns : List ℕ) (to : ℕ) (less : length ns < to) where
   abbrev rest : ℕ

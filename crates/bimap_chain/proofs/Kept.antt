@@ -1,10 +1,9 @@
 -- Lists as they are kept.
-use Rattle.std.proofs.Common.{◌≡◌, ℕ, zero, suc, ◌-◌, ◌%◌, ◌<◌, List, [], ◌∷◌, length, map, replicate, Option, None, refl, sym, ◌∙◌, ap, arith, bit_and}
+use Rattle.std.proofs.Common.{◌≡◌, ℕ, zero, suc, ◌-◌, ◌%◌, ◌<◌, List, [], ◌∷◌, length, map, replicate, refl, sym, ◌∙◌, ap, arith, bit_and}
 use Rattle.std.specs.Prelude.{slice_index_or, slice_set}
 use Rattle.std.specs.Int.{IsPowerOfTwo}
 use Rattle.std.proofs.lemmas.List.{length-map}
 use Rattle.std.proofs.lemmas.Nat.{and_mask}
-use Rattle.bimap_base.specs.Packed.{link_of}
 
 -- a mask keeps what is left of the number
 pub masked : (h n m : ℕ) → 0 < n → (0 < n → IsPowerOfTwo n) → m ≡ n - 1 → bit_and h m ≡ h % n
@@ -16,11 +15,11 @@ pub map-replicated : {A B : Type 0} (f : A → B) (n : ℕ) (a : A) → map f (r
 map-replicated f zero a = refl
 map-replicated f (suc n) a = ap (λ z. f a ∷ z) (map-replicated f n a)
 
--- links that were filled with 0 lead nowhere
-pub emptied : (xs : List ℕ) (n : ℕ) (places : List (Option ℕ)) → map link_of xs ≡ places → n ≡ length xs → map link_of (replicate n 0) ≡ replicate (length places) None
-emptied xs n places e l =
-    let k : n ≡ length places = omega (arith, l, length-map xs link_of, ap length e) in
-    map-replicated link_of n 0 ∙ ap (λ k. replicate k None) k
+-- the same as many times, in another list
+pub as_many : {A B C : Type 0} (f : A → B) (g : C → B) (xs : List C) (n : ℕ) (a : A) (b : B) (bs : List B) → map g xs ≡ bs → n ≡ length xs → f a ≡ b → map f (replicate n a) ≡ replicate (length bs) b
+as_many f g xs n a b bs e l is =
+    let k : n ≡ length bs = omega (arith, l, length-map xs g, ap length e) in
+    map-replicated f n a ∙ ap (replicate n) is ∙ ap (λ k. replicate k b) k
 
 -- what stands everywhere, and is the default too
 pub everywhere : {A : Type 0} (n k : ℕ) (a : A) → slice_index_or (replicate n a) k a ≡ a

@@ -1,4 +1,5 @@
 pub mod Chains
-pub mod Packed
-pub mod Heads
+pub mod Width
 pub mod Cells
+pub mod Packed
+pub mod Forms

@@ -1,25 +1,28 @@
--- How the cells of a hashed index are kept. No public clause cites this module.
-use Rattle.std.specs.Prelude.{ℕ, ◌*◌, ◌^◌, ◌<◌, ◌≤◌, List, length, Option}
+-- What a contract sees of the threads of a hashed index. No public clause cites this module.
+use Rattle.std.specs.Prelude.{ℕ, ◌*◌, ◌<◌, ◌≤◌, List, length, Option}
 use Rattle.std.specs.Int.{IsPowerOfTwo}
-use Rattle.bimap_chain.specs.declared.threads.Threads.{Threads}
-use Rattle.bimap_chain.specs.Cells.{numbers_in, links_in}
+use Rattle.bimap_chain.specs.Cells.{Cell, numbers_in, links_in}
 use Rattle.bimap_chain.specs.Chains.{Numbers, IsThreaded}
 
+-- what the cells tell, by place, and the first place of each bucket
+pub record Threading : Type 0 where
+  pub cells : List Cell
+  pub heads : List (Option ℕ)
+
 -- the numbers that the cells show
-abbrev pub numbers_of : Threads → Numbers
+abbrev pub numbers_of : Threading → Numbers
 numbers_of threads = numbers_in threads.cells
 
 -- the links that the cells show
-abbrev pub links_of : Threads → List (Option ℕ)
+abbrev pub links_of : Threading → List (Option ℕ)
 links_of threads = links_in threads.cells
 
--- there are at least two heads for each cell, the heads are as many as a power of two, or none, and a link tells each place
+-- there are at least two heads for each cell, and the heads are as many as a power of two, or none
 pub record IsSized (cells heads : ℕ) : Type 0 where
   pub enough : 2 * cells ≤ heads
-  pub few : cells ≤ 2 ^ 63
   pub power : 0 < heads → IsPowerOfTwo heads
 
 -- the cells are threaded
-pub record IsSound (threads : Threads) : Type 0 where
+pub record IsSound (threads : Threading) : Type 0 where
   pub sized : IsSized (length threads.cells) (length threads.heads)
   pub threaded : IsThreaded (numbers_of threads) (links_of threads) threads.heads

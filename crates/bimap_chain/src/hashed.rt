@@ -1,14 +1,25 @@
-//! `Hashed` and its calls. It knows no values.
+//! `Hashed` and its calls: each asks once which form the threads have. It knows no values.
 ghost use Rattle.std.specs.Prelude.{◌≡◌, ◌<◌, ◌≤◌, ◌-◌, ℕ, [], ◌++◌, length, None, Some, replicate, slice_set, IfSome, IfNone, IfOk, OnOk, OnErr, IsOk, IsSome};
 ghost use Rattle.bimap_base.specs.Places.{pairs_in, packed};
 ghost use Rattle.bimap_chain.specs.Chains.{number_at, IsListed, AreNumbered, Matches};
+ghost use Rattle.bimap_chain.specs.Packed.{numbers_of, IsSound};
 
-use crate::cells::Cells;
-use crate::heads::Heads;
+use crate::chains::MOST;
+use crate::link::Link;
 use crate::threads::Threads;
 use bimap_base::{NoMemory, Spread};
 use std::alloc::Global;
 use std::marker::Model;
+
+// How many places are too many for links of four bytes.
+const WIDE: usize = 4_294_967_295;
+
+// The threads, with links of four bytes where there are fewer places than that, and else of eight.
+#[derive(Drop)]
+enum Form {
+    Narrow(Threads<u32>),
+    Wide(Threads<usize>),
+}
 
 /// A set of places, each listed under the hash number of its key.
 ///
@@ -17,7 +28,7 @@ use std::marker::Model;
 /// before its key changes for an unequal one, and put in after.
 #[derive(Drop)]
 pub struct Hashed {
-    threads: Threads,
+    form: Form,
 }
 
 impl Model for Hashed {
@@ -26,10 +37,27 @@ impl Model for Hashed {
     ghost Value = { List (Option ℕ) };
 
     ghost use Rattle.bimap_chain.specs.Packed.{numbers_of, IsSound};
+    ghost use Rattle.bimap_chain.specs.Forms.{threads_in};
 
-    ghost view = { λ h. numbers_of h.threads };
+    ghost view = { λ h. numbers_of (threads_in h.form) };
 
-    ghost invariant = { λ h. IsSound h.threads };
+    ghost invariant = { λ h. IsSound (threads_in h.form) };
+}
+
+// The packed ones of these threads, in the form that so many cells have.
+fn packed_of<L: Link>(threads: &Threads<L>, to: usize) -> Result<Hashed, NoMemory>
+    requires sound { IsSound threads.now }
+    requires fits { length (pairs_in (numbers_of threads.now)) ≤ to }
+    ensures { IfOk result (λ h. h ≡ packed (pairs_in (numbers_of threads.now)) to) }
+{
+    let form = if to < WIDE {
+        Form::Narrow(threads.packed(to)?)
+    } else if to <= MOST {
+        Form::Wide(threads.packed(to)?)
+    } else {
+        return Err(NoMemory);
+    };
+    Ok(Hashed { form })
 }
 
 impl Hashed {
@@ -38,10 +66,7 @@ impl Hashed {
         ensures { result ≡ [] }
     {
         Hashed {
-            threads: Threads {
-                cells: Cells::new(alloc),
-                heads: Heads::new(alloc),
-            },
+            form: Form::Narrow(Threads::new(alloc)),
         }
     }
 
@@ -62,21 +87,10 @@ impl Hashed {
         ensures found { IfSome result (Matches (S.key_at spread.now) (λ k. S.same_key k key.now) self.now) }
         ensures absent { IfNone result ((p : ℕ) → ¬ Matches (S.key_at spread.now) (λ k. S.same_key k key.now) self.now p) }
     {
-        let threads = &self.threads;
-        if threads.heads.len() == 0 {
-            return None;
+        match &self.form {
+            Form::Narrow(threads) => threads.find_under(spread, number, key),
+            Form::Wide(threads) => threads.find_under(spread, number, key),
         }
-        let bucket = threads.bucket(number);
-        let mut end = threads.cells.len();
-        let mut at = threads.head(bucket);
-        while let Some(place) = at {
-            if threads.has_number(place, number) && spread.same(place, key) {
-                return Some(place);
-            }
-            end = place;
-            at = threads.next(place);
-        }
-        None
     }
 
     /// Lists the place under its present number. It takes no memory.
@@ -96,11 +110,10 @@ impl Hashed {
         requires free { number_at self.old place ≡ None }
         ensures { self.new ≡ slice_set self.old place (Some number) }
     {
-        let bucket = self.threads.bucket(number);
-        let over = self.threads.over(bucket, place);
-        let next = self.threads.link(bucket, over);
-        self.threads.list(place, number, next);
-        self.threads.set_link(bucket, over, Some(place));
+        match &mut self.form {
+            Form::Narrow(threads) => threads.insert_under(place, number),
+            Form::Wide(threads) => threads.insert_under(place, number),
+        }
     }
 
     /// Takes the place out. It takes no memory, and hashes nothing.
@@ -109,14 +122,10 @@ impl Hashed {
         requires { IsListed self.old place }
         ensures { self.new ≡ slice_set self.old place None }
     {
-        let Some(number) = self.threads.number(place) else {
-            unreachable!()
-        };
-        let bucket = self.threads.bucket(number);
-        let over = self.threads.over(bucket, place);
-        let next = self.threads.next(place);
-        self.threads.unlist(place);
-        self.threads.set_link(bucket, over, next);
+        match &mut self.form {
+            Form::Narrow(threads) => threads.remove(place),
+            Form::Wide(threads) => threads.remove(place),
+        }
     }
 
     /// Makes cells for all places below `to`, exactly, and hashes nothing. It takes memory only where some are missing,
@@ -135,25 +144,33 @@ impl Hashed {
         ensures err { OnErr result (self.new ≡ self.old) }
         ensures succeeds { to ≤ length self.old → IsOk result }
     {
-        if to <= self.threads.cells.len() {
+        if to <= self.cells() {
             return Ok(());
         }
-        self.threads.grow(to)
+        if to > MOST {
+            return Err(NoMemory);
+        }
+        match &mut self.form {
+            Form::Narrow(threads) => {
+                if to < WIDE {
+                    return threads.grow(to);
+                }
+                let wide = threads.widened(to)?;
+                self.form = Form::Wide(wide);
+                Ok(())
+            }
+            Form::Wide(threads) => threads.grow(to),
+        }
     }
 
     // The number of cells.
     fn cells(&self) -> usize
         ensures { result ≡ length self.now }
     {
-        self.threads.cells.len()
-    }
-
-    // The number under which a place is listed.
-    fn number(&self, place: usize) -> Option<u32>
-        requires { place < length self.now }
-        ensures { result ≡ number_at self.now place }
-    {
-        self.threads.number(place)
+        match &self.form {
+            Form::Narrow(threads) => threads.len(),
+            Form::Wide(threads) => threads.len(),
+        }
     }
 
     /// Another one of exactly `to` cells, of which the first list the same numbers, in the order of their places. It hashes
@@ -162,22 +179,19 @@ impl Hashed {
         requires { length (pairs_in self.now) ≤ to }
         ensures { IfOk result (λ h. h ≡ packed (pairs_in self.now) to) }
     {
-        let mut kept = Hashed::new(self.threads.cells.allocator());
-        kept.grow_to(to)?;
-        let mut next = 0;
-        for place in 0..self.cells() {
-            if let Some(number) = self.number(place) {
-                kept.insert_under(next, number);
-                next += 1;
-            }
+        match &self.form {
+            Form::Narrow(threads) => packed_of(threads, to),
+            Form::Wide(threads) => packed_of(threads, to),
         }
-        Ok(kept)
     }
 
     /// Takes all places out. The cells stay.
     pub fn clear(&mut self)
         ensures { self.new ≡ replicate (length self.old) None }
     {
-        self.threads.clear();
+        match &mut self.form {
+            Form::Narrow(threads) => threads.clear(),
+            Form::Wide(threads) => threads.clear(),
+        }
     }
 }

@@ -5,8 +5,8 @@
 #![tactic(auto)]
 
 mod cells;
+mod chains;
 mod hashed;
-mod heads;
 mod link;
 mod threads;
 

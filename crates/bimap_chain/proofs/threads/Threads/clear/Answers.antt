@@ -5,6 +5,6 @@ use Rattle.bimap_chain.proofs.Kept.{map-replicated}
 use Rattle.bimap_chain.proofs.threads.Threads.clear.Goals as goal
 
 pub returns-clause-numbers : goal.returns-clause-numbers
-returns-clause-numbers c =
+returns-clause-numbers g c =
     let cells = c.args.self.now.cells in
-    c.thread.ensures.numbers ∙ ap numbers_in c.clear.ensures ∙ map-replicated (λ e. e.number) _ free_cell ∙ ap (λ n. replicate n None) (omega (arith, length-map cells (λ e. e.number)))
+    c.thread.ensures.numbers ∙ ap numbers_in c.empty.ensures.cells ∙ map-replicated (λ e. e.number) _ free_cell ∙ ap (λ n. replicate n None) (omega (arith, length-map cells (λ e. e.number)))

@@ -2,20 +2,20 @@ use Rattle.bimap_chain.proofs.Walk.{came_to, came_listed, stepped, ended_none, e
 use Rattle.bimap_chain.proofs.threads.Threads.over.Goals as goal
 
 pub next-at-requires-clause-place : goal.next-at-requires-clause-place
-next-at-requires-clause-place c = (came_to _ _ _ _ _ _ _ c.loop-at.invariant c.in-Some.is).1
+next-at-requires-clause-place g c = (came_to _ _ _ _ _ _ _ c.loop-at.invariant c.in-Some.is).1
 
 pub next-at-requires-clause-listed : goal.next-at-requires-clause-listed
-next-at-requires-clause-listed c = came_listed _ _ _ _ _ _ _ c.loop-at.invariant c.in-Some.is
+next-at-requires-clause-listed g c = came_listed _ _ _ _ _ _ _ c.loop-at.invariant c.in-Some.is
 
 pub loop-at-smaller : goal.loop-at-smaller
-loop-at-smaller c = (came_to _ _ _ _ _ _ _ c.loop-at.invariant c.in-Some.is).0
+loop-at-smaller g c = (came_to _ _ _ _ _ _ _ c.loop-at.invariant c.in-Some.is).0
 
 pub loop-at-preserved : goal.loop-at-preserved
-loop-at-preserved c =
+loop-at-preserved g c =
     stepped _ _ _ _ _ _ _ _ _ c.requires.threaded c.loop-at.invariant c.in-Some.is c.if-next-place.false c.next-at.ensures
 
 pub returns-then-next-place : goal.returns-then-next-place
-returns-then-next-place c = ended_some _ _ _ _ _ _ _ c.loop-at.invariant c.in-Some.is c.if-next-place.true
+returns-then-next-place g c = ended_some _ _ _ _ _ _ _ c.loop-at.invariant c.in-Some.is c.if-next-place.true
 
 pub returns-in_default : goal.returns-in_default
-returns-in_default c = ended_none _ _ _ _ _ _ c.loop-at.invariant c.in_default.is
+returns-in_default g c = ended_none _ _ _ _ _ _ c.loop-at.invariant c.in_default.is

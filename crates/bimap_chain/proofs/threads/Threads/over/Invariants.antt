@@ -4,7 +4,7 @@ use Rattle.bimap_chain.proofs.Walk.{AtStep}
 use Rattle.bimap_chain.proofs.threads.Threads.over.Given as goal
 
 abbrev pub invariant-loop-at : goal.invariant-loop-at
-invariant-loop-at l = AtStep (numbers_of l.self) (length l.self.heads) l.bucket l.place l.over l.end l.at
+invariant-loop-at g l = AtStep (numbers_of l.self) (length l.self.heads) l.bucket l.place l.over l.end l.at
 
 abbrev pub decreases-loop-at : goal.decreases-loop-at
-decreases-loop-at l = l.end
+decreases-loop-at g l = l.end

@@ -1,22 +1,26 @@
-use Rattle.std.proofs.Common.{refl, arith}
-use Rattle.std.proofs.lemmas.List.{length-map}
-use Rattle.bimap_chain.proofs.Seen.{lower}
+use Rattle.std.proofs.Common.{ap}
+use Rattle.bimap_base.proofs.Packs.{map-written}
+use Rattle.bimap_chain.specs.Cells.{cell_of}
+use Rattle.bimap_chain.specs.Packed.{links_of}
+use Rattle.bimap_chain.specs.Width.{told}
+use Rattle.bimap_chain.proofs.Seen.{rewritten, numbers_left, has_one}
 use Rattle.bimap_chain.proofs.threads.Threads.set_link.Goals as goal
 
-pub set_link-requires-clause-place : goal.set_link-requires-clause-place
-set_link-requires-clause-place c =
-    let within = rw c.in-Some.is at c.requires.over in omega (arith, within, length-map c.args.self.now.cells (λ e. e.number))
-
-pub set_link-requires-clause-listed : goal.set_link-requires-clause-listed
-set_link-requires-clause-listed c = rw c.in-Some.is at c.requires.listed
-
-pub set_link-requires-clause-to : goal.set_link-requires-clause-to
-set_link-requires-clause-to c = lower c.args.to _ _ c.requires.to_cell (omega (arith, length-map c.args.self.now.cells (λ e. e.number)))
+pub relinked-requires-clause-listed : goal.relinked-requires-clause-listed
+relinked-requires-clause-listed g c =
+    let over = rw c.in-Some.is at c.requires.over in
+    let listed = rw c.in-Some.is at c.requires.listed in
+    has_one (cell_of g.L.Link.width) _ _ (ap (λ t. t.cells) c.self.view_is) _ listed.0 _ _ over c.index.ensures listed.1
 
 pub returns-in-None-clause-links : goal.returns-in-None-clause-links
-returns-in-None-clause-links c =
-    rw c.in-None.is (refl, c.set.ensures)
+returns-in-None-clause-links g c =
+    rw c.in-None.is (ap (λ t. links_of t) c.self.view_is, map-written (told g.L.Link.width) _ _ _ _ _ (ap (λ t. t.heads) c.self.view_is) c.link_to.ensures.told)
+
+pub returns-in-Some-clause-numbers : goal.returns-in-Some-clause-numbers
+returns-in-Some-clause-numbers g c =
+    let over = rw c.in-Some.is at c.requires.over in
+    numbers_left (cell_of g.L.Link.width) _ _ (ap (λ t. t.cells) c.self.view_is) _ _ _ _ _ over c.index.ensures c.relinked.ensures
 
 pub returns-in-Some-clause-links : goal.returns-in-Some-clause-links
-returns-in-Some-clause-links c =
-    rw c.in-Some.is (c.set_link.ensures.links, refl)
+returns-in-Some-clause-links g c =
+    rw c.in-Some.is (rewritten (cell_of g.L.Link.width) _ _ (ap (λ t. t.cells) c.self.view_is) (λ e. e.next) _ _ _ c.relinked.ensures, ap (λ t. t.heads) c.self.view_is)

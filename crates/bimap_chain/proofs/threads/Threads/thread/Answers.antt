@@ -10,7 +10,7 @@ use Rattle.bimap_chain.proofs.threads.Threads.thread.Goals as goal
 use Rattle.bimap_chain.proofs.threads.Threads.thread.Goals.{in-Some, in_default}
 
 pub loop-place-init : goal.loop-place-init
-loop-place-init c =
+loop-place-init g c =
     let old = c.args.self.now in
     record {
       numbers = refl;
@@ -22,12 +22,12 @@ loop-place-init c =
     }
 
 pub list-requires-clause-next : goal.list-requires-clause-next
-list-requires-clause-next c =
+list-requires-clause-next g c =
     let i = c.loop-place.invariant in
     few _ _ _ _ _ _ (c.head-next.ensures ∙ i.threaded.heads_begin _ c.bucket-bucket.ensures.bound) (omega (arith, i.cells, c.loop-place-test.true, length-map c.loop-place.self.cells (λ e. e.number)))
 
 pub loop-place-preserved : goal.loop-place-preserved
-loop-place-preserved c =
+loop-place-preserved g c =
     let i = c.loop-place.invariant in
     let old = c.loop-place.self in
     let place = c.loop-place.place in

@@ -1,0 +1,49 @@
+use Rattle.std.proofs.Common.{◌<◌, ◌∷◌, ◌∙◌, [], length, take, ap, sym, subst, arith, Some, length-append}
+use Rattle.std.specs.Prelude.{slice_set}
+use Rattle.std.proofs.lemmas.List.{length-map}
+use Rattle.bimap_base.specs.Places.{pairs_in, packed}
+use Rattle.bimap_base.proofs.Packing.{length-packed}
+use Rattle.bimap_chain.specs.Packed.{numbers_of, IsSound}
+use Rattle.bimap_chain.proofs.Filling.{more_seen, none_seen, room_left, filled_more}
+use Rattle.bimap_chain.proofs.threads.Threads.packed.Goals as goal
+use Rattle.bimap_chain.proofs.threads.Threads.packed.Goals.{in-Some, in_default}
+
+pub insert_under-requires-clause-cell : goal.insert_under-requires-clause-cell
+insert_under-requires-clause-cell g c =
+    let i = c.loop-place.invariant in
+    let numbers = numbers_of c.args.self.now in
+    let inside : c.loop-place.place < length numbers = omega (arith, c.loop-place-test.true, c.len-place-end.ensures, length-map c.args.self.now.cells (λ e. e.number)) in
+    let less = room_left numbers c.loop-place.place inside c.args.to c.in-Some.number (sym c.number.ensures ∙ c.in-Some.is) c.requires.fits in
+    omega (arith, less, i.next, ap length i.kept, length-packed (pairs_in (take c.loop-place.place numbers)) c.args.to (omega (arith, less)))
+
+pub overflow_add-next : goal.overflow_add-next
+overflow_add-next g c =
+    let inside : c.loop-place.place < length (numbers_of c.args.self.now) = omega (arith, c.loop-place-test.true, c.len-place-end.ensures, length-map c.args.self.now.cells (λ e. e.number)) in
+    let less = room_left (numbers_of c.args.self.now) c.loop-place.place inside c.args.to c.in-Some.number (sym c.number.ensures ∙ c.in-Some.is) c.requires.fits in
+    omega (arith, less, c.loop-place.invariant.next, c.ranges.to.fits)
+
+pub loop-place-preserved : goal.loop-place-preserved
+loop-place-preserved g c =
+    let i = c.loop-place.invariant in
+    let numbers = numbers_of c.args.self.now in
+    let ns = pairs_in (take c.loop-place.place numbers) in
+    let inside : c.loop-place.place < length numbers = omega (arith, c.loop-place-test.true, c.len-place-end.ensures, length-map c.args.self.now.cells (λ e. e.number)) in
+    elim c.match-number.branch [
+      | in-Some w ↦
+          let n = w.in-Some.number in
+          let is = sym c.number.ensures ∙ w.in-Some.is in
+          let more = more_seen numbers c.loop-place.place inside n is in
+          let less = room_left numbers c.loop-place.place inside c.args.to n is c.requires.fits in
+          record {
+            sound = subst IsSound (sym w.kept-is) w.insert_under.ensures.sound;
+            next = omega (arith, w.next-is, i.next, ap length more, length-append ns (n ∷ []));
+            kept = ap numbers_of w.kept-is ∙ w.insert_under.ensures.numbers ∙ ap (λ z. slice_set z c.loop-place.next (Some n)) i.kept ∙ ap (λ k. slice_set (packed ns c.args.to) k (Some n)) i.next ∙ filled_more ns c.args.to less n ∙ ap (λ z. packed z c.args.to) (sym more);
+          }
+      | in_default w ↦
+          let same = none_seen numbers c.loop-place.place inside (sym c.number.ensures ∙ w.in_default.is) in
+          record {
+            sound = subst IsSound (sym w.kept-is) i.sound;
+            next = w.next-is ∙ i.next ∙ ap length (sym same);
+            kept = ap numbers_of w.kept-is ∙ i.kept ∙ ap (λ z. packed z c.args.to) (sym same);
+          }
+    ]

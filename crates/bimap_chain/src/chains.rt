@@ -1,0 +1,224 @@
+//! The calls along a chain. They know keys by `Spread` alone.
+ghost use Rattle.std.specs.Prelude.{◌≡◌, ℕ, ◌+◌, ◌*◌, ◌<◌, ◌≤◌, ◌-◌, ◌%◌, ◌^◌, ◌++◌, length, None, Some, replicate, slice_set, slice_index_or, OnOk, OnErr, IfSome, IfNone, IfOk};
+ghost use Rattle.std.specs.Int.{IsPowerOfTwo};
+ghost use Rattle.bimap_base.specs.Places.{pairs_in, packed};
+ghost use Rattle.bimap_chain.specs.Chains.{IsThreaded, IsListed, GoesOver, AreNumbered, Matches, link_or_head, number_at};
+ghost use Rattle.bimap_chain.specs.Packed.{numbers_of, links_of, IsSized, IsSound};
+
+use crate::link::Link;
+use crate::threads::Threads;
+use bimap_base::{NoMemory, Spread};
+
+/// More cells than this fit no memory.
+pub(crate) const MOST: usize = usize::MAX / 4 + 1;
+
+// How many heads there are to be for so many cells.
+fn heads_for(heads: usize, cells: usize) -> usize
+    requires few { cells ≤ 2 ^ 62 }
+    requires power { 0 < heads → IsPowerOfTwo heads }
+    ensures sized { IsSized cells result }
+    ensures not_fewer { heads ≤ result }
+{
+    if 2 * cells <= heads {
+        heads
+    } else {
+        (2 * cells).next_power_of_two()
+    }
+}
+
+impl<L: Link> Threads<L> {
+    /// The bucket of a number.
+    #[inline(always)]
+    fn bucket(&self, number: u32) -> usize
+        requires some { 0 < length self.now.heads }
+        requires power { 0 < length self.now.heads → IsPowerOfTwo (length self.now.heads) }
+        ensures value { result ≡ number % length self.now.heads }
+        ensures bound { result < length self.now.heads }
+    {
+        number as usize & (self.buckets() - 1)
+    }
+
+    /// The place of the bucket whose link goes over the given place, or `None` where that is the head.
+    #[inline(always)]
+    fn over(&self, bucket: usize, place: usize) -> Option<usize>
+        requires threaded { IsThreaded (numbers_of self.now) (links_of self.now) self.now.heads }
+        requires bucket { bucket < length self.now.heads }
+        requires place { place < length (numbers_of self.now) }
+        ensures { GoesOver (numbers_of self.now) (length self.now.heads) bucket place result }
+    {
+        let mut over = None;
+        let mut end = self.len();
+        let mut at = self.head(bucket);
+        while let Some(next) = at {
+            if next <= place {
+                break;
+            }
+            over = at;
+            end = next;
+            at = self.next(next);
+        }
+        over
+    }
+
+    /// What stands in that link or head.
+    #[inline(always)]
+    fn link(&self, bucket: usize, over: Option<usize>) -> Option<usize>
+        requires bucket { bucket < length self.now.heads }
+        requires over { IfSome over (λ p. p < length (numbers_of self.now)) }
+        requires listed { IfSome over (λ p. IsListed (numbers_of self.now) p) }
+        ensures { result ≡ link_or_head (links_of self.now) self.now.heads bucket over }
+    {
+        match over {
+            None => self.head(bucket),
+            Some(place) => self.next(place),
+        }
+    }
+
+    /// The listed place with an equal key, by the number of the key.
+    #[inline(always)]
+    pub(crate) fn find_under<S: Spread>(
+        &self,
+        spread: &S,
+        number: u32,
+        key: &S::Key,
+    ) -> Option<usize>
+        requires sound { IsSound self.now }
+        requires numbered { AreNumbered (S.key_at spread.now) (S.number_of spread.now) (numbers_of self.now) }
+        requires number { number ≡ S.number_of spread.now key.now }
+        ensures found { IfSome result (Matches (S.key_at spread.now) (λ k. S.same_key k key.now) (numbers_of self.now)) }
+        ensures absent { IfNone result ((p : ℕ) → ¬ Matches (S.key_at spread.now) (λ k. S.same_key k key.now) (numbers_of self.now) p) }
+    {
+        if self.buckets() == 0 {
+            return None;
+        }
+        let bucket = self.bucket(number);
+        let mut end = self.len();
+        let mut at = self.head(bucket);
+        while let Some(place) = at {
+            if self.has_number(place, number) && spread.same(place, key) {
+                return Some(place);
+            }
+            end = place;
+            at = self.next(place);
+        }
+        None
+    }
+
+    /// Lists the place under a number. It takes no memory.
+    #[inline(always)]
+    pub(crate) fn insert_under(&mut self, place: usize, number: u32)
+        requires sound { IsSound self.old }
+        requires cell { place < length (numbers_of self.old) }
+        requires free { number_at (numbers_of self.old) place ≡ None }
+        ensures sound { IsSound self.new }
+        ensures numbers { numbers_of self.new ≡ slice_set (numbers_of self.old) place (Some number) }
+    {
+        let bucket = self.bucket(number);
+        let over = self.over(bucket, place);
+        let next = self.link(bucket, over);
+        self.list(place, number, next);
+        self.set_link(bucket, over, Some(place));
+    }
+
+    /// Takes the place out. It takes no memory.
+    #[inline(always)]
+    pub(crate) fn remove(&mut self, place: usize)
+        requires sound { IsSound self.old }
+        requires listed { IsListed (numbers_of self.old) place }
+        ensures sound { IsSound self.new }
+        ensures numbers { numbers_of self.new ≡ slice_set (numbers_of self.old) place None }
+    {
+        let Some(number) = self.number(place) else {
+            unreachable!()
+        };
+        let bucket = self.bucket(number);
+        let over = self.over(bucket, place);
+        let next = self.next(place);
+        self.unlist(place);
+        self.set_link(bucket, over, next);
+    }
+
+    /// Makes cells for all places below `to`, and threads the chains anew. A refusal changes nothing.
+    pub(crate) fn grow(&mut self, to: usize) -> Result<(), NoMemory>
+        requires sound { IsSound self.old }
+        requires above { length (numbers_of self.old) ≤ to }
+        requires most { to ≤ 2 ^ 62 }
+        requires few { to < L.width.free }
+        ensures sound { IsSound self.new }
+        ensures ok { OnOk result (numbers_of self.new ≡ numbers_of self.old ++ replicate (to - length (numbers_of self.old)) None) }
+        ensures err { OnErr result (numbers_of self.new ≡ numbers_of self.old) }
+    {
+        let heads = heads_for(self.buckets(), to);
+        self.extend(to, heads)?;
+        self.thread();
+        Ok(())
+    }
+
+    /// Other ones of `to` cells, with links of another width, that list the same places. A refusal makes nothing.
+    pub(crate) fn widened<M: Link>(&self, to: usize) -> Result<Threads<M>, NoMemory>
+        requires above { length (numbers_of self.now) ≤ to }
+        requires most { to ≤ 2 ^ 62 }
+        requires few { to < M.width.free }
+        ensures sound { IfOk result (λ t. IsSound t) }
+        ensures numbers { IfOk result (λ t. numbers_of t ≡ numbers_of self.now ++ replicate (to - length (numbers_of self.now)) None) }
+    {
+        let mut wide: Threads<M> = Threads::new(self.allocator());
+        wide.grow(to)?;
+        let cells = self.len();
+        for place in 0..cells {
+            if let Some(number) = self.number(place) {
+                wide.insert_under(place, number);
+            }
+        }
+        Ok(wide)
+    }
+
+    /// Other ones of exactly `to` cells, of which the first list the same numbers, in the order of their places. It hashes
+    /// nothing. A refusal makes nothing.
+    pub(crate) fn packed<M: Link>(&self, to: usize) -> Result<Threads<M>, NoMemory>
+        requires fits { length (pairs_in (numbers_of self.now)) ≤ to }
+        requires most { to ≤ 2 ^ 62 }
+        requires few { to < M.width.free }
+        ensures sound { IfOk result (λ t. IsSound t) }
+        ensures numbers { IfOk result (λ t. numbers_of t ≡ packed (pairs_in (numbers_of self.now)) to) }
+    {
+        let mut kept: Threads<M> = Threads::new(self.allocator());
+        kept.grow(to)?;
+        let mut next = 0;
+        for place in 0..self.len() {
+            if let Some(number) = self.number(place) {
+                kept.insert_under(next, number);
+                next += 1;
+            }
+        }
+        Ok(kept)
+    }
+
+    /// Threads the chains anew under empty heads, by the numbers that the cells keep.
+    pub(crate) fn thread(&mut self)
+        requires sized { IsSized (length self.old.cells) (length self.old.heads) }
+        requires empty { self.old.heads ≡ replicate (length self.old.heads) None }
+        ensures numbers { numbers_of self.new ≡ numbers_of self.old }
+        ensures sound { IsSound self.new }
+    {
+        let cells = self.len();
+        for place in 0..cells {
+            if let Some(number) = self.number(place) {
+                let bucket = self.bucket(number);
+                let next = self.head(bucket);
+                self.list(place, number, next);
+                self.set_link(bucket, None, Some(place));
+            }
+        }
+    }
+
+    /// Takes all places off.
+    pub(crate) fn clear(&mut self)
+        requires { IsSound self.old }
+        ensures numbers { numbers_of self.new ≡ replicate (length (numbers_of self.old)) None }
+        ensures sound { IsSound self.new }
+    {
+        self.empty();
+        self.thread();
+    }
+}
