@@ -100,7 +100,7 @@ module _ (ns : List Node) (live : ℕ → Type 0) (go : ℕ → Ordering) where
       let (l, r, i) = seek_into ns root at node live go s h e f in
       (l, r, record { is = i.is; can = i.can_left; found = λ w. found_left ns root at node live go s l r i w })
 
-  here : (root : Option ℕ) (at : ℕ) (node : Node) (s : Tree) → CanSeek ns root live go s → root ≡ Some at → slice_get ns at ≡ Some node → go at ≡ Equal → first_equal go (reading s) ≡ Some at
+  pub here : (root : Option ℕ) (at : ℕ) (node : Node) (s : Tree) → CanSeek ns root live go s → root ≡ Some at → slice_get ns at ≡ Some node → go at ≡ Equal → first_equal go (reading s) ≡ Some at
   here root at node s h e f same =
       let (l, r, i) = seek_into ns root at node live go s h e f in
       found_here ns root at node live go s l r i same

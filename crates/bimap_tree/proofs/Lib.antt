@@ -19,6 +19,7 @@ pub mod Removes
 pub mod Found
 pub mod Starts
 pub mod Whole
+pub mod UnderWay
 pub mod Routes
 pub mod Spans
 pub mod Climbs

@@ -87,22 +87,27 @@ module _ (ns : List Node) (root : Option ℕ) (len : ℕ) (v : Index) (w : IsWho
 
   -- ---- searches
   module _ {K : Type 0} (key : ℕ → Option K) (order : K → K → Ordering) (total : IsTotalOrder order) (up : Ascends key order v.places) where
-    ascends_here : Ascends key order (reading (tree_in ns root))
-    ascends_here = subst (λ x. Ascends key order x) (sym places_are) up
-
-    all_live : (q : ℕ) → 0 < occurs q (tree_in ns root) → IsSome (key q)
-    all_live = occurs_all (λ q. IsSome (key q)) (tree_in ns root) (live_all key order (reading (tree_in ns root)) ascends_here)
+    -- in each form of the tree
+    pub can_seek_of : (t : Tree) → IsBalancedIndex v t → (k : K) → CanSeek ns root (λ q. IsSome (key q)) (λ q. order_of order (key q) (Some k)) t
+    can_seek_of t shown k =
+        let ascends : Ascends key order (reading t) = subst (λ x. Ascends key order x) (sym shown.in_order) up in
+        record {
+          tree = subst (λ x. Stands x.nodes x.root t) (sym e) shown.tree.tree;
+          all_live = occurs_all (λ q. IsSome (key q)) t (live_all key order (reading t) ascends);
+          in_order = split key order total k (reading t) ascends;
+          fits = omega (arith, size-reading t, ap length shown.in_order, length_is, w.few);
+        }
 
     pub can_seek : (k : K) → CanSeek ns root (λ q. IsSome (key q)) (λ q. order_of order (key q) (Some k)) (tree_in ns root)
-    can_seek k = record { tree = w.index.tree; all_live = all_live; in_order = split key order total k (reading (tree_in ns root)) ascends_here; fits = few }
+    can_seek = can_seek_of (tree_in ns root) shown_index
 
     pub can_seek_after : (k : K) → CanSeek ns root (λ q. IsSome (key q)) (λ q. after_key (order_of order (key q) (Some k))) (tree_in ns root)
-    can_seek_after k = record { tree = w.index.tree; all_live = all_live; in_order = split_after (λ q. order_of order (key q) (Some k)) (reading (tree_in ns root)) (can_seek k).in_order; fits = few }
+    can_seek_after k = record { tree = (can_seek k).tree; all_live = (can_seek k).all_live; in_order = split_after (λ q. order_of order (key q) (Some k)) (reading (tree_in ns root)) (can_seek k).in_order; fits = few }
 
     pub can_seek_place : (place : ℕ) (k : K) → key place ≡ Some k → CanSeek ns root (λ q. IsSome (key q) × IsSome (key place)) (λ q. order_of order (key q) (key place)) (tree_in ns root)
     can_seek_place place k is =
         subst (λ o. CanSeek ns root (λ q. IsSome (key q) × IsSome o) (λ q. order_of order (key q) o) (tree_in ns root)) (sym is)
-        (record { tree = w.index.tree; all_live = λ q n. (all_live q n, refl); in_order = (can_seek k).in_order; fits = few })
+        (record { tree = (can_seek k).tree; all_live = λ q n. ((can_seek k).all_live q n, refl); in_order = (can_seek k).in_order; fits = few })
 
   pub can_follow : (live : ℕ → Type 0) (go : ℕ → Ordering) (places : List ℕ) (turns : List Bool) → length places ≡ 128 → length turns ≡ 128 → CanSeek ns root live go (tree_in ns root) → CanFollow ns root live go places turns 0 top (tree_in ns root)
   can_follow live go places turns a b h = record {
@@ -116,21 +121,21 @@ module _ (ns : List Node) (root : Option ℕ) (len : ℕ) (v : Index) (w : IsWho
   }
 
   -- the route that a search without success leaves
-  pub route_left : (standing : ℕ → Option Ordering) (route : Route) (found : Option ℕ) → found ≡ None → (low : Path) × (s : Tree) × IsFollowed (λ q. told (standing q)) route.places route.turns route.depth found (tree_in ns root) low s → IsRoute v standing route
-  route_left standing route found none (low, s, f) =
+  pub route_left : (t : Tree) → IsBalancedIndex v t → (standing : ℕ → Option Ordering) (route : Route) (found : Option ℕ) → found ≡ None → (low : Path) × (s : Tree) × IsFollowed (λ q. told (standing q)) route.places route.turns route.depth found t low s → IsRoute v standing route
+  route_left t shown standing route found none (low, s, f) =
       let no : s ≡ leaf = no_root s (f.root_is ∙ none) in
-      let is : tree_in ns root ≡ plug low leaf = sym f.whole ∙ ap (λ x. plug low x) no in
+      let is : t ≡ plug low leaf = sym f.whole ∙ ap (λ x. plug low x) no in
       record {
         path = low;
-        of_index = subst (λ x. IsBalancedIndex v x) is shown_index;
+        of_index = subst (λ x. IsBalancedIndex v x) is shown;
         follows = f.follows;
         depth_is = f.depth_is;
         wants = f.wants;
       }
 
-  pub route_if_none : (standing : ℕ → Option Ordering) (route : Route) (found : Option ℕ) → (low : Path) × (s : Tree) × IsFollowed (λ q. told (standing q)) route.places route.turns route.depth found (tree_in ns root) low s → IfNone found (IsRoute v standing route)
-  route_if_none standing route None f = route_left standing route None refl f
-  route_if_none standing route (Some p) f = tt
+  pub route_if_none : (t : Tree) → IsBalancedIndex v t → (standing : ℕ → Option Ordering) (route : Route) (found : Option ℕ) → (found ≡ None → (low : Path) × (s : Tree) × IsFollowed (λ q. told (standing q)) route.places route.turns route.depth found t low s) → IfNone found (IsRoute v standing route)
+  route_if_none t shown standing route None f = route_left t shown standing route None refl (f refl)
+  route_if_none t shown standing route (Some p) f = tt
 
   -- ---- a search for a place's own key
   module _ {K : Type 0} (key : ℕ → Option K) (order : K → K → Ordering) (place : ℕ) (k : K) (is : key place ≡ Some k) (found : Option ℕ) (first : found ≡ first_equal (λ q. order_of order (key q) (key place)) (reading (tree_in ns root))) where
@@ -142,7 +147,7 @@ module _ (ns : List Node) (root : Option ℕ) (len : ℕ) (v : Index) (w : IsWho
     -- leads to no place, where no listed key is equal
     pub place_route : ((p : ℕ) → Contains v.places p → standing key order k p ≡ Some Equal → ⊥) → (route : Route) → (low : Path) × (s : Tree) × IsFollowed (λ q. order_of order (key q) (key place)) route.places route.turns route.depth found (tree_in ns root) low s → IsRoute v (λ q. standing key order k q) route
     place_route unequal route f =
-        route_left (λ q. standing key order k q) route found (none_of (λ q. standing key order k q) v.places found first_listed unequal)
+        route_left (tree_in ns root) shown_index (λ q. standing key order k q) route found (none_of (λ q. standing key order k q) v.places found first_listed unequal)
         (subst (λ o. (low : Path) × (s : Tree) × IsFollowed (λ q. order_of order (key q) o) route.places route.turns route.depth found (tree_in ns root) low s) is f)
 
     -- leads to the place, where it is listed

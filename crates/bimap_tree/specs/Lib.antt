@@ -8,6 +8,7 @@ pub mod Link
 pub mod Part
 pub mod Path
 pub mod Route
+pub mod Descent
 pub mod Remove
 pub mod Batches
 pub mod Spans

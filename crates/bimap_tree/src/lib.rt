@@ -2,6 +2,7 @@
 #![tactic(auto)]
 
 mod batch;
+mod descent;
 mod link;
 mod ordered;
 mod remove;
@@ -13,6 +14,7 @@ mod steer;
 mod walk;
 
 pub use batch::Batch;
+pub use descent::Descent;
 pub use ordered::Ordered;
 pub use route::Route;
 pub use span::Span;

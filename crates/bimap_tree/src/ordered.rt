@@ -1,15 +1,18 @@
 //! The listed places in the order of their keys. It knows places, ranks and counts, and no key's value.
-ghost use Rattle.std.specs.Prelude.{◌≡◌, ◌≢◌, ◌⊎◌, ℕ, ◌+◌, ◌-◌, ◌*◌, ◌<◌, ◌≤◌, [], length, max, slice_get, Some, None, IsOk, OnOk, OnErr, IsSome, IfSome, IfNone};
+ghost use Rattle.std.specs.Prelude.{◌≡◌, ◌≢◌, ◌⊎◌, ℕ, ◌+◌, ◌-◌, ◌*◌, ◌<◌, ◌≤◌, [], length, max, slice_get, Option, Some, None, true, IsOk, OnOk, OnErr, IsSome, IfSome, IfNone};
 ghost use Rattle.std.specs.List.{AllPairs, Contains};
+ghost use Rattle.std.specs.declared.cmp.Ordering.{Ordering};
 ghost use Rattle.std.specs.declared.cmp.Ordering.TheVariants.{Equal};
 ghost use Rattle.bimap_base.specs.Digits.{most_height};
 ghost use Rattle.bimap_base.specs.Keyed.{standing, Ascends, Adds, Drops};
+ghost use Rattle.bimap_tree.specs.Descent.{IsUnderWay, levels_left};
 ghost use Rattle.bimap_tree.specs.Filled.{IsRow};
 ghost use Rattle.bimap_tree.specs.Tree.{Tree, height};
 ghost use Rattle.bimap_tree.specs.Index.{IsBalancedIndex};
 ghost use Rattle.bimap_tree.specs.Route.{IsRoute};
 ghost use Rattle.bimap_tree.specs.Start.{IsStart};
 
+use crate::descent::{Descent, finish_under, step_under};
 use crate::remove::take_at;
 use crate::rise::put_at;
 use crate::route::{Route, route_under};
@@ -115,14 +118,54 @@ impl Ordered {
         ensures comparisons { M.comparisons meter.new ≤ M.comparisons meter.old + most_height (length self.now.places) }
         ensures touches { M.touches meter.new ≤ M.touches meter.old + most_height (length self.now.places) }
     {
-        route_under(
-            &self.cells,
-            self.root,
-            0,
-            &ToKey { keys, key },
-            route,
-            meter,
-        )
+        self.finish(keys, key, self.start(), route, meter)
+    }
+
+    /// A search that has not gone down yet, for `step` and `finish`.
+    pub fn start(&self) -> Descent
+        ensures under_way { (standing : ℕ → Option Ordering) (route : Route) → IsUnderWay self.now standing result route }
+        ensures left { levels_left self.now.nodes result ≤ most_height (length self.now.places) }
+    {
+        Descent::new(self.root)
+    }
+
+    /// Goes down a level and notes the way, unless the search has come to its end. Answers whether it went.
+    pub fn step<K: Keys, M: Meter>(
+        &self,
+        keys: &K,
+        key: &K::Key,
+        descent: &mut Descent,
+        route: &mut Route,
+        meter: &mut M,
+    ) -> bool
+        requires ascends { Ascends (K.key_at keys.now) K.order self.now.places }
+        requires under_way { IsUnderWay self.now (λ q. standing (K.key_at keys.now) K.order key.now q) descent.old route.old }
+        ensures under_way { IsUnderWay self.now (λ q. standing (K.key_at keys.now) K.order key.now q) descent.new route.new }
+        ensures went { result ≡ true → levels_left self.now.nodes descent.new < levels_left self.now.nodes descent.old }
+        ensures comparisons { M.comparisons meter.new + levels_left self.now.nodes descent.new ≤ M.comparisons meter.old + levels_left self.now.nodes descent.old }
+        ensures touches { M.touches meter.new + levels_left self.now.nodes descent.new ≤ M.touches meter.old + levels_left self.now.nodes descent.old }
+    {
+        step_under(&self.cells, &ToKey { keys, key }, descent, route, meter)
+    }
+
+    /// Goes all the way down from where the search has come. It answers as `find_route` does.
+    pub fn finish<K: Keys, M: Meter>(
+        &self,
+        keys: &K,
+        key: &K::Key,
+        descent: Descent,
+        route: &mut Route,
+        meter: &mut M,
+    ) -> Option<usize>
+        requires ascends { Ascends (K.key_at keys.now) K.order self.now.places }
+        requires under_way { IsUnderWay self.now (λ q. standing (K.key_at keys.now) K.order key.now q) descent route.old }
+        ensures found { IfSome result (λ p. Contains self.now.places p × (standing (K.key_at keys.now) K.order key.now p ≡ Some Equal)) }
+        ensures none { IfNone result ((p : ℕ) → Contains self.now.places p → standing (K.key_at keys.now) K.order key.now p ≡ Some Equal → ⊥) }
+        ensures route { IfNone result (IsRoute self.now (λ q. standing (K.key_at keys.now) K.order key.now q) route.new) }
+        ensures comparisons { M.comparisons meter.new ≤ M.comparisons meter.old + levels_left self.now.nodes descent }
+        ensures touches { M.touches meter.new ≤ M.touches meter.old + levels_left self.now.nodes descent }
+    {
+        finish_under(&self.cells, &ToKey { keys, key }, descent, route, meter)
     }
 
     /// Lists a place, at the end of its key's route: no comparison, time logarithmic in the length, and no memory.

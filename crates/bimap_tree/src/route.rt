@@ -62,6 +62,12 @@ impl Route {
     }
 }
 
+// Whether a turn to the right is a branch: in a large tree, unless a key is no wider than a word. To compare such keys takes no
+// pointer, and wrong guesses cost more than the wait.
+pub fn turns_by_branch<S: Steer>(cells: &Cells) -> bool {
+    S::has_wide_keys() && cells.places() >= FAR
+}
+
 // Goes on down to what is sought, noting the way, and answers the place there.
 pub fn route_under<S: Steer, M: Meter>(
     cells: &Cells,
@@ -77,8 +83,7 @@ pub fn route_under<S: Steer, M: Meter>(
     ensures comparisons { (s : Tree) → Stands cells.now root s → M.comparisons meter.new ≤ M.comparisons meter.old + height s }
     ensures touches { (s : Tree) → Stands cells.now root s → M.touches meter.new ≤ M.touches meter.old + height s }
 {
-    // To compare keys of a word takes no pointer, and wrong guesses cost more than the wait.
-    let is_far = S::has_wide_keys() && cells.places() >= FAR;
+    let is_far = turns_by_branch::<S>(cells);
     let mut root = root;
     let mut depth = depth;
     while let Some(at) = root {

@@ -1,0 +1,26 @@
+use Rattle.std.proofs.Common.{arith, sym, ◌∙◌}
+use Rattle.bimap_base.specs.Keyed.{standing}
+use Rattle.bimap_tree.proofs.Found.{found_in, none_in}
+use Rattle.bimap_tree.proofs.UnderWay.{goes_on_down}
+use Rattle.bimap_tree.proofs.Whole.{route_if_none}
+use Rattle.bimap_tree.proofs.ordered.Ordered.finish.Goals as goal
+
+pub finish_under-requires-clause-follows : goal.finish_under-requires-clause-follows
+finish_under-requires-clause-follows g c =
+    let (can, found) = goes_on_down _ _ _ _ c.self.invariant c.self.view_is _ _ g.met.K.Keys.total c.requires.ascends c.args.key.now c.args.descent c.args.route.now (omega arith) (omega arith) c.requires.under_way in
+    (_, _, can)
+
+pub returns-clause-found : goal.returns-clause-found
+returns-clause-found g c =
+    let (can, found) = goes_on_down _ _ _ _ c.self.invariant c.self.view_is _ _ g.met.K.Keys.total c.requires.ascends c.args.key.now c.args.descent c.args.route.now (omega arith) (omega arith) c.requires.under_way in
+    found_in (λ q. standing (g.K.Keys.key_at c.args.keys.now) g.K.Keys.order c.args.key.now q) _ _ (c.finish_under.ensures.found _ _ can ∙ sym found)
+
+pub returns-clause-none : goal.returns-clause-none
+returns-clause-none g c =
+    let (can, found) = goes_on_down _ _ _ _ c.self.invariant c.self.view_is _ _ g.met.K.Keys.total c.requires.ascends c.args.key.now c.args.descent c.args.route.now (omega arith) (omega arith) c.requires.under_way in
+    none_in (λ q. standing (g.K.Keys.key_at c.args.keys.now) g.K.Keys.order c.args.key.now q) _ _ (c.finish_under.ensures.found _ _ can ∙ sym found)
+
+pub returns-clause-route : goal.returns-clause-route
+returns-clause-route g c =
+    let (can, found) = goes_on_down _ _ _ _ c.self.invariant c.self.view_is _ _ g.met.K.Keys.total c.requires.ascends c.args.key.now c.args.descent c.args.route.now (omega arith) (omega arith) c.requires.under_way in
+    route_if_none _ _ _ _ c.self.invariant c.self.view_is _ c.requires.under_way.of_index (λ q. standing (g.K.Keys.key_at c.args.keys.now) g.K.Keys.order c.args.key.now q) _ _ (c.finish_under.ensures.follows _ _ can)

@@ -1,0 +1,27 @@
+-- What a search tells that is under way.
+use Rattle.std.specs.Prelude.{◌≡◌, ℕ, true, cond, List, Option, Some}
+use Rattle.std.specs.declared.cmp.Ordering.{Ordering}
+use Rattle.std.specs.declared.cmp.Ordering.TheVariants.{Equal}
+use Rattle.bimap_base.specs.declared.cells.Node.{Node}
+use Rattle.bimap_tree.specs.Tree.{Tree, root_of}
+use Rattle.bimap_tree.specs.Index.{Index, IsBalancedIndex, height_at}
+use Rattle.bimap_tree.specs.Order.{told}
+use Rattle.bimap_tree.specs.Path.{Path, plug, steps, Follows, Wants}
+use Rattle.bimap_tree.specs.declared.descent.Descent.{Descent}
+use Rattle.bimap_tree.specs.declared.route.Route.{Route}
+
+-- how many levels a search may still look at
+abbrev pub levels_left : List Node → Descent → ℕ
+levels_left nodes descent = cond descent.is_found 0 (height_at nodes descent.root)
+
+-- the search has come down the index's tree, as places that stand so to a key want, to a subtree; where it has found
+-- the key, it is that of the place at the top there
+pub record IsUnderWay (index : Index) (standing : ℕ → Option Ordering) (descent : Descent) (route : Route) : Type 0 where
+  pub path : Path
+  pub rest : Tree
+  pub of_index : IsBalancedIndex index (plug path rest)
+  pub root_is : root_of rest ≡ descent.root
+  pub follows : Follows route.places route.turns path
+  pub depth_is : descent.depth ≡ steps path
+  pub wants : Wants (λ q. told (standing q)) path
+  pub found : descent.is_found ≡ true → (place : ℕ) × (descent.root ≡ Some place) × (standing place ≡ Some Equal)

@@ -1,0 +1,93 @@
+//! A search down a tree that stops at each level. It knows how far it has come, and not what is sought.
+ghost use Rattle.std.specs.Prelude.{◌≡◌, ◌⊎◌, ◌+◌, ◌<◌, ◌≤◌, ℕ, None, Some, false, true};
+ghost use Rattle.std.specs.declared.cmp.Ordering.TheVariants.{Equal};
+ghost use Rattle.bimap_tree.specs.Descent.{levels_left};
+ghost use Rattle.bimap_tree.specs.Order.{first_equal};
+ghost use Rattle.bimap_tree.specs.Path.{Path, plug};
+ghost use Rattle.bimap_tree.specs.Route.{CanFollow, IsFollowed};
+ghost use Rattle.bimap_tree.specs.Tree.{Tree, reading};
+
+use crate::link::child;
+use crate::route::{Route, route_under, turns_by_branch};
+use crate::steer::Steer;
+use bimap_base::{Cells, Meter};
+
+/// A search that is under way: it has come down to a place, or to where there is none.
+#[derive(Clone, Copy)]
+pub struct Descent {
+    root: Option<usize>,
+    depth: usize,
+    // Whether the key of the place is the one sought, so that the search is over.
+    is_found: bool,
+}
+
+impl Descent {
+    // One that has not gone down from this root yet.
+    pub(crate) fn new(root: Option<usize>) -> Self
+        ensures root { result.root ≡ root }
+        ensures depth { result.depth ≡ 0 }
+        ensures is_found { result.is_found ≡ false }
+    {
+        Descent {
+            root,
+            depth: 0,
+            is_found: false,
+        }
+    }
+}
+
+// Goes down a level and notes the way, unless the search is over. Answers whether it went.
+pub fn step_under<S: Steer, M: Meter>(
+    cells: &Cells,
+    steer: &S,
+    descent: &mut Descent,
+    route: &mut Route,
+    meter: &mut M,
+) -> bool
+    requires { (path : Path) × (s : Tree) × CanFollow cells.now descent.old.root (S.live steer.now) (S.go steer.now) route.old.places route.old.turns descent.old.depth path s }
+    ensures goes { (path : Path) (s : Tree) → CanFollow cells.now descent.old.root (S.live steer.now) (S.go steer.now) route.old.places route.old.turns descent.old.depth path s → (low : Path) × (e : Tree) × IsFollowed (S.go steer.now) route.new.places route.new.turns descent.new.depth descent.new.root (plug path s) low e }
+    ensures found { descent.new.is_found ≡ true → (descent.new ≡ descent.old) ⊎ ((place : ℕ) × (descent.new.root ≡ Some place) × (S.go steer.now place ≡ Equal)) }
+    ensures went { result ≡ true → levels_left cells.now descent.new < levels_left cells.now descent.old }
+    ensures comparisons { M.comparisons meter.new + levels_left cells.now descent.new ≤ M.comparisons meter.old + levels_left cells.now descent.old }
+    ensures touches { M.touches meter.new + levels_left cells.now descent.new ≤ M.touches meter.old + levels_left cells.now descent.old }
+{
+    // Where turns are guessed, a wrong guess would undo what the other search has done meanwhile.
+    if turns_by_branch::<S>(cells) {
+        return false;
+    }
+    let (Some(at), false) = (descent.root, descent.is_found) else {
+        return false;
+    };
+    let node = cells.read(at, meter);
+    let side = steer.side(at, meter);
+    if side.is_eq() {
+        descent.is_found = true;
+        return false;
+    }
+    let turn = side.is_lt();
+    route.note(descent.depth, at, turn);
+    descent.depth += 1;
+    descent.root = child(node, turn);
+    true
+}
+
+// Goes all the way down from where the search has come, noting the way, and answers the place there.
+pub fn finish_under<S: Steer, M: Meter>(
+    cells: &Cells,
+    steer: &S,
+    descent: Descent,
+    route: &mut Route,
+    meter: &mut M,
+) -> Option<usize>
+    requires follows { (path : Path) × (s : Tree) × CanFollow cells.now descent.root (S.live steer.now) (S.go steer.now) route.old.places route.old.turns descent.depth path s }
+    requires over { descent.is_found ≡ true → (place : ℕ) × (descent.root ≡ Some place) × (S.go steer.now place ≡ Equal) }
+    ensures found { (path : Path) (s : Tree) → CanFollow cells.now descent.root (S.live steer.now) (S.go steer.now) route.old.places route.old.turns descent.depth path s → result ≡ first_equal (S.go steer.now) (reading s) }
+    ensures follows { (path : Path) (s : Tree) → CanFollow cells.now descent.root (S.live steer.now) (S.go steer.now) route.old.places route.old.turns descent.depth path s → result ≡ None → (low : Path) × (e : Tree) × IsFollowed (S.go steer.now) route.new.places route.new.turns route.new.depth result (plug path s) low e }
+    ensures comparisons { M.comparisons meter.new ≤ M.comparisons meter.old + levels_left cells.now descent }
+    ensures touches { M.touches meter.new ≤ M.touches meter.old + levels_left cells.now descent }
+{
+    if descent.is_found {
+        return descent.root;
+    }
+    route_under(cells, descent.root, descent.depth, steer, route, meter)
+}
