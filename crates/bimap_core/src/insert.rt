@@ -34,12 +34,21 @@ impl<L: Eq, R: Eq, I: Index<L>, J: Index<R>> Table<L, R, I, J> {
         ensures touches { M.touches meter.new ≤ M.touches meter.old + 200 * (I.effort (length (I.places self.old.left)) + 1) + 200 * (J.effort (length (J.places self.old.right)) + 1) }
     {
         let mut left_spot = self.left.spot();
-        let by_left = self.seek_left(&left, &mut left_spot, meter);
+        let mut right_spot = self.right.spot();
+        let (to_left, to_right) = self.descend(
+            &left,
+            &right,
+            &mut left_spot,
+            &mut right_spot,
+            meter,
+        );
+        let by_left = self.finish_left(to_left, &left, &mut left_spot, meter);
         if keeps(by_left, policy.left) {
+            self.is_left_first = true;
             return Err(NotInsertedWith::LeftHeld(left, right));
         }
-        let mut right_spot = self.right.spot();
-        let by_right = self.seek_right_beside(by_left, &right, &mut right_spot, meter);
+        let by_right = self.finish_right_beside(by_left, to_right, &right, &mut right_spot, meter);
+        self.is_left_first = false;
         if keeps(by_right, policy.right) {
             return Err(NotInsertedWith::RightHeld(left, right));
         }
@@ -61,6 +70,7 @@ impl<L: Eq, R: Eq, I: Index<L>, J: Index<R>> Table<L, R, I, J> {
             }
             (Some(place), Some(other)) => {
                 if place == other {
+                    self.is_left_first = true;
                     let (old_left, old_right) = self.swap_equal(place, left, right);
                     return Ok(Overwritten::Pair(old_left, old_right));
                 }

@@ -31,14 +31,17 @@ impl<L: Eq + Drop, R: Copy + Eq + Drop, I: Index<L>, J: Index<R>> Table<L, R, I,
         ensures touches { M.touches meter.new ≤ M.touches meter.old + 65 * (I.effort (length (I.places self.old.left)) + 1) + 65 * (J.effort (length (J.places self.old.right)) + 1) }
     {
         let mut left_spot = self.left.spot();
-        if let Some(place) = self.seek_left(&left, &mut left_spot, meter) {
+        if let Some(place) = self.finish_left(self.left.start(), &left, &mut left_spot, meter) {
             let Some((_, held)) = self.pairs.at(place) else {
                 unreachable!()
             };
             return Ok(*held);
         }
         let mut right_spot = self.right.spot();
-        if self.seek_right(&right, &mut right_spot, meter).is_some() {
+        if self
+            .finish_right(self.right.start(), &right, &mut right_spot, meter)
+            .is_some()
+        {
             return Err(NotInserted::Occupied(left, right));
         }
         if self.make_room().is_err() {

@@ -16,6 +16,9 @@ pub struct Table<L: Eq, R: Eq, I: Index<L>, J: Index<R>> {
     pub pairs: Pairs<L, R>,
     pub left: I,
     pub right: J,
+    // Whether the last insertion was decided by its left: it met the very pair, or was refused. So most likely is the next
+    // one, which then searches its left first.
+    pub(crate) is_left_first: bool,
     ghost left_listing: { ∥ I.is_listing left (left_at pairs) ∥₁ },
     ghost right_listing: { ∥ J.is_listing right (right_at pairs) ∥₁ },
     ghost left_cells: { length pairs ≤ I.cells left },
@@ -39,6 +42,7 @@ impl<L: Eq, R: Eq, I: Index<L>, J: Index<R>> Table<L, R, I, J> {
             pairs: Pairs::new(alloc),
             left,
             right,
+            is_left_first: false,
         }
     }
 
@@ -86,54 +90,100 @@ impl<L: Eq, R: Eq, I: Index<L>, J: Index<R>> Table<L, R, I, J> {
         }
     }
 
-    // The place of an equal left, and a spot for the left.
-    pub(crate) fn seek_left<M: Meter>(
+    // A search of each side, that of the other going on while one waits for memory, until one has come to its end. Where
+    // the left most likely decides alone, both are still to begin.
+    pub(crate) fn descend<M: Meter>(
         &self,
+        left: &L,
+        right: &R,
+        left_spot: &mut I::Spot,
+        right_spot: &mut J::Spot,
+        meter: &mut M,
+    ) -> (I::Search, J::Search)
+        ensures left { I.under_way self.now.left (left_at self.now.pairs) left.now result.0 left_spot.new }
+        ensures right { J.under_way self.now.right (right_at self.now.pairs) right.now result.1 right_spot.new }
+        ensures comparisons { M.comparisons meter.new + I.ahead self.now.left result.0 + J.ahead self.now.right result.1 ≤ M.comparisons meter.old + I.effort (length (I.places self.now.left)) + J.effort (length (J.places self.now.right)) }
+        ensures touches { M.touches meter.new + I.ahead self.now.left result.0 + J.ahead self.now.right result.1 ≤ M.touches meter.old + I.effort (length (I.places self.now.left)) + J.effort (length (J.places self.now.right)) }
+    {
+        let mut to_left = self.left.start();
+        let mut to_right = self.right.start();
+        if self.is_left_first {
+            return (to_left, to_right);
+        }
+        while self.left.step(
+            LeftSide::new(&self.pairs),
+            left,
+            &mut to_left,
+            left_spot,
+            meter,
+        ) {
+            if !self.right.step(
+                RightSide::new(&self.pairs),
+                right,
+                &mut to_right,
+                right_spot,
+                meter,
+            ) {
+                break;
+            }
+        }
+        (to_left, to_right)
+    }
+
+    // The place of an equal left, and a spot for the left, from where the search has come.
+    pub(crate) fn finish_left<M: Meter>(
+        &self,
+        search: I::Search,
         left: &L,
         spot: &mut I::Spot,
         meter: &mut M,
     ) -> Option<usize>
+        requires { I.under_way self.now.left (left_at self.now.pairs) left.now search spot.old }
         ensures found { IsFoundAt (λ p. p.0) L.eq self.now.pairs left.now result }
         ensures leads { IfNone result (I.leads self.now.left (left_at self.now.pairs) left.now spot.new) }
         ensures is_for { I.is_for self.now.left left.now spot.new }
-        ensures comparisons { M.comparisons meter.new ≤ M.comparisons meter.old + I.effort (length (I.places self.now.left)) }
-        ensures touches { M.touches meter.new ≤ M.touches meter.old + I.effort (length (I.places self.now.left)) }
+        ensures comparisons { M.comparisons meter.new ≤ M.comparisons meter.old + I.ahead self.now.left search }
+        ensures touches { M.touches meter.new ≤ M.touches meter.old + I.ahead self.now.left search }
     {
         self.left
-            .seek(LeftSide::new(&self.pairs), left, spot, meter)
+            .finish(LeftSide::new(&self.pairs), left, search, spot, meter)
     }
 
     // The same for a right.
-    pub(crate) fn seek_right<M: Meter>(
+    pub(crate) fn finish_right<M: Meter>(
         &self,
+        search: J::Search,
         right: &R,
         spot: &mut J::Spot,
         meter: &mut M,
     ) -> Option<usize>
+        requires { J.under_way self.now.right (right_at self.now.pairs) right.now search spot.old }
         ensures found { IsFoundAt (λ p. p.1) R.eq self.now.pairs right.now result }
         ensures leads { IfNone result (J.leads self.now.right (right_at self.now.pairs) right.now spot.new) }
         ensures is_for { J.is_for self.now.right right.now spot.new }
-        ensures comparisons { M.comparisons meter.new ≤ M.comparisons meter.old + J.effort (length (J.places self.now.right)) }
-        ensures touches { M.touches meter.new ≤ M.touches meter.old + J.effort (length (J.places self.now.right)) }
+        ensures comparisons { M.comparisons meter.new ≤ M.comparisons meter.old + J.ahead self.now.right search }
+        ensures touches { M.touches meter.new ≤ M.touches meter.old + J.ahead self.now.right search }
     {
         self.right
-            .seek(RightSide::new(&self.pairs), right, spot, meter)
+            .finish(RightSide::new(&self.pairs), right, search, spot, meter)
     }
 
     // The same for a right, where the place of the equal left, if any, is known: its right is asked first.
-    pub(crate) fn seek_right_beside<M: Meter>(
+    pub(crate) fn finish_right_beside<M: Meter>(
         &self,
         by_left: Option<usize>,
+        search: J::Search,
         right: &R,
         spot: &mut J::Spot,
         meter: &mut M,
     ) -> Option<usize>
-        requires { IfSome by_left (IsLive self.now.pairs) }
+        requires live { IfSome by_left (IsLive self.now.pairs) }
+        requires under_way { J.under_way self.now.right (right_at self.now.pairs) right.now search spot.old }
         ensures found { IsFoundAt (λ p. p.1) R.eq self.now.pairs right.now result }
         ensures leads { IfNone result (J.leads self.now.right (right_at self.now.pairs) right.now spot.new) }
         ensures is_for { (result ≡ by_left → ⊥) → J.is_for self.now.right right.now spot.new }
-        ensures comparisons { M.comparisons meter.new ≤ M.comparisons meter.old + 2 * J.effort (length (J.places self.now.right)) }
-        ensures touches { M.touches meter.new ≤ M.touches meter.old + J.effort (length (J.places self.now.right)) }
+        ensures comparisons { M.comparisons meter.new ≤ M.comparisons meter.old + J.ahead self.now.right search + J.effort (length (J.places self.now.right)) }
+        ensures touches { M.touches meter.new ≤ M.touches meter.old + J.ahead self.now.right search }
     {
         if let Some(place) = by_left {
             if self
@@ -143,6 +193,6 @@ impl<L: Eq, R: Eq, I: Index<L>, J: Index<R>> Table<L, R, I, J> {
                 return Some(place);
             }
         }
-        self.seek_right(right, spot, meter)
+        self.finish_right(search, right, spot, meter)
     }
 }

@@ -1,5 +1,5 @@
 //! A hashed index of a side, with its builder. It knows numbers and places, and no chain.
-ghost use Rattle.std.specs.Prelude.{◌≡◌, ◌≤◌, ◌%◌, [], length};
+ghost use Rattle.std.specs.Prelude.{◌≡◌, ◌≤◌, ◌%◌, ⊤, [], length};
 ghost use Rattle.std.specs.declared.cmp.Ordering.TheVariants.{Less};
 ghost use Rattle.std.specs.List.{fold};
 ghost use Rattle.std.proofs.Common.{ap};
@@ -45,11 +45,18 @@ impl<B> HashIndex<B> {
 impl<K: Eq + Hash, B: BuildHasher> Index<K> for HashIndex<B> {
     type Spot = u32;
 
+    // A search along a chain goes to its end at once.
+    type Search = ();
+
     ghost is_listing = { λ h. ListsByHash K.eq (number_by B.Hasher.finish B.Hasher.write B.build_hasher K.hash_input h.builder) h.hashed };
 
     ghost leads = { λ h f key spot. spot ≡ number_by B.Hasher.finish B.Hasher.write B.build_hasher K.hash_input h.builder key };
 
     ghost is_for = { λ h key spot. spot ≡ number_by B.Hasher.finish B.Hasher.write B.build_hasher K.hash_input h.builder key };
+
+    ghost under_way = { λ h f key search spot. ⊤ };
+
+    ghost ahead = { λ h search. 0 };
 
     ghost places = { λ h. places_from 0 h.hashed };
 
@@ -71,10 +78,13 @@ impl<K: Eq + Hash, B: BuildHasher> Index<K> for HashIndex<B> {
         self.hashed.find(&ByHash::new(side, &self.builder), key)
     }
 
-    fn seek<S: Side<K>, M: Meter>(
+    fn start(&self) {}
+
+    fn finish<S: Side<K>, M: Meter>(
         &self,
         side: S,
         key: &K,
+        _search: (),
         spot: &mut u32,
         _meter: &mut M,
     ) -> Option<usize> {

@@ -16,6 +16,9 @@ pub trait Index<K: Eq> {
     /// What a search for a key leaves for a later link.
     type Spot: Drop;
 
+    /// How far a search has come that goes on by steps.
+    type Search: Copy;
+
     /// The index lists exactly the places that have a key, and no two keys are equal.
     ghost is_listing: { Self → (ℕ → Option K) → Type 0 };
 
@@ -24,6 +27,12 @@ pub trait Index<K: Eq> {
 
     /// The spot is of this key. It stays so when the index changes.
     ghost is_for: { Self → K → Self.Spot → Type 0 };
+
+    /// The search of this key has come so far, and its spot is written with it.
+    ghost under_way: { Self → (ℕ → Option K) → K → Self.Search → Self.Spot → Type 0 };
+
+    /// How many comparisons the search may still take.
+    ghost ahead: { Self → Self.Search → ℕ };
 
     /// The places listed, each once, in the order of a walk.
     ghost places: { Self → List ℕ };
@@ -51,20 +60,48 @@ pub trait Index<K: Eq> {
         ensures comparisons { M.comparisons meter.new ≤ M.comparisons meter.old + effort (length (places self.now)) }
         ensures touches { M.touches meter.new ≤ M.touches meter.old + effort (length (places self.now)) };
 
-    /// The same as `find`, and a spot for the key.
-    fn seek<S: Side<K>, M: Meter>(
+    /// A search that has not begun, for `step` and `finish`. It looks at no key.
+    fn start(&self) -> Self::Search
+        ensures under_way { (f : ℕ → Option K) (key : K) (spot : Self.Spot) → is_listing self.now f → under_way self.now f key result spot }
+        ensures ahead { ahead self.now result ≤ effort (length (places self.now)) };
+
+    /// Goes a step on, unless the search is at its end or has no step before it. Answers whether it went.
+    ///
+    /// Two searches that go on in turn wait for memory together.
+    fn step<S: Side<K>, M: Meter>(
         &self,
         side: S,
         key: &K,
+        search: &mut Self::Search,
+        spot: &mut Self::Spot,
+        meter: &mut M,
+    ) -> bool
+        requires listing { is_listing self.now (S.key_at side) }
+        requires under_way { under_way self.now (S.key_at side) key.now search.old spot.old }
+        ensures under_way { under_way self.now (S.key_at side) key.now search.new spot.new }
+        ensures went { result ≡ true → ahead self.now search.new < ahead self.now search.old }
+        ensures comparisons { M.comparisons meter.new + ahead self.now search.new ≤ M.comparisons meter.old + ahead self.now search.old }
+        ensures touches { M.touches meter.new + ahead self.now search.new ≤ M.touches meter.old + ahead self.now search.old }
+    {
+        false
+    }
+
+    /// Goes on to the end: the place with an equal key, and a spot for the key.
+    fn finish<S: Side<K>, M: Meter>(
+        &self,
+        side: S,
+        key: &K,
+        search: Self::Search,
         spot: &mut Self::Spot,
         meter: &mut M,
     ) -> Option<usize>
-        requires { is_listing self.now (S.key_at side) }
+        requires listing { is_listing self.now (S.key_at side) }
+        requires under_way { under_way self.now (S.key_at side) key.now search spot.old }
         ensures found { IsFoundBy (S.key_at side) K.eq key.now result }
         ensures leads { IfNone result (leads self.now (S.key_at side) key.now spot.new) }
         ensures is_for { is_for self.now key.now spot.new }
-        ensures comparisons { M.comparisons meter.new ≤ M.comparisons meter.old + effort (length (places self.now)) }
-        ensures touches { M.touches meter.new ≤ M.touches meter.old + effort (length (places self.now)) };
+        ensures comparisons { M.comparisons meter.new ≤ M.comparisons meter.old + ahead self.now search }
+        ensures touches { M.touches meter.new ≤ M.touches meter.old + ahead self.now search };
 
     /// Whether the key of a place is known to be equal without a search. It may answer false where it is equal.
     fn is_known<S: Side<K>, M: Meter>(&self, side: S, place: usize, key: &K, meter: &mut M) -> bool

@@ -2,6 +2,7 @@
 ghost use Rattle.std.specs.Prelude.{◌≡◌, ◌≤◌, ⊤, [], length};
 ghost use Rattle.bimap_base.specs.Digits.{most_height};
 ghost use Rattle.bimap_base.specs.Keyed.{standing};
+ghost use Rattle.bimap_tree.specs.Descent.{IsUnderWay, levels_left};
 ghost use Rattle.bimap_tree.specs.Route.{IsRoute};
 ghost use Rattle.bimap_index.specs.ByOrder.{ListsByOrder};
 ghost use Rattle.bimap_index.specs.OrderLaws.{order_listed, order_distinct, order_in_order, order_respects, order_settled, order_walks_alike};
@@ -9,18 +10,24 @@ ghost use Rattle.bimap_index.specs.OrderLaws.{order_listed, order_distinct, orde
 use crate::index::Index;
 use crate::made::{CopiedIndex, DefaultIndex, EmptyIndex, PackedIndex};
 use bimap_base::{ByOrder, Keys, Meter, NoMemory, Side};
-use bimap_tree::{Ordered, Route};
+use bimap_tree::{Descent, Ordered, Route};
 use std::alloc::Global;
 use std::cmp::Ordering;
 
 impl<K: Ord> Index<K> for Ordered {
     type Spot = Route;
 
+    type Search = Descent;
+
     ghost is_listing = { λ o. ListsByOrder K.cmp o.places };
 
     ghost leads = { λ o f key spot. IsRoute o (λ q. standing f K.cmp key q) spot };
 
     ghost is_for = { λ o key spot. ⊤ };
+
+    ghost under_way = { λ o f key search spot. IsUnderWay o (λ q. standing f K.cmp key q) search spot };
+
+    ghost ahead = { λ o search. levels_left o.nodes search };
 
     ghost places = { λ o. o.places };
 
@@ -42,14 +49,30 @@ impl<K: Ord> Index<K> for Ordered {
         self.find(&ByOrder::new(side), key, meter)
     }
 
-    fn seek<S: Side<K>, M: Meter>(
+    fn start(&self) -> Descent {
+        self.start()
+    }
+
+    fn step<S: Side<K>, M: Meter>(
         &self,
         side: S,
         key: &K,
+        search: &mut Descent,
+        spot: &mut Route,
+        meter: &mut M,
+    ) -> bool {
+        self.step(&ByOrder::new(side), key, search, spot, meter)
+    }
+
+    fn finish<S: Side<K>, M: Meter>(
+        &self,
+        side: S,
+        key: &K,
+        search: Descent,
         spot: &mut Route,
         meter: &mut M,
     ) -> Option<usize> {
-        self.find_route(&ByOrder::new(side), key, spot, meter)
+        self.finish(&ByOrder::new(side), key, search, spot, meter)
     }
 
     fn is_known<S: Side<K>, M: Meter>(

@@ -189,7 +189,7 @@ facts_walked lefts rights order slots places walk ascending places' walk' apart 
   rights = as_many slots places walk places' walk';
 }
 
-module _ {L R I J LeftSpot RightSpot : Type 0} {left_eq : _} {right_eq : _} {left : _} {right : _} (table : Table L R I J LeftSpot RightSpot left_eq right_eq left right) where
+module _ {L R I J LeftSpot LeftSearch RightSpot RightSearch : Type 0} {left_eq : _} {right_eq : _} {left : _} {right : _} (table : Table L R I J LeftSpot LeftSearch RightSpot RightSearch left_eq right_eq left right) where
   -- by the laws of the left index
   module _ (listed : (index : I) (f : ℕ → Option L) → left.is_listing index f → (p : ℕ) → Contains (left.places index) p ↔ IsSome (f p)) (distinct : (index : I) (f : ℕ → Option L) → left.is_listing index f → AllPairs (λ a b. a ≢ b) (left.places index)) (settled : (index : I) (f : ℕ → Option L) → ∥ left.is_listing index f ∥₁ → left.is_listing index f) where
     pub left_walk : IsWalk table.pairs (left.places table.left)

@@ -9,28 +9,28 @@ returns-in-Some-clause-answer g c =
     let slots = c.args.self.now.pairs in
     let pair : g.row.L.Denot × g.row.R.Denot = (c.in-Some-at.field-0-0.now, c.in-Some-at.held.now) in
     let there : pair_at slots c.in-Some.place ≡ Some pair = sym (rw c.in-Some-at.is at c.at.ensures) in
-    let equal = rw c.in-Some.is at c.seek_left.ensures.found.here in
+    let equal = rw c.in-Some.is at c.finish_left.ensures.found.here in
     found_held g.L.PartialEq.eq g.R.PartialEq.eq slots c.args.left c.args.right c.in-Some.place pair there (rw there at equal)
 
 pub returns-then-is_some-clause-answer : goal.returns-then-is_some-clause-answer
-returns-then-is_some-clause-answer g c = refused_occupied g.L.PartialEq.eq g.R.PartialEq.eq c.args.self.now.pairs c.args.left c.args.right c.seek_left.result c.seek_right.result c.seek_left.ensures.found c.seek_right.ensures.found c.in_default.is (sym c.is_some.ensures ∙ c.if-is_some.true)
+returns-then-is_some-clause-answer g c = refused_occupied g.L.PartialEq.eq g.R.PartialEq.eq c.args.self.now.pairs c.args.left c.args.right c.finish_left.result c.finish_right.result c.finish_left.ensures.found c.finish_right.ensures.found c.in_default.is (sym c.is_some.ensures ∙ c.if-is_some.true)
 
 pub returns-then-is_err-clause-answer : goal.returns-then-is_err-clause-answer
 returns-then-is_err-clause-answer g c =
     let failed = sym c.is_err.ensures.value ∙ c.if-is_err.true in
-    refused_for_memory g.L.PartialEq.eq g.R.PartialEq.eq c.args.self.now.pairs c.args.left c.args.right c.seek_left.result c.seek_right.result c.seek_left.ensures.found c.seek_right.ensures.found c.in_default.is c.make_room.new.self.pairs (nothing _ (sym c.is_some.ensures ∙ c.if-is_some.false)) (on_err c.make_room.result failed c.make_room.ensures.full) (on_err c.make_room.result failed c.make_room.ensures.err)
+    refused_for_memory g.L.PartialEq.eq g.R.PartialEq.eq c.args.self.now.pairs c.args.left c.args.right c.finish_left.result c.finish_right.result c.finish_left.ensures.found c.finish_right.ensures.found c.in_default.is c.make_room.new.self.pairs (nothing _ (sym c.is_some.ensures ∙ c.if-is_some.false)) (on_err c.make_room.result failed c.make_room.ensures.full) (on_err c.make_room.result failed c.make_room.ensures.err)
 
 pub returns-clause-answer : goal.returns-clause-answer
 returns-clause-answer g c =
     let room = c.make_room.ensures in
     let there = c.put-place.ensures in
-    interned_new g.L.PartialEq.eq g.R.PartialEq.eq c.args.self.now.pairs c.args.left c.args.right c.seek_left.result c.seek_right.result c.seek_left.ensures.found c.seek_right.ensures.found c.in_default.is g.met.L.Eq.laws g.met.R.Eq.laws c.make_room.new.self.pairs c.put-place.new.self.pairs c.put-place.result (nothing _ (sym c.is_some.ensures ∙ c.if-is_some.false)) room.kept room.had_place room.grows there.there there.was_free there.pairs
+    interned_new g.L.PartialEq.eq g.R.PartialEq.eq c.args.self.now.pairs c.args.left c.args.right c.finish_left.result c.finish_right.result c.finish_left.ensures.found c.finish_right.ensures.found c.in_default.is g.met.L.Eq.laws g.met.R.Eq.laws c.make_room.new.self.pairs c.put-place.new.self.pairs c.put-place.result (nothing _ (sym c.is_some.ensures ∙ c.if-is_some.false)) room.kept room.had_place room.grows there.there there.was_free there.pairs
 
 pub returns-clause-held_slots : goal.returns-clause-held_slots
-returns-clause-held_slots g c = lacks_held g.L.PartialEq.eq g.R.PartialEq.eq c.args.self.now.pairs c.args.left c.args.right c.seek_left.result c.seek_right.result c.seek_left.ensures.found c.seek_right.ensures.found c.in_default.is
+returns-clause-held_slots g c = lacks_held g.L.PartialEq.eq g.R.PartialEq.eq c.args.self.now.pairs c.args.left c.args.right c.finish_left.result c.finish_right.result c.finish_left.ensures.found c.finish_right.ensures.found c.in_default.is
 
 pub returns-clause-held_places : goal.returns-clause-held_places
-returns-clause-held_places g c = lacks_held g.L.PartialEq.eq g.R.PartialEq.eq c.args.self.now.pairs c.args.left c.args.right c.seek_left.result c.seek_right.result c.seek_left.ensures.found c.seek_right.ensures.found c.in_default.is
+returns-clause-held_places g c = lacks_held g.L.PartialEq.eq g.R.PartialEq.eq c.args.self.now.pairs c.args.left c.args.right c.finish_left.result c.finish_right.result c.finish_left.ensures.found c.finish_right.ensures.found c.in_default.is
 
 pub returns-then-is_err-clause-slots : goal.returns-then-is_err-clause-slots
 returns-then-is_err-clause-slots g c = on_err c.make_room.result (sym c.is_err.ensures.value ∙ c.if-is_err.true) c.make_room.ensures.err

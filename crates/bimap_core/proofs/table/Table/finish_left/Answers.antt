@@ -1,0 +1,5 @@
+use Rattle.bimap_core.proofs.Linking.{found_at}
+use Rattle.bimap_core.proofs.table.Table.finish_left.Goals as goal
+
+pub returns-clause-found : goal.returns-clause-found
+returns-clause-found g c = found_at (λ p. p.0) g.L.PartialEq.eq c.args.self.now.pairs c.args.left.now c.finish.result (rw c.new.ensures at c.finish.ensures.found)

@@ -1,5 +1,0 @@
-use Rattle.bimap_core.proofs.Linking.{found_at}
-use Rattle.bimap_core.proofs.table.Table.seek_right.Goals as goal
-
-pub returns-clause-found : goal.returns-clause-found
-returns-clause-found g c = found_at (λ p. p.1) g.R.PartialEq.eq c.args.self.now.pairs c.args.right.now c.seek.result (rw c.new.ensures at c.seek.ensures.found)

@@ -1,0 +1,11 @@
+use Rattle.bimap_index.proofs.Ascending.{found_by_order}
+use Rattle.bimap_index.proofs.ordered.OrderedIndex.finish.Goals as goal
+
+pub returns-clause-found : goal.returns-clause-found
+returns-clause-found g c = found_by_order g.K.Ord.cmp g.K.PartialEq.eq g.met.K.Ord.total g.met.K.Ord.matches_eq c.args.self.now.places (g.S.Side.key_at c.args.side) c.args.key.now c.finish.result c.requires.listing (rw c.new.ensures at c.finish.ensures.found) (rw c.new.ensures at c.finish.ensures.none)
+
+pub returns-clause-leads : goal.returns-clause-leads
+returns-clause-leads g c = rw c.new.ensures at c.finish.ensures.route
+
+pub finish-requires-clause-under_way : goal.finish-requires-clause-under_way
+finish-requires-clause-under_way g c = rw c.new.ensures c.requires.under_way
