@@ -125,6 +125,39 @@ fn finds(rt: HostRuntime) -> Result<(), Fail> {
     Ok(())
 }
 
+// Goes three levels down for a number, and then all the way: what one search finds, and no comparison more. Answers how many of
+// the three there were.
+fn by_levels<R: Abort>(rt: &R, index: &Ordered, numbers: &[u64], number: u64) -> usize
+    requires { Ascends (slice_get numbers.now) nat_cmp index.now.places }
+{
+    let keys = Numbers { numbers };
+    let (mut meter, mut alone) = (at_zero(rt), at_zero(rt));
+    let mut route = Route::new();
+    let mut search = index.start();
+    let first = index.step(&keys, &number, &mut search, &mut route, &mut meter);
+    let second = index.step(&keys, &number, &mut search, &mut route, &mut meter);
+    let third = index.step(&keys, &number, &mut search, &mut route, &mut meter);
+    let found = index.finish(&keys, &number, search, &mut route, &mut meter);
+    assert_eq!(rt; found, index.find(&keys, &number, &mut alone));
+    assert_eq!(rt; meter.comparisons, alone.comparisons);
+    assert_eq!(rt; meter.touches, alone.touches);
+    first as usize + second as usize + third as usize
+}
+
+// Of a balanced tree of a thousand the first three levels are full: the search for the key at its top goes no level down, those
+// for two keys go one, for four two, and all others three.
+#[test]
+fn searches_level_by_level(rt: HostRuntime) -> Result<(), Fail> {
+    let numbers = thousand(rt.alloc())?;
+    let index = listed(&rt, rt.alloc(), &numbers)?;
+    let mut levels = 0usize;
+    for number in 0..1002u64 {
+        levels = levels.saturating_add(by_levels(&rt, &index, &numbers, number));
+    }
+    assert_eq!(rt; levels, 2 + 4 * 2 + 995 * 3);
+    Ok(())
+}
+
 #[test]
 fn places_by_rank(rt: HostRuntime) -> Result<(), Fail> {
     let numbers = thousand(rt.alloc())?;

@@ -113,6 +113,32 @@ fn insertions_are_counted(rt: HostRuntime) -> Result<(), Fail> {
     Ok(())
 }
 
+// How many comparisons it takes to insert the very pair that is held.
+fn repeats<R: Abort>(rt: &R, bimap: &mut BiBTreeMap<u32, u32>, pair: (u32, u32)) -> u64 {
+    let mut meter = at_zero(rt);
+    let answer = bimap.insert_metered(pair.0, pair.1, &mut meter);
+    assert!(rt; answer == Ok(Overwritten::Pair(pair.0, pair.1)));
+    meter.comparisons
+}
+
+// Both sides are searched in turn, but after an insertion that its left decided: then the next one that meets its very pair
+// searches its left and asks the right there.
+#[test]
+fn pairs_repeated_are_searched_by_their_left(rt: HostRuntime) -> Result<(), Fail> {
+    let mut bimap = of_length(rt.alloc(), 1000)?;
+    let mut meter = at_zero(&rt);
+    let held = bimap.get_by_left_metered(&1, &mut meter).copied();
+    assert!(rt; held == Some(1999));
+    let alone = meter.comparisons.saturating_add(1);
+    assert!(rt; repeats(&rt, &mut bimap, (1, 1999)) > alone);
+    assert!(rt; repeats(&rt, &mut bimap, (1, 1999)) == alone);
+    assert!(rt; bimap.insert(3000, 3000) == Ok(Overwritten::Neither));
+    assert!(rt; repeats(&rt, &mut bimap, (1, 1999)) > alone);
+    assert!(rt; bimap.insert_no_overwrite(1, 3001) == Err(NotInserted::Occupied(1, 3001)));
+    assert!(rt; repeats(&rt, &mut bimap, (1, 1999)) == alone);
+    Ok(())
+}
+
 // The right of a left, or the pair is put in: one search by left, and one by right where no equal left is held.
 fn interns<R: Abort>(
     rt: &R,
