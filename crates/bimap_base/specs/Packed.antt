@@ -1,8 +1,9 @@
 -- How `Cells` keeps a node.
-use Rattle.std.specs.Prelude.{ℕ, zero, suc, ◌<◌, ◌/◌, ◌%◌, ◌^◌, List, length, map, Option, Some, None}
+use Rattle.std.specs.Prelude.{ℕ, zero, suc, ◌+◌, ◌<◌, ◌≤◌, ◌/◌, ◌%◌, ◌^◌, List, Option, Some, None}
+use Rattle.bimap_base.specs.Digits.{most_height}
 use Rattle.bimap_base.specs.declared.cells.Node.{Node}
-use Rattle.bimap_base.specs.declared.cells.Kept.{Kept}
-use Rattle.bimap_base.specs.declared.cells.Kept.TheVariants.{Narrow, Wide}
+use Rattle.bimap_base.specs.declared.cells.Cells.{Cells}
+use Rattle.bimap_base.specs.declared.cells.Cells.TheVariants.{Narrow, Wide}
 use Rattle.bimap_base.specs.declared.cells.NarrowCell.{NarrowCell}
 use Rattle.bimap_base.specs.declared.cells.WideCell.{WideCell}
 
@@ -20,16 +21,18 @@ abbrev pub wide_node : WideCell → Node
 wide_node c = record { left = link_of c.left; right = link_of c.right; height = c.height; size = c.size }
 
 -- the nodes that are kept so
-abbrev pub nodes_in : Kept → List Node
-nodes_in (Narrow cells) = map narrow_node cells.items
-nodes_in (Wide cells) = map wide_node cells.items
-
--- narrow cells are few enough to tell each other's places
-abbrev pub IsFew : Kept → Type 0
-IsFew (Narrow cells) = length cells.items < 2 ^ 26
-IsFew (Wide cells) = Unit {0}
+abbrev pub nodes_in : Cells → List Node
+nodes_in (Narrow nodes) = nodes
+nodes_in (Wide nodes) = nodes
 
 -- a child, if there is one, is a place below this number
 abbrev pub IsThere : ℕ → Option ℕ → Type 0
 IsThere n None = Unit {0}
 IsThere n (Some place) = place < n
+
+-- a node among so many places: with children of them, at most a level higher than a balanced tree of all of them, and no larger
+pub record IsAmong (n : ℕ) (node : Node) : Type 0 where
+  pub left : IsThere n node.left
+  pub right : IsThere n node.right
+  pub height : node.height ≤ most_height n + 1
+  pub size : node.size ≤ n

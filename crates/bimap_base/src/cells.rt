@@ -1,7 +1,7 @@
 //! The nodes of an index, one for each place.
 ghost use Rattle.std.specs.Prelude.{◌≡◌, ℕ, ◌+◌, ◌<◌, ◌≤◌, ◌^◌, max, Some, [], length, map, slice_get, slice_set, vec_len, OnOk, OnErr, IfOk, IsOk};
 ghost use Rattle.bimap_base.specs.Digits.{most_height};
-ghost use Rattle.bimap_base.specs.Packed.{IsThere, link_of, narrow_node, wide_node};
+ghost use Rattle.bimap_base.specs.Packed.{IsThere, IsAmong, link_of, narrow_node, wide_node, nodes_in};
 
 use crate::meter::Meter;
 use crate::refusal::NoMemory;
@@ -17,61 +17,74 @@ pub struct Node {
     pub size: usize,
 }
 
-// A node as it is kept where there are fewer than 2^26 places, in 12 bytes: each child's place plus one, and 0 for no child; then the height times 2^26, plus the size.
+const NO_NODE: Node = Node {
+    left: None,
+    right: None,
+    height: 0,
+    size: 0,
+};
+
+/// How a node is kept, where places are few enough for it.
+pub trait Cell: Copy + Drop {
+    ghost use Rattle.bimap_base.specs.declared.cells.Node.{Node};
+
+    /// The node that it keeps, and a number that places are fewer than.
+    ghost node_in: { Self → Node };
+
+    ghost most: { ℕ };
+
+    /// The cell that keeps a node.
+    fn of(node: Node) -> Self
+        requires { (n : ℕ) × (n < most) × IsAmong n node }
+        ensures { node_in result ≡ node };
+
+    /// The node that it keeps.
+    fn node(self) -> Node
+        ensures { result ≡ node_in self };
+}
+
+/// A node as it is kept where there are fewer than 2^26 places, in 12 bytes: each child's place plus one, and 0 for no child; then the height times 2^26, plus the size.
 #[derive(Clone, Copy)]
-struct NarrowCell {
+pub struct NarrowCell {
     left: u32,
     right: u32,
     count: u32,
 }
 
-// A node as it is kept where there are more places, in 32 bytes.
+/// A node as it is kept where there are more places, in 32 bytes.
 #[derive(Clone, Copy)]
-struct WideCell {
+pub struct WideCell {
     left: usize,
     right: usize,
     height: usize,
     size: usize,
 }
 
-#[derive(Drop)]
-enum Kept {
-    Narrow(Vec<NarrowCell>),
-    Wide(Vec<WideCell>),
-}
-
 // How many places are too many for narrow cells.
 const WIDE: usize = 67_108_864;
 
-const NO_NARROW_CELL: NarrowCell = NarrowCell {
-    left: 0,
-    right: 0,
-    count: 0,
-};
-
-const NO_WIDE_CELL: WideCell = WideCell {
-    left: 0,
-    right: 0,
-    height: 0,
-    size: 0,
-};
-
-/// A node for each place below a number, in 12 bytes where there are fewer than 2^26, and else in 32. There is no way to a node but `read` and `write`, which count a touch each.
+/// Nodes that are kept in cells of one kind.
 #[derive(Drop)]
-pub struct Cells {
-    kept: Kept,
+pub struct Nodes<C: Cell> {
+    cells: Vec<C>,
 }
 
-impl Model for Cells {
-    ghost use Rattle.std.specs.Prelude.{List};
+impl<C: Cell> Model for Nodes<C> {
+    ghost use Rattle.std.specs.Prelude.{List, ◌<◌, length, map};
     ghost use Rattle.bimap_base.specs.declared.cells.Node.{Node};
-    ghost use Rattle.bimap_base.specs.Packed.{nodes_in, IsFew};
 
     ghost Value = { List Node };
 
-    ghost view = { λ c. nodes_in c.kept };
+    ghost view = { λ n. map C.node_in n.cells.items };
 
-    ghost invariant = { λ c. IsFew c.kept };
+    ghost invariant = { λ n. length n.cells.items < C.most };
+}
+
+/// A node for each place below a number, in 12 bytes where there are fewer than 2^26, and else in 32. There is no way to a node but `read` and `write`, which count a touch each.
+#[derive(Drop)]
+pub enum Cells {
+    Narrow(Nodes<NarrowCell>),
+    Wide(Nodes<WideCell>),
 }
 
 fn packed_link(child: Option<usize>) -> usize
@@ -92,20 +105,6 @@ fn child_of(link: usize) -> Option<usize>
 }
 
 impl NarrowCell {
-    fn of(node: Node) -> Self
-        requires left { IsThere (2 ^ 26) node.left }
-        requires right { IsThere (2 ^ 26) node.right }
-        requires height { node.height < 64 }
-        requires size { node.size < 2 ^ 26 }
-        ensures { narrow_node result ≡ node }
-    {
-        NarrowCell {
-            left: packed_link(node.left) as u32,
-            right: packed_link(node.right) as u32,
-            count: (node.height * WIDE + node.size) as u32,
-        }
-    }
-
     fn widened(self) -> WideCell
         ensures { wide_node result ≡ narrow_node self }
     {
@@ -119,12 +118,33 @@ impl NarrowCell {
     }
 }
 
-impl WideCell {
-    fn of(node: Node) -> Self
-        requires left { (n : ℕ) × (IsThere n node.left × n < 2 ^ 64) }
-        requires right { (n : ℕ) × (IsThere n node.right × n < 2 ^ 64) }
-        ensures { wide_node result ≡ node }
-    {
+impl Cell for NarrowCell {
+    ghost node_in = { narrow_node };
+
+    ghost most = { 2 ^ 26 };
+
+    #[inline(always)]
+    fn of(node: Node) -> Self {
+        NarrowCell {
+            left: packed_link(node.left) as u32,
+            right: packed_link(node.right) as u32,
+            count: (node.height * WIDE + node.size) as u32,
+        }
+    }
+
+    #[inline(always)]
+    fn node(self) -> Node {
+        self.widened().node()
+    }
+}
+
+impl Cell for WideCell {
+    ghost node_in = { wide_node };
+
+    ghost most = { 2 ^ 64 };
+
+    #[inline(always)]
+    fn of(node: Node) -> Self {
         WideCell {
             left: packed_link(node.left),
             right: packed_link(node.right),
@@ -133,9 +153,8 @@ impl WideCell {
         }
     }
 
-    fn node(self) -> Node
-        ensures { result ≡ wide_node self }
-    {
+    #[inline(always)]
+    fn node(self) -> Node {
         Node {
             left: child_of(self.left),
             right: child_of(self.right),
@@ -145,85 +164,44 @@ impl WideCell {
     }
 }
 
-// Pushes empty cells up to a number, for which it makes room exactly. A refusal changes nothing.
-fn extend<T: Copy>(cells: &mut Vec<T>, to: usize, empty: T) -> Result<(), NoMemory>
-    requires { vec_len cells.old ≤ to }
-    ensures ok { OnOk result (vec_len cells.new ≡ to) }
-    ensures kept { (place : ℕ) → place < length cells.old.items → slice_get cells.new.items place ≡ slice_get cells.old.items place }
-    ensures err { OnErr result (cells.new.items ≡ cells.old.items) }
-{
-    if cells.try_reserve_exact(to - cells.len()).is_err() {
-        return Err(NoMemory);
-    }
-    let Ok(()) = cells.resize(to, empty) else {
-        unreachable!();
-    };
-    Ok(())
-}
-
-// The same nodes in wide cells, and empty ones up to a number.
-fn wide_cells(narrow: &Vec<NarrowCell>, to: usize) -> Result<Vec<WideCell>, NoMemory>
-    requires { vec_len narrow.now ≤ to }
-    ensures len { IfOk result (λ wide. length wide.items ≡ to) }
-    ensures kept { IfOk result (λ wide. (place : ℕ) → place < length narrow.now.items → slice_get (map wide_node wide.items) place ≡ slice_get (map narrow_node narrow.now.items) place) }
-{
-    let Ok(mut wide) = Vec::with_capacity(*narrow.allocator(), to) else {
-        return Err(NoMemory);
-    };
-    for cell in narrow {
-        wide.push_reserved(cell.widened());
-    }
-    let Ok(()) = wide.resize(to, NO_WIDE_CELL) else {
-        unreachable!();
-    };
-    Ok(wide)
-}
-
-impl Cells {
-    /// No nodes. It takes no memory.
-    pub fn new(alloc: Global) -> Self
+impl<C: Cell> Nodes<C> {
+    // No nodes. It takes no memory.
+    fn new(alloc: Global) -> Self
+        requires { 0 < C.most }
         ensures { result ≡ [] }
     {
-        Cells {
-            kept: Kept::Narrow(Vec::new(alloc)),
+        Nodes {
+            cells: Vec::new(alloc),
         }
     }
 
     /// The number of nodes.
+    #[inline(always)]
     pub fn places(&self) -> usize
         ensures { result ≡ length self.now }
     {
-        match &self.kept {
-            Kept::Narrow(cells) => cells.len(),
-            Kept::Wide(cells) => cells.len(),
-        }
+        self.cells.len()
     }
 
-    /// Makes nodes for each place below `to`, in time of their number. It takes memory only where some are missing, and a refusal changes nothing. Where they become 2^26, all nodes move to wider cells.
-    pub fn grow(&mut self, to: usize) -> Result<(), NoMemory>
-        ensures ok { OnOk result (length self.new ≡ max (length self.old) to) }
+    // Makes empty nodes up to a number, with room for just so many. A refusal changes nothing.
+    fn extend(&mut self, to: usize) -> Result<(), NoMemory>
+        requires more { length self.old ≤ to }
+        requires few { to < C.most }
+        ensures ok { OnOk result (length self.new ≡ to) }
         ensures kept { (place : ℕ) → place < length self.old → slice_get self.new place ≡ slice_get self.old place }
         ensures err { OnErr result (self.new ≡ self.old) }
-        ensures enough { to ≤ length self.old → IsOk result }
-        ensures unchanged { to ≤ length self.old → self.new ≡ self.old }
     {
-        if to <= self.places() {
-            return Ok(());
+        if self.cells.try_reserve_exact(to - self.cells.len()).is_err() {
+            return Err(NoMemory);
         }
-        match &mut self.kept {
-            Kept::Narrow(cells) => {
-                if to < WIDE {
-                    return extend(cells, to, NO_NARROW_CELL);
-                }
-                let wide = wide_cells(cells, to)?;
-                self.kept = Kept::Wide(wide);
-                Ok(())
-            }
-            Kept::Wide(cells) => extend(cells, to, NO_WIDE_CELL),
-        }
+        let Ok(()) = self.cells.resize(to, C::of(NO_NODE)) else {
+            unreachable!();
+        };
+        Ok(())
     }
 
     /// The node of a place.
+    #[inline(always)]
     pub fn read<M: Meter>(&self, place: usize, meter: &mut M) -> Node
         requires { place < length self.now }
         ensures node { slice_get self.now place ≡ Some result }
@@ -231,13 +209,11 @@ impl Cells {
         ensures touches { M.touches meter.new ≡ M.touches meter.old + 1 }
     {
         meter.touched();
-        match &self.kept {
-            Kept::Narrow(cells) => cells[place].widened().node(),
-            Kept::Wide(cells) => cells[place].node(),
-        }
+        self.cells[place].node()
     }
 
     /// Makes this the node of a place.
+    #[inline(always)]
     pub fn write<M: Meter>(&mut self, place: usize, node: Node, meter: &mut M)
         requires place { place < length self.old }
         requires left { IsThere (length self.old) node.left }
@@ -252,9 +228,69 @@ impl Cells {
         ensures touches { M.touches meter.new ≡ M.touches meter.old + 1 }
     {
         meter.touched();
-        match &mut self.kept {
-            Kept::Narrow(cells) => cells[place] = NarrowCell::of(node),
-            Kept::Wide(cells) => cells[place] = WideCell::of(node),
+        let cells = &mut self.cells;
+        cells[place] = C::of(node);
+    }
+}
+
+// The same nodes in wide cells, and empty ones up to a number.
+fn widened(narrow: &Nodes<NarrowCell>, to: usize) -> Result<Nodes<WideCell>, NoMemory>
+    requires { length narrow.now ≤ to }
+    ensures len { IfOk result (λ wide. length wide ≡ to) }
+    ensures kept { IfOk result (λ wide. (place : ℕ) → place < length narrow.now → slice_get wide place ≡ slice_get narrow.now place) }
+{
+    let narrow = &narrow.cells;
+    let Ok(mut wide) = Vec::with_capacity(*narrow.allocator(), to) else {
+        return Err(NoMemory);
+    };
+    for cell in narrow {
+        wide.push_reserved(cell.widened());
+    }
+    let Ok(()) = wide.resize(to, WideCell::of(NO_NODE)) else {
+        unreachable!();
+    };
+    Ok(Nodes { cells: wide })
+}
+
+impl Cells {
+    /// No nodes. It takes no memory.
+    pub fn new(alloc: Global) -> Self
+        ensures { nodes_in result ≡ [] }
+    {
+        Cells::Narrow(Nodes::new(alloc))
+    }
+
+    /// The number of nodes.
+    pub fn places(&self) -> usize
+        ensures { result ≡ length (nodes_in self.now) }
+    {
+        match self {
+            Cells::Narrow(nodes) => nodes.places(),
+            Cells::Wide(nodes) => nodes.places(),
+        }
+    }
+
+    /// Makes nodes for each place below `to`, in time of their number. It takes memory only where some are missing, and a refusal changes nothing. Where they become 2^26, all nodes move to wider cells.
+    pub fn grow(&mut self, to: usize) -> Result<(), NoMemory>
+        ensures ok { OnOk result (length (nodes_in self.new) ≡ max (length (nodes_in self.old)) to) }
+        ensures kept { (place : ℕ) → place < length (nodes_in self.old) → slice_get (nodes_in self.new) place ≡ slice_get (nodes_in self.old) place }
+        ensures err { OnErr result (nodes_in self.new ≡ nodes_in self.old) }
+        ensures enough { to ≤ length (nodes_in self.old) → IsOk result }
+        ensures unchanged { to ≤ length (nodes_in self.old) → self.new ≡ self.old }
+    {
+        if to <= self.places() {
+            return Ok(());
+        }
+        match self {
+            Cells::Narrow(nodes) => {
+                if to < WIDE {
+                    return nodes.extend(to);
+                }
+                let wide = widened(nodes, to)?;
+                *self = Cells::Wide(wide);
+                Ok(())
+            }
+            Cells::Wide(nodes) => nodes.extend(to),
         }
     }
 }

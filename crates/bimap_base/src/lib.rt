@@ -22,7 +22,7 @@ mod spread;
 pub use bijection::Bijection;
 pub use by_hash::ByHash;
 pub use by_order::ByOrder;
-pub use cells::{Cells, Node};
+pub use cells::{Cell, Cells, NarrowCell, Node, Nodes, WideCell};
 pub use count::Count;
 pub use fill::{extend, extend_with, from_iter, from_iter_with};
 pub use interning::Interning;

@@ -10,7 +10,7 @@ ghost use Rattle.bimap_tree.specs.Tree.{Tree, reading};
 use crate::link::child;
 use crate::route::{Route, route_under, turns_by_branch};
 use crate::steer::Steer;
-use bimap_base::{Cells, Meter};
+use bimap_base::{Cell, Meter, Nodes};
 
 /// A search that is under way: it has come down to a place, or to where there is none.
 #[derive(Clone, Copy)]
@@ -37,8 +37,8 @@ impl Descent {
 }
 
 // Goes down a level and notes the way, unless the search is over. Answers whether it went.
-pub fn step_under<S: Steer, M: Meter>(
-    cells: &Cells,
+pub fn step_under<C: Cell, S: Steer, M: Meter>(
+    cells: &Nodes<C>,
     steer: &S,
     descent: &mut Descent,
     route: &mut Route,
@@ -52,7 +52,7 @@ pub fn step_under<S: Steer, M: Meter>(
     ensures touches { M.touches meter.new + levels_left cells.now descent.new ≤ M.touches meter.old + levels_left cells.now descent.old }
 {
     // Where turns are guessed, a wrong guess would undo what the other search has done meanwhile.
-    if turns_by_branch::<S>(cells) {
+    if turns_by_branch::<C, S>(cells) {
         return false;
     }
     let (Some(at), false) = (descent.root, descent.is_found) else {
@@ -72,8 +72,8 @@ pub fn step_under<S: Steer, M: Meter>(
 }
 
 // Goes all the way down from where the search has come, noting the way, and answers the place there.
-pub fn finish_under<S: Steer, M: Meter>(
-    cells: &Cells,
+pub fn finish_under<C: Cell, S: Steer, M: Meter>(
+    cells: &Nodes<C>,
     steer: &S,
     descent: Descent,
     route: &mut Route,

@@ -3,6 +3,7 @@
 
 mod batch;
 mod descent;
+mod forms;
 mod link;
 mod ordered;
 mod remove;

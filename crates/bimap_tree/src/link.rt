@@ -3,7 +3,7 @@ ghost use Rattle.std.specs.Prelude.{◌≡◌, ℕ, ◌+◌, ◌<◌, ◌≤◌,
 ghost use Rattle.bimap_tree.specs.Tree.{Tree, Stands, height, root_of, branch, node_on, near_of, far_of};
 ghost use Rattle.bimap_tree.specs.Link.{Measures, CanLink, CanRebalance, IsRebalanced};
 
-use bimap_base::{Cells, Meter, Node};
+use bimap_base::{Cell, Meter, Node, Nodes};
 
 /// A tree as its root's node tells it.
 #[derive(Clone, Copy)]
@@ -33,7 +33,7 @@ pub fn child(node: Node, turn: bool) -> Option<usize>
 }
 
 // The tree at this root.
-pub fn measure<M: Meter>(cells: &Cells, root: Option<usize>, meter: &mut M) -> Subtree
+pub fn measure<C: Cell, M: Meter>(cells: &Nodes<C>, root: Option<usize>, meter: &mut M) -> Subtree
     requires { (t : Tree) × Stands cells.now root t }
     ensures measured { (t : Tree) → Stands cells.now root t → Measures result t }
     ensures comparisons { M.comparisons meter.new ≡ M.comparisons meter.old }
@@ -57,8 +57,8 @@ pub fn measure<M: Meter>(cells: &Cells, root: Option<usize>, meter: &mut M) -> S
 }
 
 // Writes the node of a place, with the near tree on the side of the turn.
-pub fn link<M: Meter>(
-    cells: &mut Cells,
+pub fn link<C: Cell, M: Meter>(
+    cells: &mut Nodes<C>,
     place: usize,
     turn: bool,
     near: Subtree,
@@ -101,8 +101,8 @@ pub fn link<M: Meter>(
 }
 
 // Links a place above two trees, the heavy one of which, on the side of the turn, is two levels higher: by one rotation or two.
-pub fn rotate<M: Meter>(
-    cells: &mut Cells,
+pub fn rotate<C: Cell, M: Meter>(
+    cells: &mut Nodes<C>,
     place: usize,
     turn: bool,
     heavy: usize,
@@ -135,8 +135,8 @@ pub fn rotate<M: Meter>(
 }
 
 // Links a place above two trees whose heights differ by at most two, and rotates where it must.
-pub fn rebalance<M: Meter>(
-    cells: &mut Cells,
+pub fn rebalance<C: Cell, M: Meter>(
+    cells: &mut Nodes<C>,
     place: usize,
     turn: bool,
     near: Subtree,

@@ -12,13 +12,13 @@ ghost use Rattle.bimap_tree.specs.Index.{IsBalancedIndex};
 ghost use Rattle.bimap_tree.specs.Route.{IsRoute};
 ghost use Rattle.bimap_tree.specs.Start.{IsStart};
 
-use crate::descent::{Descent, finish_under, step_under};
-use crate::remove::take_at;
-use crate::rise::put_at;
-use crate::route::{Route, route_under};
-use crate::search::{find_under, place_under, rank_under};
+use crate::descent::Descent;
+use crate::forms::{
+    fill_around, find_under, finish_under, place_under, put_at, rank_under, route_under,
+    step_under, take_at,
+};
+use crate::route::Route;
 use crate::steer::{AfterKey, ToKey, ToPlace};
-use crate::walk::fill_around;
 use bimap_base::{Cells, Keys, Meter, NoMemory};
 use std::alloc::Global;
 use std::marker::Model;
@@ -39,9 +39,11 @@ impl Model for Ordered {
 
     ghost Value = { Index };
 
-    ghost view = { λ o. index_of o.cells o.root };
+    ghost use Rattle.bimap_base.specs.Packed.{nodes_in};
 
-    ghost invariant = { λ o. IsWhole o.cells o.root o.len };
+    ghost view = { λ o. index_of (nodes_in o.cells) o.root };
+
+    ghost invariant = { λ o. IsWhole (nodes_in o.cells) o.root o.len };
 }
 
 impl Ordered {

@@ -7,11 +7,11 @@ ghost use Rattle.bimap_tree.specs.Remove.{CanDescend, IsFirst, CanTake, IsTaken}
 use crate::link::measure;
 use crate::rise::rise;
 use crate::route::Route;
-use bimap_base::{Cells, Meter};
+use bimap_base::{Cell, Meter, Nodes};
 
 // Notes the way down to a tree's first place, and answers that place and its depth.
-fn first_under<M: Meter>(
-    cells: &Cells,
+fn first_under<C: Cell, M: Meter>(
+    cells: &Nodes<C>,
     at: usize,
     depth: usize,
     route: &mut Route,
@@ -33,8 +33,8 @@ fn first_under<M: Meter>(
 }
 
 // Takes out the place at the end of a route, and answers the new root. Where it has two children, the first place to its right takes its position.
-pub fn take_at<M: Meter>(
-    cells: &mut Cells,
+pub fn take_at<C: Cell, M: Meter>(
+    cells: &mut Nodes<C>,
     route: &mut Route,
     at: usize,
     meter: &mut M,

@@ -6,7 +6,7 @@ ghost use Rattle.bimap_tree.specs.Path.{Path, steps, one_if, Moves, CanRise, Can
 
 use crate::link::{Subtree, children, link, measure, rebalance};
 use crate::route::Route;
-use bimap_base::{Cells, Meter, Node};
+use bimap_base::{Cell, Meter, Node, Nodes};
 
 // The node with this child on the side of the turn, and one place more or less below it.
 fn recounted(node: Node, turn: bool, child: Option<usize>, grew: bool) -> Node
@@ -33,8 +33,8 @@ fn recounted(node: Node, turn: bool, child: Option<usize>, grew: bool) -> Node
 }
 
 // Links a place above a child that has grown or shrunk, and looks at its sister only where the place's height may move.
-fn relink<M: Meter>(
-    cells: &mut Cells,
+fn relink<C: Cell, M: Meter>(
+    cells: &mut Nodes<C>,
     at: usize,
     node: Node,
     turn: bool,
@@ -62,8 +62,8 @@ fn relink<M: Meter>(
 }
 
 // Goes up where no height moves any more: links the child, and counts its places, in each node of the way.
-fn recount<M: Meter>(
-    cells: &mut Cells,
+fn recount<C: Cell, M: Meter>(
+    cells: &mut Nodes<C>,
     route: &Route,
     depth: usize,
     child: Option<usize>,
@@ -88,8 +88,8 @@ fn recount<M: Meter>(
 }
 
 // Goes up from a child that stands in place of a tree of the height `was`, and answers the new root.
-pub fn rise<M: Meter>(
-    cells: &mut Cells,
+pub fn rise<C: Cell, M: Meter>(
+    cells: &mut Nodes<C>,
     route: &Route,
     depth: usize,
     child: Subtree,
@@ -119,8 +119,8 @@ pub fn rise<M: Meter>(
 }
 
 // Puts a place in at the end of a route that leads to no place, and answers the new root.
-pub fn put_at<M: Meter>(
-    cells: &mut Cells,
+pub fn put_at<C: Cell, M: Meter>(
+    cells: &mut Nodes<C>,
     route: &Route,
     place: usize,
     meter: &mut M,

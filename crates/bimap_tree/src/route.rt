@@ -10,7 +10,7 @@ ghost use Rattle.bimap_tree.specs.Route.{CanFollow, IsFollowed, IsRoute};
 use crate::link::child;
 use crate::search::FAR;
 use crate::steer::Steer;
-use bimap_base::{Cells, Meter};
+use bimap_base::{Cell, Meter, Nodes};
 
 /// The way that a search went down an index: at each depth a place, and whether the way goes on to its right.
 ///
@@ -64,13 +64,13 @@ impl Route {
 
 // Whether a turn to the right is a branch: in a large tree, unless a key is no wider than a word. To compare such keys takes no
 // pointer, and wrong guesses cost more than the wait.
-pub fn turns_by_branch<S: Steer>(cells: &Cells) -> bool {
+pub fn turns_by_branch<C: Cell, S: Steer>(cells: &Nodes<C>) -> bool {
     S::has_wide_keys() && cells.places() >= FAR
 }
 
 // Goes on down to what is sought, noting the way, and answers the place there.
-pub fn route_under<S: Steer, M: Meter>(
-    cells: &Cells,
+pub fn route_under<C: Cell, S: Steer, M: Meter>(
+    cells: &Nodes<C>,
     root: Option<usize>,
     depth: usize,
     steer: &S,
@@ -83,7 +83,7 @@ pub fn route_under<S: Steer, M: Meter>(
     ensures comparisons { (s : Tree) → Stands cells.now root s → M.comparisons meter.new ≤ M.comparisons meter.old + height s }
     ensures touches { (s : Tree) → Stands cells.now root s → M.touches meter.new ≤ M.touches meter.old + height s }
 {
-    let is_far = turns_by_branch::<S>(cells);
+    let is_far = turns_by_branch::<C, S>(cells);
     let mut root = root;
     let mut depth = depth;
     while let Some(at) = root {

@@ -6,15 +6,15 @@ ghost use Rattle.bimap_tree.specs.Order.{first_equal, count_below};
 
 use crate::link::{child, measure};
 use crate::steer::Steer;
-use bimap_base::{Cells, Meter};
+use bimap_base::{Cell, Meter, Nodes};
 
 // From so many places on, a turn to the right is a branch with an exit, of which the compiler makes no select: a processor
 // guesses the turn, and reads the next node while it awaits the keys. In a smaller tree wrong guesses cost more than the wait.
 pub const FAR: usize = 16_384;
 
 // The place with the key sought.
-pub fn find_under<S: Steer, M: Meter>(
-    cells: &Cells,
+pub fn find_under<C: Cell, S: Steer, M: Meter>(
+    cells: &Nodes<C>,
     root: Option<usize>,
     steer: &S,
     meter: &mut M,
@@ -46,8 +46,8 @@ pub fn find_under<S: Steer, M: Meter>(
 }
 
 // The place at a rank.
-pub fn place_under<M: Meter>(
-    cells: &Cells,
+pub fn place_under<C: Cell, M: Meter>(
+    cells: &Nodes<C>,
     root: Option<usize>,
     rank: usize,
     meter: &mut M,
@@ -76,8 +76,8 @@ pub fn place_under<M: Meter>(
 }
 
 // How many places of the tree are below the key sought.
-pub fn rank_under<S: Steer, M: Meter>(
-    cells: &Cells,
+pub fn rank_under<C: Cell, S: Steer, M: Meter>(
+    cells: &Nodes<C>,
     root: Option<usize>,
     steer: &S,
     meter: &mut M,

@@ -5,7 +5,7 @@ ghost use Rattle.bimap_tree.specs.Filled.{CanFill, IsFilled, IsRow, place_in};
 ghost use Rattle.bimap_tree.specs.Part.{IsPart};
 ghost use Rattle.bimap_tree.specs.Tree.{Tree, Stands, IsBalanced, node_of, height, size, reading};
 
-use bimap_base::{Cells, Meter, Node};
+use bimap_base::{Cell, Meter, Node, Nodes};
 
 // A tree of the index, whose first place has the rank `start`, with the place before its places and the one behind them.
 #[derive(Clone, Copy)]
@@ -41,8 +41,8 @@ fn fill_two_levels(buffer: &mut [usize; 64], filled: usize, at: usize, node: Nod
 // Puts the places of a tree, whose root's node is given, behind those that stand there.
 #[cycle(fill)]
 #[inline(always)]
-fn fill_tree<M: Meter>(
-    cells: &Cells,
+fn fill_tree<C: Cell, M: Meter>(
+    cells: &Nodes<C>,
     at: usize,
     node: Node,
     buffer: &mut [usize; 64],
@@ -67,8 +67,8 @@ fn fill_tree<M: Meter>(
 
 // The same of a tree whose root has these children. Both are read before either tree is walked, so that neither waits for the other, and the size of one tells where the other begins.
 #[cycle(fill)]
-fn fill_high<M: Meter>(
-    cells: &Cells,
+fn fill_high<C: Cell, M: Meter>(
+    cells: &Nodes<C>,
     at: usize,
     left: usize,
     right: usize,
@@ -91,8 +91,8 @@ fn fill_high<M: Meter>(
 }
 
 // Goes down to a tree of few places, among which, with the one before it and the one behind it, is the one at a rank.
-fn part_around<M: Meter>(
-    cells: &Cells,
+fn part_around<C: Cell, M: Meter>(
+    cells: &Nodes<C>,
     root: Option<usize>,
     rank: usize,
     most: usize,
@@ -143,8 +143,8 @@ fn part_around<M: Meter>(
 }
 
 // Puts the places of some ranks in a row into a buffer, this rank among them, and answers the first of these ranks and how many they are. They are those of a tree, the place before it and the one behind it, so that few branches are wrongly guessed.
-pub fn fill_around<M: Meter>(
-    cells: &Cells,
+pub fn fill_around<C: Cell, M: Meter>(
+    cells: &Nodes<C>,
     root: Option<usize>,
     rank: usize,
     most: usize,

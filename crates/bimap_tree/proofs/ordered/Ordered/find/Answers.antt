@@ -1,5 +1,6 @@
 use Rattle.std.proofs.Common.{arith, ap, ◌∙◌, Some}
 use Rattle.bimap_base.specs.Keyed.{standing}
+use Rattle.bimap_base.specs.Packed.{nodes_in}
 use Rattle.bimap_tree.specs.Index.{tree_in}
 use Rattle.bimap_tree.specs.Order.{first_equal, order_of}
 use Rattle.bimap_tree.proofs.Found.{found_in, none_in}
@@ -7,7 +8,7 @@ use Rattle.bimap_tree.proofs.Whole.{can_seek, places_are, height_within}
 use Rattle.bimap_tree.proofs.ordered.Ordered.find.Goals as goal
 
 pub find_under-requires : goal.find_under-requires
-find_under-requires g c = (tree_in c.self.inside.cells c.self.inside.root, can_seek _ _ _ _ c.self.invariant c.self.view_is _ _ g.met.K.Keys.total c.requires _)
+find_under-requires g c = (tree_in (nodes_in c.self.inside.cells) c.self.inside.root, can_seek _ _ _ _ c.self.invariant c.self.view_is _ _ g.met.K.Keys.total c.requires _)
 
 pub returns-clause-found : goal.returns-clause-found
 returns-clause-found g c =

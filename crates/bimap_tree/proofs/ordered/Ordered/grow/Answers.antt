@@ -1,4 +1,5 @@
 use Rattle.std.proofs.Common.{◌∙◌, sym, refl, subst}
+use Rattle.bimap_base.specs.Packed.{nodes_in}
 use Rattle.bimap_tree.specs.Index.{index_of}
 use Rattle.bimap_tree.specs.Route.{IsRoute}
 use Rattle.bimap_tree.proofs.Routes.{IsRoute-grown}
@@ -14,4 +15,4 @@ returns-clause-places c = places_grown _ _ _ _ c.self.invariant c.self.view_is _
 pub returns-clause-routes : goal.returns-clause-routes
 returns-clause-routes c standing route =
     let places = places_grown _ _ _ _ c.self.invariant c.self.view_is _ c.grow.ensures.kept ∙ sym (places_are _ _ _ _ c.self.invariant c.self.view_is) in
-    subst (λ v. IsRoute v standing route → IsRoute (index_of c.grow.new.self c.self.inside.root) standing route) c.self.view_is (IsRoute-grown (index_of c.self.inside.cells c.self.inside.root) (index_of c.grow.new.self c.self.inside.root) standing route c.grow.ensures.kept refl places)
+    subst (λ v. IsRoute v standing route → IsRoute (index_of (nodes_in c.grow.new.self) c.self.inside.root) standing route) c.self.view_is (IsRoute-grown (index_of (nodes_in c.self.inside.cells) c.self.inside.root) (index_of (nodes_in c.grow.new.self) c.self.inside.root) standing route c.grow.ensures.kept refl places)

@@ -1,5 +1,6 @@
 use Rattle.std.proofs.Common.{◌≡◌, Some, arith, refl}
 use Rattle.bimap_base.specs.Keyed.{standing}
+use Rattle.bimap_base.specs.Packed.{nodes_in}
 use Rattle.bimap_tree.specs.Index.{tree_in}
 use Rattle.bimap_tree.specs.Path.{top}
 use Rattle.bimap_tree.specs.Route.{IsRoute}
@@ -12,7 +13,7 @@ use Rattle.bimap_tree.proofs.ordered.Ordered.insert.Goals.{After-route_under-sel
 pub route_under-self-inside-requires : goal.route_under-self-inside-requires
 route_under-self-inside-requires g c =
     let (k, is) = key_is (g.K.Keys.key_at c.args.keys.now) g.K.Keys.order _ c.requires.live in
-    (top, tree_in c.self.inside.cells c.self.inside.root, can_follow _ _ _ _ c.self.invariant c.self.view_is _ _ _ _ (omega arith) (omega arith) (can_seek_place _ _ _ _ c.self.invariant c.self.view_is _ _ g.met.K.Keys.total c.requires.ascends _ k is))
+    (top, tree_in (nodes_in c.self.inside.cells) c.self.inside.root, can_follow _ _ _ _ c.self.invariant c.self.view_is _ _ _ _ (omega arith) (omega arith) (can_seek_place _ _ _ _ c.self.invariant c.self.view_is _ _ g.met.K.Keys.total c.requires.ascends _ k is))
 
 -- the route that the search leaves
 the_route : (g : Over) (c : After-route_under-self-inside g) → (k : _) × (g.K.Keys.key_at c.args.keys.now c.args.place ≡ Some k) × IsRoute c.args.self.now (λ q. standing (g.K.Keys.key_at c.args.keys.now) g.K.Keys.order k q) c.route_under-self-inside.new.route

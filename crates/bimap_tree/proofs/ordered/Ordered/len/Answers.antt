@@ -1,3 +1,4 @@
+use Rattle.bimap_base.specs.Packed.{nodes_in}
 use Rattle.bimap_tree.specs.Index.{tree_in}
 use Rattle.bimap_tree.proofs.Distinct.{distinct_reading}
 use Rattle.bimap_tree.proofs.Whole.{length_is, shown_index, height_within, listed_within}
@@ -10,7 +11,7 @@ pub returns-clause-balanced : goal.returns-clause-balanced
 returns-clause-balanced c = (_, shown_index _ _ _ _ c.self.invariant c.self.view_is, height_within _ _ _ _ c.self.invariant c.self.view_is)
 
 pub returns-clause-distinct : goal.returns-clause-distinct
-returns-clause-distinct c = rw (← c.self.view_is) (distinct_reading (tree_in c.self.inside.cells c.self.inside.root) c.self.invariant.index.distinct)
+returns-clause-distinct c = rw (← c.self.view_is) (distinct_reading (tree_in (nodes_in c.self.inside.cells) c.self.inside.root) c.self.invariant.index.distinct)
 
 pub returns-clause-cells : goal.returns-clause-cells
 returns-clause-cells c = listed_within _ _ _ _ c.self.invariant c.self.view_is

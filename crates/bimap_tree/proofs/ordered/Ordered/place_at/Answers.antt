@@ -1,12 +1,13 @@
 use Rattle.std.proofs.Common.{arith, ap, ◌∙◌, sym}
 use Rattle.std.specs.Prelude.{slice_get}
+use Rattle.bimap_base.specs.Packed.{nodes_in}
 use Rattle.bimap_tree.specs.Index.{tree_in}
 use Rattle.bimap_tree.proofs.Whole.{rank_within, places_are, height_within}
 use Rattle.bimap_tree.proofs.ordered.Ordered.place_at.Goals as goal
 
 pub place_under-requires : goal.place_under-requires
 place_under-requires g c =
-    (tree_in c.self.inside.cells c.self.inside.root, c.self.invariant.index.tree, rank_within _ _ _ _ c.self.invariant c.self.view_is _ c.requires)
+    (tree_in (nodes_in c.self.inside.cells) c.self.inside.root, c.self.invariant.index.tree, rank_within _ _ _ _ c.self.invariant c.self.view_is _ c.requires)
 
 pub returns-clause-place : goal.returns-clause-place
 returns-clause-place g c =

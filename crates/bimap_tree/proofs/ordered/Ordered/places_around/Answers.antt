@@ -1,4 +1,5 @@
 use Rattle.std.proofs.Common.{arith, subst}
+use Rattle.bimap_base.specs.Packed.{nodes_in}
 use Rattle.bimap_tree.specs.Filled.{IsRow}
 use Rattle.bimap_tree.specs.Index.{tree_in}
 use Rattle.bimap_tree.proofs.Whole.{places_are, height_within, rank_within}
@@ -7,7 +8,7 @@ use Rattle.bimap_tree.proofs.ordered.Ordered.places_around.Goals as goal
 pub fill_around-requires-clause-tree : goal.fill_around-requires-clause-tree
 fill_around-requires-clause-tree g c =
     let few = rank_within _ _ _ _ c.self.invariant c.self.view_is _ c.requires.rank in
-    (tree_in c.self.inside.cells c.self.inside.root, c.self.invariant.index.tree, c.self.invariant.index.balanced, few, omega (arith, c.self.invariant.counted, c.self.invariant.few))
+    (tree_in (nodes_in c.self.inside.cells) c.self.inside.root, c.self.invariant.index.tree, c.self.invariant.index.balanced, few, omega (arith, c.self.invariant.counted, c.self.invariant.few))
 
 pub returns-clause-row : goal.returns-clause-row
 returns-clause-row g c =

@@ -1,4 +1,5 @@
 use Rattle.std.proofs.Common.{arith, ap, sym, subst, ◌∙◌, Some}
+use Rattle.bimap_base.specs.Packed.{nodes_in}
 use Rattle.bimap_tree.specs.Index.{tree_in}
 use Rattle.bimap_tree.specs.Order.{count_below, after_key, order_of}
 use Rattle.bimap_tree.specs.Start.{IsStart}
@@ -12,10 +13,10 @@ returns-in-Unbounded-clause-start g c =
     (start_unbounded _ _ g.met.K.Keys.total _ c.requires)
 
 pub rank_under-requires : goal.rank_under-requires
-rank_under-requires g c = (tree_in c.self.inside.cells c.self.inside.root, can_seek _ _ _ _ c.self.invariant c.self.view_is _ _ g.met.K.Keys.total c.requires _)
+rank_under-requires g c = (tree_in (nodes_in c.self.inside.cells) c.self.inside.root, can_seek _ _ _ _ c.self.invariant c.self.view_is _ _ g.met.K.Keys.total c.requires _)
 
 pub rank_under-requires-in-Excluded : goal.rank_under-requires-in-Excluded
-rank_under-requires-in-Excluded g c = (tree_in c.self.inside.cells c.self.inside.root, can_seek_after _ _ _ _ c.self.invariant c.self.view_is _ _ g.met.K.Keys.total c.requires _)
+rank_under-requires-in-Excluded g c = (tree_in (nodes_in c.self.inside.cells) c.self.inside.root, can_seek_after _ _ _ _ c.self.invariant c.self.view_is _ _ g.met.K.Keys.total c.requires _)
 
 pub returns-in-Included-clause-start : goal.returns-in-Included-clause-start
 returns-in-Included-clause-start g c =

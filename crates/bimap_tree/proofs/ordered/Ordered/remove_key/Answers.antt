@@ -1,5 +1,6 @@
 use Rattle.std.proofs.Common.{◌≡◌, Some, arith, ap, subst, sym, ◌∙◌}
 use Rattle.bimap_base.specs.Keyed.{standing}
+use Rattle.bimap_base.specs.Packed.{nodes_in}
 use Rattle.bimap_tree.specs.Index.{tree_in}
 use Rattle.bimap_tree.specs.Order.{first_equal, order_of}
 use Rattle.bimap_tree.specs.Path.{Path, top}
@@ -13,7 +14,7 @@ use Rattle.bimap_tree.proofs.ordered.Ordered.remove_key.Goals.{After-route_under
 
 pub route_under-requires : goal.route_under-requires
 route_under-requires g c =
-    (top, tree_in c.self.inside.cells c.self.inside.root, can_follow _ _ _ _ c.self.invariant c.self.view_is _ _ _ _ (omega arith) (omega arith) (can_seek _ _ _ _ c.self.invariant c.self.view_is _ _ g.met.K.Keys.total c.requires _))
+    (top, tree_in (nodes_in c.self.inside.cells) c.self.inside.root, can_follow _ _ _ _ c.self.invariant c.self.view_is _ _ _ _ (omega arith) (omega arith) (can_seek _ _ _ _ c.self.invariant c.self.view_is _ _ g.met.K.Keys.total c.requires _))
 
 -- what the search answers is the first equal one
 first : (g : Over) (c : After-route_under g) → c.route_under.result ≡ first_equal (λ q. order_of g.K.Keys.order (g.K.Keys.key_at c.args.keys.now q) (Some c.args.key.now)) c.args.self.now.places
@@ -36,10 +37,10 @@ returns-clause-found g c =
     found_in (λ q. standing (g.K.Keys.key_at c.args.keys.now) g.K.Keys.order c.args.key.now q) _ (Some c.in_ok-found.found) (sym c.in_ok-found.was ∙ first g (goal.at.returns-clause-found g c).After-route_under)
 
 -- the way that it went, to the place found
-the_way : (g : Over) (c : In_ok-found g) → (low : Path) × (s : Tree) × IsFollowed (λ q. order_of g.K.Keys.order (g.K.Keys.key_at c.args.keys.now q) (Some c.args.key.now)) c.route_under.new.route.places c.route_under.new.route.turns c.route_under.new.route.depth (Some c.in_ok-found.found) (tree_in c.self.inside.cells c.self.inside.root) low s
+the_way : (g : Over) (c : In_ok-found g) → (low : Path) × (s : Tree) × IsFollowed (λ q. order_of g.K.Keys.order (g.K.Keys.key_at c.args.keys.now q) (Some c.args.key.now)) c.route_under.new.route.places c.route_under.new.route.turns c.route_under.new.route.depth (Some c.in_ok-found.found) (tree_in (nodes_in c.self.inside.cells) c.self.inside.root) low s
 the_way g c =
     let f = can_follow _ _ _ _ c.self.invariant c.self.view_is _ _ c.new-route.result.places c.new-route.result.turns (omega arith) (omega arith) (can_seek _ _ _ _ c.self.invariant c.self.view_is _ _ g.met.K.Keys.total c.requires c.args.key.now) in
-    subst (λ o. (low : Path) × (s : Tree) × IsFollowed (λ q. order_of g.K.Keys.order (g.K.Keys.key_at c.args.keys.now q) (Some c.args.key.now)) c.route_under.new.route.places c.route_under.new.route.turns c.route_under.new.route.depth o (tree_in c.self.inside.cells c.self.inside.root) low s) c.in_ok-found.was (c.route_under.ensures.follows _ _ f)
+    subst (λ o. (low : Path) × (s : Tree) × IsFollowed (λ q. order_of g.K.Keys.order (g.K.Keys.key_at c.args.keys.now q) (Some c.args.key.now)) c.route_under.new.route.places c.route_under.new.route.turns c.route_under.new.route.depth o (tree_in (nodes_in c.self.inside.cells) c.self.inside.root) low s) c.in_ok-found.was (c.route_under.ensures.follows _ _ f)
 
 pub take_at-self-inside-requires : goal.take_at-self-inside-requires
 take_at-self-inside-requires g c =
