@@ -1,8 +1,8 @@
 -- Nodes as they are kept.
-use Rattle.std.proofs.Common.{◌≡◌, ℕ, zero, suc, ◌+◌, ◌≤◌, ◌<◌, ◌^◌, List, [], ◌∷◌, ◌++◌, length, take, map, refl, sym, ◌∙◌, ap, arith}
+use Rattle.std.proofs.Common.{◌≡◌, Some, ℕ, zero, suc, ◌+◌, ◌≤◌, ◌<◌, ◌^◌, List, [], ◌∷◌, ◌++◌, length, take, map, get_or, refl, sym, ◌∙◌, ap, arith}
 use Rattle.std.specs.Prelude.{slice_get, slice_set, option_map}
 use Rattle.std.proofs.lemmas.List.{length-map, map-set, take_all}
-use Rattle.std.proofs.lemmas.Option.{slice_get-map}
+use Rattle.std.proofs.lemmas.Option.{slice_get-map, slice_get_within, slice_get_read}
 use Rattle.bimap_base.specs.Digits.{most_height}
 use Rattle.bimap_base.proofs.Digits.{bits-least}
 
@@ -32,3 +32,11 @@ get-mapped f xs all same ns e k h =
 -- a node written over another
 pub map-written : {A B : Type 0} (f : A → B) (xs : List A) (i : ℕ) (x : A) (ns : List B) (n : B) → map f xs ≡ ns → f x ≡ n → map f (slice_set xs i x) ≡ slice_set ns i n
 map-written f xs i x ns n e d = map-set f xs i x ∙ ap (λ z. slice_set z i (f x)) e ∙ ap (λ z. slice_set ns i z) d
+
+-- the node that a cell keeps is the one that stands at its place
+pub read-mapped : {A B : Type 0} (f : A → B) (xs : List A) (k : ℕ) (x : A) (ns : List B) (n : B) → x ≡ get_or xs k x → map f xs ≡ ns → slice_get ns k ≡ Some n → f x ≡ n
+read-mapped f xs k x ns n read e told =
+    let within : k < length xs = omega (arith, slice_get_within ns k n told, ap length e, length-map xs f) in
+    let both : Some (f x) ≡ Some n =
+    ap (λ z. option_map f z) (sym (slice_get_read xs (length xs) k x refl within read)) ∙ sym (slice_get-map f xs k) ∙ ap (λ z. slice_get z k) e ∙ told in
+    cc

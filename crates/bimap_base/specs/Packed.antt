@@ -1,5 +1,5 @@
 -- How `Cells` keeps a node.
-use Rattle.std.specs.Prelude.{ℕ, zero, suc, ◌+◌, ◌<◌, ◌≤◌, ◌/◌, ◌%◌, ◌^◌, List, Option, Some, None}
+use Rattle.std.specs.Prelude.{◌≡◌, ℕ, zero, suc, ◌+◌, ◌-◌, ◌<◌, ◌≤◌, ◌/◌, ◌%◌, ◌^◌, Bool, true, false, cond, List, Option, Some, None}
 use Rattle.bimap_base.specs.Digits.{most_height}
 use Rattle.bimap_base.specs.declared.cells.Node.{Node}
 use Rattle.bimap_base.specs.declared.cells.Cells.{Cells}
@@ -36,3 +36,17 @@ pub record IsAmong (n : ℕ) (node : Node) : Type 0 where
   pub right : IsThere n node.right
   pub height : node.height ≤ most_height n + 1
   pub size : node.size ≤ n
+
+-- the node with this child on the side of the turn, right if it is true, and a place more or less below it
+abbrev pub recounted : Bool → Option ℕ → Bool → Node → Node
+recounted turn child grew n = record {
+  left = cond turn n.left child;
+  right = cond turn child n.right;
+  height = n.height;
+  size = cond grew (n.size + 1) (n.size - 1);
+}
+
+-- of so many places there may be one more below it, or one less
+pub record CanCount (n : ℕ) (grew : Bool) (node : Node) : Type 0 where
+  pub more : grew ≡ true → node.size < n
+  pub less : grew ≡ false → 0 < node.size

@@ -1,7 +1,8 @@
 //! The nodes of an index, one for each place.
-ghost use Rattle.std.specs.Prelude.{◌≡◌, ℕ, ◌+◌, ◌<◌, ◌≤◌, ◌^◌, max, Some, [], length, map, slice_get, slice_set, vec_len, OnOk, OnErr, IfOk, IsOk};
+ghost use Rattle.std.specs.Prelude.{◌≡◌, ℕ, ◌+◌, ◌<◌, ◌≤◌, ◌^◌, max, true, false, Some, [], length, map, slice_get, slice_set, vec_len, OnOk, OnErr, IfOk, IsOk};
 ghost use Rattle.bimap_base.specs.Digits.{most_height};
-ghost use Rattle.bimap_base.specs.Packed.{IsThere, IsAmong, link_of, narrow_node, wide_node, nodes_in};
+ghost use Rattle.bimap_base.specs.declared.cells.Node.{Node};
+ghost use Rattle.bimap_base.specs.Packed.{IsThere, IsAmong, CanCount, recounted, link_of, narrow_node, wide_node, nodes_in};
 
 use crate::meter::Meter;
 use crate::refusal::NoMemory;
@@ -41,6 +42,11 @@ pub trait Cell: Copy + Drop {
     /// The node that it keeps.
     fn node(self) -> Node
         ensures { result ≡ node_in self };
+
+    /// The cell that keeps the same node with this child on the side of the turn, and a place more or less below it.
+    fn recounted(self, turn: bool, child: Option<usize>, grew: bool) -> Self
+        requires { (n : ℕ) × (n < most) × IsThere n child × CanCount n grew (node_in self) }
+        ensures { node_in result ≡ recounted turn child grew (node_in self) };
 }
 
 /// A node as it is kept where there are fewer than 2^26 places, in 12 bytes: each child's place plus one, and 0 for no child; then the height times 2^26, plus the size.
@@ -63,7 +69,7 @@ pub struct WideCell {
 // How many places are too many for narrow cells.
 const WIDE: usize = 67_108_864;
 
-/// Nodes that are kept in cells of one kind.
+/// Nodes that are kept in cells of one kind, by place. Each call takes constant time, and no memory.
 #[derive(Drop)]
 pub struct Nodes<C: Cell> {
     cells: Vec<C>,
@@ -80,7 +86,7 @@ impl<C: Cell> Model for Nodes<C> {
     ghost invariant = { λ n. length n.cells.items < C.most };
 }
 
-/// A node for each place below a number, in 12 bytes where there are fewer than 2^26, and else in 32. There is no way to a node but `read` and `write`, which count a touch each.
+/// A node for each place below a number, in 12 bytes where there are fewer than 2^26, and else in 32. There is no way to a node but `read`, `write` and `recount`, which count a touch each.
 #[derive(Drop)]
 pub enum Cells {
     Narrow(Nodes<NarrowCell>),
@@ -136,6 +142,16 @@ impl Cell for NarrowCell {
     fn node(self) -> Node {
         self.widened().node()
     }
+
+    #[inline(always)]
+    fn recounted(self, turn: bool, child: Option<usize>, grew: bool) -> Self {
+        let link = packed_link(child) as u32;
+        NarrowCell {
+            left: if turn { self.left } else { link },
+            right: if turn { link } else { self.right },
+            count: if grew { self.count + 1 } else { self.count - 1 },
+        }
+    }
 }
 
 impl Cell for WideCell {
@@ -160,6 +176,17 @@ impl Cell for WideCell {
             right: child_of(self.right),
             height: self.height,
             size: self.size,
+        }
+    }
+
+    #[inline(always)]
+    fn recounted(self, turn: bool, child: Option<usize>, grew: bool) -> Self {
+        let link = packed_link(child);
+        WideCell {
+            left: if turn { self.left } else { link },
+            right: if turn { link } else { self.right },
+            height: self.height,
+            size: if grew { self.size + 1 } else { self.size - 1 },
         }
     }
 }
@@ -230,6 +257,27 @@ impl<C: Cell> Nodes<C> {
         meter.touched();
         let cells = &mut self.cells;
         cells[place] = C::of(node);
+    }
+
+    /// Makes this the child of a place's node on the side of the turn, and counts a place more or less below it.
+    #[inline(always)]
+    pub fn recount<M: Meter>(
+        &mut self,
+        place: usize,
+        turn: bool,
+        child: Option<usize>,
+        grew: bool,
+        meter: &mut M,
+    )
+        requires child { IsThere (length self.old) child }
+        requires count { (n : Node) × (slice_get self.old place ≡ Some n) × CanCount (length self.old) grew n }
+        ensures written { (n : Node) → slice_get self.old place ≡ Some n → self.new ≡ slice_set self.old place (recounted turn child grew n) }
+        ensures comparisons { M.comparisons meter.new ≡ M.comparisons meter.old }
+        ensures touches { M.touches meter.new ≡ M.touches meter.old + 1 }
+    {
+        meter.touched();
+        let cells = &mut self.cells;
+        cells[place] = cells[place].recounted(turn, child, grew);
     }
 }
 

@@ -64,6 +64,12 @@ module _ (ns : List Node) (places : List ℕ) (turns : List Bool) (grew : Bool) 
           let (up, sister, x, t, a) = above path s u c in
           (sister, x, t, can_relink now places turns grew x t up turn at sister a.here node told, a.known)
 
+      pub relinked : (path : Path) (s u : Tree) → Start path s u → (node : Node) × (sister : Tree) × (x : Tree) × (t : Tree) × CanRelink now at turn grew node sister x t × next x t
+      relinked path s u c =
+          let (up, sister, x, t, a) = above path s u c in
+          let told = a.here.holds.0 in
+          (told.0, sister, x, t, can_relink now places turns grew x t up turn at sister a.here told.0 told.1, a.known)
+
       -- the next tree on the way up
       pub record Raised (new : List Node) (after : Tree → Tree → Type 0) (sister x t y : Tree) : Type 0 where
         pub tree : IsRebalanced now new turn at t sister y

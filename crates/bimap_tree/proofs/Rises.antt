@@ -5,7 +5,7 @@ use Rattle.std.proofs.lemmas.Option.{slice_get_within}
 use Rattle.std.proofs.lemmas.Bool.Decides.{leb_tells}
 use Rattle.bimap_base.specs.declared.cells.Node.{Node}
 use Rattle.bimap_base.specs.Digits.{most_height}
-use Rattle.bimap_base.specs.Packed.{IsThere}
+use Rattle.bimap_base.specs.Packed.{IsThere, CanCount, recounted}
 use Rattle.bimap_tree.specs.Tree.{Tree, leaf, fork, reading, height, size, root_of, Stands, branch, node_on, near_of, far_of}
 use Rattle.bimap_tree.specs.Link.{CanRebalance, IsRebalanced}
 use Rattle.bimap_tree.specs.Path.{Path, top, below, steps, front, back, Tells, one_if, Moves, CanRise, CanRelink, CanPut, IsRisen}
@@ -20,10 +20,18 @@ pub one_way : (grew : Bool) → one_if grew + one_if (not grew) ≡ 1
 one_way true = refl
 one_way false = refl
 
--- both children of a node are there if that on each side is
-both_there : (n : ℕ) (turn : Bool) (node : Node) → IsThere n (near_of turn node) → IsThere n (far_of turn node) → IsThere n node.left × IsThere n node.right
-both_there n true node near far = (far, near)
-both_there n false node near far = (near, far)
+-- what a node that was counted anew tells
+pub near-recounted : (turn : Bool) (child : Option ℕ) (grew : Bool) (n : Node) → near_of turn (recounted turn child grew n) ≡ child
+near-recounted true child grew n = refl
+near-recounted false child grew n = refl
+
+pub far-recounted : (turn : Bool) (child : Option ℕ) (grew : Bool) (n : Node) → far_of turn (recounted turn child grew n) ≡ far_of turn n
+far-recounted true child grew n = refl
+far-recounted false child grew n = refl
+
+size-recounted : (turn : Bool) (child : Option ℕ) (grew : Bool) (n : Node) → (grew ≡ false → 0 < n.size) → (recounted turn child grew n).size + one_if (not grew) ≡ n.size + one_if grew
+size-recounted turn child true n some = omega arith
+size-recounted turn child false n some = omega (arith, some refl)
 
 -- ---- a place above a tree that has moved
 module _ (nodes : List Node) (at : ℕ) (turn grew : Bool) (node : Node) (sister s u : Tree) (h : CanRelink nodes at turn grew node sister s u) where
@@ -136,12 +144,22 @@ module _ (nodes : List Node) (at : ℕ) (turn grew : Bool) (node : Node) (sister
   pub as_told : node.height ≡ height (branch turn s at sister)
   as_told = h.told.height_is ∙ sym (height-branch turn s at sister)
 
-  -- the children that its node is told of are there
-  pub children_there : (more : Node) (child : Option ℕ) → root_of u ≡ child → near_of turn more ≡ child → far_of turn more ≡ far_of turn node → IsThere (length nodes) more.left × IsThere (length nodes) more.right
-  children_there more child root near far =
-      both_there (length nodes) turn more
-      (there nodes (near_of turn more) u record { root_is = root ∙ sym near; shown = h.shown })
-      (there nodes (far_of turn more) sister (Stands-at nodes (far_of turn node) (far_of turn more) sister (sym far) sister_stands))
+  -- the child that its node is told of is there
+  pub child_there : (child : Option ℕ) → root_of u ≡ child → IsThere (length nodes) child
+  child_there child root = there nodes child u record { root_is = root; shown = h.shown }
+
+  -- a place more or less can be counted below its node
+  pub can_count : CanCount (length nodes) grew node
+  can_count =
+      let t = h.told.size_is in
+      let m = h.moves.sizes in
+      let room = can_rebalance.link.room in
+      record { more = λ e. omega (arith, ap one_if e, ap (λ b. one_if (not b)) e); less = λ e. omega arith }
+
+  -- its node was counted anew above a child that is as high as before
+  pub as_steady : height u ≡ height s → (child : Option ℕ) → root_of u ≡ child → (new : List Node) → new ≡ slice_set nodes at (recounted turn child grew node) → Retold new (recounted turn child grew node)
+  as_steady same child root new w =
+      steady same new _ (near-recounted turn child grew node ∙ sym root) (far-recounted turn child grew node) refl (size-recounted turn child grew node can_count.less) w
 
   -- the node's count can be told
   pub counts : (node.size + one_if grew < 2 ^ 64) × (one_if (not grew) ≤ node.size)
@@ -180,6 +198,7 @@ module _ (nodes : List Node) (places : List ℕ) (turns : List Bool) (grew : Boo
         let both : Some c.holds.0.0 ≡ Some node = sym c.holds.0.1 ∙ e in
         let same : c.holds.0.0 ≡ node = cc in
         record {
+          node_is = e;
           has_cell = within;
           told = subst (λ n. Tells turn n s sister) same c.holds.0.2;
           shown = c.shown;

@@ -91,6 +91,7 @@ pub record CanRise (nodes : List Node) (places : List ℕ) (turns : List Bool) (
 
 -- at a step of the path
 pub record CanRelink (nodes : List Node) (at : ℕ) (turn grew : Bool) (node : Node) (sister s u : Tree) : Type 0 where
+  pub node_is : slice_get nodes at ≡ Some node
   pub has_cell : at < length nodes
   pub told : Tells turn node s sister
   pub shown : Shows nodes u

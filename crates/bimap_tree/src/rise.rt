@@ -1,36 +1,12 @@
 //! Going up a route, from a tree at its end that has grown or shrunk by one place. It knows no key and no order.
-ghost use Rattle.std.specs.Prelude.{◌≡◌, ℕ, ◌+◌, ◌*◌, ◌<◌, ◌≤◌, ◌^◌, not};
-ghost use Rattle.bimap_tree.specs.Tree.{Tree, leaf, fork, height, root_of, branch, near_of, far_of};
+ghost use Rattle.std.specs.Prelude.{◌≡◌, ℕ, ◌+◌, ◌*◌, ◌<◌, ◌≤◌};
+ghost use Rattle.bimap_tree.specs.Tree.{Tree, leaf, fork, height, root_of, branch};
 ghost use Rattle.bimap_tree.specs.Link.{Measures, IsRebalanced};
-ghost use Rattle.bimap_tree.specs.Path.{Path, steps, one_if, Moves, CanRise, CanRelink, CanPut, IsRisen};
+ghost use Rattle.bimap_tree.specs.Path.{Path, steps, Moves, CanRise, CanRelink, CanPut, IsRisen};
 
 use crate::link::{Subtree, children, link, measure, rebalance};
 use crate::route::Route;
 use bimap_base::{Cell, Meter, Node, Nodes};
-
-// The node with this child on the side of the turn, and one place more or less below it.
-fn recounted(node: Node, turn: bool, child: Option<usize>, grew: bool) -> Node
-    requires fits { node.size + one_if grew < 2 ^ 64 }
-    requires holds { one_if (not grew) ≤ node.size }
-    ensures near { near_of turn result ≡ child }
-    ensures far { far_of turn result ≡ far_of turn node }
-    ensures height { result.height ≡ node.height }
-    ensures size { result.size + one_if (not grew) ≡ node.size + one_if grew }
-{
-    let (_, sister) = children(node, turn);
-    let (left, right) = if turn {
-        (sister, child)
-    } else {
-        (child, sister)
-    };
-    let size = if grew { node.size + 1 } else { node.size - 1 };
-    Node {
-        left,
-        right,
-        height: node.height,
-        size,
-    }
-}
 
 // Links a place above a child that has grown or shrunk, and looks at its sister only where the place's height may move.
 fn relink<C: Cell, M: Meter>(
@@ -48,12 +24,11 @@ fn relink<C: Cell, M: Meter>(
     ensures touches { M.touches meter.new ≤ M.touches meter.old + 10 }
 {
     if grew && child.height < node.height {
-        let more = recounted(node, turn, child.root, true);
-        cells.write(at, more, meter);
+        cells.recount(at, turn, child.root, true, meter);
         return Subtree {
             root: Some(at),
-            height: more.height,
-            size: more.size,
+            height: node.height,
+            size: node.size + 1,
         };
     }
     let (_, root) = children(node, turn);
@@ -73,15 +48,14 @@ fn recount<C: Cell, M: Meter>(
     requires { (path : Path) × (s : Tree) × (u : Tree) × CanRise cells.old route.now.places route.now.turns path grew s u × (depth ≡ steps path) × (depth ≤ 128) × (root_of u ≡ child) × (height u ≡ height s) }
     ensures tree { (path : Path) (s u : Tree) → CanRise cells.old route.now.places route.now.turns path grew s u → depth ≡ steps path → root_of u ≡ child → height u ≡ height s → (v : Tree) × IsRisen cells.old cells.new path u result v }
     ensures comparisons { M.comparisons meter.new ≡ M.comparisons meter.old }
-    ensures touches { M.touches meter.new ≤ M.touches meter.old + 2 * depth }
+    ensures touches { M.touches meter.new ≤ M.touches meter.old + depth }
 {
     let mut child = child;
     let mut depth = depth;
     while depth > 0 {
         depth -= 1;
         let (at, turn) = route.step(depth);
-        let node = cells.read(at, meter);
-        cells.write(at, recounted(node, turn, child, grew), meter);
+        cells.recount(at, turn, child, grew, meter);
         child = Some(at);
     }
     child

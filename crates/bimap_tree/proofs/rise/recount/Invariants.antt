@@ -1,4 +1,4 @@
-use Rattle.std.proofs.Common.{◌≡◌, ◌+◌, ◌*◌, ◌≤◌}
+use Rattle.std.proofs.Common.{◌≡◌, ◌+◌, ◌≤◌}
 use Rattle.bimap_tree.proofs.Climbs.{Stays, Climbs}
 use Rattle.bimap_tree.proofs.rise.recount.Given as goal
 
@@ -7,7 +7,7 @@ invariant-loop-depth g l =
     record {
       climbs : Climbs l.fn.cells l.route.places l.route.turns l.grew l.fn.depth (Stays l.fn.child) l.cells l.depth (Stays l.child);
       compared : g.M.Meter.comparisons l.meter ≡ g.M.Meter.comparisons l.initial.meter;
-      touched : g.M.Meter.touches l.meter + 2 * l.depth ≤ g.M.Meter.touches l.initial.meter + 2 * l.fn.depth;
+      touched : g.M.Meter.touches l.meter + l.depth ≤ g.M.Meter.touches l.initial.meter + l.fn.depth;
     }
 
 abbrev pub decreases-loop-depth : goal.decreases-loop-depth

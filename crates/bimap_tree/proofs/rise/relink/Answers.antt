@@ -1,37 +1,27 @@
-use Rattle.std.proofs.Common.{arith, refl, sym, ◌∙◌}
+use Rattle.std.proofs.Common.{ap, arith, length, refl, subst, sym, true, ◌∙◌}
+use Rattle.bimap_base.specs.Packed.{CanCount}
+use Rattle.bimap_tree.specs.Path.{one_if}
 use Rattle.bimap_tree.proofs.Branch.{root-branch}
-use Rattle.bimap_tree.proofs.Rises.{sister_stands, can_rebalance, moved, low, kept, children_there}
+use Rattle.bimap_tree.proofs.Rises.{sister_stands, can_rebalance, can_count, child_there, counts, far-recounted, low, moved, near-recounted}
 use Rattle.bimap_tree.proofs.Shown.{Stands-at}
 use Rattle.bimap_tree.proofs.rise.relink.Goals as goal
 
-pub write-requires-clause-left : goal.write-requires-clause-left
-write-requires-clause-left g c =
-    let e = c.recounted-more.ensures in
-    (children_there _ _ _ _ _ _ _ _ c.requires.3 c.recounted-more.result _ c.requires.4.root_is e.near e.far).0
+pub recount-requires-clause-child : goal.recount-requires-clause-child
+recount-requires-clause-child g c = child_there _ _ _ _ _ _ _ _ c.requires.3 _ c.requires.4.root_is
 
-pub write-requires-clause-right : goal.write-requires-clause-right
-write-requires-clause-right g c =
-    let e = c.recounted-more.ensures in
-    (children_there _ _ _ _ _ _ _ _ c.requires.3 c.recounted-more.result _ c.requires.4.root_is e.near e.far).1
-
-pub write-requires-clause-height : goal.write-requires-clause-height
-write-requires-clause-height g c =
-    let e = c.recounted-more.ensures in
+pub recount-requires-clause-count : goal.recount-requires-clause-count
+recount-requires-clause-count g c =
     let h = c.requires.3 in
-    let child = c.requires.4 in
-    (kept _ _ _ _ _ _ _ _ h _ _ (low _ _ _ _ _ _ _ _ h c.if-grew.true _ child.height_is c.if-child-node.true _ _ (e.near ∙ sym child.root_is) e.far e.height (omega (arith, e.size)) refl)).0
+    (_, h.node_is, subst (λ b. CanCount (length c.args.cells.now) b c.args.node) c.if-grew.true (can_count _ _ _ _ _ _ _ _ h))
 
-pub write-requires-clause-size : goal.write-requires-clause-size
-write-requires-clause-size g c =
-    let e = c.recounted-more.ensures in
-    let h = c.requires.3 in
-    let child = c.requires.4 in
-    (kept _ _ _ _ _ _ _ _ h _ _ (low _ _ _ _ _ _ _ _ h c.if-grew.true _ child.height_is c.if-child-node.true _ _ (e.near ∙ sym child.root_is) e.far e.height (omega (arith, e.size)) refl)).1
+pub overflow_add-result : goal.overflow_add-result
+overflow_add-result g c = omega (arith, (counts _ _ _ _ _ _ _ _ c.requires.3).0, ap one_if c.if-grew.true)
 
 pub returns-then-child-node-clause-tree : goal.returns-then-child-node-clause-tree
 returns-then-child-node-clause-tree g c sister s u h child =
-    let e = c.recounted-more.ensures in
-    let r = low _ _ _ _ _ sister s u h c.if-grew.true _ child.height_is c.if-child-node.true _ _ (e.near ∙ sym child.root_is) e.far e.height (omega (arith, e.size)) c.write.ensures.written in
+    let near = near-recounted c.args.turn c.args.child.root true c.args.node in
+    let far = far-recounted c.args.turn c.args.child.root true c.args.node in
+    let r = low _ _ _ _ _ sister s u h c.if-grew.true _ child.height_is c.if-child-node.true _ _ (near ∙ sym child.root_is) far refl refl (c.recount.ensures.written _ h.node_is) in
     (_, record { root_is = root-branch _ _ _ _; height_is = r.height_is; size_is = r.size_is }, r.linked, moved _ _ _ _ _ sister s u h _ _ r.linked)
 
 pub rebalance-requires : goal.rebalance-requires
