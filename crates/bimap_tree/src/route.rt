@@ -8,7 +8,6 @@ ghost use Rattle.bimap_tree.specs.Path.{Path, plug};
 ghost use Rattle.bimap_tree.specs.Route.{CanFollow, IsFollowed, IsRoute};
 
 use crate::link::child;
-use crate::search::FAR;
 use crate::steer::Steer;
 use bimap_base::{Cell, Meter, Nodes};
 
@@ -62,8 +61,12 @@ impl Route {
     }
 }
 
-// Whether a turn to the right is a branch: in a large tree, unless a key is no wider than a word. To compare such keys takes no
-// pointer, and wrong guesses cost more than the wait.
+// A tree of so many places is large: most of its nodes are far, and the wait for one is longer than a wrong guess.
+const FAR: usize = 16_384;
+
+// Whether a turn to the right is a branch with an exit, of which the compiler makes no select: in a large tree, unless a key
+// is no wider than a word. A processor guesses the turn, and reads the next node while it awaits the keys. To compare keys of
+// a word takes no pointer, and wrong guesses cost more than the wait.
 pub fn turns_by_branch<C: Cell, S: Steer>(cells: &Nodes<C>) -> bool {
     S::has_wide_keys() && cells.places() >= FAR
 }

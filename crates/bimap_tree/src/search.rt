@@ -5,12 +5,9 @@ ghost use Rattle.bimap_tree.specs.Search.{CanSeek};
 ghost use Rattle.bimap_tree.specs.Order.{first_equal, count_below};
 
 use crate::link::{child, measure};
+use crate::route::turns_by_branch;
 use crate::steer::Steer;
 use bimap_base::{Cell, Meter, Nodes};
-
-// From so many places on, a turn to the right is a branch with an exit, of which the compiler makes no select: a processor
-// guesses the turn, and reads the next node while it awaits the keys. In a smaller tree wrong guesses cost more than the wait.
-pub const FAR: usize = 16_384;
 
 // The place with the key sought.
 pub fn find_under<C: Cell, S: Steer, M: Meter>(
@@ -24,7 +21,7 @@ pub fn find_under<C: Cell, S: Steer, M: Meter>(
     ensures comparisons { (t : Tree) → Stands cells.now root t → M.comparisons meter.new ≤ M.comparisons meter.old + height t }
     ensures touches { (t : Tree) → Stands cells.now root t → M.touches meter.new ≤ M.touches meter.old + height t }
 {
-    let is_far = cells.places() >= FAR;
+    let is_far = turns_by_branch::<C, S>(cells);
     let mut root = root;
     while let Some(at) = root {
         let node = cells.read(at, meter);
