@@ -4,7 +4,6 @@ use Rattle.std.specs.Prelude.{slice_get, slice_set}
 use Rattle.std.proofs.lemmas.Option.{slice_get_within}
 use Rattle.std.proofs.lemmas.Bool.Decides.{leb_tells}
 use Rattle.bimap_base.specs.declared.cells.Node.{Node}
-use Rattle.bimap_base.specs.Digits.{most_height}
 use Rattle.bimap_base.specs.Packed.{IsThere, CanCount, recounted}
 use Rattle.bimap_tree.specs.Tree.{Tree, leaf, fork, reading, height, size, root_of, Stands, branch, node_on, near_of, far_of}
 use Rattle.bimap_tree.specs.Link.{CanRebalance, IsRebalanced}
@@ -14,7 +13,7 @@ use Rattle.bimap_tree.proofs.Heights.{low as low_tree}
 use Rattle.bimap_tree.proofs.Paths.{balanced_inside, Holds-frame, holds_of}
 use Rattle.bimap_tree.proofs.Rooms.{room_for}
 use Rattle.bimap_tree.proofs.Rotate.{no_rotation}
-use Rattle.bimap_tree.proofs.Shown.{is_at-same, is_at-apart, get-elsewhere, size-reading, there, Stands-at}
+use Rattle.bimap_tree.proofs.Shown.{is_at-same, is_at-apart, get-elsewhere, size-reading, there}
 
 pub one_way : (grew : Bool) → one_if grew + one_if (not grew) ≡ 1
 one_way true = refl
@@ -113,12 +112,6 @@ module _ (nodes : List Node) (at : ℕ) (turn grew : Bool) (node : Node) (sister
         size_is = same_size ∙ sym (size-branch turn u at sister);
         as_high = height-branch turn u at sister ∙ ap (λ x. x + 1) even ∙ sym (height-branch turn s at sister);
       }
-
-  -- its cell can keep it
-  pub kept : (new : List Node) (more : Node) → Retold new more → (more.height ≤ most_height (length nodes) + 1) × (more.size ≤ length nodes)
-  kept new more r =
-      let link = can_rebalance.link in
-      (omega (arith, r.height_is, height-branch turn u at sister, link.near_low, link.far_low), omega (arith, r.size_is, size-branch turn u at sister, link.room))
 
   -- a child that grew, but no higher than the place was above its sister
   pub low : grew ≡ true → (level : ℕ) → level ≡ height u → level < node.height → (new : List Node) (more : Node) → near_of turn more ≡ root_of u → far_of turn more ≡ far_of turn node → more.height ≡ node.height → more.size ≡ node.size + 1 → new ≡ slice_set nodes at more → Retold new more

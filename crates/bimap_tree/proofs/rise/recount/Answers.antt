@@ -1,4 +1,4 @@
-use Rattle.std.proofs.Common.{arith, refl, sym, ◌∙◌}
+use Rattle.std.proofs.Common.{arith, refl}
 use Rattle.bimap_tree.proofs.Branch.{root-branch}
 use Rattle.bimap_tree.proofs.Climbs.{climbs_none, climbs_end, climbs_on, relinked}
 use Rattle.bimap_tree.proofs.Rises.{as_steady, can_count, child_there, moved}
