@@ -96,12 +96,12 @@ impl<K: Eq + Hash, B: BuildHasher> Index<K> for HashIndex<B> {
 
     fn is_known<S: Side<K>, M: Meter>(
         &self,
-        _side: S,
-        _place: usize,
-        _key: &K,
+        side: S,
+        place: usize,
+        key: &K,
         _meter: &mut M,
     ) -> bool {
-        false
+        ByHash::new(side, &self.builder).same(place, key)
     }
 
     fn link<S: Side<K>, M: Meter>(&mut self, _side: S, place: usize, spot: &u32, _meter: &mut M) {
