@@ -53,6 +53,7 @@ impl<'a, K: Eq + Hash, S: Side<K>, B: BuildHasher> Spread for ByHash<'a, K, S, B
         hash_number(self.builder, self.side.key(place))
     }
 
+    #[inline(always)]
     fn same(&self, place: usize, key: &K) -> bool {
         *self.side.key(place) == *key
     }

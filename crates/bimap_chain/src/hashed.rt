@@ -71,6 +71,7 @@ impl Hashed {
     }
 
     /// The listed place with an equal key.
+    #[inline(always)]
     pub fn find<S: Spread>(&self, spread: &S, key: &S::Key) -> Option<usize>
         requires { AreNumbered (S.key_at spread.now) (S.number_of spread.now) self.now }
         ensures found { IfSome result (Matches (S.key_at spread.now) (λ k. S.same_key k key.now) self.now) }

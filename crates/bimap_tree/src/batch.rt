@@ -29,6 +29,7 @@ impl Batch {
         }
     }
 
+    #[inline(always)]
     fn has(&self, rank: usize) -> bool
         ensures { IsTrue result ↔ HasRank self.now rank }
     {
@@ -43,7 +44,8 @@ impl Batch {
         if self.count == 0 { 7 } else { 60 }
     }
 
-    // Reads the places of some ranks, this one among them.
+    // Reads the places of some ranks, this one among them. It is a call of its own, so that a step that needs none is short.
+    #[inline(never)]
     fn fill<M: Meter>(&mut self, index: &Ordered, rank: usize, meter: &mut M)
         requires { rank < length index.now.places }
         ensures batch { IsBatch index.now.places self.new }
@@ -57,6 +59,7 @@ impl Batch {
     }
 
     /// The place at a rank. Where the batch lacks it, the batch is filled first with places around this one, by one descent.
+    #[inline(always)]
     pub fn place<M: Meter>(&mut self, index: &Ordered, rank: usize, meter: &mut M) -> usize
         requires batch { IsBatch index.now.places self.old }
         requires listed { rank < length index.now.places }

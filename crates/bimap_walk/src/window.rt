@@ -43,6 +43,7 @@ impl Window {
     }
 
     // The first place left. One descent serves many calls.
+    #[inline(always)]
     pub(crate) fn first(&mut self, index: &Ordered) -> Option<usize>
         requires { IsWindow index.now.places self.old }
         ensures window { IsWindow index.now.places self.new }
@@ -58,6 +59,7 @@ impl Window {
     }
 
     // The last place left. One descent serves many calls.
+    #[inline(always)]
     pub(crate) fn last(&mut self, index: &Ordered) -> Option<usize>
         requires { IsWindow index.now.places self.old }
         ensures window { IsWindow index.now.places self.new }
