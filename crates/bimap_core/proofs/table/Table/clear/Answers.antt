@@ -21,3 +21,6 @@ invariant_of-self g c =
 
 pub returns-clause-pairs : goal.returns-clause-pairs
 returns-clause-pairs g c = pairs_none c.clear-3.new.self c.clear-3.ensures.free
+
+pub returns-clause-room : goal.returns-clause-room
+returns-clause-room g c = search

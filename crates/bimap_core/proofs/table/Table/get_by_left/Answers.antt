@@ -17,3 +17,9 @@ pub returns-in-None-clause-answer : goal.returns-in-None-clause-answer
 returns-in-None-clause-answer g c =
     let at = found_at (λ p. p.0) g.L.PartialEq.eq c.args.self.now.pairs c.args.left.now c.find.result (rw c.new.ensures at c.find.ensures.found) in
     record { found = tt; none = left_lacking g.L.PartialEq.eq c.args.self.now.pairs c.args.left.now _ at c.in-None.is }
+
+pub returns-in-Some-at-clause-comparisons : goal.returns-in-Some-at-clause-comparisons
+returns-in-Some-at-clause-comparisons g c = search
+
+pub returns-in-Some-at-clause-touches : goal.returns-in-Some-at-clause-touches
+returns-in-Some-at-clause-touches g c = search

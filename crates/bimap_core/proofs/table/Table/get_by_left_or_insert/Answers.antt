@@ -1,4 +1,4 @@
-use Rattle.std.proofs.Common.{◌≡◌, ◌∙◌, sym, Some}
+use Rattle.std.proofs.Common.{◌≡◌, ◌∙◌, sym, Some, refl, rules}
 use Rattle.bimap_base.specs.Slots.{pair_at}
 use Rattle.bimap_core.proofs.Inserted.{on_err}
 use Rattle.bimap_core.proofs.Interned.{nothing, found_held, lacks_held, refused_occupied, refused_for_memory, interned_new}
@@ -34,3 +34,15 @@ returns-clause-held_places g c = lacks_held g.L.PartialEq.eq g.R.PartialEq.eq c.
 
 pub returns-then-is_err-clause-slots : goal.returns-then-is_err-clause-slots
 returns-then-is_err-clause-slots g c = on_err c.make_room.result (sym c.is_err.ensures.value ∙ c.if-is_err.true) c.make_room.ensures.err
+
+pub returns-then-is_some-clause-slots : goal.returns-then-is_some-clause-slots
+returns-then-is_some-clause-slots g c = refl
+
+pub returns-then-is_some-clause-places : goal.returns-then-is_some-clause-places
+returns-then-is_some-clause-places g c = refl
+
+pub returns-in-Some-clause-comparisons : goal.returns-in-Some-clause-comparisons
+returns-in-Some-clause-comparisons g c = search rules
+
+pub returns-in-Some-clause-touches : goal.returns-in-Some-clause-touches
+returns-in-Some-clause-touches g c = search rules

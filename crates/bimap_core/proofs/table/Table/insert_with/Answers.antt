@@ -64,3 +64,12 @@ returns-clause-answer g c =
 
 pub returns-then-is_err-clause-slots : goal.returns-then-is_err-clause-slots
 returns-then-is_err-clause-slots g c = on_err c.make_room.result (sym c.is_err.ensures.value ∙ c.if-is_err.true) c.make_room.ensures.err
+
+pub returns-then-keeps-2-clause-slots : goal.returns-then-keeps-2-clause-slots
+returns-then-keeps-2-clause-slots g c = refl
+
+pub returns-then-keeps-2-clause-places : goal.returns-then-keeps-2-clause-places
+returns-then-keeps-2-clause-places g c = refl
+
+pub finish_left-by_left-requires : goal.finish_left-by_left-requires
+finish_left-by_left-requires g c = search
