@@ -6,3 +6,6 @@ invariant_of-self g c = table_facts c.clear.new.self g.met.I.Index.listed g.met.
 
 pub returns-clause-pairs : goal.returns-clause-pairs
 returns-clause-pairs g c = none_walked _ _ (left_walk c.clear.new.self g.met.I.Index.listed g.met.I.Index.distinct g.met.I.Index.settled) c.clear.ensures.pairs
+
+pub returns-clause-room : goal.returns-clause-room
+returns-clause-room g c = search

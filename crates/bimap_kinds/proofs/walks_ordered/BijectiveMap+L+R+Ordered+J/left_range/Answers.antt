@@ -6,3 +6,6 @@ pub range-requires-clause-ascends : goal.range-requires-clause-ascends
 range-requires-clause-ascends g c =
     let table = c.args.self.now.table in
     rw (c.new-lefts.ensures, c.new.ensures) (order_settled g.L.Ord.cmp g.L.PartialEq.eq g.met.L.Ord.total g.met.L.Ord.matches_eq table.left.places (left_at table.pairs) table.left_listing).up
+
+pub returns-clause-rest : goal.returns-clause-rest
+returns-clause-rest g c = search

@@ -6,3 +6,6 @@ pub into_iter-requires : goal.into_iter-requires
 into_iter-requires g c =
     let table = c.args.self.table in
     all_live table.pairs table.left.places (order_walk (λ p. p.0) g.met.L.Ord.total g.met.L.Ord.matches_eq table.pairs table.left.places table.left_listing)
+
+pub returns : goal.returns
+returns g c = search

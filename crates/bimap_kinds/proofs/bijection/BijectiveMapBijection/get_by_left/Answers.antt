@@ -1,0 +1,4 @@
+use Rattle.bimap_kinds.proofs.bijection.BijectiveMapBijection.get_by_left.Goals as goal
+
+pub returns : goal.returns
+returns g c = search

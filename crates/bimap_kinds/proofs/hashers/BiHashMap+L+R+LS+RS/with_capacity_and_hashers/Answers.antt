@@ -1,0 +1,5 @@
+use Rattle.std.proofs.Common.{rules}
+use Rattle.bimap_kinds.proofs.hashers.BiHashMap+L+R+LS+RS.with_capacity_and_hashers.Goals as goal
+
+pub returns-in-Ok-clause-room : goal.returns-in-Ok-clause-room
+returns-in-Ok-clause-room g c = search rules
