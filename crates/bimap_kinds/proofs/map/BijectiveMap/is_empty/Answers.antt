@@ -1,5 +1,5 @@
+use Rattle.std.proofs.Common.{arith}
 use Rattle.std.proofs.lemmas.Grind.{common_steps}
-use Rattle.std.proofs.Common.{rules, arith}
 use Rattle.bimap_kinds.proofs.map.BijectiveMap.is_empty.Goals as goal
 
 pub returns : goal.returns
