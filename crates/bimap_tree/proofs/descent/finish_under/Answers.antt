@@ -1,4 +1,4 @@
-use Rattle.std.proofs.Common.{arith}
+use Rattle.std.proofs.Common.{arith, rules}
 use Rattle.bimap_tree.proofs.Shown.{height_told}
 use Rattle.bimap_tree.proofs.UnderWay.{found_at, levels_on}
 use Rattle.bimap_tree.proofs.descent.finish_under.Goals as goal
@@ -17,3 +17,6 @@ pub returns-clause-touches : goal.returns-clause-touches
 returns-clause-touches g c =
     let seek = c.requires.follows.2.seek in
     omega (arith, c.route_under.ensures.touches _ seek.tree, height_told _ _ _ seek.tree, levels_on c.args.cells.now c.args.descent c.if-descent.false)
+
+pub returns-then-descent-clause-follows : goal.returns-then-descent-clause-follows
+returns-then-descent-clause-follows g c = search rules

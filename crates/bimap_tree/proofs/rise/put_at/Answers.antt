@@ -20,3 +20,6 @@ pub returns-clause-tree : goal.returns-clause-tree
 returns-clause-tree g c path h =
     let e = c.link-alone.ensures.linked leaf leaf nothing nothing in
     put_risen _ _ _ _ path _ h _ e _ _ (c.rise.ensures.tree path leaf _ (can_put _ _ _ _ path _ h _ e) (c.depth.ensures ∙ h.depth_is) (c.link-alone.ensures.measured leaf leaf nothing nothing) refl)
+
+pub returns-clause-touches : goal.returns-clause-touches
+returns-clause-touches g c = omega arith

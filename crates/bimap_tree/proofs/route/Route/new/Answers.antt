@@ -1,0 +1,5 @@
+use Rattle.std.proofs.Common.{rules}
+use Rattle.bimap_tree.proofs.route.Route.new.Goals as goal
+
+pub returns : goal.returns
+returns c = search rules
