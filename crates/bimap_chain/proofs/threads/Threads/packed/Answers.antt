@@ -1,4 +1,4 @@
-use Rattle.std.proofs.Common.{◌<◌, ◌∷◌, ◌∙◌, [], length, take, ap, sym, subst, arith, Some, length-append}
+use Rattle.std.proofs.Common.{◌<◌, ◌∷◌, ◌∙◌, [], length, take, ap, sym, subst, arith, Some, length-append, rules}
 use Rattle.std.specs.Prelude.{slice_set}
 use Rattle.std.proofs.lemmas.List.{length-map}
 use Rattle.bimap_base.specs.Places.{pairs_in, packed}
@@ -47,3 +47,6 @@ loop-place-preserved g c =
             kept = ap numbers_of w.kept-is ∙ i.kept ∙ ap (λ z. packed z c.args.to) (sym same);
           }
     ]
+
+pub loop-place-init : goal.loop-place-init
+loop-place-init g c = search rules

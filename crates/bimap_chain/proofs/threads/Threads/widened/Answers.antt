@@ -1,4 +1,5 @@
-use Rattle.std.proofs.Common.{◌<◌, ◌∙◌, length, ap, sym, arith, None, Some}
+use Rattle.std.proofs.lemmas.Grind.{common_steps}
+use Rattle.std.proofs.Common.{◌<◌, ◌∙◌, length, ap, sym, arith, None, Some, rules}
 use Rattle.std.specs.Prelude.{slice_set}
 use Rattle.std.proofs.lemmas.List.{length-map}
 use Rattle.bimap_chain.specs.Packed.{numbers_of}
@@ -25,3 +26,6 @@ loop-place-preserved g c =
             numbers = i.numbers ∙ sym (left_free numbers place inside c.args.to c.requires.above) ∙ copied_more numbers place inside c.args.to None (sym c.number.ensures ∙ w.in_default.is) c.requires.above;
           }
     ]
+
+pub returns-clause-numbers : goal.returns-clause-numbers
+returns-clause-numbers g c = grind (arith, common_steps)
