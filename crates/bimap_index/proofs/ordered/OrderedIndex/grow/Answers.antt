@@ -4,3 +4,6 @@ use Rattle.bimap_index.proofs.ordered.OrderedIndex.grow.Goals as goal
 
 pub returns-clause-ok : goal.returns-clause-ok
 returns-clause-ok g c = OnOk-then c.grow.result (λ e. omega (arith, e)) c.grow.ensures.ok
+
+pub returns-clause-enough : goal.returns-clause-enough
+returns-clause-enough g c = search

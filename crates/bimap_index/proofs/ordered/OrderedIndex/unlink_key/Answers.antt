@@ -6,3 +6,6 @@ returns-clause-found g c = found_by_order g.K.Ord.cmp g.K.PartialEq.eq g.met.K.O
 
 pub returns-clause-listing : goal.returns-clause-listing
 returns-clause-listing g c = unlinked_key g.K.Ord.cmp g.K.PartialEq.eq g.met.K.Ord.total g.met.K.Ord.matches_eq c.args.self.now.places c.remove_key.new.self.places (g.S.Side.key_at c.args.side) c.remove_key.result c.requires c.remove_key.ensures.drops (rw c.new.ensures at c.remove_key.ensures.ascends)
+
+pub returns-clause-unchanged : goal.returns-clause-unchanged
+returns-clause-unchanged g c = search

@@ -1,0 +1,8 @@
+use Rattle.std.proofs.Common.{rules}
+use Rattle.bimap_index.proofs.hash_index.HashIndexIndex.unlink_key.Goals as goal
+
+pub returns-clause-found : goal.returns-clause-found
+returns-clause-found g c = search rules
+
+pub returns-clause-unchanged : goal.returns-clause-unchanged
+returns-clause-unchanged g c = search
