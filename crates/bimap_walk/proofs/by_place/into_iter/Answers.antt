@@ -1,5 +1,9 @@
+use Rattle.std.proofs.Common.{rules}
 use Rattle.std_collections.proofs.IterRuns.{gives_in_order}
 use Rattle.bimap_walk.proofs.by_place.into_iter.Goals as goal
 
 pub returns-clause-runs : goal.returns-clause-runs
 returns-clause-runs g c = gives_in_order
+
+pub returns-clause-rest : goal.returns-clause-rest
+returns-clause-rest g c = search rules

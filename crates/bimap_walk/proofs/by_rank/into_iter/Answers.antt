@@ -1,3 +1,4 @@
+use Rattle.std.proofs.Common.{rules}
 use Rattle.std_collections.proofs.IterRuns.{gives_in_order, gives_in_reverse}
 use Rattle.bimap_walk.proofs.by_rank.into_iter.Goals as goal
 
@@ -6,3 +7,6 @@ returns-clause-runs g c = gives_in_order
 
 pub returns-clause-runs_back : goal.returns-clause-runs_back
 returns-clause-runs_back g c = gives_in_reverse
+
+pub returns-clause-rest : goal.returns-clause-rest
+returns-clause-rest g c = search rules

@@ -1,3 +1,4 @@
+use Rattle.std.proofs.Common.{rules}
 use Rattle.std.specs.Map.Iter.{deref}
 use Rattle.std_collections.proofs.IterRuns.{shows_in_order, shows_in_reverse}
 use Rattle.bimap_walk.proofs.by_rank.left_values.Goals as goal
@@ -7,3 +8,6 @@ returns-clause-runs g c = shows_in_order deref
 
 pub returns-clause-runs_back : goal.returns-clause-runs_back
 returns-clause-runs_back g c = shows_in_reverse deref
+
+pub returns-clause-rest : goal.returns-clause-rest
+returns-clause-rest g c = search rules
