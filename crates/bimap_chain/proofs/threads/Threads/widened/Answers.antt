@@ -1,5 +1,5 @@
 use Rattle.std.proofs.lemmas.Grind.{common_steps}
-use Rattle.std.proofs.Common.{◌<◌, ◌∙◌, length, ap, sym, arith, None, Some, rules}
+use Rattle.std.proofs.Common.{◌<◌, ◌∙◌, length, ap, sym, arith, None, Some}
 use Rattle.std.specs.Prelude.{slice_set}
 use Rattle.std.proofs.lemmas.List.{length-map}
 use Rattle.bimap_chain.specs.Packed.{numbers_of}
