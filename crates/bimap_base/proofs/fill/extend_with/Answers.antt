@@ -73,3 +73,6 @@ returns-clause-extended g c =
       };
       allowed = i.put_in.allowed;
     }
+
+pub returns-in-Err-clause-extended : goal.returns-in-Err-clause-extended
+returns-in-Err-clause-extended g c = search

@@ -1,4 +1,4 @@
-use Rattle.std.proofs.Common.{subst, ap, arith, Contains, length, ◌≤◌}
+use Rattle.std.proofs.Common.{subst, ap, arith, Contains, length, ◌≤◌, rules}
 use Rattle.bimap_base.specs.Extension.{IsOutOfPlaces, IsRefusedNextUnder}
 use Rattle.bimap_base.proofs.Extending.{refusal_along}
 use Rattle.bimap_base.proofs.fill.from_iter_with.Goals as goal
@@ -17,3 +17,6 @@ returns-in-Err-clause-stopped g c =
             (λ out. omega (arith, out.used, ap length c.requires.empty)) r.why;
       },
     )
+
+pub returns-in-Ok-clause-extended : goal.returns-in-Ok-clause-extended
+returns-in-Ok-clause-extended g c = search rules

@@ -1,4 +1,4 @@
-use Rattle.std.proofs.Common.{arith}
+use Rattle.std.proofs.Common.{arith, rules}
 use Rattle.bimap_base.proofs.Packs.{low_enough}
 use Rattle.bimap_base.proofs.cells.NarrowCellCell.of.Goals as goal
 
@@ -10,3 +10,6 @@ overflow_add-result c = omega (arith, low_enough c.requires.0 c.requires.1 _ c.r
 
 pub overflow_cast-result-3 : goal.overflow_cast-result-3
 overflow_cast-result-3 c = omega (arith, low_enough c.requires.0 c.requires.1 _ c.requires.2.height, c.requires.1, c.requires.2.size)
+
+pub returns : goal.returns
+returns c = search rules

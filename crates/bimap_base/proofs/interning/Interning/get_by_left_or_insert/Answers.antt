@@ -1,4 +1,4 @@
-use Rattle.std.proofs.Common.{◌∙◌, inl, inr, refl, sym, true≢false}
+use Rattle.std.proofs.Common.{◌∙◌, inl, inr, refl, sym, true≢false, rules}
 use Rattle.bimap_base.proofs.interning.Interning.get_by_left_or_insert.Goals as goal
 
 pub returns-in-Ok : goal.returns-in-Ok
@@ -16,3 +16,6 @@ returns-in-Ok g c =
       unchanged = tt;
       room = e.room;
     }
+
+pub returns-in-Some : goal.returns-in-Some
+returns-in-Some g c = search rules
