@@ -1,9 +1,14 @@
 -- A pair that is taken out of pairs of which no two share.
-use Rattle.std.proofs.Common.{◌≡◌, ◌⊎◌, inl, inr, ℕ, suc, zero, ◌<◌, ◌||◌, Bool, true, false, List, [], ◌∷◌, ◌++◌, length, take, drop, get_or, refl, sym, ap, ◌∙◌, subst, arith, true≢false}
-use Rattle.std.specs.Prelude.{Contains}
+use Rattle.std.proofs.Common.{◌≡◌, ◌↔◌, ◌⊎◌, inl, inr, ℕ, suc, zero, ◌+◌, ◌<◌, ◌≤◌, ◌||◌, Bool, true, false, not, List, [], ◌∷◌, ◌++◌, length, take, drop, get_or, Option, Some, None, refl, sym, ap, ◌∙◌, subst, arith, rules, tests, true≢false}
+use Rattle.std.specs.Prelude.{Contains, vec_len, vec_capacity}
+use Rattle.std.specs.Global.{Vec}
+use Rattle.std.specs.List.{position, position_or_len}
+use Rattle.std.proofs.lemmas.Bool.Decides.{nat_tests}
+use Rattle.std.proofs.lemmas.List.Sums.{prefix_len_passes}
+use Rattle.std.proofs.lemmas.List.Quantifiers.{position-Some}
 use Rattle.std.specs.Cmp.{IsEquivalence}
 use Rattle.std.proofs.lemmas.List.Elements.{Contains-append_left, Contains-append_right, Contains-append_cases, Contains-push_cases, Contains-push}
-use Rattle.bimap_plain.specs.Plain.{IsCleared}
+use Rattle.bimap_plain.specs.Plain.{IsCleared, IsTaken}
 use Rattle.bimap_base.specs.Sets.{shares, NoneShares, IsApart, IsWithPut, IsWithoutLeft, IsWithoutRight, LacksLeft, LacksRight}
 use Rattle.bimap_base.specs.Answer.{IsOnlyStruck, AreBothStruck}
 use Rattle.std.proofs.lemmas.Bool.{or_parts, or_from, or_right}
@@ -17,10 +22,13 @@ module _ {X : Type 0} where
   parted (x ∷ xs) zero d h = refl
   parted (x ∷ xs) (suc i) d h = ap (λ ys. x ∷ ys) (parted xs i d (omega arith))
 
-  same_read : (xs : List X) (i : ℕ) (d e : X) → i < length xs → get_or xs i d ≡ get_or xs i e
-  same_read [] i d e h = absurd (omega arith)
-  same_read (x ∷ xs) zero d e h = refl
-  same_read (x ∷ xs) (suc i) d e h = same_read xs i d e (omega arith)
+  -- where none passes at which a scan stops, none passes at all
+  none_passes : (p : X → Bool) (xs : List X) → position p xs ≡ None → (q : X) → Contains xs q → p q ≡ false
+  none_passes p xs none q m =
+      let long : length xs ≤ position_or_len p xs = grind (arith, nat_tests) in
+      let passes = prefix_len_passes (λ x. not (p x)) xs m.0 q (omega (arith, m.1, long)) in
+      let failed : p (get_or xs m.0 q) ≡ false = search (tests, rules) in
+      rw m.2 at failed
 
   into : (a b : List X) (x q : X) → Contains (a ++ b) q → Contains (a ++ x ∷ b) q
   into a b x q m = elim (Contains-append_cases a b q m) [ inl h ↦ Contains-append_left a (x ∷ b) q h | inr h ↦ Contains-append_right a (x ∷ b) q (more_in x b q h) ]
@@ -56,63 +64,39 @@ module _ {L R : Type 0} (same_left : L → L → Bool) (same_right : R → R →
       ])
       (apart_push a x (apart_tail same_left same_right y a h) (λ q m. n q (more_in y a q m)))
 
-  pub without_left : (a b xs ys : List (L × R)) (x : L × R) (l : L) → xs ≡ a ++ x ∷ b → ys ≡ a ++ b → IsApart same_left same_right xs → same_left x.0 l ≡ true → IsWithoutLeft same_left (Contains xs) l (Contains ys)
-  without_left a b xs ys x l s t h e q =
-      let apart : IsApart same_left same_right (a ++ x ∷ b) = subst (IsApart same_left same_right) s h in (
-        λ m. let n : Contains (a ++ b) q = subst (λ zs. Contains zs q) t m in (
-          subst (λ zs. Contains zs q) (sym s) (into a b x q n),
-          lefts.symm q.0 l ∙ sym (lefts.congr x.0 l q.0 e) ∙ lefts.symm x.0 q.0 ∙ (or_parts (same_left q.0 x.0) (same_right q.1 x.1) (apart_mid a b x q apart n)).0,
-        ),
-        λ m. elim (outof a b x q (subst (λ zs. Contains zs q) s m.0)) [
-          | inl w ↦ absurd (true≢false (sym e ∙ ap (λ (z : L × R). same_left z.0 l) (sym w) ∙ m.1))
-          | inr n ↦ subst (λ zs. Contains zs q) (sym t) n
-        ],
-      )
+  -- what is taken out by a part that two pairs share only where they are not apart
+  module _ {K : Type 0} (part : L × R → K) (same : K → K → Bool) (equal : IsEquivalence same) (unequal : (p q : L × R) → shares same_left same_right p q ≡ false → same (part p) (part q) ≡ false) (old : Vec (L × R)) (value : K) (apart : IsApart same_left same_right old.items) where
+    without : (a b : List (L × R)) (x : L × R) → IsApart same_left same_right (a ++ x ∷ b) → same (part x) value ≡ true → (q : L × R) → Contains (a ++ b) q ↔ (Contains (a ++ x ∷ b) q × (same (part q) value ≡ false))
+    without a b x h e q = (
+      λ m. (into a b x q m, equal.symm (part q) value ∙ sym (equal.congr (part x) value (part q) e) ∙ equal.symm (part x) (part q) ∙ unequal q x (apart_mid a b x q h m)),
+      λ m. elim (outof a b x q m.0) [
+        | inl w ↦ absurd (true≢false (sym e ∙ ap (λ (z : L × R). same (part z) value) (sym w) ∙ m.1))
+        | inr n ↦ n
+      ],
+    )
 
-  pub without_right : (a b xs ys : List (L × R)) (x : L × R) (r : R) → xs ≡ a ++ x ∷ b → ys ≡ a ++ b → IsApart same_left same_right xs → same_right x.1 r ≡ true → IsWithoutRight same_right (Contains xs) r (Contains ys)
-  without_right a b xs ys x r s t h e q =
-      let apart : IsApart same_left same_right (a ++ x ∷ b) = subst (IsApart same_left same_right) s h in (
-        λ m. let n : Contains (a ++ b) q = subst (λ zs. Contains zs q) t m in (
-          subst (λ zs. Contains zs q) (sym s) (into a b x q n),
-          rights.symm q.1 r ∙ sym (rights.congr x.1 r q.1 e) ∙ rights.symm x.1 q.1 ∙ (or_parts (same_left q.0 x.0) (same_right q.1 x.1) (apart_mid a b x q apart n)).1,
-        ),
-        λ m. elim (outof a b x q (subst (λ zs. Contains zs q) s m.0)) [
-          | inl w ↦ absurd (true≢false (sym e ∙ ap (λ (z : L × R). same_right z.1 r) (sym w) ∙ m.1))
-          | inr n ↦ subst (λ zs. Contains zs q) (sym t) n
-        ],
-      )
+    -- where no pair has the value, none is taken out
+    pub taken_none : position (λ q. same (part q) value) old.items ≡ None → IsTaken same_left same_right part same old value None old
+    taken_none none =
+        let lacks = none_passes (λ q. same (part q) value) old.items none in
+        record { removed = lacks; without = λ q. (λ m. (m, lacks q m), λ m. m.0); apart = apart; unchanged = refl; spare = tt; shorter = tt; capacity = refl }
 
-  -- where nothing has the left, nothing is taken out
-  pub lacked_left : (S : L × R → Type 0) (l : L) → ((q : L × R) → S q → same_left q.0 l ≡ false) → IsWithoutLeft same_left S l S
-  lacked_left S l h q = (λ m. (m, h q m), λ m. m.0)
-
-  pub lacked_right : (S : L × R → Type 0) (r : R) → ((q : L × R) → S q → same_right q.1 r ≡ false) → IsWithoutRight same_right S r S
-  lacked_right S r h q = (λ m. (m, h q m), λ m. m.0)
-
-  -- the pair at a place is taken out
-  module _ (xs zs ys : List (L × R)) (i : ℕ) (p seen : L × R) (same : zs ≡ xs) (inside : i < length xs) (value : p ≡ get_or zs i p) (read : seen ≡ get_or zs i seen) (items : ys ≡ take i zs ++ drop (suc i) zs) (apart : IsApart same_left same_right xs) where
-    read_again : seen ≡ p
-    read_again = read ∙ same_read zs i seen p (subst (λ ws. i < length ws) (sym same) inside) ∙ sym value
-
-    cut_at : xs ≡ take i xs ++ p ∷ drop (suc i) xs
-    cut_at = parted xs i p inside ∙ ap (λ w. take i xs ++ w ∷ drop (suc i) xs) (ap (λ ws. get_or ws i p) (sym same) ∙ sym value)
-
-    left_over : ys ≡ take i xs ++ drop (suc i) xs
-    left_over = items ∙ ap (λ ws. take i ws ++ drop (suc i) ws) same
-
-    taken_member : Contains xs p
-    taken_member = subst (λ ws. Contains ws p) (sym cut_at) (Contains-append_right (take i xs) (p ∷ drop (suc i) xs) p (head_in p (drop (suc i) xs)))
-
-    pub taken_apart : IsApart same_left same_right ys
-    taken_apart = subst (IsApart same_left same_right) (sym left_over) (apart_without (take i xs) (drop (suc i) xs) p (subst (IsApart same_left same_right) cut_at apart))
-
-    -- by its left
-    pub taken_left : (l : L) → same_left seen.0 l ≡ true → (Contains xs p × (same_left p.0 l ≡ true)) × IsWithoutLeft same_left (Contains xs) l (Contains ys)
-    taken_left l e = let f = ap (λ (w : L × R). same_left w.0 l) (sym read_again) ∙ e in ((taken_member, f), without_left (take i xs) (drop (suc i) xs) xs ys p l cut_at left_over apart f)
-
-    -- and by its right
-    pub taken_right : (r : R) → same_right seen.1 r ≡ true → (Contains xs p × (same_right p.1 r ≡ true)) × IsWithoutRight same_right (Contains xs) r (Contains ys)
-    taken_right r e = let f = ap (λ (w : L × R). same_right w.1 r) (sym read_again) ∙ e in ((taken_member, f), without_right (take i xs) (drop (suc i) xs) xs ys p r cut_at left_over apart f)
+    -- else the first that has it
+    pub taken_first : (i : ℕ) (p : L × R) (new : Vec (L × R)) → position (λ q. same (part q) value) old.items ≡ Some i → p ≡ get_or old.items i p → new.items ≡ take i old.items ++ drop (suc i) old.items → vec_len new + 1 ≡ vec_len old → vec_capacity new ≡ vec_capacity old → IsTaken same_left same_right part same old value (Some p) new
+    taken_first i p new first read items shorter capacity =
+        let at = position-Some (λ q. same (part q) value) old.items i p first in
+        let e : same (part p) value ≡ true = ap (λ (z : L × R). same (part z) value) read ∙ at.1 in
+        let cut : old.items ≡ take i old.items ++ p ∷ drop (suc i) old.items = parted old.items i p at.0 ∙ ap (λ w. take i old.items ++ w ∷ drop (suc i) old.items) (sym read) in
+        let h = subst (IsApart same_left same_right) cut apart in
+        record {
+          removed = (subst (λ ws. Contains ws p) (sym cut) (Contains-append_right (take i old.items) (p ∷ drop (suc i) old.items) p (head_in p (drop (suc i) old.items))), e);
+          without = λ q. subst (λ (ws : List (L × R)). Contains ws q ↔ (Contains old.items q × (same (part q) value ≡ false))) (sym items) (subst (λ (ws : List (L × R)). Contains (take i old.items ++ drop (suc i) old.items) q ↔ (Contains ws q × (same (part q) value ≡ false))) (sym cut) (without (take i old.items) (drop (suc i) old.items) p h e q));
+          apart = subst (IsApart same_left same_right) (sym items) (apart_without (take i old.items) (drop (suc i) old.items) p h);
+          unchanged = tt;
+          spare = omega (arith, shorter, capacity);
+          shorter = shorter;
+          capacity = capacity;
+        }
 
 module _ {L R : Type 0} (same_left : L → L → Bool) (same_right : R → R → Bool) where
   -- what is left without a left and without a right

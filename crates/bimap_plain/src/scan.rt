@@ -1,8 +1,9 @@
 //! What looks through pairs one by one, and takes one out.
-ghost use Rattle.std.specs.Prelude.{◌≡◌, ◌+◌, ◌<◌, true, Contains, MatchOption, MatchBool, IfNone, OnSome, vec_len, vec_capacity};
+ghost use Rattle.std.specs.Prelude.{◌≡◌, true, Contains, MatchOption, MatchBool, position};
 ghost use Rattle.bimap_base.specs.Kept.{MayTestPair, TestedAt};
 ghost use Rattle.bimap_base.specs.Visited.{MayVisit, IsVisited};
-ghost use Rattle.bimap_base.specs.Sets.{IsApart, HasLeft, LacksLeft, IsWithoutLeft, HasRight, LacksRight, IsWithoutRight};
+ghost use Rattle.bimap_base.specs.Sets.{IsApart, HasLeft, LacksLeft, HasRight, LacksRight};
+ghost use Rattle.bimap_plain.specs.Plain.{IsTaken};
 
 pub fn has_left<L: Eq, R>(pairs: &[(L, R)], left: &L) -> bool
     ensures { MatchBool result (HasLeft L.eq (Contains pairs.now) left.now) (LacksLeft L.eq (Contains pairs.now) left.now) }
@@ -60,40 +61,34 @@ fn tell<L, R, F: FnMut(&L, &R)>(f: &mut F, pair: &(L, R))
     f(&pair.0, &pair.1)
 }
 
-#[tactic(auto, using(crate::proofs::Removal::lacked_left))]
-pub fn take_left<L: Eq + Drop, R: Eq + Drop>(pairs: &mut Vec<(L, R)>, left: &L) -> Option<(L, R)>
-    requires { IsApart L.eq R.eq pairs.old.items }
-    ensures removed { MatchOption result (LacksLeft L.eq (Contains pairs.old.items) left.now) (λ p. Contains pairs.old.items p × (L.eq p.0 left.now ≡ true)) }
-    ensures without { IsWithoutLeft L.eq (Contains pairs.old.items) left.now (Contains pairs.new.items) }
-    ensures apart { IsApart L.eq R.eq pairs.new.items }
-    ensures unchanged { IfNone result (pairs.new.items ≡ pairs.old.items) }
-    ensures spare { OnSome result (vec_len pairs.new < vec_capacity pairs.new) }
-    ensures shorter { OnSome result (vec_len pairs.new + 1 ≡ vec_len pairs.old) }
-    ensures capacity { vec_capacity pairs.new ≡ vec_capacity pairs.old }
+// The first place with an equal left.
+fn place_of_left<L: Eq, R>(pairs: &[(L, R)], left: &L) -> Option<usize>
+    ensures { result ≡ position (λ p. L.eq p.0 left.now) pairs.now }
 {
-    for i in 0..pairs.len() {
-        if pairs[i].0 == *left {
-            return Some(pairs.remove(i));
-        }
-    }
-    None
+    pairs.iter().position(|pair| pair.0 == *left)
 }
 
-#[tactic(auto, using(crate::proofs::Removal::lacked_right))]
+// The first place with an equal right.
+fn place_of_right<L, R: Eq>(pairs: &[(L, R)], right: &R) -> Option<usize>
+    ensures { result ≡ position (λ p. R.eq p.1 right.now) pairs.now }
+{
+    pairs.iter().position(|pair| pair.1 == *right)
+}
+
+// The pair of a left is taken out, if there is one.
+pub fn take_left<L: Eq + Drop, R: Eq + Drop>(pairs: &mut Vec<(L, R)>, left: &L) -> Option<(L, R)>
+    requires { IsApart L.eq R.eq pairs.old.items }
+    ensures { IsTaken L.eq R.eq (λ p. p.0) L.eq pairs.old left.now result pairs.new }
+{
+    let place = place_of_left(pairs, left)?;
+    Some(pairs.remove(place))
+}
+
+// The same for a right.
 pub fn take_right<L: Eq + Drop, R: Eq + Drop>(pairs: &mut Vec<(L, R)>, right: &R) -> Option<(L, R)>
     requires { IsApart L.eq R.eq pairs.old.items }
-    ensures removed { MatchOption result (LacksRight R.eq (Contains pairs.old.items) right.now) (λ p. Contains pairs.old.items p × (R.eq p.1 right.now ≡ true)) }
-    ensures without { IsWithoutRight R.eq (Contains pairs.old.items) right.now (Contains pairs.new.items) }
-    ensures apart { IsApart L.eq R.eq pairs.new.items }
-    ensures unchanged { IfNone result (pairs.new.items ≡ pairs.old.items) }
-    ensures spare { OnSome result (vec_len pairs.new < vec_capacity pairs.new) }
-    ensures shorter { OnSome result (vec_len pairs.new + 1 ≡ vec_len pairs.old) }
-    ensures capacity { vec_capacity pairs.new ≡ vec_capacity pairs.old }
+    ensures { IsTaken L.eq R.eq (λ p. p.1) R.eq pairs.old right.now result pairs.new }
 {
-    for i in 0..pairs.len() {
-        if pairs[i].1 == *right {
-            return Some(pairs.remove(i));
-        }
-    }
-    None
+    let place = place_of_right(pairs, right)?;
+    Some(pairs.remove(place))
 }

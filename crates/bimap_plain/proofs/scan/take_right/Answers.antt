@@ -1,15 +1,10 @@
-use Rattle.std.proofs.Common.{◌<◌, length, sym, ap, ◌∙◌, arith}
-use Rattle.bimap_plain.proofs.Removal.{taken_apart, taken_right}
+use Rattle.std.proofs.Common.{sym, ◌∙◌, arith}
+use Rattle.std.proofs.lemmas.Bool.{or_parts}
+use Rattle.bimap_plain.proofs.Removal.{taken_first, taken_none}
 use Rattle.bimap_plain.proofs.scan.take_right.Goals as goal
 
-inside : (g : _) (c : goal.After-remove g) → c.loop-i.i < length c.args.pairs.now.items
-inside g c = omega (arith, ap (λ v. length v.items) c.loop-i.invariant.same, c.args.pairs.now.ok.0)
+pub returns : goal.returns
+returns g c = taken_first g.L.PartialEq.eq g.R.PartialEq.eq g.met.L.Eq.laws g.met.R.Eq.laws (λ p. p.1) g.R.PartialEq.eq g.met.R.Eq.laws (λ p q h. (or_parts _ _ h).1) c.args.pairs.now c.args.right.now c.requires c.in_ok-place.place c.remove.result c.remove.new.self (sym (rw c.deref.ensures.value at c.place_of_right.ensures) ∙ c.in_ok-place.was) c.remove.ensures.value c.remove.ensures.items (omega arith) (omega arith)
 
-pub returns-then-eq-clause-removed : goal.returns-then-eq-clause-removed
-returns-then-eq-clause-removed g c = (taken_right g.L.PartialEq.eq g.R.PartialEq.eq g.met.L.Eq.laws g.met.R.Eq.laws c.args.pairs.now.items c.loop-i.pairs.items c.remove.new.self.items c.loop-i.i c.remove.result c.index.result.now (ap (λ v. v.items) c.loop-i.invariant.same) (inside g c) c.remove.ensures.value c.index.ensures c.remove.ensures.items c.requires c.args.right.now (sym c.eq.ensures ∙ c.if-eq.true)).0
-
-pub returns-then-eq-clause-without : goal.returns-then-eq-clause-without
-returns-then-eq-clause-without g c = (taken_right g.L.PartialEq.eq g.R.PartialEq.eq g.met.L.Eq.laws g.met.R.Eq.laws c.args.pairs.now.items c.loop-i.pairs.items c.remove.new.self.items c.loop-i.i c.remove.result c.index.result.now (ap (λ v. v.items) c.loop-i.invariant.same) (inside g c) c.remove.ensures.value c.index.ensures c.remove.ensures.items c.requires c.args.right.now (sym c.eq.ensures ∙ c.if-eq.true)).1
-
-pub returns-then-eq-clause-apart : goal.returns-then-eq-clause-apart
-returns-then-eq-clause-apart g c = taken_apart g.L.PartialEq.eq g.R.PartialEq.eq g.met.L.Eq.laws g.met.R.Eq.laws c.args.pairs.now.items c.loop-i.pairs.items c.remove.new.self.items c.loop-i.i c.remove.result c.index.result.now (ap (λ v. v.items) c.loop-i.invariant.same) (inside g c) c.remove.ensures.value c.index.ensures c.remove.ensures.items c.requires
+pub returns-in_err-place : goal.returns-in_err-place
+returns-in_err-place g c = rw c.from_residual.ensures (taken_none g.L.PartialEq.eq g.R.PartialEq.eq g.met.L.Eq.laws g.met.R.Eq.laws (λ p. p.1) g.R.PartialEq.eq g.met.R.Eq.laws (λ p q h. (or_parts _ _ h).1) c.args.pairs.now c.args.right.now c.requires (sym (rw c.deref.ensures.value at c.place_of_right.ensures) ∙ c.in_err-place.was))
