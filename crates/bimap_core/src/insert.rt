@@ -47,7 +47,7 @@ impl<L: Eq, R: Eq, I: Index<L>, J: Index<R>> Table<L, R, I, J> {
             self.is_left_first = true;
             return Err(NotInsertedWith::LeftHeld(left, right));
         }
-        let by_right = self.finish_right_beside(by_left, to_right, &right, &mut right_spot, meter);
+        let by_right = self.finish_right(by_left, to_right, &right, &mut right_spot, meter);
         self.is_left_first = false;
         if keeps(by_right, policy.right) {
             return Err(NotInsertedWith::RightHeld(left, right));

@@ -39,7 +39,7 @@ impl<L: Eq + Drop, R: Copy + Eq + Drop, I: Index<L>, J: Index<R>> Table<L, R, I,
         }
         let mut right_spot = self.right.spot();
         if self
-            .finish_right(self.right.start(), &right, &mut right_spot, meter)
+            .finish_right(None, self.right.start(), &right, &mut right_spot, meter)
             .is_some()
         {
             return Err(NotInserted::Occupied(left, right));

@@ -149,27 +149,8 @@ impl<L: Eq, R: Eq, I: Index<L>, J: Index<R>> Table<L, R, I, J> {
             .finish(LeftSide::new(&self.pairs), left, search, spot, meter)
     }
 
-    // The same for a right.
-    pub(crate) fn finish_right<M: Meter>(
-        &self,
-        search: J::Search,
-        right: &R,
-        spot: &mut J::Spot,
-        meter: &mut M,
-    ) -> Option<usize>
-        requires { J.under_way self.now.right (right_at self.now.pairs) right.now search spot.old }
-        ensures found { IsFoundAt (λ p. p.1) R.eq self.now.pairs right.now result }
-        ensures leads { IfNone result (J.leads self.now.right (right_at self.now.pairs) right.now spot.new) }
-        ensures is_for { J.is_for self.now.right right.now spot.new }
-        ensures comparisons { M.comparisons meter.new ≤ M.comparisons meter.old + J.ahead self.now.right search }
-        ensures touches { M.touches meter.new ≤ M.touches meter.old + J.ahead self.now.right search }
-    {
-        self.right
-            .finish(RightSide::new(&self.pairs), right, search, spot, meter)
-    }
-
     // The same for a right, where the place of the equal left, if any, is known: its right is asked first.
-    pub(crate) fn finish_right_beside<M: Meter>(
+    pub(crate) fn finish_right<M: Meter>(
         &self,
         by_left: Option<usize>,
         search: J::Search,
@@ -183,6 +164,7 @@ impl<L: Eq, R: Eq, I: Index<L>, J: Index<R>> Table<L, R, I, J> {
         ensures leads { IfNone result (J.leads self.now.right (right_at self.now.pairs) right.now spot.new) }
         ensures is_for { (result ≡ by_left → ⊥) → J.is_for self.now.right right.now spot.new }
         ensures comparisons { M.comparisons meter.new ≤ M.comparisons meter.old + J.ahead self.now.right search + J.effort (length (J.places self.now.right)) }
+        ensures unasked { IfNone by_left (M.comparisons meter.new ≤ M.comparisons meter.old + J.ahead self.now.right search) }
         ensures touches { M.touches meter.new ≤ M.touches meter.old + J.ahead self.now.right search }
     {
         if let Some(place) = by_left {
@@ -193,6 +175,7 @@ impl<L: Eq, R: Eq, I: Index<L>, J: Index<R>> Table<L, R, I, J> {
                 return Some(place);
             }
         }
-        self.finish_right(search, right, spot, meter)
+        self.right
+            .finish(RightSide::new(&self.pairs), right, search, spot, meter)
     }
 }

@@ -30,7 +30,7 @@ returns-then-keeps-2-clause-answer g c =
         refl,
         (λ e. left_lacking g.L.PartialEq.eq slots c.args.left c.finish_left-by_left.result c.finish_left-by_left.ensures.found (may _ _ c.if-keeps.false c.keeps.ensures e)),
         kept.1,
-        right_held g.L.PartialEq.eq g.R.PartialEq.eq slots c.args.right c.finish_right_beside-by_right.result c.finish_right_beside-by_right.ensures.found kept.0,
+        right_held g.L.PartialEq.eq g.R.PartialEq.eq slots c.args.right c.finish_right-by_right.result c.finish_right-by_right.ensures.found kept.0,
       );
       unchanged = refl;
       room = room_kept g.L.PartialEq.eq g.R.PartialEq.eq slots slots (c.args.left, c.args.right) refl;
@@ -39,27 +39,27 @@ returns-then-keeps-2-clause-answer g c =
 pub returns-then-is_err-clause-answer : goal.returns-then-is_err-clause-answer
 returns-then-is_err-clause-answer g c =
     let failed = sym c.is_err.ensures.value ∙ c.if-is_err.true in
-    refused_memory g.L.PartialEq.eq g.R.PartialEq.eq g.met.L.Eq.laws g.met.R.Eq.laws c.args.self.now.pairs c.args.left c.args.right c.args.policy c.finish_left-by_left.result c.finish_right_beside-by_right.result c.finish_left-by_left.ensures.found c.finish_right_beside-by_right.ensures.found (may _ _ c.if-keeps.false c.keeps.ensures) (may _ _ c.if-keeps-2.false c.keeps-2.ensures) c.make_room.new.self.pairs c.in-None-None.is-0 c.in-None-None.is-1 (on_err c.make_room.result failed c.make_room.ensures.full) (on_err c.make_room.result failed c.make_room.ensures.err)
+    refused_memory g.L.PartialEq.eq g.R.PartialEq.eq g.met.L.Eq.laws g.met.R.Eq.laws c.args.self.now.pairs c.args.left c.args.right c.args.policy c.finish_left-by_left.result c.finish_right-by_right.result c.finish_left-by_left.ensures.found c.finish_right-by_right.ensures.found (may _ _ c.if-keeps.false c.keeps.ensures) (may _ _ c.if-keeps-2.false c.keeps-2.ensures) c.make_room.new.self.pairs c.in-None-None.is-0 c.in-None-None.is-1 (on_err c.make_room.result failed c.make_room.ensures.full) (on_err c.make_room.result failed c.make_room.ensures.err)
 
 pub returns-in-None-None-clause-answer : goal.returns-in-None-None-clause-answer
 returns-in-None-None-clause-answer g c =
     let room = c.make_room.ensures in
-    put_new g.L.PartialEq.eq g.R.PartialEq.eq g.met.L.Eq.laws g.met.R.Eq.laws c.args.self.now.pairs c.args.left c.args.right c.args.policy c.finish_left-by_left.result c.finish_right_beside-by_right.result c.finish_left-by_left.ensures.found c.finish_right_beside-by_right.ensures.found (may _ _ c.if-keeps.false c.keeps.ensures) (may _ _ c.if-keeps-2.false c.keeps-2.ensures) c.make_room.new.self.pairs c.put-place.new.self.pairs c.put-place.result c.in-None-None.is-0 c.in-None-None.is-1 room.kept room.had_place room.grows c.put-place.ensures.there c.put-place.ensures.was_free c.put-place.ensures.pairs
+    put_new g.L.PartialEq.eq g.R.PartialEq.eq g.met.L.Eq.laws g.met.R.Eq.laws c.args.self.now.pairs c.args.left c.args.right c.args.policy c.finish_left-by_left.result c.finish_right-by_right.result c.finish_left-by_left.ensures.found c.finish_right-by_right.ensures.found (may _ _ c.if-keeps.false c.keeps.ensures) (may _ _ c.if-keeps-2.false c.keeps-2.ensures) c.make_room.new.self.pairs c.put-place.new.self.pairs c.put-place.result c.in-None-None.is-0 c.in-None-None.is-1 room.kept room.had_place room.grows c.put-place.ensures.there c.put-place.ensures.was_free c.put-place.ensures.pairs
 
 pub returns-in-Some-None-clause-answer : goal.returns-in-Some-None-clause-answer
-returns-in-Some-None-clause-answer g c = put_left g.L.PartialEq.eq g.R.PartialEq.eq g.met.L.Eq.laws g.met.R.Eq.laws c.args.self.now.pairs c.args.left c.args.right c.args.policy c.finish_left-by_left.result c.finish_right_beside-by_right.result c.finish_left-by_left.ensures.found c.finish_right_beside-by_right.ensures.found (may _ _ c.if-keeps.false c.keeps.ensures) (may _ _ c.if-keeps-2.false c.keeps-2.ensures) c.swap_right-old_left.new.self.pairs c.in-Some-None.place c.swap_right-old_left.result c.in-Some-None.is-0 c.in-Some-None.is-1 c.swap_right-old_left.ensures.was c.swap_right-old_left.ensures.pairs
+returns-in-Some-None-clause-answer g c = put_left g.L.PartialEq.eq g.R.PartialEq.eq g.met.L.Eq.laws g.met.R.Eq.laws c.args.self.now.pairs c.args.left c.args.right c.args.policy c.finish_left-by_left.result c.finish_right-by_right.result c.finish_left-by_left.ensures.found c.finish_right-by_right.ensures.found (may _ _ c.if-keeps.false c.keeps.ensures) (may _ _ c.if-keeps-2.false c.keeps-2.ensures) c.swap_right-old_left.new.self.pairs c.in-Some-None.place c.swap_right-old_left.result c.in-Some-None.is-0 c.in-Some-None.is-1 c.swap_right-old_left.ensures.was c.swap_right-old_left.ensures.pairs
 
 pub returns-in-None-Some-clause-answer : goal.returns-in-None-Some-clause-answer
-returns-in-None-Some-clause-answer g c = put_right g.L.PartialEq.eq g.R.PartialEq.eq g.met.L.Eq.laws g.met.R.Eq.laws c.args.self.now.pairs c.args.left c.args.right c.args.policy c.finish_left-by_left.result c.finish_right_beside-by_right.result c.finish_left-by_left.ensures.found c.finish_right_beside-by_right.ensures.found (may _ _ c.if-keeps.false c.keeps.ensures) (may _ _ c.if-keeps-2.false c.keeps-2.ensures) c.swap_left-old_left.new.self.pairs c.in-None-Some.place c.swap_left-old_left.result c.in-None-Some.is-0 c.in-None-Some.is-1 c.swap_left-old_left.ensures.was c.swap_left-old_left.ensures.pairs
+returns-in-None-Some-clause-answer g c = put_right g.L.PartialEq.eq g.R.PartialEq.eq g.met.L.Eq.laws g.met.R.Eq.laws c.args.self.now.pairs c.args.left c.args.right c.args.policy c.finish_left-by_left.result c.finish_right-by_right.result c.finish_left-by_left.ensures.found c.finish_right-by_right.ensures.found (may _ _ c.if-keeps.false c.keeps.ensures) (may _ _ c.if-keeps-2.false c.keeps-2.ensures) c.swap_left-old_left.new.self.pairs c.in-None-Some.place c.swap_left-old_left.result c.in-None-Some.is-0 c.in-None-Some.is-1 c.swap_left-old_left.ensures.was c.swap_left-old_left.ensures.pairs
 
 pub returns-then-place-other-clause-answer : goal.returns-then-place-other-clause-answer
 returns-then-place-other-clause-answer g c =
-    put_pair g.L.PartialEq.eq g.R.PartialEq.eq g.met.L.Eq.laws g.met.R.Eq.laws c.args.self.now.pairs c.args.left c.args.right c.args.policy c.finish_left-by_left.result c.finish_right_beside-by_right.result c.finish_left-by_left.ensures.found c.finish_right_beside-by_right.ensures.found (may _ _ c.if-keeps.false c.keeps.ensures) (may _ _ c.if-keeps-2.false c.keeps-2.ensures) c.swap_equal-old_left.new.self.pairs c.in-Some-Some.place c.swap_equal-old_left.result c.in-Some-Some.is-0 (c.in-Some-Some.is-1 ∙ ap Some (sym c.if-place-other.true)) c.swap_equal-old_left.ensures.was c.swap_equal-old_left.ensures.pairs
+    put_pair g.L.PartialEq.eq g.R.PartialEq.eq g.met.L.Eq.laws g.met.R.Eq.laws c.args.self.now.pairs c.args.left c.args.right c.args.policy c.finish_left-by_left.result c.finish_right-by_right.result c.finish_left-by_left.ensures.found c.finish_right-by_right.ensures.found (may _ _ c.if-keeps.false c.keeps.ensures) (may _ _ c.if-keeps-2.false c.keeps-2.ensures) c.swap_equal-old_left.new.self.pairs c.in-Some-Some.place c.swap_equal-old_left.result c.in-Some-Some.is-0 (c.in-Some-Some.is-1 ∙ ap Some (sym c.if-place-other.true)) c.swap_equal-old_left.ensures.was c.swap_equal-old_left.ensures.pairs
 
 pub returns-clause-answer : goal.returns-clause-answer
 returns-clause-answer g c =
     let slots = c.args.self.now.pairs in
-    put_both g.L.PartialEq.eq g.R.PartialEq.eq g.met.L.Eq.laws g.met.R.Eq.laws c.args.self.now.pairs c.args.left c.args.right c.args.policy c.finish_left-by_left.result c.finish_right_beside-by_right.result c.finish_left-by_left.ensures.found c.finish_right_beside-by_right.ensures.found (may _ _ c.if-keeps.false c.keeps.ensures) (may _ _ c.if-keeps-2.false c.keeps-2.ensures) c.swap_right-first.new.self.pairs c.in-Some-Some.place c.in-Some-Some.other c.swap_right-first.result c.take-second.result c.in-Some-Some.is-0 c.in-Some-Some.is-1 c.if-place-other.false
+    put_both g.L.PartialEq.eq g.R.PartialEq.eq g.met.L.Eq.laws g.met.R.Eq.laws c.args.self.now.pairs c.args.left c.args.right c.args.policy c.finish_left-by_left.result c.finish_right-by_right.result c.finish_left-by_left.ensures.found c.finish_right-by_right.ensures.found (may _ _ c.if-keeps.false c.keeps.ensures) (may _ _ c.if-keeps-2.false c.keeps-2.ensures) c.swap_right-first.new.self.pairs c.in-Some-Some.place c.in-Some-Some.other c.swap_right-first.result c.take-second.result c.in-Some-Some.is-0 c.in-Some-Some.is-1 c.if-place-other.false
     (apart_at_places g.L.PartialEq.eq g.R.PartialEq.eq g.met.L.Eq.laws g.met.R.Eq.laws slots c.args.self.now.apart) (rw c.take-second.ensures.pairs at c.swap_right-first.ensures.was) c.take-second.ensures.was (rw c.take-second.ensures.pairs at c.swap_right-first.ensures.pairs)
 
 pub returns-then-is_err-clause-slots : goal.returns-then-is_err-clause-slots
