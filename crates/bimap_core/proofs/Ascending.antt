@@ -1,14 +1,14 @@
 -- The walk of a store by an ordered side, and what one removal leaves of it.
-use Rattle.std.proofs.Common.{◌≡◌, ◌≢◌, ◌↔◌, ◌∙◌, ℕ, ◌<◌, Bool, List, ◌∷◌, ◌++◌, length, get_or, slice_get, take, drop, suc, ◌≤◌, inl, inr, Option, Some, None, is_some, sym, ap, subst, arith, true≢false, Contains, drop-cons}
+use Rattle.std.proofs.Common.{◌≡◌, ◌≢◌, ◌↔◌, ◌∙◌, ℕ, ◌<◌, Bool, List, ◌∷◌, ◌++◌, length, get_or, slice_get, take, drop, suc, ◌≤◌, inl, inr, Option, Some, None, is_some, refl, sym, ap, subst, arith, true≢false, Contains, drop-cons}
 use Rattle.std.specs.Prelude.{slice_set}
-use Rattle.std.specs.List.{AllPairs}
+use Rattle.std.specs.List.{All, AllPairs}
 use Rattle.std.specs.Option.{option_map}
 use Rattle.std.specs.Cmp.{IsEquivalence, IsTotalOrder}
 use Rattle.std.specs.Ordering.{eq_by_cmp, ordering_reverse}
 use Rattle.std.specs.declared.cmp.Ordering.{Ordering}
 use Rattle.std.specs.declared.cmp.Ordering.TheVariants.{Less, Greater}
 use Rattle.std.proofs.lemmas.Bool.{cases_lt}
-use Rattle.std.proofs.lemmas.List.{get_or-set_same, get_or-set_other, take-append-drop, take_all, drop_all, append-nil}
+use Rattle.std.proofs.lemmas.List.{get_or-set_same, get_or-set_other, length-set, take-append-drop, take_all, drop_all, append-nil}
 use Rattle.std.proofs.lemmas.Option.{slice_get-get_or, slice_get_past, slice_get_within, get_or_from_slice_get}
 use Rattle.bimap_base.specs.Exchange.{IsRemoving}
 use Rattle.bimap_base.specs.PairsAt.{pairs_at}
@@ -18,6 +18,7 @@ use Rattle.bimap_base.specs.Slots.{pair_at, IsLive, pair_count}
 use Rattle.bimap_base.proofs.Walked.{IsWalk, walk_of, pairs_walked, long_at, count_walked, read_at, listed_at, place_listed, some_at, walked, held_at}
 use Rattle.bimap_index.specs.ByOrder.{ListsByOrder}
 use Rattle.bimap_index.specs.OrderLaws.{order_settled, order_listed, order_distinct, order_in_order}
+use Rattle.bimap_core.specs.Ranks.{IsTakenAtRank}
 use Rattle.bimap_core.proofs.Inserting.{left_of_two}
 use Rattle.bimap_core.proofs.OneOut.{one_out}
 use Rattle.bimap_core.proofs.Places.{apart_at_places, live_within}
@@ -34,13 +35,17 @@ module _ {P K : Type 0} (key : P → K) {order : K → K → Ordering} {same : K
   pub order_ascends : AllPairs (λ p q. order (key p) (key q) ≡ Less) (pairs_at slots places)
   order_ascends = pairs_walked slots places order_walk (λ a b. (k l : K) → option_map key (pair_at slots a) ≡ Some k → option_map key (pair_at slots b) ≡ Some l → order k l ≡ Less) (λ p q. order (key p) (key q) ≡ Less) (λ a b p q s i j. s (key p) (key q) (ap (option_map key) i) (ap (option_map key) j)) (order_in_order order same total agrees places _ settled)
 
-module _ {P : Type 0} (slots : List (Option P)) (places : List ℕ) (walk : IsWalk slots places) where
-  -- a walk lists as many places as are live
-  pub count_listed : length places ≡ pair_count slots
-  count_listed = sym (long_at slots places (λ place. (walk.live place).0)) ∙ count_walked slots places walk
+-- a walk lists as many places as are live
+pub count_listed : {P : Type 0} (slots : List (Option P)) (places : List ℕ) → IsWalk slots places → length places ≡ pair_count slots
+count_listed slots places walk = sym (long_at slots places (λ place. (walk.live place).0)) ∙ count_walked slots places walk
 
+-- there is a pair at each listed place
+pub live_listed : {P : Type 0} (slots : List (Option P)) (places : List ℕ) → All (IsLive slots) places → (place : ℕ) → Contains places place → IsLive slots place
+live_listed slots places all place c = subst (IsLive slots) c.2 (all c.0 place c.1)
+
+module _ {P : Type 0} (slots : List (Option P)) (places : List ℕ) (live : (place : ℕ) → Contains places place → IsLive slots place) where
   past_rank : (rank : ℕ) → slice_get places rank ≡ None → length (pairs_at slots places) ≤ rank
-  past_rank rank is = subst (λ n. n ≤ rank) (sym (long_at slots places (λ place. (walk.live place).0))) (elim (cases_lt rank (length places)) [
+  past_rank rank is = subst (λ n. n ≤ rank) (sym (long_at slots places live)) (elim (cases_lt rank (length places)) [
     | inl inside ↦ absurd (let e : None ≡ Some (get_or places rank 0) = sym is ∙ slice_get-get_or places rank 0 inside in cc)
     | inr past ↦ past
   ])
@@ -64,7 +69,7 @@ module _ {P : Type 0} (slots : List (Option P)) (places : List ℕ) (walk : IsWa
 
     -- there is a pair at the place of a rank
     pub live_at_rank : IsLive slots place
-    live_at_rank = (walk.live place).0 (rank, within, at_rank)
+    live_at_rank = live place (rank, within, at_rank)
 
     pub rank_live : (p : P) × (pair_at slots place ≡ Some p)
     rank_live = some_at (pair_at slots place) live_at_rank
@@ -73,12 +78,12 @@ module _ {P : Type 0} (slots : List (Option P)) (places : List ℕ) (walk : IsWa
       -- it is the pair of that rank
       pub pair_at_rank : p ≡ get_or (pairs_at slots places) rank p
       pair_at_rank =
-          let read = read_at slots places (λ place. (walk.live place).0) rank place p within in
+          let read = read_at slots places live rank place p within in
           let here = ap (pair_at slots) at_rank ∙ has in
           cc
 
       inside : rank < length (pairs_at slots places)
-      inside = omega (arith, within, long_at slots places (λ place. (walk.live place).0))
+      inside = omega (arith, within, long_at slots places live)
 
       pub some_at_rank : slice_get (pairs_at slots places) rank ≡ Some p
       some_at_rank = slice_get-get_or (pairs_at slots places) rank p inside ∙ ap Some (sym pair_at_rank)
@@ -86,23 +91,6 @@ module _ {P : Type 0} (slots : List (Option P)) (places : List ℕ) (walk : IsWa
       -- the pairs before it and after it
       pub parted_at_rank : pairs_at slots places ≡ take rank (pairs_at slots places) ++ p ∷ drop (suc rank) (pairs_at slots places)
       parted_at_rank = sym (take-append-drop rank (pairs_at slots places)) ∙ ap (λ xs. take rank (pairs_at slots places) ++ xs) (drop-cons (pairs_at slots places) rank p inside ∙ ap (λ q. q ∷ drop (suc rank) (pairs_at slots places)) (sym pair_at_rank))
-
--- the same of the walk by an ordered side
-module _ {P K : Type 0} (key : P → K) {order : K → K → Ordering} {same : K → K → Bool} (total : IsTotalOrder order) (agrees : (x y : K) → same x y ≡ eq_by_cmp order x y) (slots : List (Option P)) (places : List ℕ) (listing : ∥ ListsByOrder order places (λ place. option_map key (pair_at slots place)) ∥₁) (rank : ℕ) where
-  pub none_ranked : slice_get places rank ≡ None → slice_get (pairs_at slots places) rank ≡ None
-  none_ranked = none_at_rank slots places (order_walk key total agrees slots places listing) rank
-
-  pub all_ranked : slice_get places rank ≡ None → pairs_at slots places ≡ take rank (pairs_at slots places) ++ drop (suc rank) (pairs_at slots places)
-  all_ranked = all_kept slots places (order_walk key total agrees slots places listing) rank
-
-  pub live_ranked : (place : ℕ) → slice_get places rank ≡ Some place → IsLive slots place
-  live_ranked = live_at_rank slots places (order_walk key total agrees slots places listing) rank
-
-  pub some_ranked : (place : ℕ) → slice_get places rank ≡ Some place → (p : P) → pair_at slots place ≡ Some p → slice_get (pairs_at slots places) rank ≡ Some p
-  some_ranked = some_at_rank slots places (order_walk key total agrees slots places listing) rank
-
-  pub parted_ranked : (place : ℕ) → slice_get places rank ≡ Some place → (p : P) → pair_at slots place ≡ Some p → pairs_at slots places ≡ take rank (pairs_at slots places) ++ p ∷ drop (suc rank) (pairs_at slots places)
-  parted_ranked = parted_at_rank slots places (order_walk key total agrees slots places listing) rank
 
 module _ {L R K : Type 0} {same_left : L → L → Bool} {same_right : R → R → Bool} (equal_left : IsEquivalence same_left) (equal_right : IsEquivalence same_right) (key : L × R → K) {order : K → K → Ordering} {same : K → K → Bool} (total : IsTotalOrder order) (agrees : (x y : K) → same x y ≡ eq_by_cmp order x y)
     (slots slots' : List (Option (L × R))) (places places' : List ℕ) (listing : ∥ ListsByOrder order places (λ place. option_map key (pair_at slots place)) ∥₁) (listing' : ∥ ListsByOrder order places' (λ place. option_map key (pair_at slots' place)) ∥₁) (apart : IsApart same_left same_right (pairs_in slots))
@@ -156,3 +144,21 @@ module _ {L R K : Type 0} {same_left : L → L → Bool} {same_right : R → R �
           λ w. (walked slots' places' walk' q).1 ((others q).1 ((walked slots places walk q).0 w.0, w.1)),
         );
       }
+
+  live : (place : ℕ) → Contains places place → IsLive slots place
+  live place = (walk.live place).0
+
+  -- the pair of a rank was taken out
+  pub taken_ranked : (rank : ℕ) → slice_get places rank ≡ Some place → IsTakenAtRank slots places rank (Some p) slots' places'
+  taken_ranked rank at = record {
+    pair = sym (some_at_rank slots places live rank place at p was);
+    rest = walked_without (take rank (pairs_at slots places)) (drop (suc rank) (pairs_at slots places)) (parted_at_rank slots places live rank place at p was);
+    removed = store_without;
+    room = ap length now ∙ length-set slots place None;
+  }
+
+-- from the length on, none was
+pub none_taken : {L R : Type 0} (slots : List (Option (L × R))) (places : List ℕ) → IsWalk slots places → (rank : ℕ) → slice_get places rank ≡ None → IsTakenAtRank slots places rank None slots places
+none_taken slots places walk rank is =
+    let live : (place : ℕ) → Contains places place → IsLive slots place = λ place. (walk.live place).0 in
+    record { pair = sym (none_at_rank slots places live rank is); rest = all_kept slots places live rank is; removed = tt; room = refl }

@@ -15,4 +15,5 @@ mod table;
 mod undo;
 mod write;
 
+pub use ranks::pair_at_rank;
 pub use table::Table;

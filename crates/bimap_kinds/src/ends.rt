@@ -6,9 +6,11 @@ ghost use Rattle.bimap_base.specs.Digits.{most_height};
 ghost use Rattle.bimap_base.specs.Exchange.{IsRemoving};
 
 use crate::map::BijectiveMap;
-use bimap_base::{Count, Meter};
+use bimap_base::{ByOrder, Count, LeftSide, Meter, RightSide};
+use bimap_core::pair_at_rank;
 use bimap_index::Index;
 use bimap_tree::Ordered;
+use std::ops::Bound;
 
 impl<L: Ord, R: Eq, J: Index<R>> BijectiveMap<L, R, Ordered, J> {
     ghost use Rattle.bimap_kinds.specs.Held.{holding};
@@ -101,7 +103,7 @@ impl<L: Ord, R: Eq, J: Index<R>> BijectiveMap<L, R, Ordered, J> {
         ensures comparisons { M.comparisons meter.new ≡ M.comparisons meter.old }
         ensures touches { M.touches meter.new ≤ M.touches meter.old + 2 * most_height (length (holding self.now).pairs) }
     {
-        self.table.pair_at_left_rank(rank, meter)
+        pair_at_rank(&self.table.pairs, &self.table.left, rank, meter)
     }
 
     /// The same as `left_rank`, counted.
@@ -110,7 +112,10 @@ impl<L: Ord, R: Eq, J: Index<R>> BijectiveMap<L, R, Ordered, J> {
         ensures comparisons { M.comparisons meter.new ≤ M.comparisons meter.old + most_height (length (holding self.now).pairs) }
         ensures touches { M.touches meter.new ≤ M.touches meter.old + 2 * most_height (length (holding self.now).pairs) }
     {
-        self.table.left_rank(left, meter)
+        let lefts = ByOrder::new(LeftSide::new(&self.table.pairs));
+        self.table
+            .left
+            .rank_from(&lefts, Bound::Included(left), meter)
     }
 
     /// The same as `pop_first_by_left`, counted.
@@ -249,7 +254,7 @@ impl<L: Eq, R: Ord, I: Index<L>> BijectiveMap<L, R, I, Ordered> {
         ensures comparisons { M.comparisons meter.new ≡ M.comparisons meter.old }
         ensures touches { M.touches meter.new ≤ M.touches meter.old + 2 * most_height (length (holding self.now).pairs) }
     {
-        self.table.pair_at_right_rank(rank, meter)
+        pair_at_rank(&self.table.pairs, &self.table.right, rank, meter)
     }
 
     /// The same as `right_rank`, counted.
@@ -259,7 +264,10 @@ impl<L: Eq, R: Ord, I: Index<L>> BijectiveMap<L, R, I, Ordered> {
         ensures comparisons { M.comparisons meter.new ≤ M.comparisons meter.old + most_height (length (holding self.now).pairs) }
         ensures touches { M.touches meter.new ≤ M.touches meter.old + 2 * most_height (length (holding self.now).pairs) }
     {
-        self.table.right_rank(right, meter)
+        let rights = ByOrder::new(RightSide::new(&self.table.pairs));
+        self.table
+            .right
+            .rank_from(&rights, Bound::Included(right), meter)
     }
 
     /// The same as `pop_first_by_right`, counted.

@@ -1,28 +1,14 @@
-use Rattle.std.proofs.Common.{sym, refl}
-use Rattle.bimap_core.proofs.Ascending.{none_ranked, all_ranked, live_ranked, some_ranked, parted_ranked, walked_without, store_without}
+use Rattle.bimap_core.proofs.Ascending.{order_walk, none_taken, live_at_rank, taken_ranked}
 use Rattle.bimap_core.proofs.ranks.Table+L+R+I+Ordered.take_at_right_rank.Goals as goal
 
-pub returns-in_err-taken-clause-pair : goal.returns-in_err-taken-clause-pair
-returns-in_err-taken-clause-pair g c = rw (none_ranked (λ p. p.1) g.met.R.Ord.total g.met.R.Ord.matches_eq c.args.self.now.pairs c.args.self.now.right.places c.args.self.now.right_listing c.args.rank (rw c.place_at.ensures.place at c.in_err-taken.was), c.from_residual.ensures) refl
-
-pub returns-in_err-taken-clause-rest : goal.returns-in_err-taken-clause-rest
-returns-in_err-taken-clause-rest g c = all_ranked (λ p. p.1) g.met.R.Ord.total g.met.R.Ord.matches_eq c.args.self.now.pairs c.args.self.now.right.places c.args.self.now.right_listing c.args.rank (rw c.place_at.ensures.place at c.in_err-taken.was)
+pub returns-in_err-taken-clause-taken : goal.returns-in_err-taken-clause-taken
+returns-in_err-taken-clause-taken g c = rw c.from_residual.ensures (none_taken c.args.self.now.pairs c.args.self.now.right.places (order_walk (λ p. p.1) g.met.R.Ord.total g.met.R.Ord.matches_eq c.args.self.now.pairs c.args.self.now.right.places c.args.self.now.right_listing) c.args.rank (rw c.place_at.ensures.place at c.in_err-taken.was))
 
 pub take-requires : goal.take-requires
-take-requires g c = live_ranked (λ p. p.1) g.met.R.Ord.total g.met.R.Ord.matches_eq c.args.self.now.pairs c.args.self.now.right.places c.args.self.now.right_listing c.args.rank c.in_ok-taken.taken (rw c.place_at.ensures.place at c.in_ok-taken.was)
+take-requires g c = live_at_rank c.args.self.now.pairs c.args.self.now.right.places (λ q. ((order_walk (λ p. p.1) g.met.R.Ord.total g.met.R.Ord.matches_eq c.args.self.now.pairs c.args.self.now.right.places c.args.self.now.right_listing).live q).0) c.args.rank c.in_ok-taken.taken (rw c.place_at.ensures.place at c.in_ok-taken.was)
 
-pub returns-clause-pair : goal.returns-clause-pair
-returns-clause-pair g c = sym (some_ranked (λ p. p.1) g.met.R.Ord.total g.met.R.Ord.matches_eq c.args.self.now.pairs c.args.self.now.right.places c.args.self.now.right_listing c.args.rank c.in_ok-taken.taken (rw c.place_at.ensures.place at c.in_ok-taken.was) c.take.result c.take.ensures.was)
-
-pub returns-clause-rest : goal.returns-clause-rest
-returns-clause-rest g c =
+pub returns-clause-taken : goal.returns-clause-taken
+returns-clause-taken g c =
     let t = c.args.self.now in
     let n = c.take.new.self in
-    walked_without g.met.L.Eq.laws g.met.R.Eq.laws (λ p. p.1) g.met.R.Ord.total g.met.R.Ord.matches_eq t.pairs n.pairs t.right.places n.right.places t.right_listing n.right_listing t.apart c.in_ok-taken.taken c.take.result c.take.ensures.was c.take.ensures.pairs
-    _ _ (parted_ranked (λ p. p.1) g.met.R.Ord.total g.met.R.Ord.matches_eq c.args.self.now.pairs c.args.self.now.right.places c.args.self.now.right_listing c.args.rank c.in_ok-taken.taken (rw c.place_at.ensures.place at c.in_ok-taken.was) c.take.result c.take.ensures.was)
-
-pub returns-clause-removed : goal.returns-clause-removed
-returns-clause-removed g c =
-    let t = c.args.self.now in
-    let n = c.take.new.self in
-    store_without g.met.L.Eq.laws g.met.R.Eq.laws (λ p. p.1) g.met.R.Ord.total g.met.R.Ord.matches_eq t.pairs n.pairs t.right.places n.right.places t.right_listing n.right_listing t.apart c.in_ok-taken.taken c.take.result c.take.ensures.was c.take.ensures.pairs
+    taken_ranked g.met.L.Eq.laws g.met.R.Eq.laws (λ p. p.1) g.met.R.Ord.total g.met.R.Ord.matches_eq t.pairs n.pairs t.right.places n.right.places t.right_listing n.right_listing t.apart c.in_ok-taken.taken c.take.result c.take.ensures.was c.take.ensures.pairs c.args.rank (rw c.place_at.ensures.place at c.in_ok-taken.was)

@@ -21,7 +21,7 @@ keeps_at-requires g c p has =
     let walk = order_walk (λ p. p.0) g.met.L.Ord.total g.met.L.Ord.matches_eq t.pairs t.left.places t.left_listing in
     let count = count_walked t.pairs t.left.places walk in
     may g.F.FnMut c.args.f c.loop-rank.f _ _ c.loop-rank.rank c.loop-rank.invariant.going p
-    (pair_at_rank t.pairs t.left.places walk c.loop-rank.rank c.place-place.result c.place-place.ensures.place p has)
+    (pair_at_rank t.pairs t.left.places (λ q. (walk.live q).0) c.loop-rank.rank c.place-place.result c.place-place.ensures.place p has)
     (omega arith) c.requires
 
 pub loop-rank-preserved-then-keeps_at : goal.loop-rank-preserved-then-keeps_at
@@ -30,10 +30,10 @@ loop-rank-preserved-then-keeps_at g c =
     let walk = order_walk (λ p. p.0) g.met.L.Ord.total g.met.L.Ord.matches_eq t.pairs t.left.places t.left_listing in
     let count = count_walked t.pairs t.left.places walk in
     let place = c.place-place.result in
-    let here = rank_live t.pairs t.left.places walk c.loop-rank.rank place c.place-place.ensures.place in
+    let here = rank_live t.pairs t.left.places (λ q. (walk.live q).0) c.loop-rank.rank place c.place-place.ensures.place in
     record {
       going = passed g.F.FnMut c.args.f c.loop-rank.f _ _ c.loop-rank.rank c.loop-rank.invariant.going here.0
-          (pair_at_rank t.pairs t.left.places walk c.loop-rank.rank place c.place-place.ensures.place here.0 here.1)
+          (pair_at_rank t.pairs t.left.places (λ q. (walk.live q).0) c.loop-rank.rank place c.place-place.ensures.place here.0 here.1)
           (omega arith) c.keeps_at.new.f (tested_at g.F.FnMut _ here.0 c.loop-rank.f _ c.keeps_at.new.f here.1 c.if-keeps_at.ensures.tested);
       room = c.loop-rank.invariant.room;
       batch = c.place-place.ensures.batch;
@@ -50,7 +50,7 @@ loop-rank-preserved g c =
     let has = c.take.ensures.was in
     record {
       going = refused g.F.FnMut c.args.f c.loop-rank.f _ _ c.loop-rank.rank c.loop-rank.invariant.going p
-          (pair_at_rank t.pairs t.left.places walk c.loop-rank.rank place c.place-place.ensures.place p has)
+          (pair_at_rank t.pairs t.left.places (λ q. (walk.live q).0) c.loop-rank.rank place c.place-place.ensures.place p has)
           (omega arith) c.keeps_at.new.f (tested_at g.F.FnMut _ p c.loop-rank.f _ c.keeps_at.new.f has c.if-keeps_at.ensures.tested) _
           (walked_without g.met.L.Eq.laws g.met.R.Eq.laws (λ p. p.0) g.met.L.Ord.total g.met.L.Ord.matches_eq t.pairs n.pairs t.left.places n.left.places t.left_listing n.left_listing t.apart place p has c.take.ensures.pairs);
       room = ap length c.take.ensures.pairs ∙ length-set t.pairs place None ∙ c.loop-rank.invariant.room;

@@ -14,4 +14,4 @@ returns-clause-sorted g c =
     sorted_walk g.met.R.Ord.total g.met.R.Ord.matches_eq table.pairs _ (left_walk table g.met.I.Index.listed g.met.I.Index.distinct g.met.I.Index.settled) table.right.places table.right_listing
 
 pub returns-clause-removed : goal.returns-clause-removed
-returns-clause-removed g c = IfSome-then c.take_at_right_rank.result (removing_walked _ _ (left_walk c.args.self.now.table g.met.I.Index.listed g.met.I.Index.distinct g.met.I.Index.settled) _ _ (left_walk c.take_at_right_rank.new.self g.met.I.Index.listed g.met.I.Index.distinct g.met.I.Index.settled)) c.take_at_right_rank.ensures.removed
+returns-clause-removed g c = IfSome-then c.take_at_right_rank.result (removing_walked _ _ (left_walk c.args.self.now.table g.met.I.Index.listed g.met.I.Index.distinct g.met.I.Index.settled) _ _ (left_walk c.take_at_right_rank.new.self g.met.I.Index.listed g.met.I.Index.distinct g.met.I.Index.settled)) c.take_at_right_rank.ensures.taken.removed
