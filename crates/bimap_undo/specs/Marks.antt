@@ -1,6 +1,6 @@
 -- The record of a bimap's changes, and the sets of pairs that its marks stand for.
-use Rattle.std.specs.Prelude.{◌≡◌, ℕ, ◌+◌, ◌≤◌, Bool, Result, List, [], ◌∷◌, length, drop, Contains, IfOk, IfErr, OnOk, OnErr, MatchBool}
-use Rattle.bimap.specs.Sets.{IsApart, IsSameSet, NoneShares, SomeShares, IsWithPut, HasLeft, LacksLeft, IsWithoutLeft, HasRight, LacksRight, IsWithoutRight}
+use Rattle.std.specs.Prelude.{◌≡◌, ◌↔◌, ℕ, ◌+◌, ◌≤◌, Bool, true, false, Result, List, [], ◌∷◌, length, drop, Contains, IfOk, IfErr, OnOk, OnErr, MatchBool}
+use Rattle.bimap.specs.Sets.{IsApart, IsSameSet, NoneShares, SomeShares, IsWithPut, HasLeft, LacksLeft, HasRight}
 use Rattle.bimap.specs.Holding.{Holding, IsRoomAfter}
 use Rattle.bimap.specs.Undoing.{IsInserting}
 use Rattle.bimap.specs.Exchange.{IsRemoving}
@@ -74,25 +74,23 @@ module _ {L R : Type 0} (same_left : L → L → Bool) (same_right : R → R →
     pub refused : IfErr result (IsRecordedRefusal (Contains old.held.pairs) pair policy)
     pub unchanged : OnErr result (new ≡ old)
 
-  -- what a removal by left answers and leaves
-  pub record IsRecordedRemovalByLeft (old : Marked L R) (left : L) (result : Result Bool NoMemory) (new : Marked L R) : Type 0 where
-    pub found : IfOk result (λ found. MatchBool found (HasLeft same_left (Contains old.held.pairs) left) (LacksLeft same_left (Contains old.held.pairs) left))
-    pub without : OnOk result (IsWithoutLeft same_left (Contains old.held.pairs) left (Contains new.held.pairs))
+  -- what a removal by a part of a pair answers and leaves
+  pub record IsRecordedRemoval {K : Type 0} (part : L × R → K) (same : K → K → Bool) (old : Marked L R) (value : K) (result : Result Bool NoMemory) (new : Marked L R) : Type 0 where
+    pub found : IfOk result (λ found. MatchBool found ((q : L × R) × Contains old.held.pairs q × (same (part q) value ≡ true)) ((q : L × R) → Contains old.held.pairs q → same (part q) value ≡ false))
+    pub without : OnOk result ((q : L × R) → Contains new.held.pairs q ↔ (Contains old.held.pairs q × (same (part q) value ≡ false)))
     pub recorded : IfOk result (λ found. MatchBool found (length new.entries ≡ length old.entries + 1) (new ≡ old))
     pub kept : OnOk result (KeepsMarks old (length old.entries) new)
     pub room : new.held.room ≡ old.held.room
-    pub refused : OnErr result (HasLeft same_left (Contains old.held.pairs) left)
+    pub refused : OnErr result ((q : L × R) × Contains old.held.pairs q × (same (part q) value ≡ true))
     pub unchanged : OnErr result (new ≡ old)
 
-  -- what a removal by right answers and leaves
-  pub record IsRecordedRemovalByRight (old : Marked L R) (right : R) (result : Result Bool NoMemory) (new : Marked L R) : Type 0 where
-    pub found : IfOk result (λ found. MatchBool found (HasRight same_right (Contains old.held.pairs) right) (LacksRight same_right (Contains old.held.pairs) right))
-    pub without : OnOk result (IsWithoutRight same_right (Contains old.held.pairs) right (Contains new.held.pairs))
-    pub recorded : IfOk result (λ found. MatchBool found (length new.entries ≡ length old.entries + 1) (new ≡ old))
-    pub kept : OnOk result (KeepsMarks old (length old.entries) new)
-    pub room : new.held.room ≡ old.held.room
-    pub refused : OnErr result (HasRight same_right (Contains old.held.pairs) right)
-    pub unchanged : OnErr result (new ≡ old)
+  -- by left
+  abbrev pub IsRecordedRemovalByLeft : Marked L R → L → Result Bool NoMemory → Marked L R → Type 0
+  IsRecordedRemovalByLeft old left result new = IsRecordedRemoval (λ p. p.0) same_left old left result new
+
+  -- and by right
+  abbrev pub IsRecordedRemovalByRight : Marked L R → R → Result Bool NoMemory → Marked L R → Type 0
+  IsRecordedRemovalByRight old right result new = IsRecordedRemoval (λ p. p.1) same_right old right result new
 
   -- what the mark stood for is held, and it is the last mark
   pub record IsReturn (old : Marked L R) (mark : ℕ) (new : Marked L R) : Type 0 where
