@@ -1,6 +1,7 @@
 //! What tests over any bimap share, and the rows of calls with what they must answer. It knows the bimaps by the interface alone.
 #![tactic(auto)]
 
+mod counted;
 mod kind;
 mod policies;
 mod shown;
@@ -11,6 +12,7 @@ mod trails;
 mod walks;
 mod zero;
 
+pub use counted::{Counted, counted_at};
 pub use kind::{CopyKind, Kind};
 pub use policies::{KEEP_LEFT, KEEP_RIGHT, ONCE, OVERWRITE};
 pub use shown::{holds, shows};

@@ -1,68 +1,11 @@
 //! Comparisons of the plain calls, seen by keys that count them.
-ghost use Rattle.std.specs.Prelude.{◌==◌};
-ghost use Rattle.std.proofs.Common.{rules};
-ghost use Rattle.std.specs.Cmp.{partial_order_from_own_ties};
-ghost use Rattle.std.specs.Cmp.Rules.{comparing};
-ghost use Rattle.std.specs.Ordering.{nat_cmp, on, as_partial_cmp};
-
 use bimap::btree::Iter;
 use bimap::{BiBTreeMap, Overwritten};
+use bimap_calls::{Counted, counted_at};
 use bimap_famine::Famine;
 use std::alloc::Global;
 use std::cell::Cell;
-use std::cmp::Ordering;
 use std::test::Fail;
-
-// A number whose comparisons are counted.
-#[derive(Drop)]
-struct Counted<'a> {
-    number: u32,
-    compared: &'a Cell<u64>,
-}
-
-impl PartialEq for Counted<'_> {
-    ghost eq = { λ x y. x.number == y.number };
-
-    ghost laws = { Prim.search (comparing, rules) };
-
-    fn eq(&self, other: &Self) -> bool {
-        self.compared.set(self.compared.get().wrapping_add(1));
-        self.number == other.number
-    }
-}
-
-impl Eq for Counted<'_> {
-    ghost laws = { Prim.search (comparing, rules) };
-}
-
-impl PartialOrd for Counted<'_> {
-    ghost partial_cmp = { as_partial_cmp (on (λ x. x.number) nat_cmp) };
-
-    ghost laws = { partial_order_from_own_ties (Prim.search (comparing, rules)) (Prim.search (comparing, rules)) };
-
-    fn partial_cmp(&self, other: &Self) -> Option<Ordering> {
-        Some(self.cmp(other))
-    }
-}
-
-impl Ord for Counted<'_> {
-    ghost cmp = { on (λ x. x.number) nat_cmp };
-
-    ghost total = { Prim.search (comparing, rules) };
-
-    ghost matches_partial_cmp = { Prim.search (comparing, rules) };
-
-    ghost matches_eq = { Prim.search (comparing, rules) };
-
-    fn cmp(&self, other: &Self) -> Ordering {
-        self.compared.set(self.compared.get().wrapping_add(1));
-        self.number.cmp(&other.number)
-    }
-}
-
-fn counted_at(number: u32, compared: &Cell<u64>) -> Counted<'_> {
-    Counted { number, compared }
-}
 
 type Numbers<'a> = BiBTreeMap<Counted<'a>, Counted<'a>>;
 

@@ -1,49 +1,9 @@
 //! Equality tests of the look-ups, seen by keys that count them.
-ghost use Rattle.std.proofs.Common.{rules};
-ghost use Rattle.std.specs.Cmp.Rules.{comparing, hashing};
-ghost use Rattle.std.specs.Hash as fed;
-ghost use Rattle.std.specs.Prelude.{◌==◌};
-
 use bimap::BiHashMap;
+use bimap_calls::{Counted, counted_at};
 use std::alloc::Global;
 use std::cell::Cell;
-use std::hash::{BuildHasher, Hash, Hasher};
-
-// A number whose equality tests are counted.
-#[derive(Drop)]
-struct Counted<'a> {
-    number: u32,
-    tests: &'a Cell<u64>,
-}
-
-impl PartialEq for Counted<'_> {
-    ghost eq = { λ x y. x.number == y.number };
-
-    ghost laws = { Prim.search (comparing, rules) };
-
-    fn eq(&self, other: &Self) -> bool {
-        self.tests.set(self.tests.get().wrapping_add(1));
-        self.number == other.number
-    }
-}
-
-impl Eq for Counted<'_> {
-    ghost laws = { Prim.search (comparing, rules) };
-}
-
-impl Hash for Counted<'_> {
-    ghost hash_input = { λ x. fed.u32 x.number };
-
-    ghost respects_eq = { Prim.search (hashing, rules) };
-
-    fn hash<H: Hasher>(&self, state: &mut H) {
-        self.number.hash(state);
-    }
-}
-
-fn counted_at(number: u32, tests: &Cell<u64>) -> Counted<'_> {
-    Counted { number, tests }
-}
+use std::hash::BuildHasher;
 
 // Inserts a thousand pairs, each of two numbers with the sum 1001.
 fn fill<'a, LS: BuildHasher, RS: BuildHasher>(
