@@ -3,16 +3,10 @@ use Rattle.std.proofs.Common.{◌≡◌, inl, inr, suc, ◌≤◌, Bool, true, L
 use Rattle.std.specs.Prelude.{Contains}
 use Rattle.std.specs.Cmp.{IsEquivalence}
 use Rattle.std.proofs.lemmas.Bool.{or_left, or_right, false_from_ne_true, cases_Bool}
-use Rattle.bimap_base.specs.Sets.{shares, IsApart, IsSameSet, IsWithPut, LacksLeft, IsWithoutLeft, LacksRight, IsWithoutRight}
+use Rattle.bimap_base.specs.Sets.{shares, IsApart, IsSameSet, IsWithPut, IsWithoutLeft, IsWithoutRight}
 use Rattle.bimap_base.proofs.Members.{cases_in}
 use Rattle.bimap_base.proofs.Apart.{apart_more, apart_unique, no_longer, shares_itself}
 use Rattle.bimap_base.specs.Exchange.{IsRemoving}
-
-pub lacks_left : {L R : Type 0} (same_left : L → L → Bool) (S : L × R → Type 0) (left : L) → LacksLeft same_left S left → IsWithoutLeft same_left S left S
-lacks_left same_left S left lacks q = (λ m. (m, lacks q m), λ m. m.0)
-
-pub lacks_right : {L R : Type 0} (same_right : R → R → Bool) (S : L × R → Type 0) (right : R) → LacksRight same_right S right → IsWithoutRight same_right S right S
-lacks_right same_right S right lacks q = (λ m. (m, lacks q m), λ m. m.0)
 
 module _ {L R : Type 0} (same_left : L → L → Bool) (same_right : R → R → Bool) (lefts : IsEquivalence same_left) (rights : IsEquivalence same_right) where
   module _ (A : List (L × R)) (p : L × R) (B : List (L × R)) (apart : IsApart same_left same_right A) where

@@ -1,29 +1,19 @@
 -- A pair that takes the place of another.
-use Rattle.std.proofs.Common.{◌≡◌, ◌+◌, ◌≤◌, inl, inr, Bool, true, false, List, length, Some, refl, sym, ◌∙◌, arith, true≢false}
+use Rattle.std.proofs.Common.{◌≡◌, ◌↔◌, ◌⊎◌, ◌+◌, ◌≤◌, inl, inr, Bool, true, false, List, length, refl, sym, subst, ◌∙◌, arith, true≢false}
 use Rattle.std.specs.Prelude.{Contains, not, Ok, Err}
 use Rattle.std.specs.Cmp.{IsEquivalence}
 use Rattle.std.proofs.lemmas.Bool.{or_left, or_right, or_from, false_from_ne_true}
-use Rattle.bimap_base.specs.Sets.{IsApart, NoneShares, IsWithPut, LacksLeft, IsWithoutLeft, LacksRight, IsWithoutRight}
-use Rattle.bimap_base.specs.Exchange.{IsRemoving, IsExchanged, IsReplacementOfLeft, IsReplacementOfRight}
-use Rattle.bimap_base.specs.Holding.{Holding, IsInsertion, IsRemovalByLeft, IsRemovalByRight}
+use Rattle.bimap_base.specs.Sets.{IsApart, NoneShares, IsWithPut, LacksLeft, LacksRight}
+use Rattle.bimap_base.specs.Exchange.{IsRemoving, IsExchanged, LacksPart, IsReplacement}
+use Rattle.bimap_base.specs.Holding.{Holding, IsInsertion}
 use Rattle.bimap_base.specs.declared.overwritten.Overwritten.{Overwritten}
 use Rattle.bimap_base.specs.declared.refusal.NotReplaced.TheVariants.{Missing}
 use Rattle.bimap_base.proofs.Apart.{apart_unique}
 use Rattle.bimap_base.proofs.Counts.{none_named}
-use Rattle.bimap_base.proofs.Removals.{removing_left, removing_right}
 
 true_from_not : (b : Bool) → false ≡ not b → b ≡ true
 true_from_not true e = refl
 true_from_not false e = absurd (true≢false (sym e))
-
--- where a value lacks, an equal one does
-pub lacks_equal_left : {L R : Type 0} (same_left : L → L → Bool) → IsEquivalence same_left → (S T : L × R → Type 0) (from to : L) → IsWithoutLeft same_left S from T → false ≡ not (same_left to from) → LacksLeft same_left T to
-lacks_equal_left same_left lefts S T from to without e q m =
-    lefts.symm q.0 to ∙ lefts.congr to from q.0 (true_from_not (same_left to from) e) ∙ lefts.symm from q.0 ∙ ((without q).0 m).1
-
-pub lacks_equal_right : {L R : Type 0} (same_right : R → R → Bool) → IsEquivalence same_right → (S T : L × R → Type 0) (from to : R) → IsWithoutRight same_right S from T → false ≡ not (same_right to from) → LacksRight same_right T to
-lacks_equal_right same_right rights S T from to without e q m =
-    rights.symm q.1 to ∙ rights.congr to from q.1 (true_from_not (same_right to from) e) ∙ rights.symm from q.1 ∙ ((without q).0 m).1
 
 module _ {L R : Type 0} (same_left : L → L → Bool) (same_right : R → R → Bool) (lefts : IsEquivalence same_left) (rights : IsEquivalence same_right) (A B : List (L × R)) (p : L × R) (apart : IsApart same_left same_right A) (r : IsRemoving A p B) where
   -- none of the pairs that stay has the value that stays, nor the other one
@@ -59,21 +49,29 @@ module _ {L R : Type 0} (same_left : L → L → Bool) (same_right : R → R →
     i.room.had_place (omega (arith, count, fits, room)) ∙ room,
   )
 
-  pub replaced_left : (from to : L) (p : L × R) → IsRemovalByLeft same_left old from (Some p) held → LacksLeft same_left (Contains held.pairs) to → IsInsertion same_left same_right held (to, p.1) (Ok answer) new → IsReplacementOfLeft same_left old from to (Ok p.0) new
-  replaced_left from to p r lacks i =
-      let removing = removing_left same_left same_right lefts rights old.pairs p held.pairs apart from r.removed.0 r.removed.1 r.without in
-      let w = placed p (to, p.1) removing (none_shares_left same_left same_right lefts rights old.pairs held.pairs p apart removing to lacks) r.count r.room i in
-      record { replaced = record { right = p.1; by_left = r.removed.1; exchanged = w.0 }; refused = tt; unchanged = tt; count = w.1; room = w.2 }
+-- once for both sides: `part` is the side, `rest` the other one, and `pair` makes a pair of them
+module _ {L R K M : Type 0} (part : L × R → K) (rest : L × R → M) (pair : K → M → L × R) (same : K → K → Bool) where
+  -- nothing changed where the value isn't held
+  pub missing : (held : Holding L R) (from to : K) → LacksPart part pair same (Contains held.pairs) from → IsReplacement part pair same held from to (Err (Missing to)) held
+  missing held from to lacks = record { replaced = tt; refused = (refl, lacks); unchanged = refl; count = refl; room = refl }
 
-  pub replaced_right : (from to : R) (p : L × R) → IsRemovalByRight same_right old from (Some p) held → LacksRight same_right (Contains held.pairs) to → IsInsertion same_left same_right held (p.0, to) (Ok answer) new → IsReplacementOfRight same_right old from to (Ok p.1) new
-  replaced_right from to p r lacks i =
-      let removing = removing_right same_left same_right lefts rights old.pairs p held.pairs apart from r.removed.0 r.removed.1 r.without in
-      let w = placed p (p.0, to) removing (none_shares_right same_left same_right lefts rights old.pairs held.pairs p apart removing to lacks) r.count r.room i in
-      record { replaced = record { left = p.0; by_right = r.removed.1; exchanged = w.0 }; refused = tt; unchanged = tt; count = w.1; room = w.2 }
-
--- nothing changed where the value isn't held
-pub missing_left : {L R : Type 0} (same_left : L → L → Bool) (held : Holding L R) (from to : L) → LacksLeft same_left (Contains held.pairs) from → IsReplacementOfLeft same_left held from to (Err (Missing to)) held
-missing_left same_left held from to lacks = record { replaced = tt; refused = (refl, lacks); unchanged = refl; count = refl; room = refl }
-
-pub missing_right : {L R : Type 0} (same_right : R → R → Bool) (held : Holding L R) (from to : R) → LacksRight same_right (Contains held.pairs) from → IsReplacementOfRight same_right held from to (Err (Missing to)) held
-missing_right same_right held from to lacks = record { replaced = tt; refused = (refl, lacks); unchanged = refl; count = refl; room = refl }
+  module _ (same_left : L → L → Bool) (same_right : R → R → Bool) (lefts : IsEquivalence same_left) (rights : IsEquivalence same_right) (equal : IsEquivalence same)
+      (removing : (A : List (L × R)) (p : L × R) (B : List (L × R)) → IsApart same_left same_right A → (k : K) → Contains A p → same (part p) k ≡ true → ((q : L × R) → Contains B q ↔ (Contains A q × (same (part q) k ≡ false))) → IsRemoving A p B)
+      (none_shares : (A B : List (L × R)) (p : L × R) → IsApart same_left same_right A → IsRemoving A p B → (to : K) → LacksPart part pair same (Contains B) to → NoneShares same_left same_right (Contains B) (pair to (rest p))) where
+    pub replaced : (old held new : Holding L R) → IsApart same_left same_right old.pairs → length old.pairs ≤ old.room → (answer : Overwritten L R) (from to : K) (p : L × R) → p ≡ pair (part p) (rest p)
+        → Contains old.pairs p × (same (part p) from ≡ true) → ((q : L × R) → Contains held.pairs q ↔ (Contains old.pairs q × (same (part q) from ≡ false))) → length held.pairs + 1 ≡ length old.pairs → held.room ≡ old.room
+        → LacksPart part pair same (Contains old.pairs) to ⊎ (false ≡ not (same to from)) → IsInsertion same_left same_right held (pair to (rest p)) (Ok answer) new → IsReplacement part pair same old from to (Ok (part p)) new
+    replaced old held new apart fits answer from to p whole removed without count room free i =
+        let lacks : LacksPart part pair same (Contains held.pairs) to = elim free [
+          | inl none ↦ λ q m. none q ((without q).0 m).0
+          | inr e ↦ λ q m. equal.symm (part q) to ∙ equal.congr to from (part q) (true_from_not (same to from) e) ∙ equal.symm from (part q) ∙ ((without q).0 m).1
+        ] in
+        let taken = removing old.pairs p held.pairs apart from removed.0 removed.1 without in
+        let w = placed same_left same_right lefts rights old held new apart fits answer p (pair to (rest p)) taken (none_shares old.pairs held.pairs p apart taken to lacks) count room i in
+        record {
+          replaced = record { other = rest p; by_part = removed.1; exchanged = subst (λ z. IsExchanged (Contains old.pairs) z (pair to (rest p)) (Contains new.pairs)) whole w.0 };
+          refused = tt;
+          unchanged = tt;
+          count = w.1;
+          room = w.2;
+        }

@@ -1,6 +1,5 @@
 -- A pair that is taken out, and one that takes the place of another.
 use Rattle.std.specs.Prelude.{◌≡◌, ◌≢◌, ◌↔◌, ◌⊎◌, Bool, true, false, Result, List, length, Contains, IfOk, IfErr, OnErr}
-use Rattle.bimap_base.specs.Sets.{HasLeft, LacksLeft, HasRight, LacksRight}
 use Rattle.bimap_base.specs.Holding.{Holding}
 use Rattle.bimap_base.specs.declared.refusal.NotReplaced.{NotReplaced}
 use Rattle.bimap_base.specs.declared.refusal.NotReplaced.TheVariants.{Missing, Held}
@@ -15,40 +14,38 @@ pub record IsExchanged {L R : Type 0} (S : L × R → Type 0) (pair other : L ×
   pub member : S pair
   pub exchanged : (q : L × R) → T q ↔ ((q ≡ other) ⊎ (S q × (q ≢ pair)))
 
-module _ {L R : Type 0} (same_left : L → L → Bool) where
-  -- the pair of the left `from`, whose left was `taken`, is there under the left `to`
-  pub record IsLeftReplaced (S : L × R → Type 0) (from to taken : L) (T : L × R → Type 0) : Type 0 where
-    pub right : R
-    pub by_left : same_left taken from ≡ true
-    pub exchanged : IsExchanged S (taken, right) (to, right) T
+-- a value of one part of a pair in the place of another: `pair` makes a pair of this part and the other one
+module _ {L R K M : Type 0} (part : L × R → K) (pair : K → M → L × R) (same : K → K → Bool) where
+  -- the pair that had `from`, and `taken` exactly, is there with `to`
+  pub record IsPartReplaced (S : L × R → Type 0) (from to taken : K) (T : L × R → Type 0) : Type 0 where
+    pub other : M
+    pub by_part : same taken from ≡ true
+    pub exchanged : IsExchanged S (pair taken other) (pair to other) T
 
-  -- why it was not
-  abbrev pub IsLeftKept : (L × R → Type 0) → L → L → NotReplaced L → Type 0
-  IsLeftKept S from to (Missing l) = (l ≡ to) × LacksLeft same_left S from
-  IsLeftKept S from to (Held l) = (l ≡ to) × HasLeft same_left S from × (same_left to from ≡ false) × HasLeft same_left S to
+  -- a member of S has the value, and none has it
+  abbrev pub HasPart : (L × R → Type 0) → K → Type 0
+  HasPart S k = (q : L × R) × S q × (same (part q) k ≡ true)
 
-  pub record IsReplacementOfLeft (old : Holding L R) (from to : L) (result : Result L (NotReplaced L)) (new : Holding L R) : Type 0 where
-    pub replaced : IfOk result (λ taken. IsLeftReplaced (Contains old.pairs) from to taken (Contains new.pairs))
-    pub refused : IfErr result (IsLeftKept (Contains old.pairs) from to)
+  abbrev pub LacksPart : (L × R → Type 0) → K → Type 0
+  LacksPart S k = (q : L × R) → S q → same (part q) k ≡ false
+
+  -- why it was not replaced
+  abbrev pub IsPartKept : (L × R → Type 0) → K → K → NotReplaced K → Type 0
+  IsPartKept S from to (Missing k) = (k ≡ to) × LacksPart S from
+  IsPartKept S from to (Held k) = (k ≡ to) × HasPart S from × (same to from ≡ false) × HasPart S to
+
+  pub record IsReplacement (old : Holding L R) (from to : K) (result : Result K (NotReplaced K)) (new : Holding L R) : Type 0 where
+    pub replaced : IfOk result (λ taken. IsPartReplaced (Contains old.pairs) from to taken (Contains new.pairs))
+    pub refused : IfErr result (IsPartKept (Contains old.pairs) from to)
     pub unchanged : OnErr result (new ≡ old)
     pub count : length new.pairs ≡ length old.pairs
     pub room : new.room ≡ old.room
 
-module _ {L R : Type 0} (same_right : R → R → Bool) where
-  -- the pair of the right `from`, whose right was `taken`, is there under the right `to`
-  pub record IsRightReplaced (S : L × R → Type 0) (from to taken : R) (T : L × R → Type 0) : Type 0 where
-    pub left : L
-    pub by_right : same_right taken from ≡ true
-    pub exchanged : IsExchanged S (left, taken) (left, to) T
+module _ {L R : Type 0} where
+  -- of a left
+  abbrev pub IsReplacementOfLeft : (L → L → Bool) → Holding L R → L → L → Result L (NotReplaced L) → Holding L R → Type 0
+  IsReplacementOfLeft same_left old from to result new = IsReplacement (λ p. p.0) (λ l r. (l, r)) same_left old from to result new
 
-  -- why it was not
-  abbrev pub IsRightKept : (L × R → Type 0) → R → R → NotReplaced R → Type 0
-  IsRightKept S from to (Missing r) = (r ≡ to) × LacksRight same_right S from
-  IsRightKept S from to (Held r) = (r ≡ to) × HasRight same_right S from × (same_right to from ≡ false) × HasRight same_right S to
-
-  pub record IsReplacementOfRight (old : Holding L R) (from to : R) (result : Result R (NotReplaced R)) (new : Holding L R) : Type 0 where
-    pub replaced : IfOk result (λ taken. IsRightReplaced (Contains old.pairs) from to taken (Contains new.pairs))
-    pub refused : IfErr result (IsRightKept (Contains old.pairs) from to)
-    pub unchanged : OnErr result (new ≡ old)
-    pub count : length new.pairs ≡ length old.pairs
-    pub room : new.room ≡ old.room
+  -- and of a right
+  abbrev pub IsReplacementOfRight : (R → R → Bool) → Holding L R → R → R → Result R (NotReplaced R) → Holding L R → Type 0
+  IsReplacementOfRight same_right old from to result new = IsReplacement (λ p. p.1) (λ r l. (l, r)) same_right old from to result new
