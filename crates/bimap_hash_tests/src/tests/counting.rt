@@ -1,6 +1,6 @@
-//! Equality tests of the look-ups, seen by keys that count them.
-use bimap::BiHashMap;
-use bimap_calls::{Counted, counted_at};
+//! Equality tests of look-ups and insertions, seen by keys that count them.
+use bimap::{BiHashMap, Overwritten};
+use bimap_calls::{Counted, Crowded, counted_at, crowded};
 use std::alloc::Global;
 use std::cell::Cell;
 use std::hash::BuildHasher;
@@ -69,4 +69,25 @@ fn look_ups_test_few_keys(rt: HostRuntime) {
     };
     assert!(&rt; hits >= 2000 && hits <= 20000, "{hits}");
     assert!(&rt; misses <= 18000, "{misses}");
+}
+
+// How many equality tests it takes to put in the first pair again, whose values stand last in chains of a thousand, or
+// `None` where that is answered otherwise.
+fn tests_of_the_very_pair(alloc: Global, tests: &Cell<u64>) -> Option<u64> {
+    let mut map: Crowded<Counted, Counted> = crowded(alloc);
+    fill(&mut map, tests);
+    tests.set(0);
+    match map.insert(counted_at(1, tests), counted_at(1000, tests)) {
+        Ok(Overwritten::Pair(_, _)) => Some(tests.get()),
+        _ => None,
+    }
+}
+
+#[test]
+fn the_right_beside_an_equal_left_is_asked_first(rt: HostRuntime) {
+    let tests = Cell::new(0u64);
+    let Some(asked) = tests_of_the_very_pair(rt.alloc(), &tests) else {
+        return assert!(&rt; false, "an insertion answered wrongly");
+    };
+    assert!(&rt; asked <= 1001, "{asked}");
 }
