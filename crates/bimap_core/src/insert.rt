@@ -52,6 +52,7 @@ impl<L: Eq, R: Eq, I: Index<L>, J: Index<R>> Table<L, R, I, J> {
         if keeps(by_right, policy.right) {
             return Err(NotInsertedWith::RightHeld(left, right));
         }
+        let spots = (&left_spot, &right_spot);
         match (by_left, by_right) {
             (None, None) => {
                 if self.make_room().is_err() {
@@ -61,21 +62,21 @@ impl<L: Eq, R: Eq, I: Index<L>, J: Index<R>> Table<L, R, I, J> {
                 Ok(Overwritten::Neither)
             }
             (Some(place), None) => {
-                let (old_left, old_right) = self.swap_right(place, left, right, &right_spot, meter);
-                Ok(Overwritten::Left(old_left, old_right))
+                let old = self.swap(place, left, right, (false, true), spots, meter);
+                Ok(Overwritten::Left(old.0, old.1))
             }
             (None, Some(place)) => {
-                let (old_left, old_right) = self.swap_left(place, left, right, &left_spot, meter);
-                Ok(Overwritten::Right(old_left, old_right))
+                let old = self.swap(place, left, right, (true, false), spots, meter);
+                Ok(Overwritten::Right(old.0, old.1))
             }
             (Some(place), Some(other)) => {
                 if place == other {
                     self.is_left_first = true;
-                    let (old_left, old_right) = self.swap_equal(place, left, right);
-                    return Ok(Overwritten::Pair(old_left, old_right));
+                    let old = self.swap(place, left, right, (false, false), spots, meter);
+                    return Ok(Overwritten::Pair(old.0, old.1));
                 }
                 let second = self.take(other, meter);
-                let first = self.swap_right(place, left, right, &right_spot, meter);
+                let first = self.swap(place, left, right, (false, true), spots, meter);
                 Ok(Overwritten::Both(first, second))
             }
         }

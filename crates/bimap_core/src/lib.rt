@@ -7,6 +7,7 @@ mod insert;
 mod intern;
 mod pack;
 mod ranks;
+mod relist;
 mod remove;
 mod retain;
 mod retain_in_turn;

@@ -5,6 +5,7 @@ ghost use Rattle.bimap_base.specs.Places.{IsFoundAt};
 ghost use Rattle.bimap_base.specs.Slots.{pair_at, IsLive, pair_count};
 ghost use Rattle.bimap_base.specs.Undoing.{IsUndoable};
 
+use crate::relist::renew;
 use crate::table::Table;
 use bimap_base::{LeftSide, Meter, Overwritten, RightSide, UndoStopped};
 use bimap_index::Index;
@@ -67,45 +68,12 @@ impl<L: Eq, R: Eq, I: Index<L>, J: Index<R>> Table<L, R, I, J> {
         ensures comparisons { M.comparisons meter.new ≤ M.comparisons meter.old + 3 * I.effort (length (I.places self.old.left)) + 3 * J.effort (length (J.places self.old.right)) }
         ensures touches { M.touches meter.new ≤ M.touches meter.old + 128 * (I.effort (length (I.places self.old.left)) + 1) + 128 * (J.effort (length (J.places self.old.right)) + 1) }
     {
-        let same_left = self
-            .left
-            .is_known(LeftSide::new(&self.pairs), place, &left, meter);
-        let same_right = self
-            .right
-            .is_known(RightSide::new(&self.pairs), place, &right, meter);
-        match (same_left, same_right) {
-            (true, true) => self.swap_equal(place, left, right),
-            (true, false) => {
-                let spot = self.right.spot_for(&right);
-                self.swap_right(place, left, right, &spot, meter)
-            }
-            (false, true) => {
-                let spot = self.left.spot_for(&left);
-                self.swap_left(place, left, right, &spot, meter)
-            }
-            (false, false) => self.swap_both(place, left, right, meter),
-        }
-    }
-
-    // Puts a pair in the place of another, whatever its values. Both indexes are relinked.
-    fn swap_both<M: Meter>(&mut self, place: usize, left: L, right: R, meter: &mut M) -> (L, R)
-        requires live { IsLive self.old.pairs place }
-        requires alone { IsAloneAt L.eq R.eq self.old.pairs place (left, right) }
-        ensures was { pair_at self.old.pairs place ≡ Some result }
-        ensures pairs { self.new.pairs ≡ slice_set self.old.pairs place (Some (left, right)) }
-        ensures comparisons { M.comparisons meter.new ≤ M.comparisons meter.old + 2 * I.effort (length (I.places self.old.left)) + 2 * J.effort (length (J.places self.old.right)) }
-        ensures touches { M.touches meter.new ≤ M.touches meter.old + 128 * (I.effort (length (I.places self.old.left)) + 1) + 128 * (J.effort (length (J.places self.old.right)) + 1) }
-    {
-        let left_spot = self.left.spot_for(&left);
-        let right_spot = self.right.spot_for(&right);
-        self.left.unlink(LeftSide::new(&self.pairs), place, meter);
-        self.right.unlink(RightSide::new(&self.pairs), place, meter);
-        let old = self.pairs.swap_in(place, left, right);
-        self.left
-            .relink(LeftSide::new(&self.pairs), place, &left_spot, meter);
-        self.right
-            .relink(RightSide::new(&self.pairs), place, &right_spot, meter);
-        old
+        let lefts = LeftSide::new(&self.pairs);
+        let (new_left, left_spot) = renew(&self.left, lefts, place, &left, meter);
+        let rights = RightSide::new(&self.pairs);
+        let (new_right, right_spot) = renew(&self.right, rights, place, &right, meter);
+        let spots = (&left_spot, &right_spot);
+        self.swap(place, left, right, (new_left, new_right), spots, meter)
     }
 
     // Puts a pair that shares with none into a free place, and answers which.

@@ -1,7 +1,8 @@
 //! Writes at one place: the store and what changes of the indexes, together. It decides nothing.
-ghost use Rattle.std.specs.Prelude.{◌≡◌, ◌<◌, ◌≤◌, ◌+◌, ◌*◌, ℕ, true, length, Some, None, IsSomeAnd, OnOk, OnErr, max, slice_set};
+ghost use Rattle.std.specs.Prelude.{◌≡◌, ◌<◌, ◌≤◌, ◌+◌, ◌*◌, ℕ, true, length, Some, None, IsSomeAnd, MatchBool, OnOk, OnErr, max, slice_set, if◌then◌else◌};
 ghost use Rattle.bimap_base.specs.Slots.{pair_at, left_at, right_at, IsLive, pair_count};
 
+use crate::relist::{relist, unlist};
 use crate::table::Table;
 use bimap_base::{LeftSide, Meter, NoMemory, RightSide};
 use bimap_index::Index;
@@ -9,62 +10,35 @@ use bimap_index::Index;
 impl<L: Eq, R: Eq, I: Index<L>, J: Index<R>> Table<L, R, I, J> {
     ghost use Rattle.bimap_core.specs.Store.{IsAloneAt};
 
-    // Puts a pair in the place of one that is equal to it on both sides. No index changes.
-    pub(crate) fn swap_equal(&mut self, place: usize, left: L, right: R) -> (L, R)
-        requires same_left { IsSomeAnd (pair_at self.old.pairs place) (λ p. L.eq p.0 left ≡ true) }
-        requires same_right { IsSomeAnd (pair_at self.old.pairs place) (λ p. R.eq p.1 right ≡ true) }
-        requires alone { IsAloneAt L.eq R.eq self.old.pairs place (left, right) }
-        ensures was { pair_at self.old.pairs place ≡ Some result }
-        ensures pairs { self.new.pairs ≡ slice_set self.old.pairs place (Some (left, right)) }
-    {
-        self.pairs.swap_in(place, left, right)
-    }
-
-    // Puts a pair in the place of one with an equal left. The right index alone is relinked.
-    pub(crate) fn swap_right<M: Meter>(
+    // Puts a pair in the place of another. An index is changed only where its key is new, by the spot of that key: where
+    // it isn't, it is equal, and the spot may be any.
+    pub(crate) fn swap<M: Meter>(
         &mut self,
         place: usize,
         left: L,
         right: R,
-        spot: &J::Spot,
+        is_new: (bool, bool),
+        spots: (&I::Spot, &J::Spot),
         meter: &mut M,
     ) -> (L, R)
-        requires same_left { IsSomeAnd (pair_at self.old.pairs place) (λ p. L.eq p.0 left ≡ true) }
-        requires spot { J.is_for self.old.right right spot.now }
+        requires live { IsLive self.old.pairs place }
+        requires left { MatchBool is_new.0 (I.is_for self.old.left left spots.0.now) (IsSomeAnd (pair_at self.old.pairs place) (λ p. L.eq p.0 left ≡ true)) }
+        requires right { MatchBool is_new.1 (J.is_for self.old.right right spots.1.now) (IsSomeAnd (pair_at self.old.pairs place) (λ p. R.eq p.1 right ≡ true)) }
         requires alone { IsAloneAt L.eq R.eq self.old.pairs place (left, right) }
         ensures was { pair_at self.old.pairs place ≡ Some result }
         ensures pairs { self.new.pairs ≡ slice_set self.old.pairs place (Some (left, right)) }
-        ensures comparisons { M.comparisons meter.new ≤ M.comparisons meter.old + 2 * J.effort (length (J.places self.old.right)) }
-        ensures touches { M.touches meter.new ≤ M.touches meter.old + 128 * (J.effort (length (J.places self.old.right)) + 1) }
+        ensures comparisons { M.comparisons meter.new ≤ M.comparisons meter.old + 2 * (if is_new.0 then I.effort (length (I.places self.old.left)) else 0) + 2 * (if is_new.1 then J.effort (length (J.places self.old.right)) else 0) }
+        ensures touches { M.touches meter.new ≤ M.touches meter.old + 2 * (if is_new.0 then 64 * (I.effort (length (I.places self.old.left)) + 1) else 0) + 2 * (if is_new.1 then 64 * (J.effort (length (J.places self.old.right)) + 1) else 0) }
     {
-        self.right.unlink(RightSide::new(&self.pairs), place, meter);
+        let lefts = LeftSide::new(&self.pairs);
+        unlist(&mut self.left, is_new.0, lefts, place, meter);
+        let rights = RightSide::new(&self.pairs);
+        unlist(&mut self.right, is_new.1, rights, place, meter);
         let old = self.pairs.swap_in(place, left, right);
-        self.right
-            .relink(RightSide::new(&self.pairs), place, spot, meter);
-        old
-    }
-
-    // Puts a pair in the place of one with an equal right. The left index alone is relinked.
-    pub(crate) fn swap_left<M: Meter>(
-        &mut self,
-        place: usize,
-        left: L,
-        right: R,
-        spot: &I::Spot,
-        meter: &mut M,
-    ) -> (L, R)
-        requires same_right { IsSomeAnd (pair_at self.old.pairs place) (λ p. R.eq p.1 right ≡ true) }
-        requires spot { I.is_for self.old.left left spot.now }
-        requires alone { IsAloneAt L.eq R.eq self.old.pairs place (left, right) }
-        ensures was { pair_at self.old.pairs place ≡ Some result }
-        ensures pairs { self.new.pairs ≡ slice_set self.old.pairs place (Some (left, right)) }
-        ensures comparisons { M.comparisons meter.new ≤ M.comparisons meter.old + 2 * I.effort (length (I.places self.old.left)) }
-        ensures touches { M.touches meter.new ≤ M.touches meter.old + 128 * (I.effort (length (I.places self.old.left)) + 1) }
-    {
-        self.left.unlink(LeftSide::new(&self.pairs), place, meter);
-        let old = self.pairs.swap_in(place, left, right);
-        self.left
-            .relink(LeftSide::new(&self.pairs), place, spot, meter);
+        let lefts = LeftSide::new(&self.pairs);
+        relist(&mut self.left, is_new.0, lefts, place, spots.0, meter);
+        let rights = RightSide::new(&self.pairs);
+        relist(&mut self.right, is_new.1, rights, place, spots.1, meter);
         old
     }
 

@@ -47,20 +47,20 @@ returns-in-None-None-clause-answer g c =
     put_new g.L.PartialEq.eq g.R.PartialEq.eq g.met.L.Eq.laws g.met.R.Eq.laws c.args.self.now.pairs c.args.left c.args.right c.args.policy c.finish_left-by_left.result c.finish_right-by_right.result c.finish_left-by_left.ensures.found c.finish_right-by_right.ensures.found (may _ _ c.if-keeps.false c.keeps.ensures) (may _ _ c.if-keeps-2.false c.keeps-2.ensures) c.make_room.new.self.pairs c.put-place.new.self.pairs c.put-place.result c.in-None-None.is-0 c.in-None-None.is-1 room.kept room.had_place room.grows c.put-place.ensures.there c.put-place.ensures.was_free c.put-place.ensures.pairs
 
 pub returns-in-Some-None-clause-answer : goal.returns-in-Some-None-clause-answer
-returns-in-Some-None-clause-answer g c = put_left g.L.PartialEq.eq g.R.PartialEq.eq g.met.L.Eq.laws g.met.R.Eq.laws c.args.self.now.pairs c.args.left c.args.right c.args.policy c.finish_left-by_left.result c.finish_right-by_right.result c.finish_left-by_left.ensures.found c.finish_right-by_right.ensures.found (may _ _ c.if-keeps.false c.keeps.ensures) (may _ _ c.if-keeps-2.false c.keeps-2.ensures) c.swap_right-old_left.new.self.pairs c.in-Some-None.place c.swap_right-old_left.result c.in-Some-None.is-0 c.in-Some-None.is-1 c.swap_right-old_left.ensures.was c.swap_right-old_left.ensures.pairs
+returns-in-Some-None-clause-answer g c = put_left g.L.PartialEq.eq g.R.PartialEq.eq g.met.L.Eq.laws g.met.R.Eq.laws c.args.self.now.pairs c.args.left c.args.right c.args.policy c.finish_left-by_left.result c.finish_right-by_right.result c.finish_left-by_left.ensures.found c.finish_right-by_right.ensures.found (may _ _ c.if-keeps.false c.keeps.ensures) (may _ _ c.if-keeps-2.false c.keeps-2.ensures) c.swap-old-in-Some-None.new.self.pairs c.in-Some-None.place c.swap-old-in-Some-None.result c.in-Some-None.is-0 c.in-Some-None.is-1 c.swap-old-in-Some-None.ensures.was c.swap-old-in-Some-None.ensures.pairs
 
 pub returns-in-None-Some-clause-answer : goal.returns-in-None-Some-clause-answer
-returns-in-None-Some-clause-answer g c = put_right g.L.PartialEq.eq g.R.PartialEq.eq g.met.L.Eq.laws g.met.R.Eq.laws c.args.self.now.pairs c.args.left c.args.right c.args.policy c.finish_left-by_left.result c.finish_right-by_right.result c.finish_left-by_left.ensures.found c.finish_right-by_right.ensures.found (may _ _ c.if-keeps.false c.keeps.ensures) (may _ _ c.if-keeps-2.false c.keeps-2.ensures) c.swap_left-old_left.new.self.pairs c.in-None-Some.place c.swap_left-old_left.result c.in-None-Some.is-0 c.in-None-Some.is-1 c.swap_left-old_left.ensures.was c.swap_left-old_left.ensures.pairs
+returns-in-None-Some-clause-answer g c = put_right g.L.PartialEq.eq g.R.PartialEq.eq g.met.L.Eq.laws g.met.R.Eq.laws c.args.self.now.pairs c.args.left c.args.right c.args.policy c.finish_left-by_left.result c.finish_right-by_right.result c.finish_left-by_left.ensures.found c.finish_right-by_right.ensures.found (may _ _ c.if-keeps.false c.keeps.ensures) (may _ _ c.if-keeps-2.false c.keeps-2.ensures) c.swap-old.new.self.pairs c.in-None-Some.place c.swap-old.result c.in-None-Some.is-0 c.in-None-Some.is-1 c.swap-old.ensures.was c.swap-old.ensures.pairs
 
 pub returns-then-place-other-clause-answer : goal.returns-then-place-other-clause-answer
 returns-then-place-other-clause-answer g c =
-    put_pair g.L.PartialEq.eq g.R.PartialEq.eq g.met.L.Eq.laws g.met.R.Eq.laws c.args.self.now.pairs c.args.left c.args.right c.args.policy c.finish_left-by_left.result c.finish_right-by_right.result c.finish_left-by_left.ensures.found c.finish_right-by_right.ensures.found (may _ _ c.if-keeps.false c.keeps.ensures) (may _ _ c.if-keeps-2.false c.keeps-2.ensures) c.swap_equal-old_left.new.self.pairs c.in-Some-Some.place c.swap_equal-old_left.result c.in-Some-Some.is-0 (c.in-Some-Some.is-1 ∙ ap Some (sym c.if-place-other.true)) c.swap_equal-old_left.ensures.was c.swap_equal-old_left.ensures.pairs
+    put_pair g.L.PartialEq.eq g.R.PartialEq.eq g.met.L.Eq.laws g.met.R.Eq.laws c.args.self.now.pairs c.args.left c.args.right c.args.policy c.finish_left-by_left.result c.finish_right-by_right.result c.finish_left-by_left.ensures.found c.finish_right-by_right.ensures.found (may _ _ c.if-keeps.false c.keeps.ensures) (may _ _ c.if-keeps-2.false c.keeps-2.ensures) c.swap-old-then-place-other.new.self.pairs c.in-Some-Some.place c.swap-old-then-place-other.result c.in-Some-Some.is-0 (c.in-Some-Some.is-1 ∙ ap Some (sym c.if-place-other.true)) c.swap-old-then-place-other.ensures.was c.swap-old-then-place-other.ensures.pairs
 
 pub returns-clause-answer : goal.returns-clause-answer
 returns-clause-answer g c =
     let slots = c.args.self.now.pairs in
-    put_both g.L.PartialEq.eq g.R.PartialEq.eq g.met.L.Eq.laws g.met.R.Eq.laws c.args.self.now.pairs c.args.left c.args.right c.args.policy c.finish_left-by_left.result c.finish_right-by_right.result c.finish_left-by_left.ensures.found c.finish_right-by_right.ensures.found (may _ _ c.if-keeps.false c.keeps.ensures) (may _ _ c.if-keeps-2.false c.keeps-2.ensures) c.swap_right-first.new.self.pairs c.in-Some-Some.place c.in-Some-Some.other c.swap_right-first.result c.take-second.result c.in-Some-Some.is-0 c.in-Some-Some.is-1 c.if-place-other.false
-    (apart_at_places g.L.PartialEq.eq g.R.PartialEq.eq g.met.L.Eq.laws g.met.R.Eq.laws slots c.args.self.now.apart) (rw c.take-second.ensures.pairs at c.swap_right-first.ensures.was) c.take-second.ensures.was (rw c.take-second.ensures.pairs at c.swap_right-first.ensures.pairs)
+    put_both g.L.PartialEq.eq g.R.PartialEq.eq g.met.L.Eq.laws g.met.R.Eq.laws c.args.self.now.pairs c.args.left c.args.right c.args.policy c.finish_left-by_left.result c.finish_right-by_right.result c.finish_left-by_left.ensures.found c.finish_right-by_right.ensures.found (may _ _ c.if-keeps.false c.keeps.ensures) (may _ _ c.if-keeps-2.false c.keeps-2.ensures) c.swap-first.new.self.pairs c.in-Some-Some.place c.in-Some-Some.other c.swap-first.result c.take-second.result c.in-Some-Some.is-0 c.in-Some-Some.is-1 c.if-place-other.false
+    (apart_at_places g.L.PartialEq.eq g.R.PartialEq.eq g.met.L.Eq.laws g.met.R.Eq.laws slots c.args.self.now.apart) (rw c.take-second.ensures.pairs at c.swap-first.ensures.was) c.take-second.ensures.was (rw c.take-second.ensures.pairs at c.swap-first.ensures.pairs)
 
 pub returns-then-is_err-clause-slots : goal.returns-then-is_err-clause-slots
 returns-then-is_err-clause-slots g c = on_err c.make_room.result (sym c.is_err.ensures.value ∙ c.if-is_err.true) c.make_room.ensures.err
