@@ -2,7 +2,7 @@
 use bimap::{
     BiBTreeHashMap, BiBTreeMap, BiHashBTreeMap, BiHashMap, Bijection, NoMemory, NoRoom, Overwritten,
 };
-use bimap_calls::{Crowded, Kind, Zero, over_each_kind, shows};
+use bimap_calls::{Crowded, Kind, Zero, shows};
 use bimap_famine::Famine;
 use std::alloc::{AllocError, Global};
 use std::process::Abort;
@@ -139,7 +139,7 @@ fn fills_the_room<B: Bijection<u32, u32>>(bimap: &mut B) -> bool {
         && bimap.reserve(usize::MAX) == Err(NoMemory)
 }
 
-fn reserved<B: Kind<u32, u32>>(rt: &impl Abort, alloc: Global) -> Result<(), Fail> {
+pub(super) fn reserved<B: Kind<u32, u32>>(rt: &impl Abort, alloc: Global) -> Result<(), Fail> {
     let mut bimap = B::empty(alloc);
     assert!(rt; bimap.reserve(10) == Ok(()));
     let famine = Famine::begin(alloc, 0)?;
@@ -150,13 +150,7 @@ fn reserved<B: Kind<u32, u32>>(rt: &impl Abort, alloc: Global) -> Result<(), Fai
     Ok(())
 }
 
-#[test]
-fn a_reserved_room_needs_no_memory(rt: HostRuntime) -> Result<(), Fail> {
-    over_each_kind!(reserved, u32, u32, &rt, ?);
-    Ok(())
-}
-
-fn kept<B: Kind<u32, u32>>(rt: &impl Abort, alloc: Global) -> Result<(), Fail> {
+pub(super) fn kept<B: Kind<u32, u32>>(rt: &impl Abort, alloc: Global) -> Result<(), Fail> {
     let mut map = B::empty(alloc);
     map.reserve(5)?;
     let _ = map.insert(1, 1);
@@ -168,11 +162,5 @@ fn kept<B: Kind<u32, u32>>(rt: &impl Abort, alloc: Global) -> Result<(), Fail> {
     drop(famine);
     assert!(rt; fits && struck && same && nothing);
     assert!(rt; map.capacity() == 1 && shows(&map, &[(1, 2)]));
-    Ok(())
-}
-
-#[test]
-fn what_leaves_the_room_needs_no_memory(rt: HostRuntime) -> Result<(), Fail> {
-    over_each_kind!(kept, u32, u32, &rt, ?);
     Ok(())
 }

@@ -3,7 +3,7 @@ use bimap::{
     Bijection, Call, ExtendStopped, NoRoom, NotInserted, NotInsertedWith, Overwritten, Reply,
     RunRefused, UndoStopped, perform, run,
 };
-use bimap_calls::{CopyKind, OVERWRITE, over_each_kind};
+use bimap_calls::{CopyKind, OVERWRITE};
 use bimap_famine::Famine;
 use bimap_model::{Exact, Noted, exact_answer, exact_pair, noted_answer};
 use std::alloc::Global;
@@ -105,7 +105,10 @@ fn runs_nothing<B: Bijection<Noted, Noted>>(
     }
 }
 
-fn hands_back<B: CopyKind<Noted, Noted>>(rt: &impl Abort, alloc: Global) -> Result<(), Fail> {
+pub(super) fn hands_back<B: CopyKind<Noted, Noted>>(
+    rt: &impl Abort,
+    alloc: Global,
+) -> Result<(), Fail> {
     let mut bimap = B::empty(alloc);
     bimap.reserve(2)?;
     bimap.add(&TWO.map(noted)).ok().ok_or("no memory")?;
@@ -121,11 +124,5 @@ fn hands_back<B: CopyKind<Noted, Noted>>(rt: &impl Abort, alloc: Global) -> Resu
     assert_eq!(rt; back, [Some(NEW); 4]);
     assert!(rt; none_ran && kept && stopped && none_undone);
     assert!(rt; shows_exactly(&bimap, &ITEMS[..2]));
-    Ok(())
-}
-
-#[test]
-fn a_refusal_hands_the_very_values_back(rt: HostRuntime) -> Result<(), Fail> {
-    over_each_kind!(hands_back, Noted, Noted, &rt, ?);
     Ok(())
 }

@@ -1,7 +1,7 @@
 //! Each growth of an insertion refused.
 use super::FIVE;
 use bimap::{Interning, NoRoom, NotInserted, NotInsertedWith, Overwritten};
-use bimap_calls::{Kind, ONCE, over_each_kind, shows};
+use bimap_calls::{Kind, ONCE, shows};
 use bimap_famine::Famine;
 use std::alloc::{AllocError, Global};
 use std::process::Abort;
@@ -70,7 +70,7 @@ fn refusals<B: Kind<u32, u32> + Interning<u32, u32>>(
     Ok(shows(&bimap, &FIVE).then_some(all))
 }
 
-fn refused_in_turn<B: Kind<u32, u32> + Interning<u32, u32>>(
+pub(super) fn refused_in_turn<B: Kind<u32, u32> + Interning<u32, u32>>(
     rt: &impl Abort,
     alloc: Global,
 ) -> Result<(), Fail> {
@@ -78,11 +78,5 @@ fn refused_in_turn<B: Kind<u32, u32> + Interning<u32, u32>>(
         let met = refusals::<B>(alloc, call)?;
         assert!(rt; met.is_some_and(|met| met >= 6), "{call}: {met:?}");
     }
-    Ok(())
-}
-
-#[test]
-fn a_refused_insertion_changes_nothing(rt: HostRuntime) -> Result<(), Fail> {
-    over_each_kind!(refused_in_turn, u32, u32, &rt, ?);
     Ok(())
 }

@@ -1,7 +1,7 @@
 //! Each growth of `extend` and of `from_iter` refused.
 use super::FIVE;
 use bimap::{BiHashMap, Bijection, ExtendStopped};
-use bimap_calls::{CopyKind, Crowded, over_each_kind, shows};
+use bimap_calls::{CopyKind, Crowded, shows};
 use bimap_famine::Famine;
 use std::alloc::{AllocError, Global};
 use std::process::Abort;
@@ -94,16 +94,13 @@ fn within_the_room<B: CopyKind<u32, u32>>(rt: &impl Abort, alloc: Global) -> Res
     Ok(())
 }
 
-fn refused_in_turn<B: CopyKind<u32, u32>>(rt: &impl Abort, alloc: Global) -> Result<(), Fail> {
+pub(super) fn refused_in_turn<B: CopyKind<u32, u32>>(
+    rt: &impl Abort,
+    alloc: Global,
+) -> Result<(), Fail> {
     is_right(rt, &extended::<B>(alloc)?, 3);
     is_right(rt, &built::<B>(alloc)?, 3);
     within_the_room::<B>(rt, alloc)
-}
-
-#[test]
-fn a_refused_item_is_handed_back(rt: HostRuntime) -> Result<(), Fail> {
-    over_each_kind!(refused_in_turn, u32, u32, &rt, ?);
-    Ok(())
 }
 
 // Two hashed indexes grow twice each, and the store once.

@@ -1,6 +1,6 @@
 //! Runs under a famine that eases: each request for memory is refused in turn.
 use bimap::{Call, Overwritten, Reply, RunRefused, run};
-use bimap_calls::{Kind, over_each_kind, shows};
+use bimap_calls::{Kind, shows};
 use bimap_famine::Famine;
 use std::alloc::{AllocError, Global};
 use std::process::Abort;
@@ -108,7 +108,10 @@ fn tried<B: Kind<char, u32>>(alloc: Global) -> Result<Option<Outcome>, AllocErro
 }
 
 /// The runs are refused at first, then each reply is right for what is held, and in the end all memory is found.
-fn right_under_a_famine<B: Kind<char, u32>>(rt: &impl Abort, alloc: Global) -> Result<(), Fail> {
+pub(super) fn right_under_a_famine<B: Kind<char, u32>>(
+    rt: &impl Abort,
+    alloc: Global,
+) -> Result<(), Fail> {
     let outcome = tried::<B>(alloc)?.ok_or("a refusal changed something")?;
     assert!(rt; outcome.refused > 0);
     let right = right_replies(alloc)?;
@@ -121,11 +124,5 @@ fn right_under_a_famine<B: Kind<char, u32>>(rt: &impl Abort, alloc: Global) -> R
     }
     assert!(rt; refusals > 2, "{refusals}");
     assert!(rt; outcome.replies.last() == right.first());
-    Ok(())
-}
-
-#[test]
-fn each_request_of_a_run_is_refused_in_turn(rt: HostRuntime) -> Result<(), Fail> {
-    over_each_kind!(right_under_a_famine, char, u32, &rt, ?);
     Ok(())
 }

@@ -3,7 +3,7 @@ ghost use Rattle.std.specs.Prelude.{List};
 ghost use Rattle.bimap.specs.Trail.{Leads};
 
 use bimap::{Bijection, Overwritten, undo_run};
-use bimap_calls::{CopyKind, Walked, insert_all, over_each_kind, shows};
+use bimap_calls::{CopyKind, insert_all, shows};
 use bimap_famine::Famine;
 use std::alloc::Global;
 use std::process::Abort;
@@ -79,42 +79,24 @@ fn is_refused_in_turn(met: Option<u64>) -> bool {
     met.is_some_and(|met| met >= 3)
 }
 
-// A bimap of the same pairs with no free place.
-fn packed<B: CopyKind<char, u32> + Walked<char, u32>>(alloc: Global, bimap: &B) -> Result<B, Fail> {
-    let pairs = bimap.walk(alloc)?;
-    let mut packed = B::empty(alloc);
-    packed.reserve(pairs.len())?;
-    packed.add(pairs.as_slice()).ok().ok_or("no memory")?;
-    Ok(packed)
-}
-
-fn is_right<B: CopyKind<char, u32> + Walked<char, u32>>(
-    alloc: Global,
-    row: &Row<'_, char, u32>,
-) -> Result<bool, Fail> {
+fn is_right<B: CopyKind<char, u32>>(alloc: Global, row: &Row<'_, char, u32>) -> Result<bool, Fail> {
     let mut bimap = B::empty(alloc);
     bimap.add(&PAIRS).ok().ok_or("no memory")?;
     let entries = insert_all(alloc, &mut bimap, row.insertions)?;
-    let mut packed = packed(alloc, &bimap)?;
-    if packed.capacity() != bimap.len() || !bimap.equals(&packed) {
+    bimap.shrink_to_fit()?;
+    if bimap.capacity() != bimap.len() {
         return Ok(false);
     }
-    let met = refusals(alloc, &mut packed, entries, &PAIRS, row)?;
+    let met = refusals(alloc, &mut bimap, entries, &PAIRS, row)?;
     Ok(is_refused_in_turn(met))
 }
 
-fn are_right<B: CopyKind<char, u32> + Walked<char, u32>>(
+pub(super) fn are_right<B: CopyKind<char, u32>>(
     rt: &impl Abort,
     alloc: Global,
 ) -> Result<(), Fail> {
     for row in ROWS.iter() {
         assert!(rt; is_right::<B>(alloc, row)?);
     }
-    Ok(())
-}
-
-#[test]
-fn a_stopped_run_leaves_what_is_not_undone(rt: HostRuntime) -> Result<(), Fail> {
-    over_each_kind!(are_right, char, u32, &rt, ?);
     Ok(())
 }

@@ -1,6 +1,6 @@
 //! Insertions that are undone where memory is refused.
 use bimap::{Bijection, Overwritten, UndoStopped, undo_run};
-use bimap_calls::{CopyKind, insert_all, over_each_kind, shows};
+use bimap_calls::{CopyKind, insert_all, shows};
 use bimap_famine::Famine;
 use std::alloc::Global;
 use std::process::Abort;
@@ -97,13 +97,7 @@ fn refused_in_turn<B: CopyKind<char, u32>>(rt: &impl Abort, alloc: Global) -> Re
     Ok(())
 }
 
-fn all<B: CopyKind<char, u32>>(rt: &impl Abort, alloc: Global) -> Result<(), Fail> {
+pub(super) fn all<B: CopyKind<char, u32>>(rt: &impl Abort, alloc: Global) -> Result<(), Fail> {
     trail::<B>(rt, alloc)?;
     refused_in_turn::<B>(rt, alloc)
-}
-
-#[test]
-fn a_refused_undo_changes_nothing(rt: HostRuntime) -> Result<(), Fail> {
-    over_each_kind!(all, char, u32, &rt, ?);
-    Ok(())
 }

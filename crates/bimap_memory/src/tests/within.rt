@@ -1,6 +1,6 @@
 //! Calls that take no memory, with every request refused.
 use bimap::{Bijection, NotInserted, Overwritten};
-use bimap_calls::{CopyKind, over_each_kind, shows};
+use bimap_calls::{CopyKind, shows};
 use bimap_famine::Famine;
 use std::alloc::Global;
 use std::process::Abort;
@@ -47,13 +47,7 @@ fn made_of_nothing<B: CopyKind<char, u32>>(rt: &impl Abort, alloc: Global) -> Re
     Ok(())
 }
 
-fn all<B: CopyKind<char, u32>>(rt: &impl Abort, alloc: Global) -> Result<(), Fail> {
+pub(super) fn all<B: CopyKind<char, u32>>(rt: &impl Abort, alloc: Global) -> Result<(), Fail> {
     made_of_nothing::<B>(rt, alloc)?;
     never_refused::<B>(rt, alloc)
-}
-
-#[test]
-fn what_has_a_place_is_never_refused(rt: HostRuntime) -> Result<(), Fail> {
-    over_each_kind!(all, char, u32, &rt, ?);
-    Ok(())
 }
