@@ -1,21 +1,21 @@
 //! Insertions under a policy into a bimap with a record, one by one, and all or none.
 use bimap::{Bijection, NotInsertedWith, Policy};
-use bimap_calls::{KEEP_LEFT, KEEP_RIGHT, Kind, ONCE, OVERWRITE, over_each_kind, shows};
+use bimap_calls::{KEEP_LEFT, KEEP_RIGHT, Kind, ONCE, OVERWRITE, shows};
 use bimap_plain::Plain;
 use bimap_undo::{CopyLeft, Undoable};
 use std::alloc::Global;
 use std::process::Abort;
 use std::test::Fail;
 
-type Refused = NotInsertedWith<char, u32>;
+type Refused = NotInsertedWith<char, i32>;
 
 /// On a bimap of ('a', 1) and ('b', 2), all or none of the items: what is answered, the pairs then held, and the number
 /// of changes then recorded.
 type Row = (
     Policy,
-    &'static [(char, u32)],
+    &'static [(char, i32)],
     Result<(), (usize, Refused)>,
-    &'static [(char, u32)],
+    &'static [(char, i32)],
     usize,
 );
 
@@ -103,7 +103,7 @@ fn is_all_or_none<B: Bijection<L, R> + Drop, L: CopyLeft + Copy + Drop, R: Eq + 
     shows(undoable.held(), before)
 }
 
-fn all_or_none<B: Bijection<char, u32> + Drop>(
+fn all_or_none<B: Bijection<char, i32> + Drop>(
     rt: &impl Abort,
     alloc: Global,
     empty: B,
@@ -154,7 +154,7 @@ fn keeps_marks<B: Bijection<L, R> + Drop, L: CopyLeft + Copy + Drop, R: Eq + Cop
 }
 
 // A refused list keeps the marks of before.
-fn older_marks<B: Bijection<char, u32> + Drop>(rt: &impl Abort, alloc: Global, empty: B) {
+fn older_marks<B: Bijection<char, i32> + Drop>(rt: &impl Abort, alloc: Global, empty: B) {
     let items = [('b', 2), ('c', 3), ('b', 3)];
     let first = (('a', 1), [('a', 1)].as_slice());
     let second = (('a', 2), [('a', 2)].as_slice());
@@ -199,7 +199,7 @@ fn are_inserted_with<B: Bijection<L, R> + Drop, L: CopyLeft + Copy + Drop, R: Eq
 }
 
 // Insertions under policies are recorded.
-fn one_by_one<B: Bijection<char, u32> + Drop>(
+fn one_by_one<B: Bijection<char, i32> + Drop>(
     rt: &impl Abort,
     alloc: Global,
     empty: B,
@@ -221,7 +221,7 @@ fn one_by_one<B: Bijection<char, u32> + Drop>(
     Ok(())
 }
 
-fn rows<B: Kind<char, u32>>(rt: &impl Abort, alloc: Global) -> Result<(), Fail> {
+pub(crate) fn rows<B: Kind<char, i32>>(rt: &impl Abort, alloc: Global) -> Result<(), Fail> {
     for row in rows_taken() {
         all_or_none(rt, alloc, B::empty(alloc), &row);
     }
@@ -230,12 +230,6 @@ fn rows<B: Kind<char, u32>>(rt: &impl Abort, alloc: Global) -> Result<(), Fail> 
     }
     older_marks(rt, alloc, B::empty(alloc));
     one_by_one(rt, alloc, B::empty(alloc))
-}
-
-#[test]
-fn all_items_are_put_in_or_none(rt: HostRuntime) -> Result<(), Fail> {
-    over_each_kind!(rows, char, u32, &rt, ?);
-    Ok(())
 }
 
 #[test]

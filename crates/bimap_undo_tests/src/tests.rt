@@ -1,5 +1,7 @@
 //! Rows of calls with the answers that they must give, over each kind of bimap, and one that is looked through one by one.
 
+use crate::all_or_none;
+use crate::texts::refused_in_turn;
 use bimap::{Bijection, NoRoom};
 use bimap_calls::{Kind, over_each_kind, shows};
 use bimap_famine::Famine;
@@ -259,42 +261,34 @@ macro_rules! rows_without_memory {
     }};
 }
 
-fn goes_back<B: Kind<char, i32>>(rt: &impl Abort, alloc: Global) -> Result<(), Fail> {
+fn letters<B: Kind<char, i32>>(rt: &impl Abort, alloc: Global) -> Result<(), Fail> {
     rows!(rt, alloc, B::empty(alloc));
-    Ok(())
-}
-
-#[test]
-fn goes_back_to_marks(rt: HostRuntime) -> Result<(), Fail> {
-    let alloc = rt.alloc();
-    over_each_kind!(goes_back, char, i32, &rt, ?);
-    rows!(&rt, alloc, Plain::new(alloc));
-    Ok(())
-}
-
-fn goes_back_without_memory<B: Kind<char, i32>>(
-    rt: &impl Abort,
-    alloc: Global,
-) -> Result<(), Fail> {
     rows_without_memory!(rt, alloc, B::empty(alloc));
+    all_or_none::rows::<B>(rt, alloc)
+}
+
+#[test]
+fn goes_back_to_marks_and_puts_in_all_or_none(rt: HostRuntime) -> Result<(), Fail> {
+    over_each_kind!(letters, char, i32, &rt, ?);
     Ok(())
 }
 
 #[test]
-fn a_refused_insertion_changes_nothing(rt: HostRuntime) -> Result<(), Fail> {
+fn any_bimap_goes_back_to_marks(rt: HostRuntime) -> Result<(), Fail> {
     let alloc = rt.alloc();
-    over_each_kind!(goes_back_without_memory, char, i32, &rt, ?);
+    rows!(&rt, alloc, Plain::new(alloc));
     rows_without_memory!(&rt, alloc, Plain::new(alloc));
     Ok(())
 }
 
-fn refused<B: Kind<String, i32>>(rt: &impl Abort, alloc: Global) -> Result<(), Fail> {
-    refused_copies_and_removals(rt, alloc, B::empty(alloc))
+fn texts<B: Kind<String, i32>>(rt: &impl Abort, alloc: Global) -> Result<(), Fail> {
+    refused_copies_and_removals(rt, alloc, B::empty(alloc))?;
+    refused_in_turn::<B>(rt, alloc)
 }
 
 #[test]
 fn a_refused_copy_or_removal_changes_nothing(rt: HostRuntime) -> Result<(), Fail> {
     let alloc = rt.alloc();
-    over_each_kind!(refused, String, i32, &rt, ?);
+    over_each_kind!(texts, String, i32, &rt, ?);
     refused_copies_and_removals(&rt, alloc, Plain::<String, i32>::new(alloc))
 }

@@ -1,21 +1,21 @@
 //! Texts as lefts, of which a record holds copies: each request for memory refused in turn.
 use bimap::{Bijection, NoMemory, NoRoom};
-use bimap_calls::{Kind, over_each_kind};
+use bimap_calls::Kind;
 use bimap_famine::Famine;
 use bimap_undo::Undoable;
 use std::alloc::{AllocError, Global};
 use std::process::Abort;
 use std::test::Fail;
 
-type Texts<B> = Undoable<B, String, u32>;
+type Texts<B> = Undoable<B, String, i32>;
 
 // Inserts a text under a famine that eases, and answers how often it was refused, or `None` where a refusal changed
 // something or handed another pair back.
-fn insert_in_famine<B: Bijection<String, u32> + Drop>(
+fn insert_in_famine<B: Bijection<String, i32> + Drop>(
     alloc: Global,
     undoable: &mut Texts<B>,
     name: &str,
-    right: u32,
+    right: i32,
 ) -> Result<Option<u64>, AllocError> {
     let before = (undoable.mark(), undoable.held().len());
     let mut left = String::from_str(alloc, name)?;
@@ -44,7 +44,7 @@ fn insert_in_famine<B: Bijection<String, u32> + Drop>(
 }
 
 // The same of the removal of a text. The record asks for more at once, so the famine goes further.
-fn remove_in_famine<B: Bijection<String, u32> + Drop>(
+fn remove_in_famine<B: Bijection<String, i32> + Drop>(
     alloc: Global,
     undoable: &mut Texts<B>,
     name: &str,
@@ -67,7 +67,7 @@ fn remove_in_famine<B: Bijection<String, u32> + Drop>(
 }
 
 /// A left and a right to insert, and the length that it leaves.
-type Row = (&'static str, u32, usize);
+type Row = (&'static str, i32, usize);
 
 // The last three strike a pair by its left, one by its right, and two.
 const ROWS: [Row; 8] = [
@@ -81,7 +81,10 @@ const ROWS: [Row; 8] = [
     ("one", 4, 4),
 ];
 
-fn refused_in_turn<B: Kind<String, u32>>(rt: &impl Abort, alloc: Global) -> Result<(), Fail> {
+pub(crate) fn refused_in_turn<B: Kind<String, i32>>(
+    rt: &impl Abort,
+    alloc: Global,
+) -> Result<(), Fail> {
     let mut undoable = Undoable::new(alloc, B::empty(alloc));
     for (left, right, length) in ROWS {
         let met = insert_in_famine(alloc, &mut undoable, left, right)?;
@@ -96,11 +99,5 @@ fn refused_in_turn<B: Kind<String, u32>>(rt: &impl Abort, alloc: Global) -> Resu
     undoable.back_to(0);
     drop(famine);
     assert_eq!(rt; undoable.held().len(), 0);
-    Ok(())
-}
-
-#[test]
-fn each_request_of_an_insertion_of_a_text_is_refused(rt: HostRuntime) -> Result<(), Fail> {
-    over_each_kind!(refused_in_turn, String, u32, &rt, ?);
     Ok(())
 }
