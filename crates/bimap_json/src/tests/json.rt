@@ -67,11 +67,6 @@ fn three_pairs<B: JsonObject<char, u8> + Drop>(rt: &impl Abort, alloc: Global) {
     assert!(rt; shows(&bimap, &pairs));
 }
 
-#[test]
-fn what_is_written_reads_back(rt: HostRuntime) {
-    over_four_kinds!(three_pairs, char, u8, &rt);
-}
-
 // Entries are taken in ascending byte order of their keys, and each is put in as `insert` does.
 fn entries_in_order<B: JsonObject<char, u8> + Drop>(rt: &impl Abort, alloc: Global) {
     reads_as::<char, u8, B>(
@@ -87,11 +82,6 @@ fn entries_in_order<B: JsonObject<char, u8> + Drop>(rt: &impl Abort, alloc: Glob
             ("{\"\\u0041\":0,\"B\":255}", &[('A', 0), ('B', 255)]),
         ],
     );
-}
-
-#[test]
-fn a_later_entry_strikes_earlier_ones(rt: HostRuntime) {
-    over_four_kinds!(entries_in_order, char, u8, &rt);
 }
 
 fn faulty_entries<B: JsonObject<char, u8> + Drop>(rt: &impl Abort, alloc: Global) {
@@ -122,9 +112,15 @@ fn faulty_entries<B: JsonObject<char, u8> + Drop>(rt: &impl Abort, alloc: Global
     );
 }
 
+fn letters<B: JsonObject<char, u8> + Drop>(rt: &impl Abort, alloc: Global) {
+    three_pairs::<B>(rt, alloc);
+    entries_in_order::<B>(rt, alloc);
+    faulty_entries::<B>(rt, alloc);
+}
+
 #[test]
-fn the_first_faulty_entry_is_named(rt: HostRuntime) {
-    over_four_kinds!(faulty_entries, char, u8, &rt);
+fn entries_are_read_in_order_up_to_a_fault_and_written(rt: HostRuntime) {
+    over_four_kinds!(letters, char, u8, &rt);
 }
 
 /// Writes a bimap under a famine that eases, and answers the text and how often it was refused, or `None` where a

@@ -197,18 +197,18 @@ fn words<B: JsonObject<String, String> + Drop>(rt: &impl Abort, alloc: Global) -
         is_written_as::<String, String, B>(rt, alloc, left, right, text);
     }
     no_values::<String, B>(rt, alloc, &["{\"\":1}", "{\"a\":null}"]);
-    Ok(())
-}
-
-fn an_empty_word<B: JsonObject<String, u8> + Drop>(rt: &impl Abort, alloc: Global) {
-    let bimap: B = read(rt, alloc, "{\"\":1}").expect(rt, "a pair");
+    let bimap: B = read(rt, alloc, "{\"\":\"1\"}").expect(rt, "a pair");
     assert_eq!(rt; bimap.len(), 1);
-    assert_eq!(rt; bimap.get_by_right(&1).expect(rt, "the left").as_str(), "");
+    let right = String::from_str(alloc, "1")?;
+    assert_eq!(rt;
+        bimap.get_by_right(&right).expect(rt, "the left").as_str(),
+        ""
+    );
+    Ok(())
 }
 
 #[test]
 fn texts(rt: HostRuntime) -> Result<(), Fail> {
-    over_mixed_kinds!(an_empty_word, String, u8, &rt);
     over_mixed_kinds!(words, String, String, &rt, ?);
     Ok(())
 }
