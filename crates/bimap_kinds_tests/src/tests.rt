@@ -1,7 +1,7 @@
 //! Each test is one function over any kind of bimap, called over every kind.
 //!
 //! A test that calls over the kinds is proved anew at each of them, so those of the same types are called by one.
-use bimap_calls::{CopyKind, Kind, Taken, Walked, WalkedRights, over_each_kind};
+use bimap_calls::{CopyKind, Taken, Walked, WalkedRights, over_each_kind};
 use std::alloc::Global;
 use std::process::Abort;
 use std::test::Fail;
@@ -20,30 +20,20 @@ mod shrinks;
 mod walks;
 mod whole;
 
-use whole::digits;
-
 fn letters<B: CopyKind<char, u32> + Taken<char, u32> + Walked<char, u32> + WalkedRights<u32>>(
     rt: &impl Abort,
     alloc: Global,
 ) -> Result<(), Fail> {
+    empty::all::<B>(rt, alloc)?;
     capacities::all::<B>(rt, alloc);
     shrinks::all::<B>(rt, alloc)?;
     walks::gives_each_once::<B>(rt, alloc)?;
-    whole::letters::<B>(rt, alloc)
-}
-
-fn numbers<B: Kind<u32, u32> + Taken<u32, u32> + Walked<u32, u32> + WalkedRights<u32>>(
-    rt: &impl Abort,
-    alloc: Global,
-) -> Result<(), Fail> {
-    empty::all::<B>(rt, alloc)?;
-    walks::walks_alike::<B>(rt, alloc)
+    walks::walks_alike::<B>(rt, alloc)?;
+    whole::all::<B>(rt, alloc)
 }
 
 #[test]
 fn rooms_walks_and_whole_bimaps(rt: HostRuntime) -> Result<(), Fail> {
     over_each_kind!(letters, char, u32, &rt, ?);
-    over_each_kind!(numbers, u32, u32, &rt, ?);
-    over_each_kind!(digits, u32, char, &rt, ?);
     Ok(())
 }

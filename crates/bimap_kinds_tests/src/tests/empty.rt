@@ -7,9 +7,9 @@ use std::process::Abort;
 use std::test::Fail;
 
 // How often `retain` calls its closure.
-fn tests<B: Bijection<u32, u32>>(bimap: &mut B) -> u32 {
+fn tests<B: Bijection<char, u32>>(bimap: &mut B) -> u32 {
     let tests = Cell::new(0u32);
-    bimap.retain(|_: &u32, _: &u32| {
+    bimap.retain(|_: &char, _: &u32| {
         tests.set(tests.get().wrapping_add(1));
         false
     });
@@ -17,7 +17,7 @@ fn tests<B: Bijection<u32, u32>>(bimap: &mut B) -> u32 {
 }
 
 // Whether each walk ends at once.
-fn walks_nowhere<B: Kind<u32, u32> + Taken<u32, u32> + Walked<u32, u32> + WalkedRights<u32>>(
+fn walks_nowhere<B: Kind<char, u32> + Taken<char, u32> + Walked<char, u32> + WalkedRights<u32>>(
     alloc: Global,
     mut bimap: B,
 ) -> Result<bool, AllocError> {
@@ -32,13 +32,13 @@ fn walks_nowhere<B: Kind<u32, u32> + Taken<u32, u32> + Walked<u32, u32> + Walked
     )
 }
 
-fn is_empty<B: Kind<u32, u32> + Taken<u32, u32> + Walked<u32, u32> + WalkedRights<u32>>(
+fn is_empty<B: Kind<char, u32> + Taken<char, u32> + Walked<char, u32> + WalkedRights<u32>>(
     rt: &impl Abort,
     alloc: Global,
 ) -> Result<(), Fail> {
     let mut bimap = B::empty(alloc);
     assert_eq!(rt; tests(&mut bimap), 0);
-    assert!(rt; bimap.remove_by_left(&1).is_none() && bimap.remove_by_right(&1).is_none());
+    assert!(rt; bimap.remove_by_left(&'a').is_none() && bimap.remove_by_right(&1).is_none());
     assert!(rt; bimap.equals(&B::empty(alloc)));
     let mut copy = bimap.copied().ok().ok_or("no memory")?;
     assert!(rt; copy.is_empty() && copy.equals(&bimap));
@@ -48,13 +48,14 @@ fn is_empty<B: Kind<u32, u32> + Taken<u32, u32> + Walked<u32, u32> + WalkedRight
 }
 
 // The same of a bimap that was emptied, and has places.
-fn is_empty_again<B: Kind<u32, u32> + Taken<u32, u32> + Walked<u32, u32> + WalkedRights<u32>>(
+fn is_empty_again<B: Kind<char, u32> + Taken<char, u32> + Walked<char, u32> + WalkedRights<u32>>(
     rt: &impl Abort,
     alloc: Global,
 ) -> Result<(), Fail> {
     let mut bimap = B::empty(alloc);
-    for name in 0..20 {
-        bimap.insert(name, name).ok().ok_or("no memory")?;
+    for name in 0..20u8 {
+        let (left, right) = (char::from(b'a' + name), name as u32);
+        bimap.insert(left, right).ok().ok_or("no memory")?;
     }
     assert_eq!(rt; tests(&mut bimap), 20);
     assert_eq!(rt; tests(&mut bimap), 0);
@@ -63,7 +64,7 @@ fn is_empty_again<B: Kind<u32, u32> + Taken<u32, u32> + Walked<u32, u32> + Walke
     Ok(())
 }
 
-pub(super) fn all<B: Kind<u32, u32> + Taken<u32, u32> + Walked<u32, u32> + WalkedRights<u32>>(
+pub(super) fn all<B: Kind<char, u32> + Taken<char, u32> + Walked<char, u32> + WalkedRights<u32>>(
     rt: &impl Abort,
     alloc: Global,
 ) -> Result<(), Fail> {

@@ -34,16 +34,17 @@ const LENGTHS: [u32; 6] = [0, 1, 7, 8, 15, 150];
 
 const STEPS: [usize; 10] = [0, 1, 7, 8, 14, 15, 64, 65, 77, 133];
 
-// So many pairs, in no order.
-fn scattered(alloc: Global, pairs: u32) -> Result<Vec<(u32, u32)>, AllocError> {
+// So many pairs, in no order, of no more than 151.
+fn scattered(alloc: Global, pairs: u32) -> Result<Vec<(char, u32)>, AllocError> {
     let mut items = Vec::new(alloc);
     for at in 0..pairs {
-        items.push((at.wrapping_mul(0x9e37_79b1), at))?;
+        let number = (at.wrapping_mul(77) % 151) as u8;
+        items.push((char::from(number), at))?;
     }
     Ok(items)
 }
 
-fn filled<B: Kind<u32, u32>>(alloc: Global, pairs: &[(u32, u32)]) -> Result<B, Fail> {
+fn filled<B: Kind<char, u32>>(alloc: Global, pairs: &[(char, u32)]) -> Result<B, Fail> {
     let mut bimap = B::empty(alloc);
     for (left, right) in pairs {
         bimap.insert(*left, *right).ok().ok_or("no memory")?;
@@ -53,12 +54,12 @@ fn filled<B: Kind<u32, u32>>(alloc: Global, pairs: &[(u32, u32)]) -> Result<B, F
 
 // Whether the walks of either side give the values of these pairs, that of the lefts in their order, and an owning walk
 // the pairs.
-fn sides_give<B: Kind<u32, u32> + Taken<u32, u32> + Walked<u32, u32> + WalkedRights<u32>>(
+fn sides_give<B: Kind<char, u32> + Taken<char, u32> + Walked<char, u32> + WalkedRights<u32>>(
     alloc: Global,
     mut bimap: B,
-    pairs: &[(u32, u32)],
+    pairs: &[(char, u32)],
 ) -> Result<bool, AllocError> {
-    let lefts: Vec<u32> = pairs.iter().map(|(left, _)| *left).collect(alloc)?;
+    let lefts: Vec<char> = pairs.iter().map(|(left, _)| *left).collect(alloc)?;
     let mut rights: Vec<u32> = pairs.iter().map(|(_, right)| *right).collect(alloc)?;
     let mut walked = bimap.walk_rights(alloc)?;
     rights.sort_unstable();
@@ -71,7 +72,7 @@ fn sides_give<B: Kind<u32, u32> + Taken<u32, u32> + Walked<u32, u32> + WalkedRig
 }
 
 pub(super) fn walks_alike<
-    B: Kind<u32, u32> + Taken<u32, u32> + Walked<u32, u32> + WalkedRights<u32>,
+    B: Kind<char, u32> + Taken<char, u32> + Walked<char, u32> + WalkedRights<u32>,
 >(rt: &impl Abort, alloc: Global) -> Result<(), Fail> {
     for length in LENGTHS {
         let mut pairs = scattered(alloc, length)?;

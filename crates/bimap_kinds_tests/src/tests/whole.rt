@@ -6,9 +6,9 @@ use std::process::Abort;
 use std::test::Fail;
 
 /// Two lists of items, and whether their bimaps are equal.
-type Row<L, R> = (&'static [(L, R)], &'static [(L, R)], bool);
+type Row = (&'static [(char, u32)], &'static [(char, u32)], bool);
 
-const LETTERS: [Row<char, u32>; 9] = [
+const ROWS: [Row; 11] = [
     (&[], &[], true),
     (&[('a', 1)], &[('a', 1)], true),
     (&[('a', 1), ('b', 2)], &[('b', 2), ('a', 1)], true),
@@ -26,19 +26,15 @@ const LETTERS: [Row<char, u32>; 9] = [
         &[('a', 4), ('b', 3)],
         true,
     ),
+    (&[('1', 0), ('0', 1), ('0', 0)], &[('0', 0)], true),
+    (&[('0', 0), ('0', 1), ('1', 0)], &[('0', 0)], false),
 ];
 
-const DIGITS: [Row<u32, char>; 2] = [
-    (&[(1, '0'), (0, '1'), (0, '0')], &[(0, '0')], true),
-    (&[(0, '0'), (0, '1'), (1, '0')], &[(0, '0')], false),
-];
-
-fn compared<L: Copy + Eq + Drop, R: Copy + Eq + Drop, B: CopyKind<L, R> + Walked<L, R>>(
+fn compared<B: CopyKind<char, u32> + Walked<char, u32>>(
     rt: &impl Abort,
     alloc: Global,
-    rows: &[Row<L, R>],
 ) -> Result<(), Fail> {
-    for (number, (items, others, answer)) in rows.iter().enumerate() {
+    for (number, (items, others, answer)) in ROWS.iter().enumerate() {
         let first = B::built(alloc, items).ok().ok_or("no memory")?;
         let second = B::built(alloc, others).ok().ok_or("no memory")?;
         assert!(rt; first.equals(&second) == *answer, "{number}");
@@ -46,13 +42,6 @@ fn compared<L: Copy + Eq + Drop, R: Copy + Eq + Drop, B: CopyKind<L, R> + Walked
         assert!(rt; first.equals(&first), "{number}");
     }
     Ok(())
-}
-
-pub(super) fn digits<B: CopyKind<u32, char> + Walked<u32, char>>(
-    rt: &impl Abort,
-    alloc: Global,
-) -> Result<(), Fail> {
-    compared::<u32, char, B>(rt, alloc, &DIGITS)
 }
 
 // A copy and what it was made of go on apart.
@@ -74,10 +63,10 @@ fn copied<B: CopyKind<char, u32> + Walked<char, u32>>(
     Ok(())
 }
 
-pub(super) fn letters<B: CopyKind<char, u32> + Walked<char, u32>>(
+pub(super) fn all<B: CopyKind<char, u32> + Walked<char, u32>>(
     rt: &impl Abort,
     alloc: Global,
 ) -> Result<(), Fail> {
-    compared::<char, u32, B>(rt, alloc, &LETTERS)?;
+    compared::<B>(rt, alloc)?;
     copied::<B>(rt, alloc)
 }
