@@ -27,7 +27,7 @@ where
     where
         L: Clone,
         R: Clone,
-        requires { AreClonesEqual L.is_clone R.is_clone L.eq R.eq (holding_of self.now.pairs).pairs }
+        requires equal { AreClonesEqual L.is_clone R.is_clone L.eq R.eq (holding_of self.now.pairs).pairs }
         ensures pairs { IfOk result (λ copy. IsCopy L.is_clone R.is_clone L.eq R.eq (holding_of self.now.pairs).pairs (holding_of copy.pairs).pairs) }
         ensures room { IfOk result (λ copy. length self.now.pairs ≤ length copy.pairs) }
     {

@@ -12,7 +12,7 @@ impl<L: Eq, R: Eq, I: Index<L>, J: Index<R>> Table<L, R, I, J> {
 
     // Calls the closure on the pair of a place, if it has one.
     fn visit_at<F: FnMut(&L, &R)>(&self, place: usize, f: &mut F)
-        requires { (p : _) → pair_at self.now.pairs place ≡ Some p → MayTestPair F.FnMut f.old p }
+        requires may { (p : _) → pair_at self.now.pairs place ≡ Some p → MayTestPair F.FnMut f.old p }
         ensures visited { IfSome (pair_at self.now.pairs place) (λ p. TestedAt F.FnMut f.old p tt f.new) }
         ensures none { IfNone (pair_at self.now.pairs place) (f.new ≡ f.old) }
     {
@@ -26,7 +26,7 @@ impl<L: Eq, R: Eq, I: Index<L>, J: Index<R>> Table<L, R, I, J> {
     ///
     /// It takes no memory. Time is in proportion to the capacity.
     pub fn for_each<F: FnMut(&L, &R)>(&self, mut f: F)
-        requires { MayVisit F.FnMut f (holding_of self.now.pairs).pairs }
+        requires may { MayVisit F.FnMut f (holding_of self.now.pairs).pairs }
         ensures { IsVisited F.FnMut f (holding_of self.now.pairs).pairs }
     {
         let places = self.pairs.places();

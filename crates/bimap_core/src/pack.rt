@@ -35,7 +35,7 @@ impl<L: Eq, R: Eq, I: PackedIndex<L>, J: PackedIndex<R>> Table<L, R, I, J> {
     where
         L: Drop,
         R: Drop,
-        requires { pair_count self.old.pairs ≤ to }
+        requires room { pair_count self.old.pairs ≤ to }
         ensures ok { OnOk result (length self.new.pairs ≡ to) }
         ensures pairs { pairs_in self.new.pairs ≡ pairs_in self.old.pairs }
         ensures err { OnErr result (self.new.pairs ≡ self.old.pairs) }

@@ -29,7 +29,7 @@ pub fn pair_at_rank<'a, L, R, M: Meter>(
     rank: usize,
     meter: &mut M,
 ) -> Option<(&'a L, &'a R)>
-    requires { All (IsLive pairs.now) index.now.places }
+    requires live { All (IsLive pairs.now) index.now.places }
     ensures pair { option_map (λ p. (p.0.now, p.1.now)) result ≡ slice_get (pairs_at pairs.now index.now.places) rank }
     ensures comparisons { M.comparisons meter.new ≡ M.comparisons meter.old }
     ensures touches { M.touches meter.new ≤ M.touches meter.old + 2 * most_height (length index.now.places) }

@@ -14,7 +14,7 @@ impl<L: Ord + Drop, R: Eq + Drop, J: Index<R>> Table<L, R, Ordered, J> {
     /// It takes no memory, and the room stays. Time is that of a walk, which descends once for dozens of pairs, and for each
     /// pair that is taken out that of a removal and a descent more.
     pub fn retain_in_turn<F: FnMut(&L, &R) -> bool, M: Meter>(&mut self, mut f: F, meter: &mut M)
-        requires { MayTestInTurn F.FnMut f (pairs_at self.old.pairs self.old.left.places) }
+        requires may { MayTestInTurn F.FnMut f (pairs_at self.old.pairs self.old.left.places) }
         ensures kept { IsKeptInTurn F.FnMut f (pairs_at self.old.pairs self.old.left.places) (pairs_at self.new.pairs self.new.left.places) }
         ensures room { length self.new.pairs ≡ length self.old.pairs }
     {

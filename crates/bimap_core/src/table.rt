@@ -138,7 +138,7 @@ impl<L: Eq, R: Eq, I: Index<L>, J: Index<R>> Table<L, R, I, J> {
         spot: &mut I::Spot,
         meter: &mut M,
     ) -> Option<usize>
-        requires { I.under_way self.now.left (left_at self.now.pairs) left.now search spot.old }
+        requires under_way { I.under_way self.now.left (left_at self.now.pairs) left.now search spot.old }
         ensures found { IsFoundAt (λ p. p.0) L.eq self.now.pairs left.now result }
         ensures leads { IfNone result (I.leads self.now.left (left_at self.now.pairs) left.now spot.new) }
         ensures is_for { I.is_for self.now.left left.now spot.new }

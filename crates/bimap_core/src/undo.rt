@@ -23,7 +23,7 @@ impl<L: Eq, R: Eq, I: Index<L>, J: Index<R>> Table<L, R, I, J> {
         answer: Overwritten<L, R>,
         meter: &mut M,
     ) -> Result<(L, R), UndoStopped<L, R>>
-        requires { IsUndoable L.eq R.eq (Contains (holding_of self.old.pairs).pairs) left.now answer }
+        requires undoable { IsUndoable L.eq R.eq (Contains (holding_of self.old.pairs).pairs) left.now answer }
         ensures answer { IsUndoing L.eq R.eq (holding_of self.old.pairs) left.now answer result (holding_of self.new.pairs) }
         ensures slots { OnErr result (self.new.pairs ≡ self.old.pairs) }
         ensures places { OnErr result (I.places self.new.left ≡ I.places self.old.left) }

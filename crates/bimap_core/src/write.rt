@@ -44,7 +44,7 @@ impl<L: Eq, R: Eq, I: Index<L>, J: Index<R>> Table<L, R, I, J> {
 
     // Takes out a pair.
     pub(crate) fn take<M: Meter>(&mut self, place: usize, meter: &mut M) -> (L, R)
-        requires { IsLive self.old.pairs place }
+        requires live { IsLive self.old.pairs place }
         ensures was { pair_at self.old.pairs place ≡ Some result }
         ensures pairs { self.new.pairs ≡ slice_set self.old.pairs place None }
         ensures right_spots { (key : R) (spot : J.Spot) → J.is_for self.old.right key spot → J.is_for self.new.right key spot }

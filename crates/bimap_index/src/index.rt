@@ -55,7 +55,7 @@ pub trait Index<K: Eq> {
 
     /// The place with an equal key.
     fn find<S: Side<K>, M: Meter>(&self, side: S, key: &K, meter: &mut M) -> Option<usize>
-        requires { is_listing self.now (S.key_at side) }
+        requires listing { is_listing self.now (S.key_at side) }
         ensures found { IsFoundBy (S.key_at side) K.eq key.now result }
         ensures comparisons { M.comparisons meter.new ≤ M.comparisons meter.old + effort (length (places self.now)) }
         ensures touches { M.touches meter.new ≤ M.touches meter.old + effort (length (places self.now)) };
@@ -154,7 +154,7 @@ pub trait Index<K: Eq> {
 
     /// Takes the place with an equal key off the list, and answers it. Where there is none, nothing changes.
     fn unlink_key<S: Side<K>, M: Meter>(&mut self, side: S, key: &K, meter: &mut M) -> Option<usize>
-        requires { is_listing self.old (S.key_at side) }
+        requires listing { is_listing self.old (S.key_at side) }
         ensures found { IsFoundBy (S.key_at side) K.eq key.now result }
         ensures listing { IfSome result (λ place. (f : ℕ → Option K) → IsWithout f (S.key_at side) place → is_listing self.new f) }
         ensures unchanged { IfNone result (self.new ≡ self.old) }

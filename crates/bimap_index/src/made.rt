@@ -51,12 +51,12 @@ pub trait PackedIndex<K: Eq>: Index<K> {
     /// What the index is to adopt of a store packed to `to` places, in time in proportion to the cells. It looks at no key.
     /// A refusal makes nothing.
     fn packed(&self, alloc: Global, to: usize) -> Result<Self::Packed, NoMemory>
-        requires { length (Self.places self.now) ≤ to }
+        requires room { length (Self.places self.now) ≤ to }
         ensures { IfOk result (λ packed. is_packed self.now to packed) };
 
     /// Lists the places of the packed side, in place of what it lists. It takes no memory.
     fn adopt<S: Side<K>, M: Meter>(&mut self, packed: Self::Packed, side: S, meter: &mut M)
-        requires { (to : ℕ) × (f : ℕ → Option K) × is_packed self.old to packed × Self.is_listing self.old f × IsPackedSide f (S.key_at side) to }
+        requires from { (to : ℕ) × (f : ℕ → Option K) × is_packed self.old to packed × Self.is_listing self.old f × IsPackedSide f (S.key_at side) to }
         ensures listing { Self.is_listing self.new (S.key_at side) }
         ensures cells { (to : ℕ) → is_packed self.old to packed → Self.cells self.new ≡ to }
         ensures comparisons { M.comparisons meter.new ≤ M.comparisons meter.old + length (Self.places self.old) * Self.effort (length (Self.places self.old)) }

@@ -5,7 +5,7 @@ pub returns-in_err-taken-clause-taken : goal.returns-in_err-taken-clause-taken
 returns-in_err-taken-clause-taken g c = rw c.from_residual.ensures (none_taken c.args.self.now.pairs c.args.self.now.right.places (order_walk (λ p. p.1) g.met.R.Ord.total g.met.R.Ord.matches_eq c.args.self.now.pairs c.args.self.now.right.places c.args.self.now.right_listing) c.args.rank (rw c.place_at.ensures.place at c.in_err-taken.was))
 
 pub take-requires : goal.take-requires
-take-requires g c = live_at_rank c.args.self.now.pairs c.args.self.now.right.places (λ q. ((order_walk (λ p. p.1) g.met.R.Ord.total g.met.R.Ord.matches_eq c.args.self.now.pairs c.args.self.now.right.places c.args.self.now.right_listing).live q).0) c.args.rank c.in_ok-taken.taken (rw c.place_at.ensures.place at c.in_ok-taken.was)
+take-requires g c = record { live = live_at_rank c.args.self.now.pairs c.args.self.now.right.places (λ q. ((order_walk (λ p. p.1) g.met.R.Ord.total g.met.R.Ord.matches_eq c.args.self.now.pairs c.args.self.now.right.places c.args.self.now.right_listing).live q).0) c.args.rank c.in_ok-taken.taken (rw c.place_at.ensures.place at c.in_ok-taken.was) }
 
 pub returns-clause-taken : goal.returns-clause-taken
 returns-clause-taken g c =

@@ -16,13 +16,15 @@ place-place-requires-clause-listed g c =
     omega (arith, c.loop-rank-test.true, c.len.ensures.value, count_listed t.pairs t.left.places walk)
 
 pub keeps_at-requires : goal.keeps_at-requires
-keeps_at-requires g c p has =
-    let t = c.loop-rank.self in
-    let walk = order_walk (λ p. p.0) g.met.L.Ord.total g.met.L.Ord.matches_eq t.pairs t.left.places t.left_listing in
-    let count = count_walked t.pairs t.left.places walk in
-    may g.F.FnMut c.args.f c.loop-rank.f _ _ c.loop-rank.rank c.loop-rank.invariant.going p
-    (pair_at_rank t.pairs t.left.places (λ q. (walk.live q).0) c.loop-rank.rank c.place-place.result c.place-place.ensures.place p has)
-    (omega arith) c.requires
+keeps_at-requires g c = record {
+  may = λ p has.
+      let t = c.loop-rank.self in
+      let walk = order_walk (λ p. p.0) g.met.L.Ord.total g.met.L.Ord.matches_eq t.pairs t.left.places t.left_listing in
+      let count = count_walked t.pairs t.left.places walk in
+      may g.F.FnMut c.args.f c.loop-rank.f _ _ c.loop-rank.rank c.loop-rank.invariant.going p
+      (pair_at_rank t.pairs t.left.places (λ q. (walk.live q).0) c.loop-rank.rank c.place-place.result c.place-place.ensures.place p has)
+      (omega arith) c.requires.may;
+}
 
 pub loop-rank-preserved-then-keeps_at : goal.loop-rank-preserved-then-keeps_at
 loop-rank-preserved-then-keeps_at g c =

@@ -25,7 +25,7 @@ loop-place-preserved g c =
           let rest = pairs_in (drop (place + 1) slots) in
           let here = subst (λ xs. IsCopiedUpTo g.L.Clone.is_clone g.R.Clone.is_clone old xs (pairs_in c.loop-place.copy.pairs)) (from_live slots place pair there) so_far in
           rw w.copy-is record {
-            copied = copied_more g.L.PartialEq.eq g.R.PartialEq.eq g.met.L.Eq.laws g.met.R.Eq.laws g.L.Clone.is_clone g.R.Clone.is_clone old rest (pairs_in c.loop-place.copy.pairs) (pairs_in w.add.new.self.pairs) pair (w.in_ok-clone.field-0, w.in_ok-clone-2.field-0) c.args.self.now.apart c.requires here (w.in_ok-clone.ensures.cases, w.in_ok-clone-2.ensures.cases) w.in_ok-add.ensures.put;
+            copied = copied_more g.L.PartialEq.eq g.R.PartialEq.eq g.met.L.Eq.laws g.met.R.Eq.laws g.L.Clone.is_clone g.R.Clone.is_clone old rest (pairs_in c.loop-place.copy.pairs) (pairs_in w.add.new.self.pairs) pair (w.in_ok-clone.field-0, w.in_ok-clone-2.field-0) c.args.self.now.apart c.requires.equal here (w.in_ok-clone.ensures.cases, w.in_ok-clone-2.ensures.cases) w.in_ok-add.ensures.put;
             room = omega (arith, c.loop-place.invariant.room, w.add.ensures.not_lower);
           }
       | in_default w ↦ rw w.copy-is record {
@@ -40,4 +40,4 @@ returns-clause-pairs g c =
     let old = pairs_in slots in
     let new = pairs_in c.loop-place.copy.pairs in
     let whole = subst (λ rest. IsCopiedUpTo g.L.Clone.is_clone g.R.Clone.is_clone old rest new) (from_end slots c.loop-place.place (omega (arith, c.places-places.ensures, c.loop-place-test.false))) c.loop-place.invariant.copied in
-    copied_all g.L.PartialEq.eq g.R.PartialEq.eq g.met.L.Eq.laws g.met.R.Eq.laws g.L.Clone.is_clone g.R.Clone.is_clone old new c.args.self.now.apart c.loop-place.copy.apart c.requires whole
+    copied_all g.L.PartialEq.eq g.R.PartialEq.eq g.met.L.Eq.laws g.met.R.Eq.laws g.L.Clone.is_clone g.R.Clone.is_clone old new c.args.self.now.apart c.loop-place.copy.apart c.requires.equal whole

@@ -72,4 +72,4 @@ pub returns-then-keeps-2-clause-places : goal.returns-then-keeps-2-clause-places
 returns-then-keeps-2-clause-places g c = refl
 
 pub finish_left-by_left-requires : goal.finish_left-by_left-requires
-finish_left-by_left-requires g c = search
+finish_left-by_left-requires g c = record { under_way = search }

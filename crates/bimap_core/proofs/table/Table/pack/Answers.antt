@@ -9,35 +9,43 @@ use Rattle.bimap_core.proofs.Shrinking.{pairs_packed, long_packed, places_fit}
 use Rattle.bimap_core.proofs.table.Table.pack.Goals as goal
 
 pub packed-requires : goal.packed-requires
-packed-requires g c =
-    let map = c.args.self.now in
-    let listing = g.met.I.Index.settled map.left (left_at map.pairs) map.left_listing in
-    places_fit map.pairs c.args.to c.requires (λ p. p.0) (g.I.Index.places map.left) (g.met.I.Index.listed map.left (left_at map.pairs) listing) (g.met.I.Index.distinct map.left (left_at map.pairs) listing)
+packed-requires g c = record {
+  room =
+      let map = c.args.self.now in
+      let listing = g.met.I.Index.settled map.left (left_at map.pairs) map.left_listing in
+      places_fit map.pairs c.args.to c.requires.room (λ p. p.0) (g.I.Index.places map.left) (g.met.I.Index.listed map.left (left_at map.pairs) listing) (g.met.I.Index.distinct map.left (left_at map.pairs) listing);
+}
 
 pub packed-requires-2 : goal.packed-requires-2
-packed-requires-2 g c =
-    let map = c.args.self.now in
-    let listing = g.met.J.Index.settled map.right (right_at map.pairs) map.right_listing in
-    places_fit map.pairs c.args.to c.requires (λ p. p.1) (g.J.Index.places map.right) (g.met.J.Index.listed map.right (right_at map.pairs) listing) (g.met.J.Index.distinct map.right (right_at map.pairs) listing)
+packed-requires-2 g c = record {
+  room =
+      let map = c.args.self.now in
+      let listing = g.met.J.Index.settled map.right (right_at map.pairs) map.right_listing in
+      places_fit map.pairs c.args.to c.requires.room (λ p. p.1) (g.J.Index.places map.right) (g.met.J.Index.listed map.right (right_at map.pairs) listing) (g.met.J.Index.distinct map.right (right_at map.pairs) listing);
+}
 
 pub adopt-requires : goal.adopt-requires
-adopt-requires g c =
-    let map = c.args.self.now in
-    let slots = map.pairs in
-    rw (c.new.ensures, c.in_ok-pack.ensures.ok) (c.args.to, left_at slots, c.in_ok-left.ensures, g.met.I.Index.settled map.left (left_at slots) map.left_listing, packed_side (λ p. p.0) slots c.args.to)
+adopt-requires g c = record {
+  from =
+      let map = c.args.self.now in
+      let slots = map.pairs in
+      rw (c.new.ensures, c.in_ok-pack.ensures.ok) (c.args.to, left_at slots, c.in_ok-left.ensures, g.met.I.Index.settled map.left (left_at slots) map.left_listing, packed_side (λ p. p.0) slots c.args.to);
+}
 
 pub adopt-requires-2 : goal.adopt-requires-2
-adopt-requires-2 g c =
-    let map = c.args.self.now in
-    let slots = map.pairs in
-    rw (c.new-2.ensures, c.in_ok-pack.ensures.ok) (c.args.to, right_at slots, c.in_ok-right.ensures, g.met.J.Index.settled map.right (right_at slots) map.right_listing, packed_side (λ p. p.1) slots c.args.to)
+adopt-requires-2 g c = record {
+  from =
+      let map = c.args.self.now in
+      let slots = map.pairs in
+      rw (c.new-2.ensures, c.in_ok-pack.ensures.ok) (c.args.to, right_at slots, c.in_ok-right.ensures, g.met.J.Index.settled map.right (right_at slots) map.right_listing, packed_side (λ p. p.1) slots c.args.to);
+}
 
 pub invariant_of-self-2 : goal.invariant_of-self-2
 invariant_of-self-2 g c =
     let map = c.args.self.now in
     let slots = map.pairs in
     let to = c.args.to in
-    let long = long_packed slots to c.requires in
+    let long = long_packed slots to c.requires.room in
     let left = rw (c.new.ensures, c.in_ok-pack.ensures.ok) at c.adopt.ensures.listing in
     let right = rw (c.new-2.ensures, c.in_ok-pack.ensures.ok) at c.adopt-2.ensures.listing in
     rw c.in_ok-pack.ensures.ok record {

@@ -9,19 +9,19 @@ use Rattle.bimap_core.proofs.table.Table.undo_insert.Goals as goal
 pub unreachable-requires : goal.unreachable-requires
 unreachable-requires g c =
     let lacking = left_lacking g.L.PartialEq.eq c.args.self.now.pairs c.args.left.now c.left_place.result c.left_place.ensures.found c.in_default.is in
-    true≢false (sym c.requires.by_left ∙ lacking c.requires.pair c.requires.member)
+    true≢false (sym c.requires.undoable.by_left ∙ lacking c.requires.undoable.pair c.requires.undoable.member)
 
 pub replace-requires-clause-alone : goal.replace-requires-clause-alone
-replace-requires-clause-alone g c = alone_named g.L.PartialEq.eq g.R.PartialEq.eq g.met.L.Eq.laws g.met.R.Eq.laws c.args.self.now.pairs c.args.left.now c.in-Some.place c.left_place.result c.left_place.ensures.found c.in-Some.is c.args.answer c.requires (c.in-Left.l, c.in-Left.r) (names_one c.args.answer c.in-Left.l c.in-Left.r c.in-Left.is).is
+replace-requires-clause-alone g c = alone_named g.L.PartialEq.eq g.R.PartialEq.eq g.met.L.Eq.laws g.met.R.Eq.laws c.args.self.now.pairs c.args.left.now c.in-Some.place c.left_place.result c.left_place.ensures.found c.in-Some.is c.args.answer c.requires.undoable (c.in-Left.l, c.in-Left.r) (names_one c.args.answer c.in-Left.l c.in-Left.r c.in-Left.is).is
 
 pub replace-old-requires-clause-alone : goal.replace-old-requires-clause-alone
 replace-old-requires-clause-alone g c =
     alone_grown g.L.PartialEq.eq g.R.PartialEq.eq c.args.self.now.pairs c.make_room.new.self.pairs c.in-Some.place c.in-Both.first c.make_room.ensures.kept
-    (alone_named g.L.PartialEq.eq g.R.PartialEq.eq g.met.L.Eq.laws g.met.R.Eq.laws c.args.self.now.pairs c.args.left.now c.in-Some.place c.left_place.result c.left_place.ensures.found c.in-Some.is (Both c.in-Both.first c.in-Both.second) (rw c.in-Both.is at c.requires) c.in-Both.first (inl refl))
+    (alone_named g.L.PartialEq.eq g.R.PartialEq.eq g.met.L.Eq.laws g.met.R.Eq.laws c.args.self.now.pairs c.args.left.now c.in-Some.place c.left_place.result c.left_place.ensures.found c.in-Some.is (Both c.in-Both.first c.in-Both.second) (rw c.in-Both.is at c.requires.undoable) c.in-Both.first (inl refl))
 
 pub put_new-place-requires-clause-alone : goal.put_new-place-requires-clause-alone
 put_new-place-requires-clause-alone g c other free =
-    let undoable = rw c.in-Both.is at c.requires in
+    let undoable = rw c.in-Both.is at c.requires.undoable in
     rw c.replace-old.ensures.pairs (alone_beside g.L.PartialEq.eq g.R.PartialEq.eq c.make_room.new.self.pairs c.in-Some.place other c.replace-old.result c.in-Both.first c.in-Both.second c.replace-old.ensures.was undoable.two
     (alone_grown g.L.PartialEq.eq g.R.PartialEq.eq c.args.self.now.pairs c.make_room.new.self.pairs c.in-Some.place c.in-Both.second c.make_room.ensures.kept
     (alone_named g.L.PartialEq.eq g.R.PartialEq.eq g.met.L.Eq.laws g.met.R.Eq.laws c.args.self.now.pairs c.args.left.now c.in-Some.place c.left_place.result c.left_place.ensures.found c.in-Some.is (Both c.in-Both.first c.in-Both.second) undoable c.in-Both.second (inr refl))))

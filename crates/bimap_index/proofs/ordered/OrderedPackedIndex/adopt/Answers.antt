@@ -6,7 +6,7 @@ use Rattle.bimap_index.proofs.ordered.OrderedPackedIndex.adopt.Goals as goal
 
 pub loop-place-init : goal.loop-place-init
 loop-place-init g c = record {
-  listed = none_yet g.K.Ord.cmp (g.S.Side.key_at c.args.side) c.args.packed.places c.requires.2.1;
+  listed = none_yet g.K.Ord.cmp (g.S.Side.key_at c.args.side) c.args.packed.places c.requires.from.2.1;
   within = omega arith;
   cells = refl;
   compared = omega arith;
@@ -18,17 +18,17 @@ insert-requires-clause-ascends g c = rw c.new-keys.ensures c.loop-place.invarian
 
 pub insert-requires-clause-live : goal.insert-requires-clause-live
 insert-requires-clause-live g c =
-    rw c.new-keys.ensures (packed_live g.K.Ord.cmp g.K.PartialEq.eq g.met.K.Ord.total g.met.K.Ord.matches_eq c.args.self.now.places c.requires.1 (g.S.Side.key_at c.args.side) c.requires.0 c.requires.3 c.requires.4 c.loop-place.place (omega (arith, c.loop-place-test.true, c.len-len.ensures.len)))
+    rw c.new-keys.ensures (packed_live g.K.Ord.cmp g.K.PartialEq.eq g.met.K.Ord.total g.met.K.Ord.matches_eq c.args.self.now.places c.requires.from.1 (g.S.Side.key_at c.args.side) c.requires.from.0 c.requires.from.3 c.requires.from.4 c.loop-place.place (omega (arith, c.loop-place-test.true, c.len-len.ensures.len)))
 
 pub insert-requires-clause-cell : goal.insert-requires-clause-cell
-insert-requires-clause-cell g c = omega (arith, c.loop-place-test.true, c.len-len.ensures.len, c.loop-place.invariant.cells, c.requires.2.0, c.requires.2.2)
+insert-requires-clause-cell g c = omega (arith, c.loop-place-test.true, c.len-len.ensures.len, c.loop-place.invariant.cells, c.requires.from.2.0, c.requires.from.2.2)
 
 pub insert-requires-clause-unlisted : goal.insert-requires-clause-unlisted
 insert-requires-clause-unlisted g c there = absurd (omega (arith, (c.loop-place.invariant.listed.first c.loop-place.place).0 there))
 
 pub insert-requires-clause-unequal : goal.insert-requires-clause-unequal
 insert-requires-clause-unequal g c = rw c.new-keys.ensures (λ p k there is.
-    packed_unequal g.K.Ord.cmp g.K.PartialEq.eq g.met.K.Ord.total g.met.K.Ord.matches_eq c.args.self.now.places c.requires.1 (g.S.Side.key_at c.args.side) c.requires.0 c.requires.3 c.requires.4 c.loop-place.place p k ((c.loop-place.invariant.listed.first p).0 there) is)
+    packed_unequal g.K.Ord.cmp g.K.PartialEq.eq g.met.K.Ord.total g.met.K.Ord.matches_eq c.args.self.now.places c.requires.from.1 (g.S.Side.key_at c.args.side) c.requires.from.0 c.requires.from.3 c.requires.from.4 c.loop-place.place p k ((c.loop-place.invariant.listed.first p).0 there) is)
 
 pub loop-place-preserved : goal.loop-place-preserved
 loop-place-preserved g c =
@@ -44,7 +44,7 @@ loop-place-preserved g c =
     }
 
 pub returns-clause-listing : goal.returns-clause-listing
-returns-clause-listing g c = all_listed g.K.Ord.cmp g.K.PartialEq.eq g.met.K.Ord.total g.met.K.Ord.matches_eq c.args.self.now.places c.requires.1 (g.S.Side.key_at c.args.side) c.requires.0 c.requires.3 c.requires.4 c.loop-place.self.places (subst (λ n. IsListedUpTo g.K.Ord.cmp (g.S.Side.key_at c.args.side) n c.loop-place.self.places) (omega (arith, c.loop-place-test.false, c.loop-place.invariant.within, c.len-len.ensures.len)) c.loop-place.invariant.listed)
+returns-clause-listing g c = all_listed g.K.Ord.cmp g.K.PartialEq.eq g.met.K.Ord.total g.met.K.Ord.matches_eq c.args.self.now.places c.requires.from.1 (g.S.Side.key_at c.args.side) c.requires.from.0 c.requires.from.3 c.requires.from.4 c.loop-place.self.places (subst (λ n. IsListedUpTo g.K.Ord.cmp (g.S.Side.key_at c.args.side) n c.loop-place.self.places) (omega (arith, c.loop-place-test.false, c.loop-place.invariant.within, c.len-len.ensures.len)) c.loop-place.invariant.listed)
 
 pub returns-clause-cells : goal.returns-clause-cells
 returns-clause-cells g c to is = c.loop-place.invariant.cells ∙ is.2

@@ -11,4 +11,4 @@ pub returns-clause-comparisons : goal.returns-clause-comparisons
 returns-clause-comparisons g c = search
 
 pub pair_at_rank-requires : goal.pair_at_rank-requires
-pair_at_rank-requires g c = let table = c.args.self.now.table in all_live table.pairs table.right.places (order_walk (λ p. p.1) g.met.R.Ord.total g.met.R.Ord.matches_eq table.pairs table.right.places table.right_listing)
+pair_at_rank-requires g c = record { live = let table = c.args.self.now.table in all_live table.pairs table.right.places (order_walk (λ p. p.1) g.met.R.Ord.total g.met.R.Ord.matches_eq table.pairs table.right.places table.right_listing) }

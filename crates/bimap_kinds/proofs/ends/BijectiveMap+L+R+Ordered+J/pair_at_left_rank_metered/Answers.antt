@@ -6,4 +6,4 @@ pub returns-clause-pair : goal.returns-clause-pair
 returns-clause-pair g c = search
 
 pub pair_at_rank-requires : goal.pair_at_rank-requires
-pair_at_rank-requires g c = let table = c.args.self.now.table in all_live table.pairs table.left.places (order_walk (λ p. p.0) g.met.L.Ord.total g.met.L.Ord.matches_eq table.pairs table.left.places table.left_listing)
+pair_at_rank-requires g c = record { live = let table = c.args.self.now.table in all_live table.pairs table.left.places (order_walk (λ p. p.0) g.met.L.Ord.total g.met.L.Ord.matches_eq table.pairs table.left.places table.left_listing) }

@@ -3,9 +3,11 @@ use Rattle.bimap_kinds.proofs.Walk.{table_alike, right_walk, table_facts}
 use Rattle.bimap_kinds.proofs.map.BijectiveMap.clone.Goals as goal
 
 pub clone-requires : goal.clone-requires
-clone-requires g c =
-    let same = (table_alike c.args.self.now.table g.met.I.Index.listed g.met.I.Index.distinct g.met.I.Index.settled).members in
-    record { left = λ p there. c.requires.left p ((same p).0 there); right = λ p there. c.requires.right p ((same p).0 there) }
+clone-requires g c = record {
+  equal =
+      let same = (table_alike c.args.self.now.table g.met.I.Index.listed g.met.I.Index.distinct g.met.I.Index.settled).members in
+      record { left = λ p there. c.requires.left p ((same p).0 there); right = λ p there. c.requires.right p ((same p).0 there) };
+}
 
 pub invariant_of-result : goal.invariant_of-result
 invariant_of-result g c = table_facts c.in-Ok.table g.met.I.Index.listed g.met.I.Index.distinct g.met.I.Index.settled g.met.I.Index.in_order g.met.L.Eq.laws g.met.R.Eq.laws _ (right_walk c.in-Ok.table g.met.J.Index.listed g.met.J.Index.distinct g.met.J.Index.settled)

@@ -5,9 +5,11 @@ pub invariant_of-self : goal.invariant_of-self
 invariant_of-self g c = table_facts c.retain.new.self g.met.I.Index.listed g.met.I.Index.distinct g.met.I.Index.settled g.met.I.Index.in_order g.met.L.Eq.laws g.met.R.Eq.laws _ (right_walk c.retain.new.self g.met.J.Index.listed g.met.J.Index.distinct g.met.J.Index.settled)
 
 pub retain-requires : goal.retain-requires
-retain-requires g c =
-    let table = c.args.self.now.table in
-    may_test_walked g.F.FnMut g.met.L.Eq.laws g.met.R.Eq.laws table.pairs _ (left_walk table g.met.I.Index.listed g.met.I.Index.distinct g.met.I.Index.settled) table.apart c.args.f c.requires
+retain-requires g c = record {
+  may =
+      let table = c.args.self.now.table in
+      may_test_walked g.F.FnMut g.met.L.Eq.laws g.met.R.Eq.laws table.pairs _ (left_walk table g.met.I.Index.listed g.met.I.Index.distinct g.met.I.Index.settled) table.apart c.args.f c.requires;
+}
 
 pub returns : goal.returns
 returns g c =

@@ -10,11 +10,13 @@ pub invariant_of-self : goal.invariant_of-self
 invariant_of-self g c = table_facts c.undo_insert.new.self g.met.I.Index.listed g.met.I.Index.distinct g.met.I.Index.settled g.met.I.Index.in_order g.met.L.Eq.laws g.met.R.Eq.laws _ (right_walk c.undo_insert.new.self g.met.J.Index.listed g.met.J.Index.distinct g.met.J.Index.settled)
 
 pub undo_insert-requires : goal.undo_insert-requires
-undo_insert-requires g c =
-    let table = c.args.self.now.table in
-    let old = pairs_at table.pairs (g.I.Index.places table.left) in
-    let members = turned (Contains (pairs_in table.pairs)) (Contains old) (table_alike table g.met.I.Index.listed g.met.I.Index.distinct g.met.I.Index.settled).members in
-    IsUndoable-same (Contains old) (Contains (pairs_in table.pairs)) members g.L.PartialEq.eq g.R.PartialEq.eq c.args.left.now c.args.answer c.requires
+undo_insert-requires g c = record {
+  undoable =
+      let table = c.args.self.now.table in
+      let old = pairs_at table.pairs (g.I.Index.places table.left) in
+      let members = turned (Contains (pairs_in table.pairs)) (Contains old) (table_alike table g.met.I.Index.listed g.met.I.Index.distinct g.met.I.Index.settled).members in
+      IsUndoable-same (Contains old) (Contains (pairs_in table.pairs)) members g.L.PartialEq.eq g.R.PartialEq.eq c.args.left.now c.args.answer c.requires;
+}
 
 pub returns : goal.returns
 returns g c =
