@@ -22,7 +22,7 @@ pub fn perform<L: Eq + Drop, R: Eq + Drop, K: Drop, B: Bijection<L, R>, F: Fn(&K
     call: Call<L, R, K>,
     test: &F,
 ) -> Reply<L, R>
-    requires { MayRetain (IsDecided F.Fn test.now) (Contains (B.holding bimap.old).pairs) call }
+    requires may { MayRetain (IsDecided F.Fn test.now) (Contains (B.holding bimap.old).pairs) call }
     ensures right { IsRight L.eq R.eq (Contains (B.holding bimap.old).pairs) (call, result) }
     ensures step { IsStep L.eq R.eq (Answers F.Fn test.now) (Contains (B.holding bimap.old).pairs) (call, result) (Contains (B.holding bimap.new).pairs) }
     ensures not_lower { (B.holding bimap.old).room ≤ (B.holding bimap.new).room }
@@ -75,7 +75,7 @@ pub fn run<L: Eq + Drop, R: Eq + Drop, K: Drop, B: Bijection<L, R>, F: Fn(&K, &L
     calls: Vec<Call<L, R, K>>,
     test: F,
 ) -> Result<Vec<Reply<L, R>>, RunRefused<L, R, K>>
-    requires { IsTestOf F.Fn test (B.holding bimap.old).pairs calls.items }
+    requires test { IsTestOf F.Fn test (B.holding bimap.old).pairs calls.items }
     ensures one_each { IfOk result (λ replies. vec_len replies ≡ vec_len calls) }
     ensures history { IfOk result (λ replies. IsHistory L.eq R.eq (Answers F.Fn test) (B.holding bimap.old) (zip calls.items replies.items) (B.holding bimap.new)) }
     ensures from_empty { IfOk result (λ replies. (B.holding bimap.old).pairs ≡ [] → IsWholeHistory L.eq R.eq (Answers F.Fn test) (zip calls.items replies.items) (B.holding bimap.new)) }

@@ -60,12 +60,12 @@ pub trait Bijection<L: Eq + Drop, R: Eq + Drop> {
     ///     let mut sum = 0u32;
     ///     seats.for_each(|_: &char, seat: &u32| sum = sum.wrapping_add(*seat));
     fn for_each<F: FnMut(&L, &R)>(&self, f: F)
-        requires { MayVisit F.FnMut f (holding self.now).pairs }
+        requires may { MayVisit F.FnMut f (holding self.now).pairs }
         ensures { IsVisited F.FnMut f (holding self.now).pairs };
 
     /// Calls the closure once on each pair, in an open order, and takes out those on which it answers false.
     fn retain<F: FnMut(&L, &R) -> bool>(&mut self, f: F)
-        requires { MayTest F.FnMut f (holding self.old).pairs }
+        requires may { MayTest F.FnMut f (holding self.old).pairs }
         ensures { IsRetention F.FnMut (holding self.old) f (holding self.new) };
 
     /// Drops all pairs. The room stays.
@@ -88,7 +88,7 @@ pub trait Bijection<L: Eq + Drop, R: Eq + Drop> {
         left: &L,
         answer: Overwritten<L, R>,
     ) -> Result<(L, R), UndoStopped<L, R>>
-        requires { IsUndoable L.eq R.eq (Contains (holding self.old).pairs) left.now answer }
+        requires undoable { IsUndoable L.eq R.eq (Contains (holding self.old).pairs) left.now answer }
         ensures { IsUndoing L.eq R.eq (holding self.old) left.now answer result (holding self.new) };
 
     /// Whether no pair is held.

@@ -15,7 +15,7 @@ pub fn extend<L: Eq + Drop, R: Eq + Drop, B: Bijection<L, R>, I: IntoIterator<It
     bimap: &mut B,
     items: I,
 ) -> Result<(), ExtendStopped<L, R>>
-    requires { IsFiniteIterable I.into_iter_gives I.IntoIter.can_next I.IntoIter.remaining items }
+    requires ends { IsFiniteIterable I.into_iter_gives I.IntoIter.can_next I.IntoIter.remaining items }
     ensures extended { OnOk result (IsExtension L.eq R.eq (I.into_iter_gives items) I.IntoIter.next_gives (B.holding bimap.old) (B.holding bimap.new)) }
     ensures stopped { IfErr result (λ e. IsExtensionStopped L.eq R.eq (I.into_iter_gives items) I.IntoIter.next_gives (B.holding bimap.old) e (B.holding bimap.new)) }
 {
@@ -49,7 +49,7 @@ pub fn extend_with<L: Eq + Drop, R: Eq + Drop, B: Bijection<L, R>, I: IntoIterat
     items: I,
     policy: Policy,
 ) -> Result<(), ItemRefused<L, R>>
-    requires { IsFiniteIterable I.into_iter_gives I.IntoIter.can_next I.IntoIter.remaining items }
+    requires ends { IsFiniteIterable I.into_iter_gives I.IntoIter.can_next I.IntoIter.remaining items }
     ensures extended { OnOk result (IsExtensionUnder L.eq R.eq (I.into_iter_gives items) I.IntoIter.next_gives (B.holding bimap.old) policy (B.holding bimap.new)) }
     ensures stopped { IfErr result (λ e. IsExtensionStoppedUnder L.eq R.eq (I.into_iter_gives items) I.IntoIter.next_gives (B.holding bimap.old) policy e (B.holding bimap.new)) }
 {

@@ -19,7 +19,7 @@ pub trait Keys {
 
     /// How the key of a place stands to a key.
     fn compare<M: Meter>(&self, place: usize, key: &Self::Key, meter: &mut M) -> Ordering
-        requires { IsSome (key_at self.now place) }
+        requires live { IsSome (key_at self.now place) }
         ensures answer { standing (key_at self.now) order key.now place ≡ Some result }
         ensures comparisons { M.comparisons meter.new ≡ M.comparisons meter.old + 1 }
         ensures touches { M.touches meter.new ≡ M.touches meter.old };

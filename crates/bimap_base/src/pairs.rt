@@ -96,7 +96,7 @@ impl<L, R> Pairs<L, R> {
 
     /// The pair at a place that has one, in constant time.
     pub fn held(&self, place: usize) -> (&L, &R)
-        requires { IsLive self.now place }
+        requires live { IsLive self.now place }
         ensures { pair_at self.now place ≡ Some (result.0.now, result.1.now) }
     {
         match &self.slots[place] {
@@ -107,7 +107,7 @@ impl<L, R> Pairs<L, R> {
 
     /// Puts a pair into a free place, and answers which. It takes no memory.
     pub fn put(&mut self, left: L, right: R) -> usize
-        requires { pair_count self.old < length self.old }
+        requires free { pair_count self.old < length self.old }
         ensures there { result < length self.old }
         ensures was_free { pair_at self.old result ≡ None }
         ensures now { self.new ≡ slice_set self.old result (Some (left, right)) }
@@ -126,7 +126,7 @@ impl<L, R> Pairs<L, R> {
 
     /// Puts a pair in the place of another, which it answers. It takes no memory.
     pub fn swap_in(&mut self, place: usize, left: L, right: R) -> (L, R)
-        requires { IsLive self.old place }
+        requires live { IsLive self.old place }
         ensures was { pair_at self.old place ≡ Some result }
         ensures now { self.new ≡ slice_set self.old place (Some (left, right)) }
         ensures count { pair_count self.new ≡ pair_count self.old }
@@ -139,7 +139,7 @@ impl<L, R> Pairs<L, R> {
 
     /// Takes out the pair at a place, which is free then.
     pub fn take(&mut self, place: usize) -> (L, R)
-        requires { IsLive self.old place }
+        requires live { IsLive self.old place }
         ensures was { pair_at self.old place ≡ Some result }
         ensures now { self.new ≡ slice_set self.old place None }
         ensures count { pair_count self.new + 1 ≡ pair_count self.old }
@@ -180,7 +180,7 @@ impl<L, R> Pairs<L, R> {
     where
         L: Drop,
         R: Drop,
-        requires { pair_count self.old ≤ to }
+        requires fits { pair_count self.old ≤ to }
         ensures ok { OnOk result (self.new ≡ packed (pairs_in self.old) to) }
         ensures err { OnErr result (self.new ≡ self.old) }
     {

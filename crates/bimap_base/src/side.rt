@@ -11,7 +11,7 @@ pub trait Side<K>: Copy {
 
     /// The key of a place, in constant time.
     fn key(&self, place: usize) -> &K
-        requires { IsSome (key_at self.now place) }
+        requires live { IsSome (key_at self.now place) }
         ensures { key_at self.now place ≡ Some result.now };
 }
 

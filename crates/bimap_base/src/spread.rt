@@ -21,12 +21,12 @@ pub trait Spread {
 
     /// The hash number of the key of a place.
     fn hash_place(&self, place: usize) -> u32
-        requires { IsSome (key_at self.now place) }
+        requires live { IsSome (key_at self.now place) }
         ensures { IfSome (key_at self.now place) (λ k. result ≡ number_of self.now k) };
 
     /// Whether the key of a place equals a key.
     fn same(&self, place: usize, key: &Self::Key) -> bool
-        requires { IsSome (key_at self.now place) }
+        requires live { IsSome (key_at self.now place) }
         ensures { IfSome (key_at self.now place) (λ k. result ≡ same_key k key.now) };
 
     /// Equality of keys is an equivalence.

@@ -41,7 +41,7 @@ pub trait Walked<L: Copy + Eq + Drop, R: Copy + Eq + Drop>: Bijection<L, R> + Dr
 
     /// A copy.
     fn copied(&self) -> Result<Self, NoMemory>
-        requires { AreClonesEqual L.is_clone R.is_clone L.eq R.eq (Self.holding self.now).pairs };
+        requires equal { AreClonesEqual L.is_clone R.is_clone L.eq R.eq (Self.holding self.now).pairs };
 
     /// Whether the two are equal.
     fn equals(&self, other: &Self) -> bool

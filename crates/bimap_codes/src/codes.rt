@@ -98,7 +98,7 @@ pub fn assign_all<L: Ord + Drop, R: Eq + Hash + Drop, I: IntoIterator<Item = (L,
     codes: &mut BiBTreeHashMap<L, R>,
     items: I,
 ) -> Result<(), ItemRefused<L, R>>
-    requires { IsFiniteIterable I.into_iter_gives I.IntoIter.can_next I.IntoIter.remaining items }
+    requires ends { IsFiniteIterable I.into_iter_gives I.IntoIter.can_next I.IntoIter.remaining items }
     ensures assigned { OnOk result (IsExtensionUnder L.eq R.eq (I.into_iter_gives items) I.IntoIter.next_gives (holding codes.old) (record { left = OnHeld.Refuse; right = OnHeld.Refuse }) (holding codes.new)) }
     ensures stopped { IfErr result (λ e. IsExtensionStoppedUnder L.eq R.eq (I.into_iter_gives items) I.IntoIter.next_gives (holding codes.old) (record { left = OnHeld.Refuse; right = OnHeld.Refuse }) e (holding codes.new)) }
 {

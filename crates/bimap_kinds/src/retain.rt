@@ -24,7 +24,7 @@ impl<L: Eq + Hash + Drop, R: Eq + Drop, LS: BuildHasher, J: Index<R>> BijectiveM
     ///     seats.retain(|_: &char, seat: &u32| *seat >= 2);
     ///     seats.len(); // 2
     pub fn retain<F: FnMut(&L, &R) -> bool>(&mut self, f: F)
-        requires { MayTest F.FnMut f (holding self.old).pairs }
+        requires may { MayTest F.FnMut f (holding self.old).pairs }
         ensures { IsRetention F.FnMut (holding self.old) f (holding self.new) }
     {
         self.retain_by_place(f);
@@ -42,7 +42,7 @@ impl<L: Ord + Drop, R: Eq + Drop, J: Index<R>> BijectiveMap<L, R, Ordered, J> {
     ///     seats.retain(|_: &char, seat: &u32| *seat >= 2);
     ///     seats.len(); // 2
     pub fn retain<F: FnMut(&L, &R) -> bool>(&mut self, f: F)
-        requires { MayTestInTurn F.FnMut f (holding self.old).pairs }
+        requires may { MayTestInTurn F.FnMut f (holding self.old).pairs }
         ensures { IsRetentionInTurn F.FnMut (holding self.old) f (holding self.new) }
     {
         self.table.retain_in_turn(f, &mut Count::new());
@@ -54,7 +54,7 @@ impl<L: Eq + Drop, R: Eq + Drop, I: Index<L>, J: Index<R>> BijectiveMap<L, R, I,
 
     // Calls the closure once on each pair, in the order of the places.
     pub(crate) fn retain_by_place<F: FnMut(&L, &R) -> bool>(&mut self, f: F)
-        requires { MayTest F.FnMut f (holding self.old).pairs }
+        requires may { MayTest F.FnMut f (holding self.old).pairs }
         ensures { IsRetention F.FnMut (holding self.old) f (holding self.new) }
     {
         self.table.retain(f, &mut Count::new());

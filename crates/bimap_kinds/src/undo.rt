@@ -21,7 +21,7 @@ impl<L: Eq + Drop, R: Eq + Drop, I: Index<L>, J: Index<R>> BijectiveMap<L, R, I,
         left: &L,
         answer: Overwritten<L, R>,
     ) -> Result<(L, R), UndoStopped<L, R>>
-        requires { IsUndoable L.eq R.eq (Contains (holding self.old).pairs) left.now answer }
+        requires undoable { IsUndoable L.eq R.eq (Contains (holding self.old).pairs) left.now answer }
         ensures { IsUndoing L.eq R.eq (holding self.old) left.now answer result (holding self.new) }
     {
         self.table.undo_insert(left, answer, &mut Count::new())

@@ -98,7 +98,7 @@ pub fn register_recorded<I: IntoIterator<Item = (u32, String)>>(
     registry: &mut Undoable<Registry, u32, String>,
     members: I,
 ) -> Result<(), ItemRefused<u32, String>>
-    requires { IsFiniteIterable I.into_iter_gives I.IntoIter.can_next I.IntoIter.remaining members }
+    requires ends { IsFiniteIterable I.into_iter_gives I.IntoIter.can_next I.IntoIter.remaining members }
     ensures all { OnOk result (AreAllRecorded nat_eq string_eq (I.into_iter_gives members) I.IntoIter.next_gives registry.old (record { left = OnHeld.Refuse; right = OnHeld.Refuse }) registry.new) }
     ensures none { IfErr result (λ e. AreNoneRecorded nat_eq string_eq (I.into_iter_gives members) I.IntoIter.next_gives registry.old (record { left = OnHeld.Refuse; right = OnHeld.Refuse }) e registry.new) }
     ensures same { IfErr result (λ e. IsSameSet (Contains registry.old.held.pairs) (Contains registry.new.held.pairs)) }
@@ -119,7 +119,7 @@ pub fn register_all<I: IntoIterator<Item = (u32, String)>>(
     registry: &mut Registry,
     members: I,
 ) -> Result<(), ItemRefused<u32, String>>
-    requires { IsFiniteIterable I.into_iter_gives I.IntoIter.can_next I.IntoIter.remaining members }
+    requires ends { IsFiniteIterable I.into_iter_gives I.IntoIter.can_next I.IntoIter.remaining members }
     ensures all { OnOk result (IsExtensionUnder nat_eq string_eq (I.into_iter_gives members) I.IntoIter.next_gives (holding registry.old) (record { left = OnHeld.Refuse; right = OnHeld.Refuse }) (holding registry.new)) }
     ensures none { IfErr result (λ e. IsTakenBack nat_eq string_eq (I.into_iter_gives members) I.IntoIter.next_gives (holding registry.old) (record { left = OnHeld.Refuse; right = OnHeld.Refuse }) e (holding registry.new)) }
 {

@@ -45,7 +45,7 @@ fn perform<B: Bijection<char, u32>>(
     held: &mut B,
     call: Request,
 ) -> Option<Reply<char, u32>>
-    requires { (key : _) → call ≢ Call.Retain key }
+    requires no_retain { (key : _) → call ≢ Call.Retain key }
     ensures { IfSome result (λ reply. LeadsTo (B.holding held.old).pairs ((call, reply) ∷ []) (B.holding held.new).pairs) }
 {
     let Ok(calls) = Vec::from_array(alloc, [call]) else {
@@ -105,7 +105,7 @@ fn serve_lines<B: Bijection<char, u32>, I: BufRead, W: Write>(
     input: &mut I,
     output: &mut W,
 ) -> Result<(), Ending>
-    requires { (B.holding held.old).pairs ≡ [] }
+    requires empty { (B.holding held.old).pairs ≡ [] }
     ensures end { OnOk result (IsReadOut (I.remaining input.old) (I.remaining input.new)) }
     ensures ok { OnOk result (IsServed SaysInAll (I.remaining input.old) (W.contents output.old) (W.contents output.new) (B.holding held.new).pairs []) }
     ensures err { IfErr result (λ ending. Stops ending (I.remaining input.old) (W.contents output.old) (W.contents output.new)) }

@@ -80,7 +80,7 @@ pub fn row<G: Eq + Hash>(
     first: u32,
     end: u32,
 ) -> RightRange<'_, G, u32>
-    requires { first ≤ end }
+    requires ordered { first ≤ end }
     ensures { result ≡ filter (λ p. nat_le first p.1 && nat_lt p.1 end) (by_right seats.now) }
 {
     seats.right_range(first..end)

@@ -129,7 +129,7 @@ impl<B: Bijection<L, R> + Drop, L: CopyLeft + Drop, R: Eq + Drop> Undoable<B, L,
         items: I,
         policy: Policy,
     ) -> Result<(), ItemRefused<L, R>>
-        requires { IsFiniteIterable I.into_iter_gives I.IntoIter.can_next I.IntoIter.remaining items }
+        requires ends { IsFiniteIterable I.into_iter_gives I.IntoIter.can_next I.IntoIter.remaining items }
         ensures all { OnOk result (AreAllRecorded L.eq R.eq (I.into_iter_gives items) I.IntoIter.next_gives self.old policy self.new) }
         ensures none { IfErr result (λ e. AreNoneRecorded L.eq R.eq (I.into_iter_gives items) I.IntoIter.next_gives self.old policy e self.new) }
     {
@@ -212,7 +212,7 @@ impl<B: Bijection<L, R> + Drop, L: CopyLeft + Drop, R: Eq + Drop> Undoable<B, L,
     /// Costs one undoing or one insertion of the bimap's for each of these changes. It takes no memory and is never
     /// refused.
     pub fn back_to(&mut self, mark: usize)
-        requires { mark ≤ length self.old.entries }
+        requires recorded { mark ≤ length self.old.entries }
         ensures gone_back { IsReturn L.eq R.eq self.old mark self.new }
         ensures room { self.new.held.room ≡ self.old.held.room }
     {

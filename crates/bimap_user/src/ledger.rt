@@ -39,7 +39,7 @@ pub fn show_seats<G: Eq + Drop, S: Eq + Drop, B: Bijection<G, S>, F: FnMut(&G, &
     ledger: &B,
     visitor: F,
 )
-    requires { MayVisit F.FnMut visitor (B.holding ledger.now).pairs }
+    requires may { MayVisit F.FnMut visitor (B.holding ledger.now).pairs }
     ensures { IsVisited F.FnMut visitor (B.holding ledger.now).pairs }
 {
     ledger.for_each(visitor)
@@ -51,7 +51,7 @@ pub fn seat_in_free_place<G: Eq + Drop, S: Eq + Drop, B: Bijection<G, S>>(
     guest: G,
     seat: S,
 ) -> Overwritten<G, S>
-    requires { length (B.holding ledger.old).pairs < (B.holding ledger.old).room }
+    requires room { length (B.holding ledger.old).pairs < (B.holding ledger.old).room }
     ensures left { IsAnswer G.eq S.eq (Contains (B.holding ledger.old).pairs) (guest, seat) result }
     ensures seated { IsWithPut G.eq S.eq (Contains (B.holding ledger.old).pairs) (guest, seat) (Contains (B.holding ledger.new).pairs) }
     ensures count { length (B.holding ledger.new).pairs ≤ length (B.holding ledger.old).pairs + 1 }
@@ -70,7 +70,7 @@ fn seat_both_in_free_places<G: Eq + Drop, S: Eq + Drop, B: Bijection<G, S>>(
     first: (G, S),
     second: (G, S),
 )
-    requires { length (B.holding ledger.old).pairs + 2 ≤ (B.holding ledger.old).room }
+    requires room { length (B.holding ledger.old).pairs + 2 ≤ (B.holding ledger.old).room }
     ensures room { (B.holding ledger.new).room ≡ (B.holding ledger.old).room }
     ensures second { Contains (B.holding ledger.new).pairs second }
     ensures first { shares G.eq S.eq first second ≡ false → Contains (B.holding ledger.new).pairs first }

@@ -38,7 +38,7 @@ pub type IntoIter<L, R> = Steps<OwnedRanks<L, R>>;
 
 // The pairs at all listed places.
 fn whole<'a, L, R>(pairs: &'a Pairs<L, R>, index: &'a Ordered) -> Ranks<'a, L, R>
-    requires { All (IsLive pairs.now) index.now.places }
+    requires live { All (IsLive pairs.now) index.now.places }
     ensures { result ≡ pairs_at pairs.now index.now.places }
 {
     Ranks::new(pairs, index, 0, index.len())
@@ -46,7 +46,7 @@ fn whole<'a, L, R>(pairs: &'a Pairs<L, R>, index: &'a Ordered) -> Ranks<'a, L, R
 
 /// The pairs at the listed places, in the order of the index. A step takes one descent at most, and no memory.
 pub fn iter<'a, L, R>(pairs: &'a Pairs<L, R>, index: &'a Ordered) -> Iter<'a, L, R>
-    requires { All (IsLive pairs.now) index.now.places }
+    requires live { All (IsLive pairs.now) index.now.places }
     ensures rest { result ≡ pairs_at pairs.now index.now.places }
     ensures runs { ShowsInOrder (deref_pair {K = L} {X = R}) }
     ensures runs_back { ShowsInReverse (deref_pair {K = L} {X = R}) }
@@ -56,7 +56,7 @@ pub fn iter<'a, L, R>(pairs: &'a Pairs<L, R>, index: &'a Ordered) -> Iter<'a, L,
 
 /// The lefts at the listed places, in the order of the index and at the cost of `iter`.
 pub fn left_values<'a, L, R>(pairs: &'a Pairs<L, R>, index: &'a Ordered) -> LeftValues<'a, L, R>
-    requires { All (IsLive pairs.now) index.now.places }
+    requires live { All (IsLive pairs.now) index.now.places }
     ensures rest { result ≡ keys_of (pairs_at pairs.now index.now.places) }
     ensures runs { ShowsInOrder (deref {X = L}) }
     ensures runs_back { ShowsInReverse (deref {X = L}) }
@@ -66,7 +66,7 @@ pub fn left_values<'a, L, R>(pairs: &'a Pairs<L, R>, index: &'a Ordered) -> Left
 
 /// The rights at the listed places, in the order of the index and at the cost of `iter`.
 pub fn right_values<'a, L, R>(pairs: &'a Pairs<L, R>, index: &'a Ordered) -> RightValues<'a, L, R>
-    requires { All (IsLive pairs.now) index.now.places }
+    requires live { All (IsLive pairs.now) index.now.places }
     ensures rest { result ≡ values_of (pairs_at pairs.now index.now.places) }
     ensures runs { ShowsInOrder (deref {X = R}) }
     ensures runs_back { ShowsInReverse (deref {X = R}) }
@@ -99,7 +99,7 @@ pub fn range<'a, L, R, P: Part<L, R>, K: Keys<Key = P::Value>, A: RangeBounds<P:
 
 /// The pairs by value, in the order of the index. No memory is taken.
 pub fn into_iter<L: Drop, R: Drop>(pairs: Pairs<L, R>, index: Ordered) -> IntoIter<L, R>
-    requires { All (IsLive pairs) index.places }
+    requires live { All (IsLive pairs) index.places }
     ensures rest { result ≡ pairs_at pairs index.places }
     ensures runs { GivesInOrder (L × R) }
     ensures runs_back { GivesInReverse (L × R) }

@@ -34,7 +34,7 @@ impl<L, R> Model for OwnedRanks<L, R> {
 impl<L, R> OwnedRanks<L, R> {
     /// All pairs at the listed places.
     pub fn new(pairs: Pairs<L, R>, index: Ordered) -> Self
-        requires { All (IsLive pairs) index.places }
+        requires live { All (IsLive pairs) index.places }
         ensures { result ≡ pairs_at pairs index.places }
     {
         let window = Window::new(&index, 0, index.len());

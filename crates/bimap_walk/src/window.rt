@@ -35,7 +35,7 @@ impl Window {
 
     // The number of places left.
     pub(crate) fn len(&self, index: &Ordered) -> usize
-        requires { IsWindow index.now.places self.now }
+        requires window { IsWindow index.now.places self.now }
         ensures { result ≡ length (places_in index.now.places self.now) }
     {
         let _ = index;
@@ -45,7 +45,7 @@ impl Window {
     // The first place left. One descent serves many calls.
     #[inline(always)]
     pub(crate) fn first(&mut self, index: &Ordered) -> Option<usize>
-        requires { IsWindow index.now.places self.old }
+        requires window { IsWindow index.now.places self.old }
         ensures window { IsWindow index.now.places self.new }
         ensures takes { TakesFirst (λ place. place) (places_in index.now.places self.old) result (places_in index.now.places self.new) }
     {
@@ -61,7 +61,7 @@ impl Window {
     // The last place left. One descent serves many calls.
     #[inline(always)]
     pub(crate) fn last(&mut self, index: &Ordered) -> Option<usize>
-        requires { IsWindow index.now.places self.old }
+        requires window { IsWindow index.now.places self.old }
         ensures window { IsWindow index.now.places self.new }
         ensures takes { TakesLast (λ place. place) (places_in index.now.places self.old) result (places_in index.now.places self.new) }
     {

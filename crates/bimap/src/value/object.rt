@@ -53,7 +53,7 @@ pub fn write_walk<'a, L: JsonKey + 'a, R: JsonValue + 'a, I: IntoIterator<Item =
     alloc: Global,
     walk: I,
 ) -> Result<Value, NoMemory>
-    requires { IsFiniteIterable I.into_iter_gives I.IntoIter.can_next I.IntoIter.remaining walk }
+    requires ends { IsFiniteIterable I.into_iter_gives I.IntoIter.can_next I.IntoIter.remaining walk }
     ensures { IfOk result (λ v. (it : I.IntoIter) × (items : List (Bor L × Bor R)) × I.into_iter_gives walk it × Drains I.IntoIter.next_gives it items
         × IsObjectOf (IsLastEntryOf L.writes_key R.writes (shown_pairs items)) (view v)
         × EachReadsBack L.writes_key R.writes L.reads_key R.reads L.eq R.eq (shown_pairs items)) }
@@ -78,7 +78,7 @@ pub fn read_into<L: JsonKey + Drop, R: JsonValue + Drop, B: Bijection<L, R> + Dr
     empty: B,
     value: &Value,
 ) -> Result<B, JsonFault>
-    requires { (B.holding empty).pairs ≡ [] }
+    requires empty { (B.holding empty).pairs ≡ [] }
     ensures { ReadsObject L.reads_key R.reads L.eq R.eq B.holding (view value.now) result }
 {
     let policy = Policy {
@@ -103,7 +103,7 @@ pub fn read_into_with<L: JsonKey + Drop, R: JsonValue + Drop, B: Bijection<L, R>
     value: &Value,
     policy: Policy,
 ) -> Result<B, JsonFault>
-    requires { (B.holding empty).pairs ≡ [] }
+    requires empty { (B.holding empty).pairs ≡ [] }
     ensures { ReadsObjectUnder L.reads_key R.reads L.eq R.eq B.holding (view value.now) policy result }
 {
     let Some(map) = value.as_object() else {

@@ -28,7 +28,7 @@ fn exchange<G: Eq + Drop, S: Eq + Drop, B: Bijection<G, S>>(
 
 // Seats a guest where a place is free.
 fn seat_again<G: Eq + Drop, S: Eq + Drop, B: Bijection<G, S>>(ledger: &mut B, guest: G, seat: S)
-    requires { length (B.holding ledger.old).pairs < (B.holding ledger.old).room }
+    requires room { length (B.holding ledger.old).pairs < (B.holding ledger.old).room }
     ensures count { length (B.holding ledger.new).pairs ≤ length (B.holding ledger.old).pairs + 1 }
     ensures room { (B.holding ledger.new).room ≡ (B.holding ledger.old).room }
 {

@@ -142,7 +142,7 @@ fn reads<B: Bijection<TableSeat, u8> + Drop>(
     policy: Policy,
     wanted: Result<&[(u8, u8)], JsonFault>,
 )
-    requires { (B.holding empty).pairs ≡ [] }
+    requires empty { (B.holding empty).pairs ≡ [] }
 {
     let value = Value::from_str(alloc, text).expect(rt, "JSON");
     match (read_into_with(alloc, empty, &value, policy), wanted) {

@@ -69,7 +69,7 @@ fn refusals_of_making<B: Bijection<u32, u32> + Drop, F: Fn(Global) -> Result<B, 
     make: F,
     blocks: u64,
 ) -> Result<(), Fail>
-    requires { F.IsAlwaysCallable make }
+    requires callable { F.IsAlwaysCallable make }
 {
     let mut famine = Famine::begin(alloc, 400)?;
     let mut made = None;

@@ -5,9 +5,11 @@ use Rattle.bimap.proofs.Histories.{right_contains_left, right_contains_right, st
 use Rattle.bimap.proofs.runs.perform.Goals as goal
 
 pub retain-requires : goal.retain-requires
-retain-requires g c =
-    MayTest_by _ (λ s. (s.0.now ≡ c.args.test.now) × (s.1.now ≡ c.in-Retain.key)) (λ s a b t i e. search rules) _ _ (refl, refl)
-    (λ s l r i m. may_call g.F.Fn c.args.test.now _ c.in-Retain.key s.1 l r i.0 i.1 (c.requires c.in-Retain.key (l.now, r.now) c.in-Retain.is m))
+retain-requires g c = record {
+  may =
+      MayTest_by _ (λ s. (s.0.now ≡ c.args.test.now) × (s.1.now ≡ c.in-Retain.key)) (λ s a b t i e. search rules) _ _ (refl, refl)
+      (λ s l r i m. may_call g.F.Fn c.args.test.now _ c.in-Retain.key s.1 l r i.0 i.1 (c.requires.may c.in-Retain.key (l.now, r.now) c.in-Retain.is m));
+}
 
 pub returns-in-Ok-clause-step : goal.returns-in-Ok-clause-step
 returns-in-Ok-clause-step g c = rw c.in-Insert.is (step_insert g.L.PartialEq.eq g.R.PartialEq.eq (Answers g.F.Fn c.args.test.now) _ _ _ _ c.in-Ok.answer c.in-Ok.ensures.put)
@@ -22,7 +24,7 @@ returns-in-Retain-clause-step g c =
     (IsKept-by _ (λ s. (s.0.now ≡ c.args.test.now) × (s.1.now ≡ c.in-Retain.key)) (λ s a b t i e. search rules)
     (Answers g.F.Fn c.args.test.now c.in-Retain.key) (λ s l r b t i e. answers_as g.F.Fn c.args.test.now s.0.now c.in-Retain.key s.1 l r b i.0 i.1 (search rules))
     _ _ _ (refl, refl) c.retain.ensures.kept
-    (λ p m t f. true≢false ((c.requires c.in-Retain.key p c.in-Retain.is m).one_answer true false t f))))
+    (λ p m t f. true≢false ((c.requires.may c.in-Retain.key p c.in-Retain.is m).one_answer true false t f))))
 
 pub returns-in-Ok-insert_with-clause-step : goal.returns-in-Ok-insert_with-clause-step
 returns-in-Ok-insert_with-clause-step g c =

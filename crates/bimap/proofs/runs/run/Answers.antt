@@ -17,9 +17,11 @@ loop-call-init g c = record {
 }
 
 pub perform-reply-requires : goal.perform-reply-requires
-perform-reply-requires g c =
-    MayRetain_next (IsDecided g.F.Fn c.args.test) (Contains (g.B.Bijection.holding c.args.bimap.now).pairs) (Contains (g.B.Bijection.holding c.loop-call.bimap).pairs) c.args.calls.items c.loop-call.yielded (into_iter_items c.next.new.self) c.in-Some.call c.requires (search rules)
-    (λ p m. handed_from g.L.PartialEq.eq g.R.PartialEq.eq (Answers g.F.Fn c.args.test) (Contains (g.B.Bijection.holding c.args.bimap.now).pairs) c.loop-call.yielded c.loop-call.replies.items p ((c.loop-call.invariant.history.survivors p).0 m))
+perform-reply-requires g c = record {
+  may =
+      MayRetain_next (IsDecided g.F.Fn c.args.test) (Contains (g.B.Bijection.holding c.args.bimap.now).pairs) (Contains (g.B.Bijection.holding c.loop-call.bimap).pairs) c.args.calls.items c.loop-call.yielded (into_iter_items c.next.new.self) c.in-Some.call c.requires.test (search rules)
+      (λ p m. handed_from g.L.PartialEq.eq g.R.PartialEq.eq (Answers g.F.Fn c.args.test) (Contains (g.B.Bijection.holding c.args.bimap.now).pairs) c.loop-call.yielded c.loop-call.replies.items p ((c.loop-call.invariant.history.survivors p).0 m));
+}
 
 pub loop-call-preserved : goal.loop-call-preserved
 loop-call-preserved g c =

@@ -25,9 +25,11 @@ pub loop-left-init : goal.loop-left-init
 loop-left-init g c = record { undone = []; beginning = sym (append-nil c.args.entries.items); led = λ first h. h; not_lower = omega arith; fits = λ first h. (h, refl) }
 
 pub undo_insert-requires : goal.undo_insert-requires
-undo_insert-requires g c =
-    leads_undoable g.L.PartialEq.eq g.R.PartialEq.eq g.met.L.Eq.laws g.met.R.Eq.laws c.pop.new.self.items c.in-Some.left c.in-Some.answer (g.B.Bijection.holding c.loop-left.bimap).pairs c.requires.0
-    (led g (goal.at.undo_insert-requires g c).In-Some c.requires.0 c.requires.1)
+undo_insert-requires g c = record {
+  undoable =
+      leads_undoable g.L.PartialEq.eq g.R.PartialEq.eq g.met.L.Eq.laws g.met.R.Eq.laws c.pop.new.self.items c.in-Some.left c.in-Some.answer (g.B.Bijection.holding c.loop-left.bimap).pairs c.requires.leads.0
+      (led g (goal.at.undo_insert-requires g c).In-Some c.requires.leads.0 c.requires.leads.1);
+}
 
 pub returns-in-Err-clause-stopped : goal.returns-in-Err-clause-stopped
 returns-in-Err-clause-stopped g c =

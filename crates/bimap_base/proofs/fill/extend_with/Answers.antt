@@ -6,7 +6,7 @@ use Rattle.bimap_base.proofs.fill.extend_with.Goals as goal
 
 pub loop-left-init : goal.loop-left-init
 loop-left-init g c =
-    let ready = c.requires _ c.into_iter-left-iterator.ensures.into_iter_gives in
+    let ready = c.requires.ends _ c.into_iter-left-iterator.ensures.into_iter_gives in
     record {
       callable = ready.0;
       ends = ready.1;

@@ -7,7 +7,7 @@ use Rattle.bimap_rows.proofs.serve.serve_lines.Goals as goal
 pub loop-number-init : goal.loop-number-init
 loop-number-init g c =
     let o = g.W.Write.contents c.args.output.now in
-    none_served (g.I.Read.remaining c.args.input.now) o (g.B.Bijection.holding c.args.held.now).pairs c.requires (Appends-nil o)
+    none_served (g.I.Read.remaining c.args.input.now) o (g.B.Bijection.holding c.args.held.now).pairs c.requires.empty (Appends-nil o)
 
 pub returns-in-Err-take_line-clause-err : goal.returns-in-Err-take_line-clause-err
 returns-in-Err-take_line-clause-err g c =

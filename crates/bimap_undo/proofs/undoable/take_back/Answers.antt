@@ -5,9 +5,11 @@ use Rattle.bimap_undo.proofs.Paths.{both_or_not}
 use Rattle.bimap_undo.proofs.undoable.take_back.Goals as goal
 
 pub undo_insert-requires : goal.undo_insert-requires
-undo_insert-requires g c =
-    let i = rw c.in-Inserted.is at c.requires.3 in
-    inserting_undoable g.L.PartialEq.eq g.R.PartialEq.eq g.met.L.Eq.laws g.met.R.Eq.laws c.requires.0 (g.B.Bijection.holding c.args.bimap.now).pairs c.in-Inserted.left c.in-Inserted.answer c.requires.1 i
+undo_insert-requires g c = record {
+  undoable =
+      let i = rw c.in-Inserted.is at c.requires.3 in
+      inserting_undoable g.L.PartialEq.eq g.R.PartialEq.eq g.met.L.Eq.laws g.met.R.Eq.laws c.requires.0 (g.B.Bijection.holding c.args.bimap.now).pairs c.in-Inserted.left c.in-Inserted.answer c.requires.1 i;
+}
 
 pub unreachable-requires : goal.unreachable-requires
 unreachable-requires g c =

@@ -15,7 +15,7 @@ read_key g c = subst (λ t. g.L.JsonKey.reads_key t c.in-Ok.left) c.as_str.ensur
 
 pub loop-key-init : goal.loop-key-init
 loop-key-init g c = record {
-  reading = reading_first g.L.JsonKey.reads_key g.R.JsonValue.reads g.L.PartialEq.eq g.R.PartialEq.eq c.args.policy (entries_of (members_view c.iter-entries.result)) (g.B.Bijection.holding c.args.empty).pairs c.requires;
+  reading = reading_first g.L.JsonKey.reads_key g.R.JsonValue.reads g.L.PartialEq.eq g.R.PartialEq.eq c.args.policy (entries_of (members_view c.iter-entries.result)) (g.B.Bijection.holding c.args.empty).pairs c.requires.empty;
   counted = omega arith;
 }
 

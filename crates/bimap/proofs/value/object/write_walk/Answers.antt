@@ -12,7 +12,7 @@ use Rattle.bimap.proofs.value.object.write_walk.Goals as goal
 
 pub loop-left-init : goal.loop-left-init
 loop-left-init g c =
-    let ready = c.requires _ c.into_iter-left-iterator.ensures.into_iter_gives in
+    let ready = c.requires.ends _ c.into_iter-left-iterator.ensures.into_iter_gives in
     let key = g.L.JsonKey.writes_key in
     let val = g.R.JsonValue.writes in
     record {

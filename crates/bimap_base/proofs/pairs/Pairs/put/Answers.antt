@@ -7,14 +7,14 @@ use Rattle.bimap_base.proofs.pairs.Pairs.put.Goals as goal
 
 pub invariant_of-self : goal.invariant_of-self
 invariant_of-self g c =
-    let free = first_is_free _ _ _ c.self.invariant (omega (arith, rw (← c.self.view_is) at c.requires, length-map c.self.inside.slots.items pair_of, c.self.invariant.counted)) in
+    let free = first_is_free _ _ _ c.self.invariant (omega (arith, rw (← c.self.view_is) at c.requires.free, length-map c.self.inside.slots.items pair_of, c.self.invariant.counted)) in
     let within = slice_get_within c.self.inside.slots.items c.self.inside.next _ free.1 in
     let read = slice_get_read c.self.inside.slots.items _ c.self.inside.next _ refl within c.index_mut.ensures.value in
     rw c.replace.ensures.after (IsSound-fill _ _ c.self.inside.next c.in-Free.next c.args.left c.args.right c.self.invariant (read ∙ ap Some (sym c.replace.ensures.value ∙ c.in-Free.is)))
 
 pub returns-clause-there : goal.returns-clause-there
 returns-clause-there g c =
-    let free = first_is_free _ _ _ c.self.invariant (omega (arith, rw (← c.self.view_is) at c.requires, length-map c.self.inside.slots.items pair_of, c.self.invariant.counted)) in
+    let free = first_is_free _ _ _ c.self.invariant (omega (arith, rw (← c.self.view_is) at c.requires.free, length-map c.self.inside.slots.items pair_of, c.self.invariant.counted)) in
     let within = slice_get_within c.self.inside.slots.items c.self.inside.next _ free.1 in
     rw (← c.self.view_is) (omega (arith, length-map c.self.inside.slots.items pair_of))
 
@@ -28,12 +28,12 @@ returns-clause-count g c =
 
 pub index_mut-requires : goal.index_mut-requires
 index_mut-requires g c =
-    let free = first_is_free _ _ _ c.self.invariant (omega (arith, rw (← c.self.view_is) at c.requires, length-map c.self.inside.slots.items pair_of, c.self.invariant.counted)) in
+    let free = first_is_free _ _ _ c.self.invariant (omega (arith, rw (← c.self.view_is) at c.requires.free, length-map c.self.inside.slots.items pair_of, c.self.invariant.counted)) in
     omega (arith, slice_get_within c.self.inside.slots.items c.self.inside.next _ free.1, c.self.inside.slots.ok)
 
 pub unreachable-requires : goal.unreachable-requires
 unreachable-requires g c =
-    let free = first_is_free _ _ _ c.self.invariant (omega (arith, rw (← c.self.view_is) at c.requires, length-map c.self.inside.slots.items pair_of, c.self.invariant.counted)) in
+    let free = first_is_free _ _ _ c.self.invariant (omega (arith, rw (← c.self.view_is) at c.requires.free, length-map c.self.inside.slots.items pair_of, c.self.invariant.counted)) in
     let within = slice_get_within c.self.inside.slots.items c.self.inside.next _ free.1 in
     let read = slice_get_read c.self.inside.slots.items _ c.self.inside.next _ refl within c.index_mut.ensures.value in
     let here = c.in-Held.is in

@@ -22,9 +22,11 @@ pub loop-at-smaller : goal.loop-at-smaller
 loop-at-smaller g c = (arrived _ _ _ _ _ _ _ c.loop-at.invariant c.in-Some.is).0
 
 pub same-requires : goal.same-requires
-same-requires g c =
-    keyed _ _ (λ k. g.S.Spread.same_key k c.args.key.now) (numbers_of c.args.self.now) c.in-Some.place c.args.number c.requires.numbered
-    (is_some_of _ _ c.has_number.ensures c.if-has_number.true)
+same-requires g c = record {
+  live =
+      keyed _ _ (λ k. g.S.Spread.same_key k c.args.key.now) (numbers_of c.args.self.now) c.in-Some.place c.args.number c.requires.numbered
+      (is_some_of _ _ c.has_number.ensures c.if-has_number.true);
+}
 
 pub returns-then-same-clause-found : goal.returns-then-same-clause-found
 returns-then-same-clause-found g c =

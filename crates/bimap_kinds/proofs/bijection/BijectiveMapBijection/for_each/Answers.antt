@@ -5,7 +5,7 @@ pub for_each-requires : goal.for_each-requires
 for_each-requires g c = record {
   may =
       let table = c.args.self.now.table in
-      may_visit_walked g.F.FnMut g.met.L.Eq.laws g.met.R.Eq.laws table.pairs _ (left_walk table g.met.I.Index.listed g.met.I.Index.distinct g.met.I.Index.settled) table.apart c.args.f c.requires;
+      may_visit_walked g.F.FnMut g.met.L.Eq.laws g.met.R.Eq.laws table.pairs _ (left_walk table g.met.I.Index.listed g.met.I.Index.distinct g.met.I.Index.settled) table.apart c.args.f c.requires.may;
 }
 
 pub returns : goal.returns

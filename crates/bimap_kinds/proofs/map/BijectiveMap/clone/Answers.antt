@@ -6,7 +6,7 @@ pub clone-requires : goal.clone-requires
 clone-requires g c = record {
   equal =
       let same = (table_alike c.args.self.now.table g.met.I.Index.listed g.met.I.Index.distinct g.met.I.Index.settled).members in
-      record { left = λ p there. c.requires.left p ((same p).0 there); right = λ p there. c.requires.right p ((same p).0 there) };
+      record { left = λ p there. c.requires.equal.left p ((same p).0 there); right = λ p there. c.requires.equal.right p ((same p).0 there) };
 }
 
 pub invariant_of-result : goal.invariant_of-result
@@ -18,7 +18,7 @@ returns-in-Ok-clause-pairs g c =
     let alike = table_alike table g.met.I.Index.listed g.met.I.Index.distinct g.met.I.Index.settled in
     let alike' = table_alike c.in-Ok.table g.met.I.Index.listed g.met.I.Index.distinct g.met.I.Index.settled in
     copy_alike g.L.PartialEq.eq g.R.PartialEq.eq g.met.L.Eq.laws g.met.R.Eq.laws g.L.Clone.is_clone g.R.Clone.is_clone _ _ _ _ alike.members alike'.members alike.long alike'.long table.apart
-    (record { left = λ p there. c.requires.left p ((alike.members p).0 there); right = λ p there. c.requires.right p ((alike.members p).0 there) }) (rw c.in-Ok.is at c.clone.ensures.pairs)
+    (record { left = λ p there. c.requires.equal.left p ((alike.members p).0 there); right = λ p there. c.requires.equal.right p ((alike.members p).0 there) }) (rw c.in-Ok.is at c.clone.ensures.pairs)
 
 pub returns-in-Ok-clause-room : goal.returns-in-Ok-clause-room
 returns-in-Ok-clause-room g c = rw c.in-Ok.is at c.clone.ensures.room

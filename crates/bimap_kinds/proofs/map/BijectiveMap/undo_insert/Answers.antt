@@ -15,7 +15,7 @@ undo_insert-requires g c = record {
       let table = c.args.self.now.table in
       let old = pairs_at table.pairs (g.I.Index.places table.left) in
       let members = turned (Contains (pairs_in table.pairs)) (Contains old) (table_alike table g.met.I.Index.listed g.met.I.Index.distinct g.met.I.Index.settled).members in
-      IsUndoable-same (Contains old) (Contains (pairs_in table.pairs)) members g.L.PartialEq.eq g.R.PartialEq.eq c.args.left.now c.args.answer c.requires;
+      IsUndoable-same (Contains old) (Contains (pairs_in table.pairs)) members g.L.PartialEq.eq g.R.PartialEq.eq c.args.left.now c.args.answer c.requires.undoable;
 }
 
 pub returns : goal.returns

@@ -3,9 +3,11 @@ use Rattle.bimap_kinds.proofs.Walk.{left_walk, all_live, sorted_walk}
 use Rattle.bimap_kinds.proofs.walks_ordered.BijectiveMap+L+R+I+Ordered.right_values.Goals as goal
 
 pub right_values-requires : goal.right_values-requires
-right_values-requires g c =
-    let table = c.args.self.now.table in
-    all_live table.pairs table.right.places (order_walk (λ p. p.1) g.met.R.Ord.total g.met.R.Ord.matches_eq table.pairs table.right.places table.right_listing)
+right_values-requires g c = record {
+  live =
+      let table = c.args.self.now.table in
+      all_live table.pairs table.right.places (order_walk (λ p. p.1) g.met.R.Ord.total g.met.R.Ord.matches_eq table.pairs table.right.places table.right_listing);
+}
 
 pub returns-clause-sorted : goal.returns-clause-sorted
 returns-clause-sorted g c =

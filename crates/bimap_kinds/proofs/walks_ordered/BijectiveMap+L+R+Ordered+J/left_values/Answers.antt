@@ -3,9 +3,11 @@ use Rattle.bimap_kinds.proofs.Walk.{all_live}
 use Rattle.bimap_kinds.proofs.walks_ordered.BijectiveMap+L+R+Ordered+J.left_values.Goals as goal
 
 pub left_values-requires : goal.left_values-requires
-left_values-requires g c =
-    let table = c.args.self.now.table in
-    all_live table.pairs table.left.places (order_walk (λ p. p.0) g.met.L.Ord.total g.met.L.Ord.matches_eq table.pairs table.left.places table.left_listing)
+left_values-requires g c = record {
+  live =
+      let table = c.args.self.now.table in
+      all_live table.pairs table.left.places (order_walk (λ p. p.0) g.met.L.Ord.total g.met.L.Ord.matches_eq table.pairs table.left.places table.left_listing);
+}
 
 pub returns-clause-rest : goal.returns-clause-rest
 returns-clause-rest g c = search

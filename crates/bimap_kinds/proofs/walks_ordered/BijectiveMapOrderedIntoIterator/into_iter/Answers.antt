@@ -3,9 +3,11 @@ use Rattle.bimap_kinds.proofs.Walk.{all_live}
 use Rattle.bimap_kinds.proofs.walks_ordered.BijectiveMapOrderedIntoIterator.into_iter.Goals as goal
 
 pub into_iter-requires : goal.into_iter-requires
-into_iter-requires g c =
-    let table = c.args.self.table in
-    all_live table.pairs table.left.places (order_walk (λ p. p.0) g.met.L.Ord.total g.met.L.Ord.matches_eq table.pairs table.left.places table.left_listing)
+into_iter-requires g c = record {
+  live =
+      let table = c.args.self.table in
+      all_live table.pairs table.left.places (order_walk (λ p. p.0) g.met.L.Ord.total g.met.L.Ord.matches_eq table.pairs table.left.places table.left_listing);
+}
 
 pub returns : goal.returns
 returns g c = search

@@ -9,7 +9,7 @@ use Rattle.bimap_undo.proofs.undoable.Undoable.insert_all.Goals as goal
 
 pub loop-left-init : goal.loop-left-init
 loop-left-init g c =
-    let ready = c.requires _ c.into_iter-left-iterator.ensures.into_iter_gives in
+    let ready = c.requires.ends _ c.into_iter-left-iterator.ensures.into_iter_gives in
     record {
       callable = ready.0;
       ends = ready.1;
@@ -39,7 +39,7 @@ loop-left-preserved g c =
     }
 
 pub back_to-requires : goal.back_to-requires
-back_to-requires g c = omega (arith, ap (λ (u : Marked g.row.L.Denot g.row.R.Denot). length u.entries) c.in-Err.ensures.unchanged, c.loop-left.invariant.recorded, c.mark-mark.ensures.recorded)
+back_to-requires g c = record { recorded = omega (arith, ap (λ (u : Marked g.row.L.Denot g.row.R.Denot). length u.entries) c.in-Err.ensures.unchanged, c.loop-left.invariant.recorded, c.mark-mark.ensures.recorded) }
 
 recorded_along : {L R : Type 0} (same_left : L → L → Bool) (same_right : R → R → Bool) (S T : L × R → Type 0) (new : L × R) (policy : Policy) (why : NotInsertedWith L R) → ((p : L × R) → S p ↔ T p) → IsRecordedRefusal same_left same_right S new policy why → IsRecordedRefusal same_left same_right T new policy why
 recorded_along same_left same_right S T new policy (LeftHeld l r) same w = (w.0, w.1, (w.2.0, (same w.2.0).0 w.2.1, w.2.2))
