@@ -4,6 +4,25 @@ ghost use Rattle.bimap_base.specs.Exchange.{IsReplacementOfLeft, IsReplacementOf
 use crate::bijection::Bijection;
 use crate::refusal::NotReplaced;
 
+// A replacement on one side: how the bimap is asked, what it answers of a pair, and the pair that is put instead.
+macro_rules! replaced {
+    ($bimap:ident, $from:ident => $to:ident; $contains:ident, $remove:ident; $left:ident, $right:ident => $old:ident, $new_left:ident, $new_right:ident) => {{
+        if !$bimap.$contains($from) {
+            return Err(NotReplaced::Missing($to));
+        }
+        if $to != *$from && $bimap.$contains(&$to) {
+            return Err(NotReplaced::Held($to));
+        }
+        match $bimap.$remove($from) {
+            Some(($left, $right)) => match $bimap.insert($new_left, $new_right) {
+                Ok(_) => Ok($old),
+                Err(_) => unreachable!(),
+            },
+            None => unreachable!(),
+        }
+    }};
+}
+
 /// Puts the pair of the left `from` under the left `to`, and answers the old left. A new left that equals the old one
 /// takes its place too.
 ///
@@ -19,19 +38,7 @@ pub fn replace_left<L: Eq + Drop, R: Eq + Drop, B: Bijection<L, R>>(
 ) -> Result<L, NotReplaced<L>>
     ensures { IsReplacementOfLeft L.eq (B.holding bimap.old) from.now to result (B.holding bimap.new) }
 {
-    if !bimap.contains_left(from) {
-        return Err(NotReplaced::Missing(to));
-    }
-    if to != *from && bimap.contains_left(&to) {
-        return Err(NotReplaced::Held(to));
-    }
-    match bimap.remove_by_left(from) {
-        Some((left, right)) => match bimap.insert(to, right) {
-            Ok(_) => Ok(left),
-            Err(_) => unreachable!(),
-        },
-        None => unreachable!(),
-    }
+    replaced!(bimap, from => to; contains_left, remove_by_left; left, right => left, to, right)
 }
 
 /// Puts the pair of the right `from` under the right `to`, and answers the old right. A new right that equals the old
@@ -49,17 +56,5 @@ pub fn replace_right<L: Eq + Drop, R: Eq + Drop, B: Bijection<L, R>>(
 ) -> Result<R, NotReplaced<R>>
     ensures { IsReplacementOfRight R.eq (B.holding bimap.old) from.now to result (B.holding bimap.new) }
 {
-    if !bimap.contains_right(from) {
-        return Err(NotReplaced::Missing(to));
-    }
-    if to != *from && bimap.contains_right(&to) {
-        return Err(NotReplaced::Held(to));
-    }
-    match bimap.remove_by_right(from) {
-        Some((left, right)) => match bimap.insert(left, to) {
-            Ok(_) => Ok(right),
-            Err(_) => unreachable!(),
-        },
-        None => unreachable!(),
-    }
+    replaced!(bimap, from => to; contains_right, remove_by_right; left, right => right, left, to)
 }
