@@ -5,7 +5,6 @@ use crate::registry::{
 };
 use bimap::{BiBTreeMap, NotInserted, NotInsertedWith};
 use std::process::Abort;
-use std::test::Fail;
 
 // A text of its own.
 fn text(rt: &(impl Abort + AllocGlobal), name: &str) -> String {
@@ -76,9 +75,12 @@ fn spare_room_is_given_back(rt: HostRuntime) {
 }
 
 #[test]
-fn a_batch_is_undone_whole(rt: HostRuntime) -> Result<(), Fail> {
+fn a_batch_is_undone_whole(rt: HostRuntime) {
     let mut registry = two(&rt);
-    let batch = vec![in rt.alloc(); (3, text(&rt, "cat")), (4, text(&rt, "ann"))]?;
+    let batch = vec![in rt.alloc(); (3, text(&rt, "cat")), (4, text(&rt, "ann"))].expect(
+        &rt,
+        "no memory",
+    );
     match register_all(rt.alloc(), &mut registry, batch) {
         Err(refused) => {
             assert_eq!(rt; refused.taken, 1);
@@ -91,8 +93,10 @@ fn a_batch_is_undone_whole(rt: HostRuntime) -> Result<(), Fail> {
     }
     assert_eq!(rt; name_of(&registry, &3).is_none(), true);
     assert_eq!(rt; registry.len(), 2);
-    let batch = vec![in rt.alloc(); (3, text(&rt, "cat")), (4, text(&rt, "dan"))]?;
+    let batch = vec![in rt.alloc(); (3, text(&rt, "cat")), (4, text(&rt, "dan"))].expect(
+        &rt,
+        "no memory",
+    );
     assert_eq!(rt; register_all(rt.alloc(), &mut registry, batch), Ok(()));
     assert_eq!(rt; registry.len(), 4);
-    Ok(())
 }

@@ -2,7 +2,6 @@
 use crate::line::{BadLine, Request, parse_line};
 use crate::symbols::Symbols;
 use std::process::Abort;
-use std::test::Fail;
 
 // Compares the number of a name.
 fn expect(rt: &(impl Abort + AllocGlobal), symbols: &Symbols, name: &str, number: Option<u32>) {
@@ -22,16 +21,37 @@ fn lines_ask(rt: HostRuntime) {
     assert_eq!(rt; parse_line("forget x"), Err(BadLine::NoRequest));
 }
 
+// Defines a name, and compares the answer.
+fn defines(
+    rt: &(impl Abort + AllocGlobal),
+    symbols: &mut Symbols,
+    name: &str,
+    number: u32,
+    answer: bool,
+) {
+    let name = String::from_str(rt.alloc(), name).expect(rt, "no memory");
+    assert_eq!(rt; symbols.define(name, number).ok(), Some(answer));
+}
+
+// Numbers a name that has no number, and compares it: none where none is left.
+fn interns(
+    rt: &(impl Abort + AllocGlobal),
+    symbols: &mut Symbols,
+    name: &str,
+    number: Option<u32>,
+) {
+    let name = String::from_str(rt.alloc(), name).expect(rt, "no memory");
+    assert_eq!(rt; symbols.intern(name).ok(), number);
+}
+
 #[test]
-fn the_outer_meaning_comes_back(rt: HostRuntime) -> Result<(), Fail> {
+fn the_outer_meaning_comes_back(rt: HostRuntime) {
     let mut symbols = Symbols::new(rt.alloc());
-    let x = || String::from_str(rt.alloc(), "x");
-    let y = || String::from_str(rt.alloc(), "y");
-    assert_eq!(rt; symbols.define(x()?, 1)?, false);
-    symbols.open()?;
-    assert_eq!(rt; symbols.define(x()?, 2)?, true);
-    symbols.open()?;
-    assert_eq!(rt; symbols.define(y()?, 2)?, true);
+    defines(&rt, &mut symbols, "x", 1, false);
+    assert_eq!(rt; symbols.open(), Ok(()));
+    defines(&rt, &mut symbols, "x", 2, true);
+    assert_eq!(rt; symbols.open(), Ok(()));
+    defines(&rt, &mut symbols, "y", 2, true);
     expect(&rt, &symbols, "x", None);
     assert_eq!(rt; symbols.close(), true);
     expect(&rt, &symbols, "x", Some(2));
@@ -39,22 +59,14 @@ fn the_outer_meaning_comes_back(rt: HostRuntime) -> Result<(), Fail> {
     expect(&rt, &symbols, "x", Some(1));
     expect(&rt, &symbols, "y", None);
     assert_eq!(rt; symbols.close(), false);
-    Ok(())
 }
 
 #[test]
-fn names_keep_their_numbers(rt: HostRuntime) -> Result<(), Fail> {
+fn names_keep_their_numbers(rt: HostRuntime) {
     let mut symbols = Symbols::new(rt.alloc());
-    let first = symbols.intern(String::from_str(rt.alloc(), "first")?)?;
-    let second = symbols.intern(String::from_str(rt.alloc(), "second")?)?;
-    assert_eq!(rt; (first, second), (0, 1));
-    assert_eq!(rt; symbols.intern(String::from_str(rt.alloc(), "first")?)?, 0);
-    symbols.define(String::from_str(rt.alloc(), "last")?, u32::MAX)?;
-    assert_eq!(rt;
-        symbols
-            .intern(String::from_str(rt.alloc(), "third")?)
-            .is_err(),
-        true
-    );
-    Ok(())
+    interns(&rt, &mut symbols, "first", Some(0));
+    interns(&rt, &mut symbols, "second", Some(1));
+    interns(&rt, &mut symbols, "first", Some(0));
+    defines(&rt, &mut symbols, "last", u32::MAX, false);
+    interns(&rt, &mut symbols, "third", None);
 }

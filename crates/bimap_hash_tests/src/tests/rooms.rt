@@ -8,14 +8,18 @@ use std::test::Fail;
 const ITEMS: [(char, u32); 6] = [('a', 1), ('b', 2), ('c', 3), ('b', 2), ('a', 4), ('b', 3)];
 
 #[test]
-fn finds_under_handed_builders(rt: HostRuntime) -> Result<(), Fail> {
+fn finds_under_handed_builders(rt: HostRuntime) {
     let alloc = rt.alloc();
     let mut map = BiHashMap::with_hashers(alloc, Zero, Zero);
     assert!(rt; map.insert('a', 42) == Ok(Overwritten::Neither));
-    assert!(rt; holds(alloc, &map, &[('a', 42)])?);
-    let made = BiHashMap::from_iter_with_hashers(alloc, Zero, Zero, ITEMS)?;
-    assert!(rt; holds(alloc, &made, &[('a', 4), ('b', 3)])?);
-    Ok(())
+    assert!(rt; holds(alloc, &map, &[('a', 42)]).expect(&rt, "no memory"));
+}
+
+#[test]
+fn is_made_under_handed_builders(rt: HostRuntime) {
+    let alloc = rt.alloc();
+    let made = BiHashMap::from_iter_with_hashers(alloc, Zero, Zero, ITEMS).expect(&rt, "no memory");
+    assert!(rt; holds(alloc, &made, &[('a', 4), ('b', 3)]).expect(&rt, "no memory"));
 }
 
 const TWO: [(char, u32); 2] = [('a', 1), ('b', 2)];
@@ -30,10 +34,10 @@ fn undoes_in_a_room_that_shrank(rt: HostRuntime) -> Result<(), Fail> {
     put_all(&mut map, &[('b', 2), ('c', 1)]);
     assert!(rt; map.remove_by_left(&'b') == Some(('b', 2)));
     assert!(rt; map.shrink_to_fit() == Ok(()) && map.capacity() == 1);
-    assert!(rt; holds(alloc, &map, &[('c', 1)])?);
+    assert!(rt; holds(alloc, &map, &[('c', 1)]).expect(&rt, "no memory"));
     let both = Overwritten::Both(('a', 1), ('b', 2));
     assert!(rt; map.can_undo_insert(&'c', &both));
     assert!(rt; map.undo_insert(&'c', both) == Ok(('c', 1)));
-    assert!(rt; holds(alloc, &map, &TWO)?);
+    assert!(rt; holds(alloc, &map, &TWO).expect(&rt, "no memory"));
     Ok(())
 }

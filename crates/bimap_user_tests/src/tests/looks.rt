@@ -81,30 +81,27 @@ fn each_bimap_shows_what_its_history_leaves(rt: HostRuntime) -> Result<(), Fail>
 }
 
 #[test]
-fn the_hashed_one_shows_it(rt: HostRuntime) -> Result<(), Fail> {
+fn the_hashed_one_shows_it(rt: HostRuntime) {
     let mut bimap: BiHashMap<char, u32> = BiHashMap::new(rt.alloc());
     for (left, of_left, right, of_right) in LOOKS {
         bimap.clear();
         let shown = run_and_look_hashed(
             rt.alloc(),
             &mut bimap,
-            five_calls(rt.alloc())?,
+            five_calls(rt.alloc()).expect(&rt, "no memory"),
             |least: &u32, _: &char, right: &u32| *right >= *least,
             &left,
             &right,
         );
-        let shown = shown.ok().ok_or("no memory")?;
-        assert!(&rt;
-            are(rt.alloc(), &shown, of_left.as_ref(), of_right.as_ref())?,
-            "{left} {right}"
-        );
+        let shown = shown.ok().expect(&rt, "no memory");
+        let alike = are(rt.alloc(), &shown, of_left.as_ref(), of_right.as_ref());
+        assert!(&rt; alike.expect(&rt, "no memory"), "{left} {right}");
     }
-    Ok(())
 }
 
 // Two pairs stand after the calls: at most four comparisons a look-up.
 #[test]
-fn the_ordered_one_shows_it_and_counts(rt: HostRuntime) -> Result<(), Fail> {
+fn the_ordered_one_shows_it_and_counts(rt: HostRuntime) {
     let mut bimap: BiBTreeMap<char, u32> = BiBTreeMap::new(rt.alloc());
     for (left, of_left, right, of_right) in LOOKS {
         bimap.clear();
@@ -112,20 +109,17 @@ fn the_ordered_one_shows_it_and_counts(rt: HostRuntime) -> Result<(), Fail> {
         let shown = run_and_look_ordered(
             rt.alloc(),
             &mut bimap,
-            five_calls(rt.alloc())?,
+            five_calls(rt.alloc()).expect(&rt, "no memory"),
             |least: &u32, _: &char, right: &u32| *right >= *least,
             &left,
             &right,
             &mut by_left,
             &mut by_right,
         );
-        let shown = shown.ok().ok_or("no memory")?;
-        assert!(&rt;
-            are(rt.alloc(), &shown, of_left.as_ref(), of_right.as_ref())?,
-            "{left} {right}"
-        );
+        let shown = shown.ok().expect(&rt, "no memory");
+        let alike = are(rt.alloc(), &shown, of_left.as_ref(), of_right.as_ref());
+        assert!(&rt; alike.expect(&rt, "no memory"), "{left} {right}");
         assert!(&rt; by_left.comparisons >= 1 && by_left.comparisons <= 4);
         assert!(&rt; by_right.comparisons >= 1 && by_right.comparisons <= 4);
     }
-    Ok(())
 }
