@@ -166,35 +166,31 @@ fn read_in_famine<L: JsonKey + Drop, R: JsonValue + Drop, B: JsonObject<L, R> + 
     Ok(None)
 }
 
-fn refused_in_turn<B: JsonObject<String, char> + Drop>(
-    rt: &impl Abort,
-    alloc: Global,
-) -> Result<(), Fail> {
+fn word(rt: &impl Abort, alloc: Global, text: &str) -> String {
+    String::from_str(alloc, text).expect(rt, "no memory")
+}
+
+fn refused_in_turn<B: JsonObject<String, char> + Drop>(rt: &impl Abort, alloc: Global) {
     let text = "{\"eighteen\":\"A\",\"neunzehn\":\"ß\",\"zwanzig, and more than one word\":\"€\"}";
-    let value = Value::from_str(alloc, text)?;
-    let found: Option<(B, u64)> = read_in_famine(alloc, &value)?;
-    let (bimap, refusals) = found.ok_or("another fault")?;
+    let value = Value::from_str(alloc, text).expect(rt, "no value");
+    let found: Option<(B, u64)> = read_in_famine(alloc, &value).expect(rt, "no memory");
+    let (bimap, refusals) = found.expect(rt, "another fault");
     assert!(rt; refusals > 8, "{refusals}");
-    assert_eq!(rt; value.to_string(alloc)?.as_str(), text);
+    let after = value.to_string(alloc).expect(rt, "no memory");
+    assert_eq!(rt; after.as_str(), text);
     let pairs = [
-        (String::from_str(alloc, "eighteen")?, 'A'),
-        (String::from_str(alloc, "neunzehn")?, 'ß'),
-        (
-            String::from_str(alloc, "zwanzig, and more than one word")?,
-            '€',
-        ),
+        (word(rt, alloc, "eighteen"), 'A'),
+        (word(rt, alloc, "neunzehn"), 'ß'),
+        (word(rt, alloc, "zwanzig, and more than one word"), '€'),
     ];
     assert!(rt; shows(&bimap, &pairs));
-    let (again, refusals) = write_in_famine(alloc, &bimap, &pairs)?.ok_or(
-        "a refusal changed something",
-    )?;
+    let written = write_in_famine(alloc, &bimap, &pairs).expect(rt, "no memory");
+    let (again, refusals) = written.expect(rt, "a refusal changed something");
     assert!(rt; refusals > 8, "{refusals}");
     assert_eq!(rt; again.as_str(), text);
-    Ok(())
 }
 
 #[test]
-fn refused_memory_changes_nothing(rt: HostRuntime) -> Result<(), Fail> {
-    over_four_kinds!(refused_in_turn, String, char, &rt, ?);
-    Ok(())
+fn refused_memory_changes_nothing(rt: HostRuntime) {
+    over_four_kinds!(refused_in_turn, String, char, &rt);
 }
