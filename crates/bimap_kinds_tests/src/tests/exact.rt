@@ -9,7 +9,6 @@ use bimap_model::{Exact, Noted, exact_answer, exact_pair};
 use std::alloc::{AllocError, Global};
 use std::hash::{BuildHasher, Hasher};
 use std::process::Abort;
-use std::test::Fail;
 
 /// A hasher whose number is the first byte of what it was given last, modulo 3, and its own builder: three numbers are all
 /// that keys have.
@@ -102,29 +101,33 @@ fn shows_exactly<B: Bijection<Noted, Noted>>(bimap: &B, pairs: &[Pair]) -> bool 
     bimap.len() == pairs.len()
 }
 
-fn before<B: CopyKind<Noted, Noted>>(alloc: Global) -> Result<B, Fail> {
-    Ok(B::built(alloc, &BEFORE.map(noted)).ok().ok_or("no memory")?)
+fn before<B: CopyKind<Noted, Noted>>(rt: &impl Abort, alloc: Global) -> B {
+    B::built(alloc, &BEFORE.map(noted))
+        .ok()
+        .expect(rt, "no memory")
 }
 
-// Items that are added, those of which a bimap is made, and a copy.
-fn items<B: CopyKind<Noted, Noted> + Walked<Noted, Noted>>(
-    rt: &impl Abort,
-    alloc: Global,
-) -> Result<(), Fail> {
-    let mut bimap = before::<B>(alloc)?;
-    assert!(rt; holds_exactly(alloc, &bimap, &BEFORE)?);
-    bimap.add(&ITEMS.map(noted)).ok().ok_or("no memory")?;
-    assert!(rt; holds_exactly(alloc, &bimap, &AFTER)?);
-    let copy = bimap.copied().ok().ok_or("no memory")?;
+// Items that are added, and a copy, which is answered.
+fn added<B: CopyKind<Noted, Noted> + Walked<Noted, Noted>>(rt: &impl Abort, alloc: Global) -> B {
+    let mut bimap = before::<B>(rt, alloc);
+    assert!(rt; holds_exactly(alloc, &bimap, &BEFORE).expect(rt, "no memory"));
+    bimap.add(&ITEMS.map(noted)).ok().expect(rt, "no memory");
+    assert!(rt; holds_exactly(alloc, &bimap, &AFTER).expect(rt, "no memory"));
+    let copy = bimap.copied().ok().expect(rt, "no memory");
     bimap.clear();
-    assert!(rt; holds_exactly(alloc, &copy, &AFTER)?);
-    let mut all = Vec::from_slice(alloc, &BEFORE.map(noted))?;
+    assert!(rt; holds_exactly(alloc, &copy, &AFTER).expect(rt, "no memory"));
+    copy
+}
+
+// The same items, of which a bimap is made.
+fn items<B: CopyKind<Noted, Noted> + Walked<Noted, Noted>>(rt: &impl Abort, alloc: Global) {
+    let copy = added::<B>(rt, alloc);
+    let mut all = Vec::from_slice(alloc, &BEFORE.map(noted)).expect(rt, "no memory");
     for item in ITEMS {
-        all.push(noted(item))?;
+        all.push(noted(item)).ok().expect(rt, "no memory");
     }
-    let made = B::built(alloc, all.as_slice()).ok().ok_or("no memory")?;
-    assert!(rt; holds_exactly(alloc, &made, &AFTER)? && made.equals(&copy));
-    Ok(())
+    let made = B::built(alloc, all.as_slice()).ok().expect(rt, "no memory");
+    assert!(rt; holds_exactly(alloc, &made, &AFTER).expect(rt, "no memory") && made.equals(&copy));
 }
 
 // What a reply names.
@@ -136,15 +139,15 @@ fn exact_reply(reply: Reply<Noted, Noted>) -> Option<Answer> {
 }
 
 // A run of the same insertions.
-fn calls<B: CopyKind<Noted, Noted> + Walked<Noted, Noted>>(
-    rt: &impl Abort,
-    alloc: Global,
-) -> Result<(), Fail> {
-    let mut bimap = before::<B>(alloc)?;
+fn calls<B: CopyKind<Noted, Noted> + Walked<Noted, Noted>>(rt: &impl Abort, alloc: Global) {
+    let mut bimap = before::<B>(rt, alloc);
     let mut calls: Vec<Call<Noted, Noted, u32>> = Vec::new(alloc);
     for item in ITEMS {
         let (left, right) = noted(item);
-        calls.push(Call::Insert(left, right))?;
+        calls
+            .push(Call::Insert(left, right))
+            .ok()
+            .expect(rt, "no memory");
     }
     let replies = run(
         alloc,
@@ -152,37 +155,36 @@ fn calls<B: CopyKind<Noted, Noted> + Walked<Noted, Noted>>(
         calls,
         |_: &u32, _: &Noted, _: &Noted| true,
     );
-    let replies = replies.ok().ok_or("no memory")?;
-    let answers: Vec<Option<Answer>> = replies.into_iter().map(exact_reply).collect(alloc)?;
+    let replies = replies.ok().expect(rt, "no memory");
+    let answers: Vec<Option<Answer>> = replies
+        .into_iter()
+        .map(exact_reply)
+        .collect(alloc)
+        .expect(rt, "no memory");
     assert!(rt; answers.as_slice() == ANSWERS.map(Some).as_slice());
-    assert!(rt; holds_exactly(alloc, &bimap, &AFTER)?);
-    Ok(())
+    assert!(rt; holds_exactly(alloc, &bimap, &AFTER).expect(rt, "no memory"));
 }
 
 // The same insertions, and their undoing.
-fn undone<B: CopyKind<Noted, Noted> + Walked<Noted, Noted>>(
-    rt: &impl Abort,
-    alloc: Global,
-) -> Result<(), Fail> {
-    let mut bimap = before::<B>(alloc)?;
-    let entries = insert_all(alloc, &mut bimap, &ITEMS.map(noted))?;
+fn undone<B: CopyKind<Noted, Noted> + Walked<Noted, Noted>>(rt: &impl Abort, alloc: Global) {
+    let mut bimap = before::<B>(rt, alloc);
+    let entries = insert_all(alloc, &mut bimap, &ITEMS.map(noted))
+        .ok()
+        .expect(rt, "no memory");
     let answers: Vec<Answer> = entries
         .iter()
         .map(|entry| exact_answer(entry.1))
-        .collect(alloc)?;
+        .collect(alloc)
+        .expect(rt, "no memory");
     assert!(rt; answers.as_slice() == ANSWERS.as_slice());
-    assert!(rt; holds_exactly(alloc, &bimap, &AFTER)?);
+    assert!(rt; holds_exactly(alloc, &bimap, &AFTER).expect(rt, "no memory"));
     assert!(rt; undo_run(&mut bimap, entries).is_ok());
-    assert!(rt; holds_exactly(alloc, &bimap, &BEFORE)?);
-    Ok(())
+    assert!(rt; holds_exactly(alloc, &bimap, &BEFORE).expect(rt, "no memory"));
 }
 
 // A pair that is refused, by its left or by its right, comes back as it was offered.
-fn refused<B: CopyKind<Noted, Noted> + Walked<Noted, Noted>>(
-    rt: &impl Abort,
-    alloc: Global,
-) -> Result<(), Fail> {
-    let mut bimap = before::<B>(alloc)?;
+fn refused<B: CopyKind<Noted, Noted> + Walked<Noted, Noted>>(rt: &impl Abort, alloc: Global) {
+    let mut bimap = before::<B>(rt, alloc);
     for offered in [((1, 50), (9, 51)), ((9, 52), (2, 53)), ((4, 54), (1, 55))] {
         let (left, right) = noted(offered);
         match bimap.insert_no_overwrite(left, right) {
@@ -201,37 +203,29 @@ fn refused<B: CopyKind<Noted, Noted> + Walked<Noted, Noted>>(
         }
         _ => assert!(rt; false, "both are held"),
     }
-    assert!(rt; holds_exactly(alloc, &bimap, &BEFORE)?);
-    Ok(())
+    assert!(rt; holds_exactly(alloc, &bimap, &BEFORE).expect(rt, "no memory"));
 }
 
 // A removal answers the very pair that was held.
-fn removed<B: CopyKind<Noted, Noted> + Walked<Noted, Noted>>(
-    rt: &impl Abort,
-    alloc: Global,
-) -> Result<(), Fail> {
-    let mut bimap = before::<B>(alloc)?;
+fn removed<B: CopyKind<Noted, Noted> + Walked<Noted, Noted>>(rt: &impl Abort, alloc: Global) {
+    let mut bimap = before::<B>(rt, alloc);
     let by_left = bimap.remove_by_left(&Noted::new((4, 99)));
     let by_right = bimap.remove_by_right(&Noted::new((1, 99)));
     assert_eq!(rt; by_left.map(exact_pair), Some(((4, 40), (4, 41))));
     assert_eq!(rt; by_right.map(exact_pair), Some(((1, 10), (1, 11))));
-    assert!(rt; holds_exactly(alloc, &bimap, &[((2, 20), (2, 21))])?);
-    Ok(())
+    assert!(rt; holds_exactly(alloc, &bimap, &[((2, 20), (2, 21))]).expect(rt, "no memory"));
 }
 
-fn all<B: CopyKind<Noted, Noted> + Walked<Noted, Noted>>(
-    rt: &impl Abort,
-    alloc: Global,
-) -> Result<(), Fail> {
-    items::<B>(rt, alloc)?;
-    calls::<B>(rt, alloc)?;
-    undone::<B>(rt, alloc)?;
-    refused::<B>(rt, alloc)?;
-    removed::<B>(rt, alloc)
+fn all<B: CopyKind<Noted, Noted> + Walked<Noted, Noted>>(rt: &impl Abort, alloc: Global) {
+    items::<B>(rt, alloc);
+    calls::<B>(rt, alloc);
+    undone::<B>(rt, alloc);
+    refused::<B>(rt, alloc);
+    removed::<B>(rt, alloc);
 }
 
 #[test]
-fn each_call_keeps_the_very_values(rt: HostRuntime) -> Result<(), Fail> {
-    over_each_kind!(all, Noted, Noted, &rt, ?);
-    all::<BiHashMap<Noted, Noted, Thirds, Thirds>>(&rt, rt.alloc())
+fn each_call_keeps_the_very_values(rt: HostRuntime) {
+    over_each_kind!(all, Noted, Noted, &rt);
+    all::<BiHashMap<Noted, Noted, Thirds, Thirds>>(&rt, rt.alloc());
 }

@@ -3,7 +3,6 @@ use bimap::{Bijection, Overwritten};
 use bimap_calls::{Kind, Taken, over_mixed_kinds};
 use std::alloc::{AllocError, Global};
 use std::process::Abort;
-use std::test::Fail;
 
 fn nothing_on_both_sides<B: Kind<(), ()>>(rt: &impl Abort, alloc: Global) {
     let mut bimap = B::empty(alloc);
@@ -64,64 +63,91 @@ fn put<B: Bijection<String, String>>(
     Ok(bimap.insert(text(alloc, left)?, text(alloc, right)?).ok())
 }
 
-fn texts<B: Kind<String, String>>(rt: &impl Abort, alloc: Global) -> Result<(), Fail> {
-    let mut bimap = B::empty(alloc);
+// Puts in four pairs of texts, and then one that strikes out two of them.
+fn put_texts<B: Bijection<String, String>>(rt: &impl Abort, alloc: Global, bimap: &mut B) {
     for (left, right) in [("", "empty"), ("é", ""), ("ea", "b"), ("e", "ab")] {
-        let answer = put(alloc, &mut bimap, left, right)?;
+        let answer = put(alloc, bimap, left, right).expect(rt, "no memory");
         assert!(rt; answer == Some(Overwritten::Neither), "{left}");
     }
     let struck = Overwritten::Both(
-        (text(alloc, "e")?, text(alloc, "ab")?),
-        (text(alloc, "é")?, text(alloc, "")?),
+        (
+            text(alloc, "e").expect(rt, "no memory"),
+            text(alloc, "ab").expect(rt, "no memory"),
+        ),
+        (
+            text(alloc, "é").expect(rt, "no memory"),
+            text(alloc, "").expect(rt, "no memory"),
+        ),
     );
-    assert!(rt; put(alloc, &mut bimap, "e", "")? == Some(struck));
+    assert!(rt; put(alloc, bimap, "e", "").expect(rt, "no memory") == Some(struck));
+}
+
+fn texts<B: Kind<String, String>>(rt: &impl Abort, alloc: Global) {
+    let mut bimap = B::empty(alloc);
+    put_texts(rt, alloc, &mut bimap);
     for (left, right) in [
         ("", Some("empty")),
         ("é", None),
         ("ea", Some("b")),
         ("e", Some("")),
     ] {
-        assert!(rt; right_of(alloc, &bimap, left, right)?, "{left}");
+        assert!(rt;
+            right_of(alloc, &bimap, left, right).expect(rt, "no memory"),
+            "{left}"
+        );
     }
-    let taken = bimap.remove_by_right(&text(alloc, "empty")?);
-    assert!(rt; taken == Some((text(alloc, "")?, text(alloc, "empty")?)));
+    let taken = bimap.remove_by_right(&text(alloc, "empty").expect(rt, "no memory"));
+    assert!(rt;
+        taken
+            == Some((
+                text(alloc, "").expect(rt, "no memory"),
+                text(alloc, "empty").expect(rt, "no memory")
+            ))
+    );
     assert_eq!(rt; bimap.len(), 2);
-    Ok(())
 }
 
 #[test]
-fn values_may_be_texts(rt: HostRuntime) -> Result<(), Fail> {
-    over_mixed_kinds!(texts, String, String, &rt, ?);
-    Ok(())
+fn values_may_be_texts(rt: HostRuntime) {
+    over_mixed_kinds!(texts, String, String, &rt);
 }
 
 fn boxed(alloc: Global, of: u32) -> Result<Box<u32>, AllocError> {
     Ok(Box::new(alloc, of)?)
 }
 
-// Boxes are equal by what is in them.
-fn boxes<B: Kind<Box<u32>, Box<u32>> + Taken<Box<u32>, Box<u32>>>(
-    rt: &impl Abort,
-    alloc: Global,
-) -> Result<(), Fail> {
-    let mut bimap = B::empty(alloc);
+// Puts in five pairs of boxes, two of which strike out others.
+fn put_boxes<B: Bijection<Box<u32>, Box<u32>>>(rt: &impl Abort, alloc: Global, bimap: &mut B) {
     for (left, right, length) in [(1, 11, 1), (2, 12, 2), (3, 13, 3), (2, 11, 2), (4, 13, 2)] {
-        let (left, right) = (boxed(alloc, left)?, boxed(alloc, right)?);
-        bimap.insert(left, right).ok().ok_or("no memory")?;
+        let (left, right) = (
+            boxed(alloc, left).expect(rt, "no memory"),
+            boxed(alloc, right).expect(rt, "no memory"),
+        );
+        bimap.insert(left, right).ok().expect(rt, "no memory");
         assert_eq!(rt; bimap.len(), length);
     }
-    let key = boxed(alloc, 2)?;
+}
+
+// Boxes are equal by what is in them.
+fn boxes<B: Kind<Box<u32>, Box<u32>> + Taken<Box<u32>, Box<u32>>>(rt: &impl Abort, alloc: Global) {
+    let mut bimap = B::empty(alloc);
+    put_boxes(rt, alloc, &mut bimap);
+    let key = boxed(alloc, 2).expect(rt, "no memory");
     assert!(rt; bimap.get_by_left(&key).is_some_and(|right| **right == 11));
-    let key = boxed(alloc, 13)?;
+    let key = boxed(alloc, 13).expect(rt, "no memory");
     assert!(rt; bimap.get_by_right(&key).is_some_and(|left| **left == 4));
     let removed = bimap.remove_by_right(&key);
-    assert!(rt; removed == Some((boxed(alloc, 4)?, boxed(alloc, 13)?)));
+    assert!(rt;
+        removed
+            == Some((
+                boxed(alloc, 4).expect(rt, "no memory"),
+                boxed(alloc, 13).expect(rt, "no memory")
+            ))
+    );
     assert_eq!(rt; bimap.give_up(alloc, 2), 1);
-    Ok(())
 }
 
 #[test]
-fn values_may_be_boxes(rt: HostRuntime) -> Result<(), Fail> {
-    over_mixed_kinds!(boxes, Box<u32>, Box<u32>, &rt, ?);
-    Ok(())
+fn values_may_be_boxes(rt: HostRuntime) {
+    over_mixed_kinds!(boxes, Box<u32>, Box<u32>, &rt);
 }

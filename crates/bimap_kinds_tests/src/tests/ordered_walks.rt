@@ -88,16 +88,47 @@ fn falling(right: &u32) -> u32 {
     (2 * PAIRS - 1).wrapping_sub(*right)
 }
 
-// Whether the walks in the order of the lefts give the middle.
-fn by_left<R: Eq + Drop, J: Index<R>>(
+// Whether the walk of the pairs, in the order of the lefts, gives the middle.
+fn pairs_by_left<R: Eq + Drop, J: Index<R>>(
     alloc: Global,
     bimap: &BijectiveMap<u32, R, Ordered, J>,
     steps: u32,
 ) -> Result<bool, AllocError> {
     let pairs = rest!(bimap.iter(), left_of, steps, alloc);
+    Ok(is_middle(&pairs, 0, steps))
+}
+
+// Whether that of the lefts does.
+fn lefts_by_left<R: Eq + Drop, J: Index<R>>(
+    alloc: Global,
+    bimap: &BijectiveMap<u32, R, Ordered, J>,
+    steps: u32,
+) -> Result<bool, AllocError> {
     let lefts = rest!(bimap.left_values(), value, steps, alloc);
+    Ok(is_middle(&lefts, 0, steps))
+}
+
+// Whether that of a range of lefts does.
+fn range_by_left<R: Eq + Drop, J: Index<R>>(
+    alloc: Global,
+    bimap: &BijectiveMap<u32, R, Ordered, J>,
+    steps: u32,
+) -> Result<bool, AllocError> {
     let range = rest!(bimap.left_range(0..PAIRS), left_of, steps, alloc);
-    Ok(is_middle(&pairs, 0, steps) && is_middle(&lefts, 0, steps) && is_middle(&range, 0, steps))
+    Ok(is_middle(&range, 0, steps))
+}
+
+// Whether the walks in the order of the lefts do.
+fn by_left<R: Eq + Drop, J: Index<R>>(
+    alloc: Global,
+    bimap: &BijectiveMap<u32, R, Ordered, J>,
+    steps: u32,
+) -> Result<bool, AllocError> {
+    Ok(
+        pairs_by_left(alloc, bimap, steps)?
+            && lefts_by_left(alloc, bimap, steps)?
+            && range_by_left(alloc, bimap, steps)?,
+    )
 }
 
 // Whether the walk of hashed rights does, which goes by ascending left: they fall.
@@ -110,33 +141,56 @@ fn rights_by_left<RS: BuildHasher>(
     Ok(is_middle(&rights, 0, steps))
 }
 
+// Whether the walk of ordered rights does, which goes by themselves.
+fn rights_by_right<L: Eq + Drop, I: Index<L>>(
+    alloc: Global,
+    bimap: &BijectiveMap<L, u32, I, Ordered>,
+    steps: u32,
+) -> Result<bool, AllocError> {
+    let rights = rest!(bimap.right_values(), value, steps, alloc);
+    Ok(is_middle(&rights, PAIRS, steps))
+}
+
 // Whether the walks in the order of the rights do.
 fn by_right<L: Eq + Drop, I: Index<L>>(
     alloc: Global,
     bimap: &BijectiveMap<L, u32, I, Ordered>,
     steps: u32,
 ) -> Result<bool, AllocError> {
-    let rights = rest!(bimap.right_values(), value, steps, alloc);
     let range = rest!(bimap.right_range(PAIRS..), right_of, steps, alloc);
-    Ok(is_middle(&rights, PAIRS, steps) && is_middle(&range, PAIRS, steps))
+    Ok(is_middle(&range, PAIRS, steps) && rights_by_right(alloc, bimap, steps)?)
 }
 
-fn give_the_middle(rt: &impl Abort, alloc: Global) -> Result<(), Fail> {
-    let mut ordered: BiBTreeMap<u32, u32> = BiBTreeMap::new(alloc);
-    let mut lefts_ordered: BiBTreeHashMap<u32, u32> = BiBTreeHashMap::new(alloc);
-    let mut rights_ordered: BiHashBTreeMap<u32, u32> = BiHashBTreeMap::new(alloc);
-    fill(&mut ordered);
-    fill(&mut lefts_ordered);
-    fill(&mut rights_ordered);
+fn ordered_lefts<R: Eq + Drop, J: Index<R>>(
+    rt: &impl Abort,
+    alloc: Global,
+    bimap: &BijectiveMap<u32, R, Ordered, J>,
+) -> Result<(), Fail> {
     for steps in STEPS {
-        assert!(rt; by_left(alloc, &ordered, steps)?, "{steps}");
-        assert!(rt; by_right(alloc, &ordered, steps)?, "{steps}");
-        assert!(rt; by_left(alloc, &lefts_ordered, steps)?, "{steps}");
-        assert!(rt; rights_by_left(alloc, &lefts_ordered, steps)?, "{steps}");
-        assert!(rt; by_right(alloc, &rights_ordered, steps)?, "{steps}");
+        assert!(rt; by_left(alloc, bimap, steps)?, "{steps}");
     }
-    assert!(rt; is_taken_from_both_ends(ordered));
-    assert!(rt; is_taken_from_both_ends(lefts_ordered));
+    Ok(())
+}
+
+fn ordered_rights<L: Eq + Drop, I: Index<L>>(
+    rt: &impl Abort,
+    alloc: Global,
+    bimap: &BijectiveMap<L, u32, I, Ordered>,
+) -> Result<(), Fail> {
+    for steps in STEPS {
+        assert!(rt; by_right(alloc, bimap, steps)?, "{steps}");
+    }
+    Ok(())
+}
+
+fn hashed_rights<RS: BuildHasher>(
+    rt: &impl Abort,
+    alloc: Global,
+    bimap: &BijectiveMap<u32, u32, Ordered, HashIndex<RS>>,
+) -> Result<(), Fail> {
+    for steps in STEPS {
+        assert!(rt; rights_by_left(alloc, bimap, steps)?, "{steps}");
+    }
     Ok(())
 }
 
@@ -162,7 +216,31 @@ fn is_taken_from_both_ends<R: Eq + Drop, J: Index<R> + Drop>(
     walk.next().is_none() && walk.next_back().is_none()
 }
 
+// A walk and its copy meet at any batch.
+
 #[test]
-fn a_walk_and_its_copy_meet_at_any_batch(rt: HostRuntime) -> Result<(), Fail> {
-    give_the_middle(&rt, rt.alloc())
+fn walks_of_ordered_sides_meet_their_copies(rt: HostRuntime) -> Result<(), Fail> {
+    let mut bimap: BiBTreeMap<u32, u32> = BiBTreeMap::new(rt.alloc());
+    fill(&mut bimap);
+    ordered_lefts(&rt, rt.alloc(), &bimap)?;
+    ordered_rights(&rt, rt.alloc(), &bimap)?;
+    assert!(&rt; is_taken_from_both_ends(bimap));
+    Ok(())
+}
+
+#[test]
+fn walks_by_ordered_lefts_meet_their_copies(rt: HostRuntime) -> Result<(), Fail> {
+    let mut bimap: BiBTreeHashMap<u32, u32> = BiBTreeHashMap::new(rt.alloc());
+    fill(&mut bimap);
+    ordered_lefts(&rt, rt.alloc(), &bimap)?;
+    hashed_rights(&rt, rt.alloc(), &bimap)?;
+    assert!(&rt; is_taken_from_both_ends(bimap));
+    Ok(())
+}
+
+#[test]
+fn walks_by_ordered_rights_meet_their_copies(rt: HostRuntime) -> Result<(), Fail> {
+    let mut bimap: BiHashBTreeMap<u32, u32> = BiHashBTreeMap::new(rt.alloc());
+    fill(&mut bimap);
+    ordered_rights(&rt, rt.alloc(), &bimap)
 }

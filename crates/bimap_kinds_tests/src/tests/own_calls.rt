@@ -43,6 +43,21 @@ fn taken_back<L: Copy + Eq + Drop, R: Copy + Eq + Drop, I: Index<L>, J: Index<R>
     bimap.undo_insert(&left, answer).ok()
 }
 
+// A pair is put in alone, each of its values keeps another out, and it is cleared away.
+fn put_alone<L: Copy + Eq + Drop, R: Copy + Eq + Drop, I: Index<L>, J: Index<R>>(
+    rt: &impl Abort,
+    bimap: &mut BijectiveMap<L, R, I, J>,
+    first: (L, R),
+    second: (L, R),
+) {
+    assert!(rt; bimap.insert_no_overwrite(first.0, first.1) == Ok(()));
+    assert!(rt; is_alone(bimap, first, second));
+    assert!(rt; is_occupied(bimap, first.0, second.1));
+    assert!(rt; is_occupied(bimap, second.0, first.1));
+    bimap.clear();
+    assert!(rt; bimap.is_empty() && bimap.len() == 0);
+}
+
 fn own_calls<L: Copy + Eq + Drop, R: Copy + Eq + Drop, I: Index<L> + Drop, J: Index<R> + Drop>(
     rt: &impl Abort,
     mut bimap: BijectiveMap<L, R, I, J>,
@@ -50,14 +65,8 @@ fn own_calls<L: Copy + Eq + Drop, R: Copy + Eq + Drop, I: Index<L> + Drop, J: In
     second: (L, R),
 ) {
     assert!(rt; bimap.is_empty());
-    for _ in 0..2u32 {
-        assert!(rt; bimap.insert_no_overwrite(first.0, first.1) == Ok(()));
-        assert!(rt; is_alone(&bimap, first, second));
-        assert!(rt; is_occupied(&mut bimap, first.0, second.1));
-        assert!(rt; is_occupied(&mut bimap, second.0, first.1));
-        bimap.clear();
-        assert!(rt; bimap.is_empty() && bimap.len() == 0);
-    }
+    put_alone(rt, &mut bimap, first, second);
+    put_alone(rt, &mut bimap, first, second);
     let answer = Overwritten::Right(first.0, first.1);
     assert!(rt; bimap.insert(first.0, first.1) == Ok(Overwritten::Neither));
     assert!(rt; bimap.insert_with(second.0, first.1, KEEP_LEFT) == Ok(answer));

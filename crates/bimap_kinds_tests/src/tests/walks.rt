@@ -8,24 +8,29 @@ use std::test::Fail;
 
 const HELD: [(char, u32); 3] = [('a', 3), ('b', 2), ('c', 1)];
 
+// The bimap of the three, after a fourth pair came and went.
+fn held<B: CopyKind<char, u32>>(rt: &impl Abort, alloc: Global) -> B {
+    let mut bimap = B::empty(alloc);
+    bimap.add(&[('x', 9)]).ok().expect(rt, "no memory");
+    bimap.add(&HELD).ok().expect(rt, "no memory");
+    assert!(rt; bimap.remove_by_left(&'x') == Some(('x', 9)));
+    bimap
+}
+
 pub(super) fn gives_each_once<
     B: CopyKind<char, u32> + Taken<char, u32> + Walked<char, u32> + WalkedRights<u32>,
->(rt: &impl Abort, alloc: Global) -> Result<(), Fail> {
-    let mut bimap = B::empty(alloc);
-    bimap.add(&[('x', 9)]).ok().ok_or("no memory")?;
-    bimap.add(&HELD).ok().ok_or("no memory")?;
-    assert!(rt; bimap.remove_by_left(&'x') == Some(('x', 9)));
-    assert!(rt; holds(alloc, &bimap, &HELD)?);
-    let mut lefts = bimap.walk_lefts(alloc)?;
+>(rt: &impl Abort, alloc: Global) {
+    let mut bimap = held::<B>(rt, alloc);
+    assert!(rt; holds(alloc, &bimap, &HELD).expect(rt, "no memory"));
+    let mut lefts = bimap.walk_lefts(alloc).expect(rt, "no memory");
     lefts.sort_unstable();
     assert_eq!(rt; lefts.as_slice(), ['a', 'b', 'c'].as_slice());
-    let mut rights = bimap.walk_rights(alloc)?;
+    let mut rights = bimap.walk_rights(alloc).expect(rt, "no memory");
     rights.sort_unstable();
     assert_eq!(rt; rights.as_slice(), [1, 2, 3].as_slice());
-    let mut owned = bimap.take_apart(alloc)?;
+    let mut owned = bimap.take_apart(alloc).expect(rt, "no memory");
     owned.sort_unstable();
     assert_eq!(rt; owned.as_slice(), HELD.as_slice());
-    Ok(())
 }
 
 // A walk by an ordered side reads eight to fourteen places at first, and then 57 to 63 at a time. It is given up on before,
@@ -44,12 +49,12 @@ fn scattered(alloc: Global, pairs: u32) -> Result<Vec<(char, u32)>, AllocError> 
     Ok(items)
 }
 
-fn filled<B: Kind<char, u32>>(alloc: Global, pairs: &[(char, u32)]) -> Result<B, Fail> {
+fn filled<B: Kind<char, u32>>(rt: &impl Abort, alloc: Global, pairs: &[(char, u32)]) -> B {
     let mut bimap = B::empty(alloc);
     for (left, right) in pairs {
-        bimap.insert(*left, *right).ok().ok_or("no memory")?;
+        bimap.insert(*left, *right).ok().expect(rt, "no memory");
     }
-    Ok(bimap)
+    bimap
 }
 
 // Whether the walks of either side give the values of these pairs, that of the lefts in their order, and an owning walk
@@ -71,24 +76,42 @@ fn sides_give<B: Kind<char, u32> + Taken<char, u32> + Walked<char, u32> + Walked
     )
 }
 
+// Whether a walk gives the rest of the pairs after so many steps, and so does a copy of it that was made there.
+fn gives_the_rest<B: Walked<char, u32>>(
+    alloc: Global,
+    bimap: &B,
+    pairs: &[(char, u32)],
+    steps: usize,
+) -> Result<bool, AllocError> {
+    let (on, copy) = bimap.walk_twice(alloc, steps)?;
+    let rest = pairs.get(steps..).unwrap_or(&[]);
+    Ok(on.as_slice() == rest && copy.as_slice() == rest)
+}
+
 pub(super) fn walks_alike<
     B: Kind<char, u32> + Taken<char, u32> + Walked<char, u32> + WalkedRights<u32>,
->(rt: &impl Abort, alloc: Global) -> Result<(), Fail> {
+>(rt: &impl Abort, alloc: Global) {
     for length in LENGTHS {
-        let mut pairs = scattered(alloc, length)?;
-        let bimap = filled::<B>(alloc, pairs.as_slice())?;
+        let mut pairs = scattered(alloc, length).expect(rt, "no memory");
+        let bimap = filled::<B>(rt, alloc, pairs.as_slice());
         pairs.sort_unstable();
-        assert!(rt; holds(alloc, &bimap, pairs.as_slice())?, "{length}");
-        let whole = bimap.walk(alloc)?;
+        assert!(rt;
+            holds(alloc, &bimap, pairs.as_slice()).expect(rt, "no memory"),
+            "{length}"
+        );
+        let whole = bimap.walk(alloc).expect(rt, "no memory");
         for steps in STEPS {
-            let (on, copy) = bimap.walk_twice(alloc, steps)?;
-            let rest = whole.as_slice().get(steps..).unwrap_or(&[]);
-            assert!(rt; on.as_slice() == rest, "{length} {steps}");
-            assert!(rt; copy.as_slice() == rest, "{length} {steps}");
+            let alike = gives_the_rest(alloc, &bimap, whole.as_slice(), steps).expect(
+                rt,
+                "no memory",
+            );
+            assert!(rt; alike, "{length} {steps}");
         }
-        assert!(rt; sides_give(alloc, bimap, whole.as_slice())?, "{length}");
+        assert!(rt;
+            sides_give(alloc, bimap, whole.as_slice()).expect(rt, "no memory"),
+            "{length}"
+        );
     }
-    Ok(())
 }
 
 // The same pairs, from either end.
@@ -115,27 +138,32 @@ fn are_unlike<B: Walked<u32, u32>>(first: &B, second: &B) -> bool {
     !first.equals(second) && !second.equals(first)
 }
 
+// Two that are empty are equal just while they hold the same pairs.
+fn are_equal_by_pairs<B: Walked<u32, u32>>(rt: &impl Abort, mut first: B, mut second: B) {
+    put_up(&mut first);
+    put_down(&mut second);
+    assert!(rt; first.len() == 40 && are_equal(&first, &second));
+    drop(second.insert(7, 99));
+    assert!(rt; are_unlike(&first, &second));
+    drop(second.insert(7, 6));
+    assert!(rt; are_equal(&first, &second));
+    drop(second.remove_by_right(&0));
+    assert!(rt; are_unlike(&first, &second));
+}
+
 #[test]
 fn equality_is_of_the_pairs_alone(rt: HostRuntime) -> Result<(), Fail> {
     let alloc = rt.alloc();
-    let mut first: Random = BiHashMap::with_hashers(
+    let first: Random = BiHashMap::with_hashers(
         alloc,
         RandomState::new(&rt)?,
         RandomState::new(&rt)?,
     );
-    let mut second: Random = BiHashMap::with_hashers(
+    let second: Random = BiHashMap::with_hashers(
         alloc,
         RandomState::new(&rt)?,
         RandomState::new(&rt)?,
     );
-    put_up(&mut first);
-    put_down(&mut second);
-    assert!(&rt; first.len() == 40 && are_equal(&first, &second));
-    drop(second.insert(7, 99));
-    assert!(&rt; are_unlike(&first, &second));
-    drop(second.insert(7, 6));
-    assert!(&rt; are_equal(&first, &second));
-    drop(second.remove_by_right(&0));
-    assert!(&rt; are_unlike(&first, &second));
+    are_equal_by_pairs(&rt, first, second);
     Ok(())
 }

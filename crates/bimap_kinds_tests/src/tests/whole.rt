@@ -3,7 +3,6 @@ use bimap::{Bijection, Overwritten};
 use bimap_calls::{CopyKind, Walked, holds};
 use std::alloc::Global;
 use std::process::Abort;
-use std::test::Fail;
 
 /// Two lists of items, and whether their bimaps are equal.
 type Row = (&'static [(char, u32)], &'static [(char, u32)], bool);
@@ -30,43 +29,43 @@ const ROWS: [Row; 11] = [
     (&[('0', 0), ('0', 1), ('1', 0)], &[('0', 0)], false),
 ];
 
-fn compared<B: CopyKind<char, u32> + Walked<char, u32>>(
-    rt: &impl Abort,
-    alloc: Global,
-) -> Result<(), Fail> {
+// What two answer of each other, and one of itself.
+fn equalities<B: Walked<char, u32>>(first: &B, second: &B) -> [bool; 3] {
+    [
+        first.equals(second),
+        second.equals(first),
+        first.equals(first),
+    ]
+}
+
+fn compared<B: CopyKind<char, u32> + Walked<char, u32>>(rt: &impl Abort, alloc: Global) {
     for (number, (items, others, answer)) in ROWS.iter().enumerate() {
-        let first = B::built(alloc, items).ok().ok_or("no memory")?;
-        let second = B::built(alloc, others).ok().ok_or("no memory")?;
-        assert!(rt; first.equals(&second) == *answer, "{number}");
-        assert!(rt; second.equals(&first) == *answer, "{number}");
-        assert!(rt; first.equals(&first), "{number}");
+        let first = B::built(alloc, items).ok().expect(rt, "no memory");
+        let second = B::built(alloc, others).ok().expect(rt, "no memory");
+        assert_eq!(rt;
+            equalities(&first, &second),
+            [*answer, *answer, true],
+            "{number}"
+        );
     }
-    Ok(())
 }
 
 // A copy and what it was made of go on apart.
-fn copied<B: CopyKind<char, u32> + Walked<char, u32>>(
-    rt: &impl Abort,
-    alloc: Global,
-) -> Result<(), Fail> {
+fn copied<B: CopyKind<char, u32> + Walked<char, u32>>(rt: &impl Abort, alloc: Global) {
     let mut bimap = B::built(alloc, &[('a', 1), ('b', 2)])
         .ok()
-        .ok_or("no memory")?;
-    let mut copy = bimap.copied().ok().ok_or("no memory")?;
+        .expect(rt, "no memory");
+    let mut copy = bimap.copied().ok().expect(rt, "no memory");
     assert!(rt; copy.equals(&bimap) && copy.capacity() >= bimap.capacity());
     assert!(rt; bimap.insert('b', 5) == Ok(Overwritten::Left('b', 2)));
     assert!(rt; copy.insert('a', 12) == Ok(Overwritten::Left('a', 1)));
     assert!(rt; copy.remove_by_left(&'a') == Some(('a', 12)));
     assert!(rt; bimap.remove_by_right(&2).is_none());
-    assert!(rt; holds(alloc, &bimap, &[('a', 1), ('b', 5)])?);
-    assert!(rt; holds(alloc, &copy, &[('b', 2)])?);
-    Ok(())
+    assert!(rt; holds(alloc, &bimap, &[('a', 1), ('b', 5)]).expect(rt, "no memory"));
+    assert!(rt; holds(alloc, &copy, &[('b', 2)]).expect(rt, "no memory"));
 }
 
-pub(super) fn all<B: CopyKind<char, u32> + Walked<char, u32>>(
-    rt: &impl Abort,
-    alloc: Global,
-) -> Result<(), Fail> {
-    compared::<B>(rt, alloc)?;
-    copied::<B>(rt, alloc)
+pub(super) fn all<B: CopyKind<char, u32> + Walked<char, u32>>(rt: &impl Abort, alloc: Global) {
+    compared::<B>(rt, alloc);
+    copied::<B>(rt, alloc);
 }
