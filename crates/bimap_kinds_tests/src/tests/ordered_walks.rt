@@ -216,8 +216,7 @@ fn is_taken_from_both_ends<R: Eq + Drop, J: Index<R> + Drop>(
     walk.next().is_none() && walk.next_back().is_none()
 }
 
-// A walk and its copy meet at any batch.
-
+// In each test a walk and its copy meet at any batch.
 #[test]
 fn walks_of_ordered_sides_meet_their_copies(rt: HostRuntime) -> Result<(), Fail> {
     let mut bimap: BiBTreeMap<u32, u32> = BiBTreeMap::new(rt.alloc());
