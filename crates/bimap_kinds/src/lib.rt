@@ -14,13 +14,13 @@ mod ends;
 mod hashers;
 mod insert;
 mod look_up;
+mod loops;
 mod make;
 mod map;
 mod remove;
 mod retain;
 mod room;
 mod undo;
-mod walks_hashed;
-mod walks_ordered;
+mod walks;
 
 pub use map::{BiBTreeHashMap, BiBTreeMap, BiHashBTreeMap, BiHashMap, BijectiveMap};

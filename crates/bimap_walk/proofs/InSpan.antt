@@ -1,5 +1,5 @@
 -- The pairs whose key lies in a range are those of a window.
-use Rattle.std.proofs.Common.{◌≡◌, ℕ, zero, suc, ◌+◌, ◌-◌, ◌≤◌, Bool, false, List, [], ◌∷◌, length, get_or, take, drop, slice_get, Option, None, Some, IsSome, refl, sym, ap, subst, ◌∙◌, arith}
+use Rattle.std.proofs.Common.{◌≡◌, ℕ, zero, suc, ◌+◌, ◌-◌, ◌≤◌, Bool, false, List, [], ◌∷◌, length, get_or, take, drop, slice_get, Option, None, Some, is_some, IsSome, refl, sym, ap, subst, ◌∙◌, arith}
 use Rattle.std.specs.List.{All, between, cons_option, filter}
 use Rattle.std.specs.Option.{option_map}
 use Rattle.std.proofs.lemmas.List.{get_or_default}
@@ -68,13 +68,13 @@ span_of_keys test f g places front back same span =
     }
 
 -- each place with a key has a pair
-pub live_places : {P K : Type 0} (key : P → K) (slots : List (Option P)) (f : ℕ → Option K) (order : K → K → Ordering) (places : List ℕ) → ((p : ℕ) → f p ≡ option_map key (pair_at slots p)) → Ascends f order places → All (IsLive slots) places
-live_places {P} key slots f order places same up k d inside =
-    by (pair_at slots (get_or places k d)) (subst IsSome (same (get_or places k d)) (subst (λ p. IsSome (f p)) (get_or_default places k 0 d inside) (up.live k inside)))
-  where
-    by : (o : Option P) → IsSome (option_map key o) → IsSome o
-    by None some = some
-    by (Some x) some = refl
+pub live_places : {P K : Type 0} (slots : List (Option P)) (f : ℕ → Option K) (order : K → K → Ordering) (places : List ℕ) → ((p : ℕ) → is_some (f p) ≡ is_some (pair_at slots p)) → Ascends f order places → All (IsLive slots) places
+live_places slots f order places same up k d inside =
+    sym (same (get_or places k d)) ∙ subst (λ p. IsSome (f p)) (get_or_default places k 0 d inside) (up.live k inside)
+
+pub is_some-map : {P K : Type 0} (key : P → K) (o : Option P) → is_some (option_map key o) ≡ is_some o
+is_some-map key None = refl
+is_some-map key (Some x) = refl
 
 pub All-between : {X : Type 0} (Q : X → Type 0) (xs : List X) (i j : ℕ) → j ≤ length xs → All Q xs → All Q (between i j xs)
 All-between Q xs i j within all k d l =

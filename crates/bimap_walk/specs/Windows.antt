@@ -1,6 +1,6 @@
 -- A window of an index's ranks. No public clause cites this module.
-use Rattle.std.specs.Prelude.{ℕ, ◌≤◌, List, Option, length}
-use Rattle.std.specs.List.{All, between}
+use Rattle.std.specs.Prelude.{◌≢◌, ℕ, ◌≤◌, List, Option, length}
+use Rattle.std.specs.List.{All, AllPairs, between}
 use Rattle.bimap_base.specs.Slots.{IsLive}
 use Rattle.bimap_tree.specs.Batches.{IsBatch}
 use Rattle.bimap_walk.specs.declared.window.Window.{Window}
@@ -9,10 +9,11 @@ use Rattle.bimap_walk.specs.declared.window.Window.{Window}
 abbrev pub places_in : List ℕ → Window → List ℕ
 places_in places window = between window.front window.back places
 
--- the ranks are those of listed places, and the batches are of this list
+-- the ranks are those of listed places, each listed once, and the batches are of this list
 pub record IsWindow (places : List ℕ) (window : Window) : Type 0 where
   pub ordered : window.front ≤ window.back
   pub within : window.back ≤ length places
+  pub distinct : AllPairs (λ a b. a ≢ b) places
   pub ahead : IsBatch places window.ahead
   pub behind : IsBatch places window.behind
 

@@ -1,31 +1,30 @@
-//! Walks in the order of an index: what makes each, and what it is called.
+//! Walks in the order of an index: what each is called, and ranges.
 ghost use Rattle.std.specs.Prelude.{◌≡◌, ◌≤◌, ◌+◌, ◌*◌, ℕ, length, option_map};
-ghost use Rattle.std.specs.Map.{keys_of, values_of};
 ghost use Rattle.std.specs.BTreeMap.Range.{range_contains};
 ghost use Rattle.std.specs.List.{All, filter};
-ghost use Rattle.std.specs.Map.Iter.{ShowsInOrder, ShowsInReverse, GivesInOrder, GivesInReverse, deref, deref_pair};
+ghost use Rattle.std.specs.Map.Iter.{ShowsInOrder, ShowsInReverse, GivesInOrder, GivesInReverse, deref_pair};
 ghost use Rattle.bimap_base.specs.Digits.{most_height};
 ghost use Rattle.bimap_base.specs.Keyed.{Ascends};
 ghost use Rattle.bimap_base.specs.PairsAt.{pairs_at};
 ghost use Rattle.bimap_base.specs.Slots.{IsLive, pair_at};
 
-use crate::owned_ranks::OwnedRanks;
-use crate::part::{LeftPart, Part, RightPart};
-use crate::rank_values::RankValues;
-use crate::ranks::Ranks;
-use crate::steps::Steps;
+use crate::along;
+use crate::owned::Owned;
+use crate::part::Part;
+use crate::walked::Walked;
+use crate::window::Window;
 use bimap_base::{Keys, Meter, Pairs};
 use bimap_tree::{Ordered, Span};
 use std::ops::RangeBounds;
 
 /// The pairs in the order of an index, each as `(&L, &R)`.
-pub type Iter<'a, L, R> = Steps<Ranks<'a, L, R>>;
+pub type Iter<'a, L, R> = along::Iter<'a, L, R, Ordered>;
 
 /// The lefts of the pairs in the order of an index.
-pub type LeftValues<'a, L, R> = Steps<RankValues<'a, L, R, LeftPart>>;
+pub type LeftValues<'a, L, R> = along::LeftValues<'a, L, R, Ordered>;
 
 /// The rights of the pairs in the order of an index.
-pub type RightValues<'a, L, R> = Steps<RankValues<'a, L, R, RightPart>>;
+pub type RightValues<'a, L, R> = along::RightValues<'a, L, R, Ordered>;
 
 /// The pairs whose left lies in a range, in the order of an index.
 pub type LeftRange<'a, L, R> = Iter<'a, L, R>;
@@ -34,45 +33,7 @@ pub type LeftRange<'a, L, R> = Iter<'a, L, R>;
 pub type RightRange<'a, L, R> = Iter<'a, L, R>;
 
 /// The pairs by value, in the order of an index. Dropping it drops those that are left.
-pub type IntoIter<L, R> = Steps<OwnedRanks<L, R>>;
-
-// The pairs at all listed places.
-fn whole<'a, L, R>(pairs: &'a Pairs<L, R>, index: &'a Ordered) -> Ranks<'a, L, R>
-    requires live { All (IsLive pairs.now) index.now.places }
-    ensures { result ≡ pairs_at pairs.now index.now.places }
-{
-    Ranks::new(pairs, index, 0, index.len())
-}
-
-/// The pairs at the listed places, in the order of the index. A step takes one descent at most, and no memory.
-pub fn iter<'a, L, R>(pairs: &'a Pairs<L, R>, index: &'a Ordered) -> Iter<'a, L, R>
-    requires live { All (IsLive pairs.now) index.now.places }
-    ensures rest { result ≡ pairs_at pairs.now index.now.places }
-    ensures runs { ShowsInOrder (deref_pair {K = L} {X = R}) }
-    ensures runs_back { ShowsInReverse (deref_pair {K = L} {X = R}) }
-{
-    Steps::new(whole(pairs, index))
-}
-
-/// The lefts at the listed places, in the order of the index and at the cost of `iter`.
-pub fn left_values<'a, L, R>(pairs: &'a Pairs<L, R>, index: &'a Ordered) -> LeftValues<'a, L, R>
-    requires live { All (IsLive pairs.now) index.now.places }
-    ensures rest { result ≡ keys_of (pairs_at pairs.now index.now.places) }
-    ensures runs { ShowsInOrder (deref {X = L}) }
-    ensures runs_back { ShowsInReverse (deref {X = L}) }
-{
-    Steps::new(RankValues::new(whole(pairs, index)))
-}
-
-/// The rights at the listed places, in the order of the index and at the cost of `iter`.
-pub fn right_values<'a, L, R>(pairs: &'a Pairs<L, R>, index: &'a Ordered) -> RightValues<'a, L, R>
-    requires live { All (IsLive pairs.now) index.now.places }
-    ensures rest { result ≡ values_of (pairs_at pairs.now index.now.places) }
-    ensures runs { ShowsInOrder (deref {X = R}) }
-    ensures runs_back { ShowsInReverse (deref {X = R}) }
-{
-    Steps::new(RankValues::new(whole(pairs, index)))
-}
+pub type IntoIter<L, R> = along::IntoIter<L, R, Ordered>;
 
 /// The pairs of which one part lies in a range, in the order of the index that goes by it.
 ///
@@ -94,7 +55,8 @@ pub fn range<'a, L, R, P: Part<L, R>, K: Keys<Key = P::Value>, A: RangeBounds<P:
     ensures touches { M.touches meter.new ≤ M.touches meter.old + 4 * most_height (length index.now.places) }
 {
     let span = Span::of(index, keys, range, meter);
-    Steps::new(Ranks::new(pairs, index, span.front, span.back))
+    let window = Window::new(index, span.front, span.back);
+    Walked::new(pairs, index, window)
 }
 
 /// The pairs by value, in the order of the index. No memory is taken.
@@ -104,5 +66,6 @@ pub fn into_iter<L: Drop, R: Drop>(pairs: Pairs<L, R>, index: Ordered) -> IntoIt
     ensures runs { GivesInOrder (L × R) }
     ensures runs_back { GivesInReverse (L × R) }
 {
-    Steps::new(OwnedRanks::new(pairs, index))
+    let window = Window::whole(&index);
+    Owned::new(pairs, index, window)
 }

@@ -1,28 +1,27 @@
-//! Walks over the pairs of a store: in the order of an index from both ends, or in that of the places. They know no bimap.
+//! Walks over the pairs of a store: by the ranks of an ordered index from both ends, or by place. They know no bimap.
 //!
-//! A `Walk` goes over a list of what is left, and `Steps` is any of them as an iterator. `by_rank` and `by_place` make
-//! the walks of either kind, and name their types. No walk takes memory.
+//! A `Course` leads from place to place, and a walk goes along it as an iterator. `along` names the walks along any course,
+//! `by_rank` and `by_place` those along each of the two. No walk takes memory.
 #![tactic(auto)]
 
+pub mod along;
 pub mod by_place;
 pub mod by_rank;
-mod owned_places;
-mod owned_ranks;
+mod course;
+mod owned;
 mod part;
-mod place_values;
 mod places;
-mod rank_values;
 mod ranks;
-mod steps;
-mod walk;
+mod values;
+mod walked;
+mod walked_index;
 mod window;
 
-pub use owned_places::OwnedPlaces;
-pub use owned_ranks::OwnedRanks;
+pub use course::{Course, CourseBack};
+pub use owned::Owned;
 pub use part::{LeftPart, Part, RightPart};
-pub use place_values::PlaceValues;
-pub use places::Places;
-pub use rank_values::RankValues;
-pub use ranks::Ranks;
-pub use steps::Steps;
-pub use walk::{Walk, WalkAgain, WalkBack};
+pub use places::{ByPlace, PlacesLeft};
+pub use values::Values;
+pub use walked::Walked;
+pub use walked_index::WalkedIndex;
+pub use window::Window;

@@ -1,15 +1,37 @@
-//! The pairs in the order of their places. It knows no index.
+//! The course by place: a store's own order. It knows no index.
 ghost use Rattle.std.specs.Prelude.{◌≡◌, ◌<◌, length, drop};
-ghost use Rattle.std.specs.Map.Iter.{deref_pair};
 ghost use Rattle.bimap_base.specs.Places.{pairs_in};
 ghost use Rattle.bimap_base.specs.Slots.{IsLive};
 
-use crate::walk::{Walk, WalkAgain};
+use crate::course::Course;
 use bimap_base::Pairs;
-use std::marker::Model;
+
+/// The places of a store in their order. A whole walk takes time in proportion to their number.
+#[derive(Clone, Copy)]
+pub struct ByPlace;
+
+/// The places from one on, and how many of them have a pair.
+#[derive(Clone, Copy)]
+pub struct PlacesLeft {
+    place: usize,
+    left: usize,
+}
+
+impl PlacesLeft {
+    // All places of a store.
+    pub(crate) fn new<L, R>(pairs: &Pairs<L, R>) -> Self
+        ensures from { result.place ≡ 0 }
+        ensures left { result.left ≡ length (pairs_in pairs.now) }
+    {
+        PlacesLeft {
+            place: 0,
+            left: pairs.len(),
+        }
+    }
+}
 
 // The first place with a pair, from a place on.
-pub(crate) fn live_from<L, R>(pairs: &Pairs<L, R>, from: usize) -> usize
+fn live_from<L, R>(pairs: &Pairs<L, R>, from: usize) -> usize
     requires { 0 < length (pairs_in (drop from pairs.now)) }
     ensures live { IsLive pairs.now result }
     ensures bound { result < usize.MAX }
@@ -23,68 +45,25 @@ pub(crate) fn live_from<L, R>(pairs: &Pairs<L, R>, from: usize) -> usize
     unreachable!()
 }
 
-/// Pairs in the order of their places. A whole walk takes time in proportion to the number of places, and no memory.
-#[derive(Drop)]
-pub struct Places<'a, L, R> {
-    pairs: &'a Pairs<L, R>,
-    place: usize,
-    left: usize,
-}
+impl Course for ByPlace {
+    type Cursor = PlacesLeft;
 
-impl<'a, L, R> Model for Places<'a, L, R> {
-    ghost use Rattle.std.specs.Prelude.{◌≡◌, List, length, drop};
-    ghost use Rattle.bimap_base.specs.Places.{pairs_in};
+    ghost ahead = { λ P by cursor slots. pairs_in (drop cursor.place slots) };
 
-    ghost Value = { List (L × R) };
+    ghost stands = { λ P by cursor slots. cursor.left ≡ length (pairs_in (drop cursor.place slots)) };
 
-    ghost view = { λ s. pairs_in (drop s.place s.pairs.now) };
-
-    ghost invariant = { λ s. s.left ≡ length (pairs_in (drop s.place s.pairs.now)) };
-}
-
-impl<'a, L, R> Places<'a, L, R> {
-    /// All pairs of a store.
-    pub fn new(pairs: &'a Pairs<L, R>) -> Self
-        ensures { result ≡ pairs_in pairs.now }
-    {
-        Places {
-            pairs,
-            place: 0,
-            left: pairs.len(),
-        }
-    }
-}
-
-impl<'a, L, R> Walk for Places<'a, L, R> {
-    type Item = (&'a L, &'a R);
-
-    type Shown = (L, R);
-
-    ghost shows = { deref_pair };
-
-    ghost rest = { λ s. s };
-
-    fn len(&self) -> usize {
-        self.left
+    fn len<L, R>(&self, _pairs: &Pairs<L, R>, cursor: &PlacesLeft) -> usize {
+        cursor.left
     }
 
-    fn next(&mut self) -> Option<(&'a L, &'a R)> {
-        if self.left == 0 {
+    #[inline(always)]
+    fn first<L, R>(&self, pairs: &Pairs<L, R>, cursor: &mut PlacesLeft) -> Option<usize> {
+        if cursor.left == 0 {
             return None;
         }
-        let place = live_from(self.pairs, self.place);
-        self.place = place + 1;
-        self.left -= 1;
-        self.pairs.at(place)
-    }
-}
-
-impl<'a, L, R> WalkAgain for Places<'a, L, R> {
-    fn copied(&self) -> Self {
-        Places {
-            pairs: self.pairs,
-            place: self.place,
-            left: self.left,
-        }
+        let place = live_from(pairs, cursor.place);
+        cursor.place = place + 1;
+        cursor.left -= 1;
+        Some(place)
     }
 }

@@ -6,9 +6,9 @@ ghost use Rattle.std.specs.Map.Iter.{TakesFirst, TakesLast};
 use bimap_base::Count;
 use bimap_tree::{Batch, Ordered};
 
-// The ranks from `front` up to `back`, and the next places of either end.
-#[derive(Clone, Copy, Drop)]
-pub(crate) struct Window {
+/// The ranks from `front` up to `back`, and the next places of either end.
+#[derive(Clone, Copy)]
+pub struct Window {
     front: usize,
     back: usize,
     ahead: Batch,
@@ -24,6 +24,9 @@ impl Window {
         ensures window { IsWindow index.now.places result }
         ensures places { places_in index.now.places result ≡ between front back index.now.places }
     {
+        // So the places are known to be different ones.
+        let len = index.len();
+        prove!(back <= len);
         let batch = Batch::new(index);
         Window {
             front,
@@ -31,6 +34,14 @@ impl Window {
             ahead: batch,
             behind: batch,
         }
+    }
+
+    // All ranks of an index.
+    pub(crate) fn whole(index: &Ordered) -> Self
+        ensures window { IsWindow index.now.places result }
+        ensures places { places_in index.now.places result ≡ index.now.places }
+    {
+        Window::new(index, 0, index.len())
     }
 
     // The number of places left.

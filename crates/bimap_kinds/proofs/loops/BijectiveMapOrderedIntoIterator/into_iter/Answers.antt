@@ -1,0 +1,13 @@
+use Rattle.bimap_core.proofs.Ascending.{order_walk}
+use Rattle.bimap_kinds.proofs.Walk.{all_live}
+use Rattle.bimap_kinds.proofs.loops.BijectiveMapOrderedIntoIterator.into_iter.Goals as goal
+
+pub into_iter-requires : goal.into_iter-requires
+into_iter-requires g c = record {
+  live =
+      let table = c.args.self.table in
+      all_live table.pairs table.left.places (order_walk (λ p. p.0) g.met.L.Ord.total g.met.L.Ord.matches_eq table.pairs table.left.places table.left_listing);
+}
+
+pub returns : goal.returns
+returns g c = search

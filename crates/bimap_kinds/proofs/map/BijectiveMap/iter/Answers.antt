@@ -1,0 +1,9 @@
+use Rattle.std.specs.Map.Iter.{deref_pair}
+use Rattle.std_collections.proofs.IterRuns.{shows_in_order, shows_in_reverse}
+use Rattle.bimap_kinds.proofs.map.BijectiveMap.iter.Goals as goal
+
+pub returns-clause-runs : goal.returns-clause-runs
+returns-clause-runs g c = shows_in_order deref_pair
+
+pub returns-clause-runs_back : goal.returns-clause-runs_back
+returns-clause-runs_back g c = shows_in_reverse deref_pair

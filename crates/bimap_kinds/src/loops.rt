@@ -1,0 +1,67 @@
+//! Bimaps in a `for`, which wants the index of the left named.
+ghost use Rattle.std.specs.Prelude.{◌≡◌};
+ghost use Rattle.std.specs.Map.Iter.{ShowsInOrder, ShowsInReverse, GivesInOrder, GivesInReverse, deref_pair};
+ghost use Rattle.bimap_kinds.specs.Held.{holding};
+
+use crate::map::BijectiveMap;
+use bimap_core::Table;
+use bimap_index::{HashIndex, Index};
+use bimap_tree::Ordered;
+use bimap_walk::{by_place, by_rank};
+use std::hash::{BuildHasher, Hash};
+
+impl<'a, L: Ord + Drop, R: Eq + Drop, J: Index<R>> IntoIterator
+    for &'a BijectiveMap<L, R, Ordered, J> {
+    type Item = (&'a L, &'a R);
+
+    type IntoIter = by_rank::Iter<'a, L, R>;
+
+    ghost into_iter_gives = { λ m r. (r ≡ (holding m.now).pairs) × ShowsInOrder (deref_pair {K = L} {X = R}) × ShowsInReverse (deref_pair {K = L} {X = R}) };
+
+    fn into_iter(self) -> by_rank::Iter<'a, L, R> {
+        self.iter()
+    }
+}
+
+impl<L: Ord + Drop, R: Eq + Drop, J: Index<R> + Drop> IntoIterator
+    for BijectiveMap<L, R, Ordered, J> {
+    type Item = (L, R);
+
+    type IntoIter = by_rank::IntoIter<L, R>;
+
+    ghost into_iter_gives = { λ m r. (r ≡ (holding m).pairs) × GivesInOrder (L × R) × GivesInReverse (L × R) };
+
+    fn into_iter(self) -> by_rank::IntoIter<L, R> {
+        let BijectiveMap { table } = self;
+        let Table { pairs, left, .. } = table;
+        by_rank::into_iter(pairs, left)
+    }
+}
+
+impl<'a, L: Eq + Hash, R: Eq, LS: BuildHasher, J: Index<R>> IntoIterator
+    for &'a BijectiveMap<L, R, HashIndex<LS>, J> {
+    type Item = (&'a L, &'a R);
+
+    type IntoIter = by_place::Iter<'a, L, R>;
+
+    ghost into_iter_gives = { λ m r. (r ≡ (holding m.now).pairs) × ShowsInOrder (deref_pair {K = L} {X = R}) };
+
+    fn into_iter(self) -> by_place::Iter<'a, L, R> {
+        self.iter()
+    }
+}
+
+impl<L: Eq + Hash + Drop, R: Eq + Drop, LS: BuildHasher + Drop, J: Index<R> + Drop> IntoIterator
+    for BijectiveMap<L, R, HashIndex<LS>, J> {
+    type Item = (L, R);
+
+    type IntoIter = by_place::IntoIter<L, R>;
+
+    ghost into_iter_gives = { λ m r. (r ≡ (holding m).pairs) × GivesInOrder (L × R) };
+
+    fn into_iter(self) -> by_place::IntoIter<L, R> {
+        let BijectiveMap { table } = self;
+        let Table { pairs, .. } = table;
+        by_place::into_iter(pairs)
+    }
+}

@@ -1,0 +1,123 @@
+//! Walks, by the index of a side. They know no rank, and no hash.
+ghost use Rattle.std.specs.Prelude.{◌≡◌};
+ghost use Rattle.std.specs.BTreeMap.Range.{IsLeBy, IsLtBy, range_contains};
+ghost use Rattle.std.specs.List.{filter};
+ghost use Rattle.std.specs.Map.{keys_of, values_of};
+ghost use Rattle.std.specs.Map.Iter.{ShowsInOrder, ShowsInReverse, deref, deref_pair};
+ghost use Rattle.bimap_kinds.specs.Held.{holding, by_right};
+ghost use Rattle.bimap_kinds.specs.Sorted.{IsByRight};
+
+use crate::map::BijectiveMap;
+use bimap_base::{ByOrder, Count, LeftSide, RightSide};
+use bimap_index::{HashIndex, Index};
+use bimap_tree::Ordered;
+use bimap_walk::along::{Iter, LeftValues, RightValues};
+use bimap_walk::by_rank::{self, LeftRange, RightRange};
+use bimap_walk::{LeftPart, RightPart, Values, WalkedIndex};
+use std::hash::{BuildHasher, Hash};
+use std::ops::RangeBounds;
+
+impl<L: Eq, R: Eq, I: WalkedIndex<L>, J: Index<R>> BijectiveMap<L, R, I, J> {
+    /// The pairs, and no memory is taken. Where the left is ordered, they come by ascending left, also from the back, and a
+    /// step takes one descent at most. Where it is hashed, their order is open, and a whole walk takes time in proportion
+    /// to the capacity.
+    ///
+    ///     seats.iter().len(); // 3
+    ///     seats.iter().next(); // Some((&'a', &3))
+    ///     seats.iter().next_back(); // Some((&'c', &2))
+    pub fn iter(&self) -> Iter<'_, L, R, I::Way>
+        ensures rest { result ≡ (holding self.now).pairs }
+        ensures runs { ShowsInOrder (deref_pair {K = L} {X = R}) }
+        ensures runs_back { ShowsInReverse (deref_pair {K = L} {X = R}) }
+    {
+        let table = &self.table;
+        table.left.walk(LeftSide::new(&table.pairs), &table.pairs)
+    }
+
+    /// The lefts, in the order and at the cost of `iter`.
+    ///
+    ///     seats.left_values().len(); // 3
+    ///     seats.left_values().next(); // Some(&'a')
+    pub fn left_values(&self) -> LeftValues<'_, L, R, I::Way>
+        ensures rest { result ≡ keys_of (holding self.now).pairs }
+        ensures runs { ShowsInOrder (deref {X = L}) }
+        ensures runs_back { ShowsInReverse (deref {X = L}) }
+    {
+        Values::new(self.iter())
+    }
+}
+
+impl<L: Eq, R: Eq + Hash, I: WalkedIndex<L>, RS: BuildHasher> BijectiveMap<L, R, I, HashIndex<RS>> {
+    /// The rights, in the order and at the cost of `iter`.
+    ///
+    ///     seats.right_values().len(); // 3
+    ///     seats.right_values().next(); // Some(&3)
+    pub fn right_values(&self) -> RightValues<'_, L, R, I::Way>
+        ensures rest { result ≡ values_of (holding self.now).pairs }
+        ensures runs { ShowsInOrder (deref {X = R}) }
+        ensures runs_back { ShowsInReverse (deref {X = R}) }
+    {
+        Values::new(self.iter())
+    }
+}
+
+impl<L: Ord, R: Eq, J: Index<R>> BijectiveMap<L, R, Ordered, J> {
+    /// The pairs whose left lies in a range, by ascending left. It takes two searches by left, and no memory.
+    ///
+    ///     seats.left_range('b'..).next(); // Some((&'b', &1))
+    pub fn left_range<A: RangeBounds<L>>(&self, range: A) -> LeftRange<'_, L, R>
+        requires forward { A.is_forward range (IsLeBy L.cmp) (IsLtBy L.cmp) }
+        ensures rest { A.has_bounds range → result ≡ filter (λ p. range_contains L.cmp (A.start_bound range) (A.end_bound range) p.0) (holding self.now).pairs }
+        ensures runs { ShowsInOrder (deref_pair {K = L} {X = R}) }
+        ensures runs_back { ShowsInReverse (deref_pair {K = L} {X = R}) }
+    {
+        let table = &self.table;
+        let lefts = ByOrder::new(LeftSide::new(&table.pairs));
+        by_rank::range(
+            &table.pairs,
+            &table.left,
+            LeftPart,
+            &lefts,
+            &range,
+            &mut Count::new(),
+        )
+    }
+}
+
+impl<L: Eq, R: Ord, I: Index<L>> BijectiveMap<L, R, I, Ordered> {
+    /// The rights, ascending. A step takes one descent at most, and no memory.
+    ///
+    ///     seats.right_values().next(); // Some(&1)
+    pub fn right_values(&self) -> by_rank::RightValues<'_, L, R>
+        ensures rest { result ≡ values_of (by_right self.now) }
+        ensures sorted { IsByRight R.cmp (holding self.now).pairs (by_right self.now) }
+        ensures runs { ShowsInOrder (deref {X = R}) }
+        ensures runs_back { ShowsInReverse (deref {X = R}) }
+    {
+        let table = &self.table;
+        let rights = RightSide::new(&table.pairs);
+        Values::new(table.right.walk(rights, &table.pairs))
+    }
+
+    /// The pairs whose right lies in a range, by ascending right. It takes two searches by right, and no memory.
+    ///
+    ///     seats.right_range(2..).next(); // Some((&'c', &2))
+    pub fn right_range<A: RangeBounds<R>>(&self, range: A) -> RightRange<'_, L, R>
+        requires forward { A.is_forward range (IsLeBy R.cmp) (IsLtBy R.cmp) }
+        ensures rest { A.has_bounds range → result ≡ filter (λ p. range_contains R.cmp (A.start_bound range) (A.end_bound range) p.1) (by_right self.now) }
+        ensures sorted { IsByRight R.cmp (holding self.now).pairs (by_right self.now) }
+        ensures runs { ShowsInOrder (deref_pair {K = L} {X = R}) }
+        ensures runs_back { ShowsInReverse (deref_pair {K = L} {X = R}) }
+    {
+        let table = &self.table;
+        let rights = ByOrder::new(RightSide::new(&table.pairs));
+        by_rank::range(
+            &table.pairs,
+            &table.right,
+            RightPart,
+            &rights,
+            &range,
+            &mut Count::new(),
+        )
+    }
+}
