@@ -57,7 +57,8 @@ impl<L: Eq, R: Eq + Hash, I: WalkedIndex<L>, RS: BuildHasher> BijectiveMap<L, R,
         ensures runs { ShowsInOrder (deref {X = R}) }
         ensures runs_back { ShowsInReverse (deref {X = R}) }
     {
-        Values::new(self.iter())
+        let pairs = self.iter();
+        Values::new(pairs)
     }
 }
 
