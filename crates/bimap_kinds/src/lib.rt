@@ -21,6 +21,7 @@ mod remove;
 mod retain;
 mod room;
 mod undo;
+mod walked_index;
 mod walks;
 
 pub use map::{BiBTreeHashMap, BiBTreeMap, BiHashBTreeMap, BiHashMap, BijectiveMap};

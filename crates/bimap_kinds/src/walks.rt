@@ -8,12 +8,13 @@ ghost use Rattle.bimap_kinds.specs.Held.{holding, by_right};
 ghost use Rattle.bimap_kinds.specs.Sorted.{IsByRight};
 
 use crate::map::BijectiveMap;
+use crate::walked_index::WalkedIndex;
 use bimap_base::{ByOrder, Count, LeftSide, RightSide};
 use bimap_index::{HashIndex, Index};
 use bimap_tree::Ordered;
 use bimap_walk::along::{Iter, LeftValues, RightValues};
 use bimap_walk::by_rank::{self, LeftRange, RightRange};
-use bimap_walk::{LeftPart, RightPart, Values, WalkedIndex};
+use bimap_walk::{LeftPart, RightPart, Values};
 use std::hash::{BuildHasher, Hash};
 use std::ops::RangeBounds;
 

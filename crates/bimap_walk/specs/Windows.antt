@@ -1,4 +1,4 @@
--- A window of an index's ranks. No public clause cites this module.
+-- A window of an index's ranks.
 use Rattle.std.specs.Prelude.{◌≢◌, ℕ, ◌≤◌, List, Option, length}
 use Rattle.std.specs.List.{All, AllPairs, between}
 use Rattle.bimap_base.specs.Slots.{IsLive}

@@ -35,6 +35,14 @@ pub type RightRange<'a, L, R> = Iter<'a, L, R>;
 /// The pairs by value, in the order of an index. Dropping it drops those that are left.
 pub type IntoIter<L, R> = along::IntoIter<L, R, Ordered>;
 
+/// The pairs at the listed places, in the order of the index. A step takes one descent at most, and no memory.
+pub fn iter<'a, L, R>(pairs: &'a Pairs<L, R>, index: &'a Ordered) -> Iter<'a, L, R>
+    requires live { All (IsLive pairs.now) index.now.places }
+    ensures { result ≡ pairs_at pairs.now index.now.places }
+{
+    Walked::new(pairs, index, Window::whole(index))
+}
+
 /// The pairs of which one part lies in a range, in the order of the index that goes by it.
 ///
 /// It takes two searches, then one descent a step at most, and no memory. A range that ends before it starts has no pair.

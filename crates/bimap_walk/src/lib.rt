@@ -14,7 +14,6 @@ mod places;
 mod ranks;
 mod values;
 mod walked;
-mod walked_index;
 mod window;
 
 pub use course::{Course, CourseBack};
@@ -23,5 +22,4 @@ pub use part::{LeftPart, Part, RightPart};
 pub use places::{ByPlace, PlacesLeft};
 pub use values::Values;
 pub use walked::Walked;
-pub use walked_index::WalkedIndex;
 pub use window::Window;

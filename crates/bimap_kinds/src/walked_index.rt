@@ -1,15 +1,13 @@
-//! How each index is walked.
+//! How each index is walked. It knows no rank, and no hash.
 ghost use Rattle.std.specs.Prelude.{◌≡◌, ℕ, is_some};
 ghost use Rattle.bimap_base.specs.PairsAt.{pairs_at};
 ghost use Rattle.bimap_base.specs.Slots.{pair_at};
 
-use crate::course::Course;
-use crate::places::{ByPlace, PlacesLeft};
-use crate::walked::Walked;
-use crate::window::Window;
 use bimap_base::{Pairs, Side};
 use bimap_index::{HashIndex, Index};
 use bimap_tree::Ordered;
+use bimap_walk::along::Iter;
+use bimap_walk::{ByPlace, Course, by_place, by_rank};
 use std::hash::{BuildHasher, Hash};
 
 /// An index that leads a walk through the pairs of a store.
@@ -21,7 +19,7 @@ pub trait WalkedIndex<K: Eq>: Index<K> {
         &'a self,
         side: S,
         pairs: &'a Pairs<L, R>,
-    ) -> Walked<'a, L, R, Self::Way>
+    ) -> Iter<'a, L, R, Self::Way>
         requires listing { Self.is_listing self.now (S.key_at side) }
         requires of_store { (place : ℕ) → is_some (S.key_at side place) ≡ is_some (pair_at pairs.now place) }
         ensures { result ≡ pairs_at pairs.now (Self.places self.now) };
@@ -34,8 +32,8 @@ impl<K: Ord> WalkedIndex<K> for Ordered {
         &'a self,
         _side: S,
         pairs: &'a Pairs<L, R>,
-    ) -> Walked<'a, L, R, Ordered> {
-        Walked::new(pairs, self, Window::whole(self))
+    ) -> by_rank::Iter<'a, L, R> {
+        by_rank::iter(pairs, self)
     }
 }
 
@@ -46,7 +44,7 @@ impl<K: Eq + Hash, B: BuildHasher> WalkedIndex<K> for HashIndex<B> {
         &'a self,
         _side: S,
         pairs: &'a Pairs<L, R>,
-    ) -> Walked<'a, L, R, ByPlace> {
-        Walked::new(pairs, &ByPlace, PlacesLeft::new(pairs))
+    ) -> by_place::Iter<'a, L, R> {
+        by_place::iter(pairs)
     }
 }
