@@ -25,9 +25,13 @@ module _ {P K : Type 0} (key : P → K) (same : K → K → Bool) where
       here None h = tt
       here (Some place) h = at (pair_at slots place) h
 
+  -- the place that is told has a pair with an equal key
+  pub found_here : (slots : List (Option P)) (k : K) (o : Option ℕ) → IsFoundBy (keys_in slots) same k o → (place : ℕ) → o ≡ Some place → IsSomeAnd (pair_at slots place) (λ p. same (key p) k ≡ true)
+  found_here slots k o f place e = rw e at (found_at slots k o f).here
+
   -- the place that was found has a pair, and so a key on the other side
   pub found_beside : {Q : Type 0} (other : P → Q) (slots : List (Option P)) (k : K) (o : Option ℕ) → IsFoundBy (keys_in slots) same k o → (place : ℕ) → o ≡ Some place → is_some (option_map other (pair_at slots place)) ≡ true
-  found_beside other slots k o f place e = by (pair_at slots place) (rw e at (found_at slots k o f).here)
+  found_beside other slots k o f place e = by (pair_at slots place) (found_here slots k o f place e)
     where
       by : (p : Option P) → IsSomeAnd p (λ p. same (key p) k ≡ true) → is_some (option_map other p) ≡ true
       by None h = absurd h

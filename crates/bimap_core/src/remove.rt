@@ -15,16 +15,11 @@ impl<L: Eq, R: Eq, I: Index<L>, J: Index<R>> Table<L, R, I, J> {
         ensures comparisons { M.comparisons meter.new ≤ M.comparisons meter.old + I.effort (length (I.places self.old.left)) + J.effort (length (J.places self.old.right)) }
         ensures touches { M.touches meter.new ≤ M.touches meter.old + 64 * (I.effort (length (I.places self.old.left)) + 1) + 64 * (J.effort (length (J.places self.old.right)) + 1) }
     {
-        match self
+        let place = self
             .left
-            .unlink_key(LeftSide::new(&self.pairs), left, meter)
-        {
-            None => None,
-            Some(place) => {
-                self.right.unlink(RightSide::new(&self.pairs), place, meter);
-                Some(self.pairs.take(place))
-            }
-        }
+            .unlink_key(LeftSide::new(&self.pairs), left, meter)?;
+        self.right.unlink(RightSide::new(&self.pairs), place, meter);
+        Some(self.pairs.take(place))
     }
 
     /// Takes out the pair of a right, or answers `None` where it is not held. The room stays.
@@ -33,15 +28,10 @@ impl<L: Eq, R: Eq, I: Index<L>, J: Index<R>> Table<L, R, I, J> {
         ensures comparisons { M.comparisons meter.new ≤ M.comparisons meter.old + I.effort (length (I.places self.old.left)) + J.effort (length (J.places self.old.right)) }
         ensures touches { M.touches meter.new ≤ M.touches meter.old + 64 * (I.effort (length (I.places self.old.left)) + 1) + 64 * (J.effort (length (J.places self.old.right)) + 1) }
     {
-        match self
+        let place = self
             .right
-            .unlink_key(RightSide::new(&self.pairs), right, meter)
-        {
-            None => None,
-            Some(place) => {
-                self.left.unlink(LeftSide::new(&self.pairs), place, meter);
-                Some(self.pairs.take(place))
-            }
-        }
+            .unlink_key(RightSide::new(&self.pairs), right, meter)?;
+        self.left.unlink(LeftSide::new(&self.pairs), place, meter);
+        Some(self.pairs.take(place))
     }
 }

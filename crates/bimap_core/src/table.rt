@@ -66,13 +66,9 @@ impl<L: Eq, R: Eq, I: Index<L>, J: Index<R>> Table<L, R, I, J> {
         ensures comparisons { M.comparisons meter.new ≤ M.comparisons meter.old + I.effort (length (I.places self.now.left)) }
         ensures touches { M.touches meter.new ≤ M.touches meter.old + I.effort (length (I.places self.now.left)) }
     {
-        match self.left.find(LeftSide::new(&self.pairs), left, meter) {
-            Some(place) => match self.pairs.at(place) {
-                Some((_, right)) => Some(right),
-                None => unreachable!(),
-            },
-            None => None,
-        }
+        let place = self.left.find(LeftSide::new(&self.pairs), left, meter)?;
+        let (_, right) = self.pairs.held(place);
+        Some(right)
     }
 
     /// The partner of a right, or `None` where it is not held.
@@ -81,13 +77,9 @@ impl<L: Eq, R: Eq, I: Index<L>, J: Index<R>> Table<L, R, I, J> {
         ensures comparisons { M.comparisons meter.new ≤ M.comparisons meter.old + J.effort (length (J.places self.now.right)) }
         ensures touches { M.touches meter.new ≤ M.touches meter.old + J.effort (length (J.places self.now.right)) }
     {
-        match self.right.find(RightSide::new(&self.pairs), right, meter) {
-            Some(place) => match self.pairs.at(place) {
-                Some((left, _)) => Some(left),
-                None => unreachable!(),
-            },
-            None => None,
-        }
+        let place = self.right.find(RightSide::new(&self.pairs), right, meter)?;
+        let (left, _) = self.pairs.held(place);
+        Some(left)
     }
 
     // A search of each side, that of the other going on while one waits for memory, until one has come to its end. Where

@@ -26,9 +26,7 @@ impl<
         ensures pairs { IfOk result (λ copy. IsCopy L.is_clone R.is_clone L.eq R.eq (holding self.now).pairs (holding copy).pairs) }
         ensures room { IfOk result (λ copy. (holding self.now).room ≤ (holding copy).room) }
     {
-        match self.table.clone(&mut Count::new()) {
-            Ok(table) => Ok(BijectiveMap { table }),
-            Err(refused) => Err(refused),
-        }
+        let table = self.table.clone(&mut Count::new())?;
+        Ok(BijectiveMap { table })
     }
 }

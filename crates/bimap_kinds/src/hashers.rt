@@ -48,10 +48,8 @@ impl<L: Eq + Hash, R: Eq + Hash, LS: BuildHasher, RS: BuildHasher> BiHashMap<L, 
         ensures none { capacity ≡ 0 → IsOk result }
     {
         let mut bimap = BiHashMap::with_hashers(alloc, left_builder, right_builder);
-        match bimap.reserve(capacity) {
-            Ok(()) => Ok(bimap),
-            Err(refused) => Err(refused),
-        }
+        bimap.reserve(capacity)?;
+        Ok(bimap)
     }
 
     /// A bimap of the items with these builders, each item inserted in order. A later one may strike earlier ones.

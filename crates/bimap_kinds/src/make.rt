@@ -68,9 +68,7 @@ impl<L: Eq, R: Eq, I: DefaultIndex<L>, J: DefaultIndex<R>> BijectiveMap<L, R, I,
         ensures none { capacity ≡ 0 → IsOk result }
     {
         let mut bimap = BijectiveMap::empty(alloc);
-        match bimap.reserve(capacity) {
-            Ok(()) => Ok(bimap),
-            Err(refused) => Err(refused),
-        }
+        bimap.reserve(capacity)?;
+        Ok(bimap)
     }
 }

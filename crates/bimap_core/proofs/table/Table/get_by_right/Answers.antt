@@ -1,19 +1,15 @@
-use Rattle.std.proofs.Common.{◌≡◌, sym, Some}
-use Rattle.bimap_base.specs.Slots.{pair_at}
-use Rattle.bimap_core.proofs.Places.{held_at, right_lacking}
-use Rattle.bimap_core.proofs.Linking.{found_at}
+use Rattle.std.proofs.Common.{is_some, ap}
+use Rattle.bimap_core.proofs.Places.{held_at, pair_of, right_lacking}
+use Rattle.bimap_core.proofs.Linking.{found_at, found_here}
 use Rattle.bimap_core.proofs.table.Table.get_by_right.Goals as goal
 
-pub returns-in-Some-at-clause-answer : goal.returns-in-Some-at-clause-answer
-returns-in-Some-at-clause-answer g c =
-    let slots = c.args.self.now.pairs in
-    let pair : g.row.L.Denot × g.row.R.Denot = (c.in-Some-at.left.now, c.in-Some-at.field-0-1.now) in
-    let there : pair_at slots c.in-Some.place ≡ Some pair = sym (rw c.in-Some-at.is at c.at.ensures) in
-    let at = found_at (λ p. p.1) g.R.PartialEq.eq slots c.args.right.now c.find.result (rw c.new.ensures at c.find.ensures.found) in
-    let found = rw c.in-Some.is at at.here in
-    record { found = (pair.1, held_at slots c.in-Some.place pair there, rw there at found); none = tt }
+pub held-requires : goal.held-requires
+held-requires g c = record { live = ap is_some (pair_of _ _ (found_here (λ p. p.1) g.R.PartialEq.eq c.args.self.now.pairs c.args.right.now c.find.result (rw c.new.ensures at c.find.ensures.found) c.in_ok-place.place c.in_ok-place.was)).1 }
 
-pub returns-in-None-clause-answer : goal.returns-in-None-clause-answer
-returns-in-None-clause-answer g c =
-    let at = found_at (λ p. p.1) g.R.PartialEq.eq c.args.self.now.pairs c.args.right.now c.find.result (rw c.new.ensures at c.find.ensures.found) in
-    record { found = tt; none = right_lacking g.R.PartialEq.eq c.args.self.now.pairs c.args.right.now _ at c.in-None.is }
+pub returns-clause-answer : goal.returns-clause-answer
+returns-clause-answer g c =
+    let here = found_here (λ p. p.1) g.R.PartialEq.eq c.args.self.now.pairs c.args.right.now c.find.result (rw c.new.ensures at c.find.ensures.found) c.in_ok-place.place c.in_ok-place.was in
+    record { found = (c.held.result.1.now, held_at c.args.self.now.pairs c.in_ok-place.place (c.held.result.0.now, c.held.result.1.now) c.held.ensures, rw c.held.ensures at here); none = tt }
+
+pub returns-in_err-place-clause-answer : goal.returns-in_err-place-clause-answer
+returns-in_err-place-clause-answer g c = rw c.from_residual.ensures record { found = tt; none = right_lacking g.R.PartialEq.eq _ _ _ (found_at (λ p. p.1) g.R.PartialEq.eq c.args.self.now.pairs c.args.right.now c.find.result (rw c.new.ensures at c.find.ensures.found)) c.in_err-place.was }

@@ -1,5 +1,5 @@
 use Rattle.std.proofs.Common.{rules}
 use Rattle.bimap_kinds.proofs.hashers.BiHashMap+L+R+LS+RS.with_capacity_and_hashers.Goals as goal
 
-pub returns-in-Ok-clause-room : goal.returns-in-Ok-clause-room
-returns-in-Ok-clause-room g c = search rules
+pub returns-clause-room : goal.returns-clause-room
+returns-clause-room g c = search rules

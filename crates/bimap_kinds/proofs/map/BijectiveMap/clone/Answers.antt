@@ -10,15 +10,15 @@ clone-requires g c = record {
 }
 
 pub invariant_of-result : goal.invariant_of-result
-invariant_of-result g c = table_facts c.in-Ok.table g.met.I.Index.listed g.met.I.Index.distinct g.met.I.Index.settled g.met.I.Index.in_order g.met.L.Eq.laws g.met.R.Eq.laws _ (right_walk c.in-Ok.table g.met.J.Index.listed g.met.J.Index.distinct g.met.J.Index.settled)
+invariant_of-result g c = table_facts c.in_ok-table.table g.met.I.Index.listed g.met.I.Index.distinct g.met.I.Index.settled g.met.I.Index.in_order g.met.L.Eq.laws g.met.R.Eq.laws _ (right_walk c.in_ok-table.table g.met.J.Index.listed g.met.J.Index.distinct g.met.J.Index.settled)
 
-pub returns-in-Ok-clause-pairs : goal.returns-in-Ok-clause-pairs
-returns-in-Ok-clause-pairs g c =
+pub returns-clause-pairs : goal.returns-clause-pairs
+returns-clause-pairs g c =
     let table = c.args.self.now.table in
     let alike = table_alike table g.met.I.Index.listed g.met.I.Index.distinct g.met.I.Index.settled in
-    let alike' = table_alike c.in-Ok.table g.met.I.Index.listed g.met.I.Index.distinct g.met.I.Index.settled in
+    let alike' = table_alike c.in_ok-table.table g.met.I.Index.listed g.met.I.Index.distinct g.met.I.Index.settled in
     copy_alike g.L.PartialEq.eq g.R.PartialEq.eq g.met.L.Eq.laws g.met.R.Eq.laws g.L.Clone.is_clone g.R.Clone.is_clone _ _ _ _ alike.members alike'.members alike.long alike'.long table.apart
-    (record { left = λ p there. c.requires.equal.left p ((alike.members p).0 there); right = λ p there. c.requires.equal.right p ((alike.members p).0 there) }) (rw c.in-Ok.is at c.clone.ensures.pairs)
+    (record { left = λ p there. c.requires.equal.left p ((alike.members p).0 there); right = λ p there. c.requires.equal.right p ((alike.members p).0 there) }) (rw c.in_ok-table.was at c.clone.ensures.pairs)
 
-pub returns-in-Ok-clause-room : goal.returns-in-Ok-clause-room
-returns-in-Ok-clause-room g c = rw c.in-Ok.is at c.clone.ensures.room
+pub returns-clause-room : goal.returns-clause-room
+returns-clause-room g c = rw c.in_ok-table.was at c.clone.ensures.room
