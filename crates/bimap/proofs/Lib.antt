@@ -6,6 +6,7 @@ pub mod LookUps
 pub mod Tested
 pub mod Trails
 pub mod JsonTexts
+pub mod JsonNumbers
 pub mod JsonEntries
 pub mod JsonWriting
 pub mod JsonReading

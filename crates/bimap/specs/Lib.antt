@@ -20,7 +20,7 @@ pub mod Trail
 pub mod JsonReading
 pub mod JsonTexts
 pub mod JsonObjects
-pub mod JsonDigits
+pub mod JsonNumbers
 pub mod Types
 pub use Rattle.serde_json.specs.Data
 pub use Rattle.serde_json.specs.Find

@@ -1,11 +1,9 @@
 //! Bimaps as JSON objects and back. It doesn't know how a bimap keeps its pairs.
-mod digits;
 mod kinds;
+mod numbers;
 mod object;
 mod sides;
-mod signed;
 mod texts;
-mod unsigned;
 
 pub use kinds::{from_value_with_hashers, hash_to_value, reread_with_hashers};
 pub use object::{JsonFault, JsonObject, read_into, read_into_with, reread, write_walk};

@@ -3,7 +3,7 @@ ghost use Rattle.std.specs.Prelude.{◌≡◌, string_bytes, IfErr};
 ghost use Rattle.std.specs.Char.{encode_utf8};
 ghost use Rattle.serde_json.specs.Data.{string};
 ghost use Rattle.serde_json.specs.View.{view};
-ghost use Rattle.bimap.specs.JsonReading.{Reads, ReadsSome};
+ghost use Rattle.bimap.specs.JsonReading.{Reads};
 ghost use Rattle.bimap.specs.JsonTexts.{IsCharText, IsCharValue, IsStringText, IsStringValue};
 ghost use Rattle.bimap.specs.declared.value.sides.ReadFault.TheVariants.{Bad, Memory};
 
@@ -12,21 +12,6 @@ use bimap_base::NoMemory;
 use serde_json::Value;
 use std::alloc::Global;
 
-/// The one character of a text.
-fn one_character(text: &str) -> Option<char>
-    ensures { ReadsSome (IsCharText text.now) result }
-{
-    text.parse::<char>().ok()
-}
-
-/// A text of its own.
-fn copied(alloc: Global, text: &str) -> Result<String, ReadFault>
-    ensures reads { Reads (IsStringText text.now) result }
-    ensures never_bad { IfErr result (λ fault. fault ≡ Memory) }
-{
-    String::from_str(alloc, text).or(Err(ReadFault::Memory))
-}
-
 impl JsonKey for char {
     ghost writes_key = { encode_utf8 };
 
@@ -34,17 +19,15 @@ impl JsonKey for char {
 
     #[tactic(auto, using(crate::proofs::JsonTexts::back_char))]
     fn to_key(&self, alloc: Global) -> Result<String, NoMemory> {
-        let key: char = *self;
-        let mut text = String::new(alloc);
-        text.push(key)?;
-        Ok(text)
+        let key = *self;
+        Ok(key.to_string(alloc)?)
     }
 
     fn from_key(_alloc: Global, text: &str) -> Result<char, ReadFault>
         ensures reads { Reads (IsCharText text.now) result }
         ensures takes_no_memory { IfErr result (λ fault. fault ≡ Bad) }
     {
-        one_character(text).ok_or(ReadFault::Bad)
+        text.parse::<char>().or(Err(ReadFault::Bad))
     }
 }
 
@@ -55,20 +38,14 @@ impl JsonValue for char {
 
     #[tactic(auto, using(crate::proofs::JsonTexts::back_char_json))]
     fn to_json(&self, alloc: Global) -> Result<Value, NoMemory> {
-        let value: char = *self;
-        let mut text = String::new(alloc);
-        text.push(value)?;
-        Ok(Value::String(text))
+        Ok(Value::String(self.to_key(alloc)?))
     }
 
-    fn from_json(_alloc: Global, value: &Value) -> Result<char, ReadFault>
+    fn from_json(alloc: Global, value: &Value) -> Result<char, ReadFault>
         ensures reads { Reads (IsCharValue (view value.now)) result }
         ensures takes_no_memory { IfErr result (λ fault. fault ≡ Bad) }
     {
-        match value.as_str() {
-            Some(text) => one_character(text).ok_or(ReadFault::Bad),
-            None => Err(ReadFault::Bad),
-        }
+        char::from_key(alloc, value.as_str().ok_or(ReadFault::Bad)?)
     }
 }
 
@@ -86,7 +63,7 @@ impl JsonKey for String {
         ensures reads { Reads (IsStringText text.now) result }
         ensures never_bad { IfErr result (λ fault. fault ≡ Memory) }
     {
-        copied(alloc, text)
+        String::from_str(alloc, text).or(Err(ReadFault::Memory))
     }
 }
 
@@ -97,13 +74,10 @@ impl JsonValue for String {
 
     #[tactic(auto, using(crate::proofs::JsonTexts::back_string_json))]
     fn to_json(&self, alloc: Global) -> Result<Value, NoMemory> {
-        Ok(Value::String(String::from_str(alloc, self.as_str())?))
+        Ok(Value::String(self.to_key(alloc)?))
     }
 
     fn from_json(alloc: Global, value: &Value) -> Result<String, ReadFault> {
-        match value.as_str() {
-            Some(text) => copied(alloc, text),
-            None => Err(ReadFault::Bad),
-        }
+        String::from_key(alloc, value.as_str().ok_or(ReadFault::Bad)?)
     }
 }

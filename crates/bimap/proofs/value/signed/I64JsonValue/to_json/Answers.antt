@@ -1,5 +1,0 @@
-use Rattle.std.proofs.Common.{rules}
-use Rattle.bimap.proofs.value.signed.I64JsonValue.to_json.Goals as goal
-
-pub returns-clause-json : goal.returns-clause-json
-returns-clause-json c = search rules
