@@ -3,14 +3,11 @@ use Rattle.std.proofs.Common.{◌≡◌, ◌↔◌, ◌⊎◌, inl, inr, ◌≤�
 use Rattle.std.specs.Prelude.{Contains}
 use Rattle.std.specs.List.{zip}
 use Rattle.std.proofs.lemmas.List.Elements.{Contains-append_left, Contains-append_right}
-use Rattle.bimap_base.specs.Sets.{IsApart, IsWithPut, HasLeft, HasRight}
-use Rattle.bimap_base.specs.Answer.{IsAnswer, IsOnlyStruck}
+use Rattle.bimap_base.specs.Sets.{IsApart, HasLeft, HasRight}
 use Rattle.bimap_base.specs.Holding.{Holding}
-use Rattle.bimap_base.specs.declared.overwritten.Overwritten.{Overwritten}
-use Rattle.bimap_base.specs.declared.overwritten.Overwritten.TheVariants.{Neither, Left, Right, Pair, Both}
-use Rattle.bimap_base.specs.declared.policy.Policy.{Policy}
 use Rattle.bimap_base.proofs.Members.{head_in, more_in, none_in, lacking}
-use Rattle.bimap_base.proofs.Survivors.{split_append, split_push, not_split, Survives_none, Survives_append, Survives_along, survivors_push, put_touches}
+use Rattle.bimap_base.proofs.SetsAlike.{IsAnswer-same, IsAllowed-same}
+use Rattle.bimap_base.proofs.Survivors.{split_append, split_push, not_split, Survives_none, Survives_append, Survives_along, survivors_push}
 use Rattle.bimap.specs.declared.call.Call.{Call}
 use Rattle.bimap.specs.declared.call.Call.TheVariants.{Insert, InsertNoOverwrite, InsertWith, RemoveByLeft, RemoveByRight, ContainsLeft, ContainsRight, Retain, Clear}
 use Rattle.bimap.specs.declared.call.Reply.{Reply}
@@ -20,25 +17,14 @@ use Rattle.bimap.specs.History.{Entry, Puts, Touches, IsNoRoom, IsSurvivor, IsRi
 use Rattle.bimap.specs.Step.{MayRetain, IsStep}
 
 module _ {L R : Type 0} (same_left : L → L → Bool) (same_right : R → R → Bool) (S T : L × R → Type 0) (to : (p : L × R) → S p → T p) (from : (p : L × R) → T p → S p) where
-  IsOnlyStruck_along : (new p : L × R) → IsOnlyStruck same_left same_right S new p → IsOnlyStruck same_left same_right T new p
-  IsOnlyStruck_along new p h = record { member = to p h.member; only = λ q m. h.only q (from q m) }
-
-  -- an answer about a set is one about a set with the same members
-  pub IsAnswer_along : (new : L × R) (a : Overwritten L R) → IsAnswer same_left same_right S new a → IsAnswer same_left same_right T new a
-  IsAnswer_along new Neither h = λ q m. h q (from q m)
-  IsAnswer_along new (Left l r) h = (IsOnlyStruck_along new (l, r) h.0, h.1, h.2)
-  IsAnswer_along new (Right l r) h = (IsOnlyStruck_along new (l, r) h.0, h.1, h.2)
-  IsAnswer_along new (Pair l r) h = (IsOnlyStruck_along new (l, r) h.0, h.1, h.2)
-  IsAnswer_along new (Both p q) h = record { first = to p h.first; second = to q h.second; two = h.two; by_left = h.by_left; by_right = h.by_right; only = λ s m. h.only s (from s m) }
-
   -- a reply that is right for a set is right for one with the same members
   pub IsRight_along : {K : Type 0} (e : Entry L R K) → IsRight same_left same_right S e → IsRight same_left same_right T e
-  IsRight_along (Insert l r, Inserted a) h = IsAnswer_along (l, r) a h
+  IsRight_along (Insert l r, Inserted a) h = IsAnswer-same S T (λ p. (to p, from p)) same_left same_right (l, r) a h
   IsRight_along (Insert l r, NoRoom l' r') h = (h.0, h.1, λ q m. h.2 q (from q m))
   IsRight_along (InsertNoOverwrite l r, Put) h = λ q m. h q (from q m)
   IsRight_along (InsertNoOverwrite l r, Occupied l' r') h = (h.0, h.1, (h.2.0, to h.2.0 h.2.1, h.2.2))
   IsRight_along (InsertNoOverwrite l r, NoRoom l' r') h = (h.0, h.1, λ q m. h.2 q (from q m))
-  IsRight_along (InsertWith l r policy, Inserted a) h = (record { left = λ e q m. h.0.left e q (from q m); right = λ e q m. h.0.right e q (from q m) }, IsAnswer_along (l, r) a h.1)
+  IsRight_along (InsertWith l r policy, Inserted a) h = (IsAllowed-same S T (λ p. (to p, from p)) same_left same_right (l, r) policy h.0, IsAnswer-same S T (λ p. (to p, from p)) same_left same_right (l, r) a h.1)
   IsRight_along (InsertWith l r policy, LeftHeld l' r') h = (h.0, h.1, h.2, (h.3.0, to h.3.0 h.3.1, h.3.2))
   IsRight_along (InsertWith l r policy, RightHeld l' r') h = (h.0, h.1, (λ e q m. h.2 e q (from q m)), h.3, (h.4.0, to h.4.0 h.4.1, h.4.2))
   IsRight_along (InsertWith l r policy, NoRoom l' r') h = (h.0, h.1, λ q m. h.2 q (from q m))
@@ -65,16 +51,6 @@ module _ {L R : Type 0} (same_left : L → L → Bool) (same_right : R → R →
   right_contains_right K r false h = lacking S (λ p. same_right p.1 r) h
 
 module _ {L R K : Type 0} (same_left : L → L → Bool) (same_right : R → R → Bool) (Test : K → L × R → Bool → Type 0) where
-  -- what an insertion leaves is what its entry does
-  pub step_insert : (S T : L × R → Type 0) (l : L) (r : R) (a : Overwritten L R) → IsWithPut same_left same_right S (l, r) T → IsStep same_left same_right Test S (Insert l r, Inserted a) T
-  step_insert S T l r a h = put_touches same_left same_right S T (l, r) h
-
-  pub step_put : (S T : L × R → Type 0) (l : L) (r : R) → IsWithPut same_left same_right S (l, r) T → IsStep same_left same_right Test S (InsertNoOverwrite l r, Put) T
-  step_put S T l r h = put_touches same_left same_right S T (l, r) h
-
-  pub step_insert_with : (S T : L × R → Type 0) (l : L) (r : R) (policy : Policy) (a : Overwritten L R) → IsWithPut same_left same_right S (l, r) T → IsStep same_left same_right Test S (InsertWith l r policy, Inserted a) T
-  step_insert_with S T l r policy a h = put_touches same_left same_right S T (l, r) h
-
   pub step_retain : (S T : L × R → Type 0) (k : K) → ((p : L × R) → T p ↔ (S p × (Test k p false → ⊥))) → IsStep same_left same_right Test S (Retain k, Done) T
   step_retain S T k h p = (λ t. inr ((h p).0 t), λ t. elim t [ inl e ↦ absurd e | inr e ↦ (h p).1 e ])
 

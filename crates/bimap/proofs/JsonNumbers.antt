@@ -36,7 +36,7 @@ module _ (bits : ℕ) (le : 2 ^ bits ≤ 2 ^ 64) where
   unsigned_text_back n h = record { as_value = n; reads = (refl, h); only = λ k t. eq-eqb k n (sym (decimal_injective n k (omega (arith, h, le)) (omega (arith, t.1, le)) t.0)) }
 
   pub unsigned_back : (n : ℕ) → n < 2 ^ bits → ReadsBack nat_eq (IsUnsignedValue bits (number (unsigned n))) n
-  unsigned_back n h = record { as_value = n; reads = (refl, h); only = λ k t. eq-eqb k n (sym (some_inj n n k t.0)) }
+  unsigned_back n h = record { as_value = n; reads = (refl, h); only = λ k t. eq-eqb k n (sym (some_inj n k t.0)) }
 
   pub unsigned_read : (s : List ℕ) (o : Option ℕ) → ParsesPlain (λ s r. ParsesUnsigned bits 10 s r × ExplainsUnsignedError 10 s r × HasUnsignedDigitsIfOk s r) s o → ReadsSome (IsUnsignedText bits s) o
   unsigned_read s (Some n) h =
@@ -66,7 +66,7 @@ module _ (bits : ℕ) (le : 2 ^ bits ≤ 2 ^ 63) where
   signed_text_back z h = record { as_value = z; reads = (refl, within bits z h); only = λ k t. (signed_Decides k z).1 (sym (signed_decimal_injective z k (omega (arith, h, le)) (omega (arith, sized bits k t.1, le)) t.0)) }
 
   pub signed_back : (z : ℤ) → mag z < 2 ^ bits → ReadsBack int_eq (IsSignedValue bits (number (of_integer z))) z
-  signed_back z h = record { as_value = z; reads = (as_i64_back z h, within bits z h); only = λ k t. (signed_Decides k z).1 (sym (some_inj z z k (sym (as_i64_back z h) ∙ t.0))) }
+  signed_back z h = record { as_value = z; reads = (as_i64_back z h, within bits z h); only = λ k t. (signed_Decides k z).1 (sym (some_inj z k (sym (as_i64_back z h) ∙ t.0))) }
 
   plain_signed : (z : ℤ) → IsWithin bits z → IsPlain (signed_decimal z)
   plain_signed (pos n) h = plain_decimal n (omega (arith, h, le))

@@ -1,32 +1,29 @@
 -- What was written of a bimap reads back as an equal one.
-use Rattle.std.proofs.Common.{◌≡◌, inl, inr, ℕ, ◌||◌, ◌&&◌, Bool, true, false, List, [], ◌∷◌, ◌++◌, Option, Some, None, Result, Ok, Err, IfOk, IfErr, refl, sym, ap, subst, ◌∙◌, arith, true≢false}
+use Rattle.std.proofs.Common.{◌≡◌, inl, inr, ℕ, ◌≤◌, ◌||◌, ◌&&◌, Bool, true, false, List, [], ◌∷◌, ◌++◌, length, get_or, Some, None, Result, Ok, Err, IfOk, IfErr, refl, sym, ap, subst, ◌∙◌, arith, true≢false}
 use Rattle.std.specs.Prelude.{Contains}
-use Rattle.std.specs.Cmp.{IsEquivalence}
+use Rattle.std.specs.Cmp.{IsEquivalence, and_equiv, on_equiv, first_so, second_so}
 use Rattle.std.proofs.lemmas.List.Elements.{Contains-append_right}
-use Rattle.serde_json.specs.Data.{Data, Members}
+use Rattle.std.proofs.lemmas.Map.Keys.{IsDistinct-from_apart}
+use Rattle.std.proofs.lemmas.Map.Made.{length-le_from_is_member}
+use Rattle.serde_json.specs.Data.{Data}
 use Rattle.bimap_base.specs.Sets.{shares, IsApart}
-use Rattle.bimap_base.specs.Same.{pair_eq, IsSame}
+use Rattle.bimap_base.specs.Same.{pair_eq, HasEqual, IsSame}
 use Rattle.bimap_base.specs.Holding.{Holding}
 use Rattle.bimap_base.specs.Survivors.{Survives, IsPutToStay, PutsItself, TouchesSharing}
-use Rattle.bimap_base.proofs.Members.{head_in, more_in, cases_in, none_in, AllPairs-head, AllPairs-tail}
+use Rattle.bimap_base.proofs.Apart.{shares_symm, apart_unique}
+use Rattle.bimap_base.proofs.Members.{head_in, more_in, cases_in, none_in, any_in, in_any}
 use Rattle.bimap.specs.JsonObjects.{Entry, entries_of, Ascends, HasEntries, IsObjectOf, IsEntryOf, IsWrittenAs, EachReadsBack, ReadsAs, EachReadsAs, StopsAt, IsReadInto, ReadsObject}
 use Rattle.bimap.proofs.JsonEntries.{other_key, below_later}
 use Rattle.bimap.proofs.JsonWriting.{IsSplit, split_member, middle_in}
-use Rattle.bimap.proofs.JsonCounts.{length-le_from_lefts}
 use Rattle.bimap.specs.declared.value.object.JsonFault.{JsonFault}
 use Rattle.bimap.specs.declared.value.object.JsonFault.TheVariants.{NotAnObject, BadKey, BadValue, LeftHeld, RightHeld, Memory}
 
-members_or : Members → Option Members → Members
-members_or ms (Some x) = x
-members_or ms None = ms
-
-same_members : (x y : Members) → Some x ≡ Some y → x ≡ y
-unfolding members_or
-same_members x y e = ap (members_or x) e
-
 -- an object has one list of entries
 has_unique : (value : Data) (es fs : List Entry) → HasEntries value es → HasEntries value fs → es ≡ fs
-has_unique value es fs a b = a.are ∙ ap entries_of (same_members a.members b.members (sym a.is_object ∙ b.is_object)) ∙ sym b.are
+has_unique value es fs a b =
+    let members : Some a.members ≡ Some b.members = sym a.is_object ∙ b.is_object in
+    let one : a.members ≡ b.members = cc members in
+    a.are ∙ ap entries_of one ∙ sym b.are
 
 module _ {L R : Type 0} (key : List ℕ → L → Type 0) (val : Data → R → Type 0) where
   -- the pair that an entry in the middle reads as
@@ -56,50 +53,35 @@ module _ {L R : Type 0} (key : List ℕ → L → Type 0) (val : Data → R → 
         | inr later ↦ let r = read_from es pairs each.1 p later in (r.0, more_in e es r.0 r.1, r.2)
       ]
 
+unlike : (a b : Bool) → (a || b) ≡ false → (a && b) ≡ false
+unlike true b e = absurd (true≢false e)
+unlike false b e = refl
+
 module _ {L R : Type 0} (same_left : L → L → Bool) (same_right : R → R → Bool) (left_laws : IsEquivalence same_left) (right_laws : IsEquivalence same_right) where
-  -- equal on both sides
-  abbrev AreAlike : L × R → L × R → Type 0
-  AreAlike q p = (same_left q.0 p.0 ≡ true) × (same_right q.1 p.1 ≡ true)
+  pairs : IsEquivalence (pair_eq same_left same_right)
+  pairs = and_equiv (on_equiv (λ p. p.0) left_laws) (on_equiv (λ p. p.1) right_laws)
 
-  shares_symm : (p q : L × R) → shares same_left same_right p q ≡ shares same_left same_right q p
-  shares_symm p q = ap (λ b. b || same_right p.1 q.1) (left_laws.symm p.0 q.0) ∙ ap (λ b. same_left q.0 p.0 || b) (right_laws.symm p.1 q.1)
+  -- of pairs that are apart, where each has an equal one in the other list, there are no more
+  no_more : (ps qs : List (L × R)) → IsApart same_left same_right ps → ((p : L × R) → Contains ps p → HasEqual same_left same_right (Contains qs) p) → length ps ≤ length qs
+  no_more ps qs apart each =
+      length-le_from_is_member pairs ps qs (IsDistinct-from_apart (pair_eq same_left same_right) ps (λ i j d before inside. unlike (same_left (get_or ps i d).0 (get_or ps j d).0) (same_right (get_or ps i d).1 (get_or ps j d).1) (apart i j d before inside)))
+      (λ q e.
+      let p = in_any (pair_eq same_left same_right q) ps e in
+      let w = each p.0 p.1 in
+      any_in (pair_eq same_left same_right q) qs w.0 w.1 (pairs.congr q p.0 w.0 p.2 ∙ w.2))
 
-  apart_unique : (ps : List (L × R)) (p q : L × R) → IsApart same_left same_right ps → Contains ps p → Contains ps q → shares same_left same_right p q ≡ true → p ≡ q
-  apart_unique [] p q apart m n e = none_in p m
-  apart_unique (x ∷ xs) p q apart m n e =
-      let head = AllPairs-head (λ a b. shares same_left same_right a b ≡ false) x xs apart in
-      let tail : IsApart same_left same_right xs = AllPairs-tail (λ a b. shares same_left same_right a b ≡ false) x xs apart in
-      elim (cases_in x xs p m) [
-        | inl v ↦
-            elim (cases_in x xs q n) [
-              | inl w ↦ sym v ∙ w
-              | inr w ↦ absurd (true≢false (sym e ∙ ap (λ z. shares same_left same_right z q) (sym v) ∙ head q w))
-            ]
-        | inr v ↦
-            elim (cases_in x xs q n) [
-              | inl w ↦ absurd (true≢false (sym e ∙ shares_symm p q ∙ ap (λ z. shares same_left same_right z p) (sym w) ∙ head p v))
-              | inr w ↦ apart_unique xs p q tail v w e
-            ]
-      ]
-
-  alike_shares : (p p' q r : L × R) → AreAlike q p → AreAlike r p' → shares same_left same_right q r ≡ shares same_left same_right p p'
-  alike_shares p p' q r a b =
-      let e : same_left q.0 r.0 ≡ same_left p.0 p'.0 = left_laws.congr q.0 p.0 r.0 a.0 ∙ left_laws.symm p.0 r.0 ∙ left_laws.congr r.0 p'.0 p.0 b.0 ∙ left_laws.symm p'.0 p.0 in
-      let f : same_right q.1 r.1 ≡ same_right p.1 p'.1 = right_laws.congr q.1 p.1 r.1 a.1 ∙ right_laws.symm p.1 r.1 ∙ right_laws.congr r.1 p'.1 p.1 b.1 ∙ right_laws.symm p'.1 p.1 in
-      λ i. e i || f i
-
-  alike_eq : (p q : L × R) → AreAlike q p → pair_eq same_left same_right p q ≡ true
-  alike_eq p q a =
-      let e : same_left p.0 q.0 ≡ true = left_laws.symm p.0 q.0 ∙ a.0 in
-      let f : same_right p.1 q.1 ≡ true = right_laws.symm p.1 q.1 ∙ a.1 in
-      λ i. e i && f i
+  -- of two pairs that are equal one shares a value where the other does
+  shares_like : (p q r : L × R) → pair_eq same_left same_right p q ≡ true → shares same_left same_right p r ≡ shares same_left same_right q r
+  shares_like p q r e i = left_laws.congr p.0 q.0 r.0 (first_so (same_left p.0 q.0) (same_right p.1 q.1) e) i || right_laws.congr p.1 q.1 r.1 (second_so (same_left p.0 q.0) (same_right p.1 q.1) e) i
 
   module _ (writes_key : L → List ℕ) (writes : R → Data) (key : List ℕ → L → Type 0) (val : Data → R → Type 0) (ps : List (L × R)) (apart : IsApart same_left same_right ps) (each : EachReadsBack writes_key writes key val same_left same_right ps) where
     -- what an entry reads as is equal to the pair that it was written of
-    alike : (e : Entry) (p q : L × R) → Contains ps p → IsWrittenAs writes_key writes p e → ReadsAs key val e q → AreAlike q p
+    alike : (e : Entry) (p q : L × R) → Contains ps p → IsWrittenAs writes_key writes p e → ReadsAs key val e q → pair_eq same_left same_right q p ≡ true
     alike e p q c w r =
         let b = each p c in
-        (b.0.only q.0 (subst (λ f. key f.0 q.0) w r.0), b.1.only q.1 (subst (λ f. val f.1 q.1) w r.1))
+        let l = b.0.only q.0 (subst (λ f. key f.0 q.0) w r.0) in
+        let m = b.1.only q.1 (subst (λ f. val f.1 q.1) w r.1) in
+        λ i. l i && m i
 
     module _ (value : Data) (object : IsObjectOf (IsEntryOf writes_key writes (Contains ps)) value) where
       module _ (held : List (L × R)) (read : IsReadInto key val same_left same_right value held) where
@@ -109,8 +91,8 @@ module _ {L R : Type 0} (same_left : L → L → Bool) (same_right : R → R →
         each_read : EachReadsAs key val object.entries read.pairs
         each_read = subst (λ l. EachReadsAs key val l read.pairs) (has_unique value read.entries object.entries read.has object.has) read.read
 
-        forth : (p : L × R) → Contains ps p → (q : L × R) × Contains held q × AreAlike q p
-        forth p c = (q, (read.survivors q).1 (inr stays), like)
+        forth : (p : L × R) → Contains ps p → HasEqual same_left same_right (Contains held) p
+        forth p c = (q, (read.survivors q).1 (inr stays), pairs.symm p q ∙ like)
           where
             e : Entry
             e = (writes_key p.0, writes p.1)
@@ -124,7 +106,7 @@ module _ {L R : Type 0} (same_left : L → L → Bool) (same_right : R → R →
             q : L × R
             q = r.pair
 
-            like : AreAlike q p
+            like : pair_eq same_left same_right q p ≡ true
             like = alike e p q c refl r.reads
 
             none : (t : L × R) → Contains r.after t → TouchesSharing same_left same_right t q → ⊥
@@ -132,16 +114,16 @@ module _ {L R : Type 0} (same_left : L → L → Bool) (same_right : R → R →
                 let f = read_from key val s.later r.after r.rest t m in
                 let inside : Contains object.entries f.0 = subst (λ l. Contains l f.0) (sym s.is) (Contains-append_right s.before (e ∷ s.later) f.0 (more_in e s.later f.0 f.1)) in
                 let w = (object.exactly f.0).0 inside in
-                let one : p ≡ w.0 = apart_unique ps p w.0 apart c w.1 (sym (alike_shares p w.0 q t like (alike f.0 w.0 t w.1 w.2 f.2)) ∙ touches) in
+                let one : p ≡ w.0 = apart_unique same_left same_right left_laws right_laws ps p w.0 apart c w.1 (sym (shares_like q p w.0 like) ∙ shares_symm same_left same_right left_laws right_laws q w.0 ∙ sym (shares_like t w.0 q (alike f.0 w.0 t w.1 w.2 f.2)) ∙ shares_symm same_left same_right left_laws right_laws t q ∙ touches) in
                 other_key e.0 s.later f.0 (below_later s.before e s.later (subst Ascends s.is object.has.ascends)) f.1 (ap (λ x. x.0) w.2 ∙ ap (λ x. writes_key x.0) (sym one))
 
             stays : IsPutToStay PutsItself (TouchesSharing same_left same_right) read.pairs q
             stays = record { before = r.before; entry = q; later = r.after; split = r.is; puts = refl; untouched = none }
 
-        back : (q : L × R) → Contains held q → (p : L × R) × Contains ps p × AreAlike q p
+        back : (q : L × R) → Contains held q → HasEqual same_left same_right (Contains ps) q
         back q c = by ((read.survivors q).0 c)
           where
-            by : Survives PutsItself (TouchesSharing same_left same_right) (Contains []) read.pairs q → (p : L × R) × Contains ps p × AreAlike q p
+            by : Survives PutsItself (TouchesSharing same_left same_right) (Contains []) read.pairs q → HasEqual same_left same_right (Contains ps) q
             by (inl s) = none_in q s.0
             by (inr s) =
                 let inside : Contains read.pairs q = subst (λ l. Contains l q) (sym s.split) (subst (λ x. Contains (s.before ++ x ∷ s.later) q) s.puts (middle_in s.before q s.later)) in
@@ -150,14 +132,7 @@ module _ {L R : Type 0} (same_left : L → L → Bool) (same_right : R → R →
                 (w.0, w.1, alike f.0 w.0 q w.1 w.2 f.2)
 
         reread_same : IsApart same_left same_right held → IsSame same_left same_right ps held
-        reread_same other = (
-          (
-              let a = length-le_from_lefts same_left same_right left_laws held ps apart (λ p c. let f = forth p c in (f.0, f.1, f.2.0)) in
-              let b = length-le_from_lefts same_left same_right left_laws ps held other (λ q c. let f = back q c in (f.0, f.1, left_laws.symm f.0.0 q.0 ∙ f.2.0)) in
-              omega (arith, a, b)
-              ),
-          λ p c. let f = forth p c in (f.0, f.1, alike_eq p f.0 f.2),
-        )
+        reread_same other = (omega (arith, no_more ps held apart forth, no_more held ps other back), forth)
 
       -- an entry at which a reading stops was written of some pair
       stopped_at : (at : ℕ) (P : Entry → Type 0) (s : StopsAt key val value at P) → IsEntryOf writes_key writes (Contains ps) s.entry

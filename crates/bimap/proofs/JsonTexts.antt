@@ -1,5 +1,5 @@
 -- What the texts of characters read as.
-use Rattle.std.proofs.Common.{◌≡◌, ℕ, ◌&&◌, [], ◌∷◌, true, nat_eq, Option, Some, None, refl, sym, ap, ◌∙◌, get_or, append-nil, String, string_bytes, Global}
+use Rattle.std.proofs.Common.{◌≡◌, ℕ, ◌&&◌, [], ◌∷◌, true, nat_eq, Some, refl, sym, ap, ◌∙◌, get_or, append-nil, String, string_bytes, Global}
 use Rattle.std.specs.Char.{encode_utf8, IsScalar}
 use Rattle.std.specs.Str.{chars}
 use Rattle.std.proofs.lemmas.Str.{chars-encodes}
@@ -10,13 +10,8 @@ use Rattle.serde_json.specs.Data.{string}
 use Rattle.bimap.specs.JsonReading.{ReadsBack}
 use Rattle.bimap.specs.JsonTexts.{IsCharText, IsStringText, IsCharValue, IsStringValue}
 
-held_or : {A : Type 0} → A → Option A → A
-held_or d (Some x) = x
-held_or d None = d
-
-pub some_inj : {A : Type 0} (d x y : A) → Some x ≡ Some y → x ≡ y
-unfolding held_or
-some_inj d x y e = ap (held_or d) e
+pub some_inj : {A : Type 0} (x y : A) → Some x ≡ Some y → x ≡ y
+some_inj x y e = cc
 
 one_char : (c : ℕ) → IsScalar c → chars (encode_utf8 c) ≡ c ∷ []
 one_char c s = ap chars (sym (append-nil (encode_utf8 c))) ∙ chars-encodes (c ∷ []) (ap (λ b. b && true) s)
@@ -28,10 +23,10 @@ pub back_char : (c : ℕ) → IsScalar c → ReadsBack nat_eq (IsCharText (encod
 back_char c s = record { as_value = c; reads = (refl, s); only = λ k t. eq-eqb k c (sym (same_char c k s t.1 t.0)) }
 
 pub back_char_json : (c : ℕ) → IsScalar c → ReadsBack nat_eq (IsCharValue (string (encode_utf8 c))) c
-back_char_json c s = record { as_value = c; reads = (refl, s); only = λ k t. eq-eqb k c (sym (same_char c k s t.1 (some_inj [] _ _ t.0))) }
+back_char_json c s = record { as_value = c; reads = (refl, s); only = λ k t. eq-eqb k c (sym (same_char c k s t.1 (some_inj _ _ t.0))) }
 
 pub back_string : (s : String Global) → ReadsBack string_eq (IsStringText (string_bytes s)) s
 back_string s = record { as_value = s; reads = refl; only = λ k e. (bytes_decides (string_bytes k) (string_bytes s)).1 e }
 
 pub back_string_json : (s : String Global) → ReadsBack string_eq (IsStringValue (string (string_bytes s))) s
-back_string_json s = record { as_value = s; reads = refl; only = λ k e. (bytes_decides (string_bytes k) (string_bytes s)).1 (sym (some_inj [] _ _ e)) }
+back_string_json s = record { as_value = s; reads = refl; only = λ k e. (bytes_decides (string_bytes k) (string_bytes s)).1 (sym (some_inj _ _ e)) }

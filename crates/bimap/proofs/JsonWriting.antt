@@ -1,12 +1,14 @@
 -- What is written of the pairs of a list.
-use Rattle.std.proofs.Common.{◌≡◌, ◌↔◌, ◌⊎◌, inl, inr, ◌||◌, ℕ, Bool, true, false, List, [], ◌∷◌, ◌++◌, refl, sym, ap, subst, ◌∙◌, true≢false}
+use Rattle.std.proofs.Common.{◌≡◌, ◌↔◌, ◌⊎◌, inl, inr, ℕ, Bool, true, false, List, [], ◌∷◌, ◌++◌, refl, sym, ap, subst, ◌∙◌, true≢false}
 use Rattle.std.specs.Prelude.{Contains}
 use Rattle.std.specs.Cmp.{IsEquivalence}
+use Rattle.std.proofs.lemmas.Bool.{or_left}
 use Rattle.std.proofs.lemmas.List.Elements.{Contains-push_cases, Contains-append_right}
 use denote.Ref.{Bor}
 use Rattle.serde_json.specs.Data.{Data, Members, put}
 use Rattle.bimap_base.specs.Sets.{shares, IsApart}
-use Rattle.bimap_base.proofs.Members.{head_in, cases_in, none_in, AllPairs-head, AllPairs-tail}
+use Rattle.bimap_base.proofs.Apart.{apart_head, apart_tail}
+use Rattle.bimap_base.proofs.Members.{head_in, cases_in, more_in, none_in}
 use Rattle.bimap_base.proofs.Survivors.{survivors_push}
 use Rattle.bimap.specs.JsonReading.{ReadsBack}
 use Rattle.bimap.specs.JsonObjects.{Entry, entries_of, Ascends, IsWrittenAs, TakesKey, IsEntryOf, IsLastEntryOf, EachReadsBack, shown_pairs}
@@ -33,9 +35,6 @@ split_member (y ∷ ys) x c =
 pub middle_in : {X : Type 0} (before : List X) (x : X) (later : List X) → Contains (before ++ x ∷ later) x
 middle_in before x later = Contains-append_right before (x ∷ later) x (head_in x later)
 
-pub or_left : (a b : Bool) → a ≡ true → (a || b) ≡ true
-or_left a b e = ap (λ c. c || b) e
-
 module _ {L R : Type 0} (key : L → List ℕ) (val : R → Data) where
   module _ (reads_key : List ℕ → L → Type 0) (reads : Data → R → Type 0) (same_left : L → L → Bool) (same_right : R → R → Bool) where
     pub each_push : (ps : List (L × R)) (p : L × R) → EachReadsBack key val reads_key reads same_left same_right ps → ReadsBack same_left (reads_key (key p.0)) p.0 → ReadsBack same_right (reads (val p.1)) p.1 → EachReadsBack key val reads_key reads same_left same_right (ps ++ p ∷ [])
@@ -60,8 +59,8 @@ module _ {L R : Type 0} (key : L → List ℕ) (val : R → Data) where
         sym (laws.congr k p.0 q.0 (a.only k a.reads)) ∙ b.only k (subst (λ t. reads_key t k) e a.reads)
 
     apart_later : (before : List (L × R)) (p : L × R) (later : List (L × R)) → IsApart same_left same_right (before ++ p ∷ later) → (q : L × R) → Contains later q → shares same_left same_right p q ≡ false
-    apart_later [] p later apart q c = AllPairs-head (λ a b. shares same_left same_right a b ≡ false) p later apart q c
-    apart_later (r ∷ before) p later apart q c = apart_later before p later (AllPairs-tail (λ a b. shares same_left same_right a b ≡ false) r (before ++ p ∷ later) apart) q c
+    apart_later [] p later apart = apart_head same_left same_right p later apart
+    apart_later (r ∷ before) p later apart = apart_later before p later (apart_tail same_left same_right r (before ++ p ∷ later) apart)
 
     pub exactly_written : (ps : List (L × R)) → IsApart same_left same_right ps → EachReadsBack key val reads_key reads same_left same_right ps → (e : Entry) → IsLastEntryOf key val ps e ↔ IsEntryOf key val (Contains ps) e
     exactly_written ps apart each e = (to, from)
@@ -81,9 +80,6 @@ module _ {L R : Type 0} (key : L → List ℕ) (val : R → Data) where
 
             none : (q : L × R) → Contains s.later q → TakesKey key val q e → ⊥
             none q c t =
-                let inside : Contains ps q = subst (λ l. Contains l q) (sym s.is) (Contains-append_right s.before (p ∷ s.later) q (more p q c)) in
+                let inside : Contains ps q = subst (λ l. Contains l q) (sym s.is) (Contains-append_right s.before (p ∷ s.later) q (more_in p s.later q c)) in
                 let one : same_left p.0 q.0 ≡ true = same_key p q (each p w.1).0 (each q inside).0 (sym (ap (λ x. x.0) w.2) ∙ t) in
                 true≢false (sym (or_left _ (same_right p.1 q.1) one) ∙ apart_later s.before p s.later (subst (IsApart same_left same_right) s.is apart) q c)
-              where
-                more : (y z : L × R) → Contains s.later z → Contains (y ∷ s.later) z
-                more y z m = Contains-append_right (y ∷ []) s.later z m

@@ -10,7 +10,6 @@ pub mod JsonNumbers
 pub mod JsonEntries
 pub mod JsonWriting
 pub mod JsonReading
-pub mod JsonCounts
 pub mod JsonWalks
 pub mod JsonRoundTrip
 pub use Rattle.bimap_base.proofs.Apart

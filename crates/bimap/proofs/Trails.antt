@@ -7,8 +7,8 @@ use Rattle.bimap_base.specs.Answer.{IsAnswer, IsBoth}
 use Rattle.bimap_base.specs.Undoing.{IsUndoable, IsUndone, IsInserting, IsTrail}
 use Rattle.bimap_base.specs.declared.overwritten.Overwritten.{Overwritten}
 use Rattle.bimap_base.specs.declared.overwritten.Overwritten.TheVariants.{Neither, Left, Right, Pair, Both}
+use Rattle.bimap_base.proofs.SetsAlike.{IsAnswer-same, turned}
 use Rattle.bimap_base.proofs.Undoing.{inserting_undoable, undone_same, inserting_shorter}
-use Rattle.bimap.proofs.Histories.{IsAnswer_along}
 use Rattle.bimap.specs.Trail.{IsWithin, Leads, LeadsWithin}
 
 module _ {L R : Type 0} (same_left : L → L → Bool) (same_right : R → R → Bool) (lefts : IsEquivalence same_left) (rights : IsEquivalence same_right) where
@@ -56,7 +56,7 @@ module _ {L R : Type 0} (same_left : L → L → Bool) (same_right : R → R →
   inserting_from A S T left answer s i = record {
     pair = i.pair;
     by_left = i.by_left;
-    is_answer = IsAnswer_along same_left same_right (Contains S) (Contains A) (λ p. (s p).1) (λ p. (s p).0) i.pair answer i.is_answer;
+    is_answer = IsAnswer-same (Contains S) (Contains A) (turned (Contains A) (Contains S) s) same_left same_right i.pair answer i.is_answer;
     put = λ q. (
       λ m. elim ((i.put q).0 m) [ inl e ↦ inl e | inr w ↦ inr ((s q).1 w.0, w.1) ],
       λ m. (i.put q).1 (elim m [ inl e ↦ inl e | inr w ↦ inr ((s q).0 w.0, w.1) ]),

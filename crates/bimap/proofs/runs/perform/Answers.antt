@@ -1,7 +1,8 @@
 use Rattle.std.proofs.Common.{rules, ◌≡◌, true, false, refl, true≢false, Contains}
+use Rattle.bimap_base.proofs.Survivors.{put_touches}
 use Rattle.bimap.specs.Test.{Answers}
 use Rattle.bimap.proofs.Tested.{MayTest_by, IsKept-by, may_call, answers_as}
-use Rattle.bimap.proofs.Histories.{right_contains_left, right_contains_right, step_insert, step_put, step_insert_with, step_retain}
+use Rattle.bimap.proofs.Histories.{right_contains_left, right_contains_right, step_retain}
 use Rattle.bimap.proofs.runs.perform.Goals as goal
 
 pub retain-requires : goal.retain-requires
@@ -12,11 +13,11 @@ retain-requires g c = record {
 }
 
 pub returns-in-Ok-clause-step : goal.returns-in-Ok-clause-step
-returns-in-Ok-clause-step g c = rw c.in-Insert.is (step_insert g.L.PartialEq.eq g.R.PartialEq.eq (Answers g.F.Fn c.args.test.now) _ _ _ _ c.in-Ok.answer c.in-Ok.ensures.put)
+returns-in-Ok-clause-step g c = rw c.in-Insert.is (put_touches g.L.PartialEq.eq g.R.PartialEq.eq _ _ _ c.in-Ok.ensures.put)
 
 pub returns-in-Ok-insert_no_overwrite-clause-step :
     goal.returns-in-Ok-insert_no_overwrite-clause-step
-returns-in-Ok-insert_no_overwrite-clause-step g c = rw c.in-InsertNoOverwrite.is (step_put g.L.PartialEq.eq g.R.PartialEq.eq (Answers g.F.Fn c.args.test.now) _ _ _ _ c.in-Ok-insert_no_overwrite.ensures.put)
+returns-in-Ok-insert_no_overwrite-clause-step g c = rw c.in-InsertNoOverwrite.is (put_touches g.L.PartialEq.eq g.R.PartialEq.eq _ _ _ c.in-Ok-insert_no_overwrite.ensures.put)
 
 pub returns-in-Retain-clause-step : goal.returns-in-Retain-clause-step
 returns-in-Retain-clause-step g c =
@@ -28,7 +29,7 @@ returns-in-Retain-clause-step g c =
 
 pub returns-in-Ok-insert_with-clause-step : goal.returns-in-Ok-insert_with-clause-step
 returns-in-Ok-insert_with-clause-step g c =
-    rw c.in-InsertWith.is (step_insert_with g.L.PartialEq.eq g.R.PartialEq.eq (Answers g.F.Fn c.args.test.now) _ _ _ _ c.in-InsertWith.policy c.in-Ok-insert_with.answer c.in-Ok-insert_with.ensures.put)
+    rw c.in-InsertWith.is (put_touches g.L.PartialEq.eq g.R.PartialEq.eq _ _ _ c.in-Ok-insert_with.ensures.put)
 
 pub returns-in-ContainsLeft-clause-right : goal.returns-in-ContainsLeft-clause-right
 returns-in-ContainsLeft-clause-right g c =
