@@ -3,13 +3,14 @@ use Rattle.std.proofs.Common.{◌≡◌, ◌↔◌, ◌⊎◌, inl, inr, ℕ, Li
 use Rattle.std.specs.Prelude.{Contains}
 use Rattle.std.specs.List.{AllByRecursion}
 use Rattle.std.specs.List.Sorted.{IsStrictlySortedBy}
-use Rattle.std.specs.Ordering.{nat_cmp, match_ordering}
+use Rattle.std.specs.Ordering.{nat_cmp, match_ordering, ordering_reverse}
 use Rattle.std.specs.Cmp.Lexicographic.{slice_cmp}
 use Rattle.std.proofs.lemmas.Cmp.{nat_list_cmp_total, tied_itself}
 use Rattle.std.proofs.lemmas.Map.Lookups.{exact_bytes}
 use Rattle.std.specs.Map.{keys_of}
 use Rattle.serde_json.specs.Data.{Data, Members, no_members, member, put}
-use Rattle.serde_json.specs.Find.{as_object}
+use Rattle.serde_json.proofs.Views.{get_member-put, get_member-put_other}
+use Rattle.serde_json.specs.Find.{as_object, get_member}
 use Rattle.serde_json.specs.View.{members_view}
 use Rattle.serde_json.specs.declared.value.Value.{Value}
 use Rattle.bimap_base.proofs.Members.{head_in, more_in, cases_in, none_in}
@@ -26,7 +27,7 @@ same_text k = tied_itself nat_list_cmp_total k
 not_below : (k l : List ℕ) → slice_cmp nat_cmp k l ≡ Less → l ≡ k → ⊥
 not_below k l is e = let t = same_text k in let f = ap (slice_cmp nat_cmp k) e in absurd (cc)
 
-not_above : (k l : List ℕ) → slice_cmp nat_cmp k l ≡ Greater → l ≡ k → ⊥
+not_above : (k l : List ℕ) → slice_cmp nat_cmp k l ≡ Greater → k ≡ l → ⊥
 not_above k l is e = let t = same_text k in let f = ap (slice_cmp nat_cmp k) e in absurd (cc)
 
 pub below_each : (k : List ℕ) (entries : List Entry) (e : Entry) → IsBelow k entries → Contains entries e → slice_cmp nat_cmp k e.0 ≡ Less
@@ -40,64 +41,49 @@ below_each k (f ∷ fs) e below c =
 pub other_key : (k : List ℕ) (entries : List Entry) (e : Entry) → IsBelow k entries → Contains entries e → e.0 ≡ k → ⊥
 other_key k entries e below c same = not_below k e.0 (below_each k entries e below c) same
 
-below_more : (k l : List ℕ) (entries : List Entry) → slice_cmp nat_cmp k l ≡ Less → IsBelow l entries → IsBelow k entries
-below_more k l [] is below = tt
-below_more k l (e ∷ es) is below = (nat_list_cmp_total.trans k l e.0 is below.0, below_more k l es is below.1)
+-- what is found under a key is an entry
+found : (k : List ℕ) (d : Data) (ms : Members) → get_member k ms ≡ Some d → Contains (entries_of ms) (k, d)
+found k d no_members is = absurd (cc)
+found k d (member l e ms) is = by (slice_cmp nat_cmp k l) refl is (found k d ms)
+  where
+    by : (o : Ordering) → slice_cmp nat_cmp k l ≡ o → match_ordering o (get_member k ms) (Some e) (get_member k ms) ≡ Some d → (get_member k ms ≡ Some d → Contains (entries_of ms) (k, d)) → Contains ((l, e) ∷ entries_of ms) (k, d)
+    by Less o is rest = more_in (l, e) (entries_of ms) (k, d) (rest is)
+    by Equal o is rest =
+        let value : e ≡ d = cc in
+        subst (Contains ((l, e) ∷ entries_of ms)) (λ i. (sym (exact_bytes k l o) i, value i)) (head_in (l, e) (entries_of ms))
+    by Greater o is rest = more_in (l, e) (entries_of ms) (k, d) (rest is)
+
+-- and of entries that ascend, each is found
+is_found : (ms : Members) → Ascends (entries_of ms) → (x : Entry) → Contains (entries_of ms) x → get_member x.0 ms ≡ Some x.1
+unfolding IsStrictlySortedBy
+is_found no_members up x c = none_in x c
+is_found (member l e ms) up x c =
+    elim (cases_in (l, e) (entries_of ms) x c) [
+      | inl same ↦ subst (λ y. get_member y.0 (member l e ms) ≡ Some y.1) same (ap (λ o. match_ordering o (get_member l ms) (Some e) (get_member l ms)) (same_text l))
+      | inr later ↦
+          let above : slice_cmp nat_cmp x.0 l ≡ Greater = nat_list_cmp_total.antisymm x.0 l ∙ ap ordering_reverse (below_each l (entries_of ms) x up.0 later) in
+          ap (λ o. match_ordering o (get_member x.0 ms) (Some e) (get_member x.0 ms)) above ∙ is_found ms up.1 x later
+    ]
 
 -- what the entries are after a put: the new one, and those with other keys
-abbrev IsAfterPut : List ℕ → Data → List Entry → Entry → Type 0
-IsAfterPut k d entries x = (x ≡ (k, d)) ⊎ (Contains entries x × (x.0 ≡ k → ⊥))
-
-put_gives : (k : List ℕ) (d : Data) (ms : Members) → Ascends (entries_of ms) → (x : Entry) → Contains (entries_of (put k d ms)) x → IsAfterPut k d (entries_of ms) x
-unfolding IsStrictlySortedBy
-put_gives k d no_members up x c = elim (cases_in (k, d) [] x c) [ inl same ↦ inl (sym same) | inr none ↦ none_in x none ]
-put_gives k d (member l e ms) up x c = by (put_gives k d ms up.1 x) (slice_cmp nat_cmp k l) refl c
+pub put_entries : (k : List ℕ) (d : Data) (ms : Members) → Ascends (entries_of ms) → Ascends (entries_of (put k d ms)) → (x : Entry) → Contains (entries_of (put k d ms)) x ↔ ((x ≡ (k, d)) ⊎ (Contains (entries_of ms) x × (x.0 ≡ k → ⊥)))
+put_entries k d ms up after x = (λ c. by (slice_cmp nat_cmp x.0 k) refl (is_found (put k d ms) after x c), from)
   where
-    later : IsAfterPut k d (entries_of ms) x → IsAfterPut k d ((l, e) ∷ entries_of ms) x
-    later (inl same) = inl same
-    later (inr old) = inr (more_in (l, e) (entries_of ms) x old.0, old.1)
+    other : (x.0 ≡ k → ⊥) → get_member x.0 (put k d ms) ≡ Some x.1 → (x ≡ (k, d)) ⊎ (Contains (entries_of ms) x × (x.0 ≡ k → ⊥))
+    other not is = inr (found x.0 x.1 ms (sym (get_member-put_other x.0 k d ms not) ∙ is), not)
 
-    by : (Contains (entries_of (put k d ms)) x → IsAfterPut k d (entries_of ms) x) → (o : Ordering) → slice_cmp nat_cmp k l ≡ o → Contains (entries_of (match_ordering o (member k d (member l e ms)) (member l d ms) (member l e (put k d ms)))) x → IsAfterPut k d ((l, e) ∷ entries_of ms) x
-    by rest Less is c =
-        elim (cases_in (k, d) ((l, e) ∷ entries_of ms) x c) [
-          | inl same ↦ inl (sym same)
-          | inr old ↦ inr (old, other_key k ((l, e) ∷ entries_of ms) x (is, below_more k l (entries_of ms) is up.0) old)
-        ]
-    by rest Equal is c =
-        let same_key : k ≡ l = exact_bytes k l is in
-        elim (cases_in (l, d) (entries_of ms) x c) [
-          | inl same ↦ inl (sym same ∙ ap (λ t. (t, d)) (sym same_key))
-          | inr old ↦ inr (more_in (l, e) (entries_of ms) x old, λ f. other_key l (entries_of ms) x up.0 old (f ∙ same_key))
-        ]
-    by rest Greater is c =
-        elim (cases_in (l, e) (entries_of (put k d ms)) x c) [
-          | inl same ↦ inr (subst (Contains ((l, e) ∷ entries_of ms)) same (head_in (l, e) (entries_of ms)), λ f. not_above k l is (ap (λ t. t.0) same ∙ f))
-          | inr old ↦ later (rest old)
-        ]
+    by : (o : Ordering) → slice_cmp nat_cmp x.0 k ≡ o → get_member x.0 (put k d ms) ≡ Some x.1 → (x ≡ (k, d)) ⊎ (Contains (entries_of ms) x × (x.0 ≡ k → ⊥))
+    by Less o is = other (λ e. not_below x.0 k o (sym e)) is
+    by Equal o is =
+        let key : x.0 ≡ k = exact_bytes x.0 k o in
+        let both : Some x.1 ≡ Some d = sym is ∙ ap (λ n. get_member n (put k d ms)) key ∙ get_member-put k d ms in
+        let value : x.1 ≡ d = cc both in
+        inl (λ i. (key i, value i))
+    by Greater o is = other (not_above x.0 k o) is
 
-put_keeps : (k : List ℕ) (d : Data) (ms : Members) (x : Entry) → IsAfterPut k d (entries_of ms) x → Contains (entries_of (put k d ms)) x
-put_keeps k d no_members x (inl same) = subst (Contains ((k, d) ∷ [])) (sym same) (head_in (k, d) [])
-put_keeps k d no_members x (inr old) = none_in x old.0
-put_keeps k d (member l e ms) x h = by (put_keeps k d ms x) (slice_cmp nat_cmp k l) refl h
-  where
-    by : (IsAfterPut k d (entries_of ms) x → Contains (entries_of (put k d ms)) x) → (o : Ordering) → slice_cmp nat_cmp k l ≡ o → IsAfterPut k d ((l, e) ∷ entries_of ms) x → Contains (entries_of (match_ordering o (member k d (member l e ms)) (member l d ms) (member l e (put k d ms)))) x
-    by rest Less is (inl same) = subst (Contains ((k, d) ∷ ((l, e) ∷ entries_of ms))) (sym same) (head_in (k, d) ((l, e) ∷ entries_of ms))
-    by rest Less is (inr old) = more_in (k, d) ((l, e) ∷ entries_of ms) x old.0
-    by rest Equal is (inl same) = subst (Contains ((l, d) ∷ entries_of ms)) (ap (λ t. (t, d)) (sym (exact_bytes k l is)) ∙ sym same) (head_in (l, d) (entries_of ms))
-    by rest Equal is (inr old) =
-        elim (cases_in (l, e) (entries_of ms) x old.0) [
-          | inl same ↦ absurd (old.1 (ap (λ t. t.0) (sym same) ∙ sym (exact_bytes k l is)))
-          | inr later ↦ more_in (l, d) (entries_of ms) x later
-        ]
-    by rest Greater is (inl same) = more_in (l, e) (entries_of (put k d ms)) x (rest (inl same))
-    by rest Greater is (inr old) =
-        elim (cases_in (l, e) (entries_of ms) x old.0) [
-          | inl same ↦ subst (Contains ((l, e) ∷ entries_of (put k d ms))) same (head_in (l, e) (entries_of (put k d ms)))
-          | inr later ↦ more_in (l, e) (entries_of (put k d ms)) x (rest (inr (later, old.1)))
-        ]
-
-pub put_entries : (k : List ℕ) (d : Data) (ms : Members) → Ascends (entries_of ms) → (x : Entry) → Contains (entries_of (put k d ms)) x ↔ IsAfterPut k d (entries_of ms) x
-put_entries k d ms up x = (put_gives k d ms up x, put_keeps k d ms x)
+    from : (x ≡ (k, d)) ⊎ (Contains (entries_of ms) x × (x.0 ≡ k → ⊥)) → Contains (entries_of (put k d ms)) x
+    from (inl same) = subst (Contains (entries_of (put k d ms))) (sym same) (found k d (put k d ms) (get_member-put k d ms))
+    from (inr old) = found x.0 x.1 (put k d ms) (get_member-put_other x.0 k d ms old.1 ∙ is_found ms up x old.0)
 
 -- the keys of a map ascend, and so do the entries that it stands for
 

@@ -45,10 +45,10 @@ module _ {L R : Type 0} (key : L → List ℕ) (val : R → Data) where
         ]
 
   -- the entries after one more pair
-  pub entries_push : (ps : List (L × R)) (p : L × R) (old new : Members) → new ≡ put (key p.0) (val p.1) old → Ascends (entries_of old) → ((e : Entry) → Contains (entries_of old) e ↔ IsLastEntryOf key val ps e) → (e : Entry) → Contains (entries_of new) e ↔ IsLastEntryOf key val (ps ++ p ∷ []) e
-  entries_push ps p old new is up are =
+  pub entries_push : (ps : List (L × R)) (p : L × R) (old new : Members) → new ≡ put (key p.0) (val p.1) old → Ascends (entries_of old) → Ascends (entries_of new) → ((e : Entry) → Contains (entries_of old) e ↔ IsLastEntryOf key val ps e) → (e : Entry) → Contains (entries_of new) e ↔ IsLastEntryOf key val (ps ++ p ∷ []) e
+  entries_push ps p old new is up after are =
       survivors_push (IsWrittenAs key val) (TakesKey key val) (λ e. ⊥) (Contains (entries_of old)) (Contains (entries_of new)) ps p are
-      (subst (λ ms. (e : Entry) → Contains (entries_of ms) e ↔ ((e ≡ (key p.0, val p.1)) ⊎ (Contains (entries_of old) e × (e.0 ≡ key p.0 → ⊥)))) (sym is) (put_entries (key p.0) (val p.1) old up))
+      (subst (λ ms. (e : Entry) → Contains (entries_of ms) e ↔ ((e ≡ (key p.0, val p.1)) ⊎ (Contains (entries_of old) e × (e.0 ≡ key p.0 → ⊥)))) (sym is) (put_entries (key p.0) (val p.1) old up (subst (λ ms. Ascends (entries_of ms)) is after)))
 
   -- no two pairs that are apart have one key
 

@@ -39,7 +39,7 @@ loop-left-preserved g c =
       ends = step.1;
       ascends = map_ascends _ c.insert.ensures.ordered;
       exactly = subst (λ l. (e : Entry) → Contains (entries_of (members_view c.insert.new.self.entries)) e ↔ IsLastEntryOf key val l e) (sym longer)
-          (entries_push key val ps p old (members_view c.insert.new.self.entries) is c.loop-left.invariant.ascends c.loop-left.invariant.exactly);
+          (entries_push key val ps p old (members_view c.insert.new.self.entries) is c.loop-left.invariant.ascends (map_ascends _ c.insert.ensures.ordered) c.loop-left.invariant.exactly);
       reads_back = subst (EachReadsBack key val g.L.JsonKey.reads_key g.R.JsonValue.reads g.L.PartialEq.eq g.R.PartialEq.eq) (sym longer)
           (each_push key val g.L.JsonKey.reads_key g.R.JsonValue.reads g.L.PartialEq.eq g.R.PartialEq.eq ps p c.loop-left.invariant.reads_back c.in_ok-key.ensures.reads_back c.in_ok-value.ensures.reads_back);
     }

@@ -1,0 +1,5 @@
+use Rattle.std.proofs.Common.{rules}
+use Rattle.bimap.proofs.value.numbers.U8WholeNumber.to_value.Goals as goal
+
+pub returns-clause-json : goal.returns-clause-json
+returns-clause-json c = search rules
