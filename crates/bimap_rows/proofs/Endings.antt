@@ -1,5 +1,5 @@
 -- The end of the work.
-use Rattle.std.proofs.Common.{◌≡◌, inl, inr, ℕ, List, [], ◌++◌, Option, sym, subst, append-nil, append_assoc}
+use Rattle.std.proofs.Common.{◌≡◌, inl, inr, ℕ, List, [], ◌++◌, Option, refl, sym, ap, ◌∙◌, subst, append-nil, append_assoc}
 use Rattle.std.specs.List.{AllPairs}
 use Rattle.std.specs.Ordering.{nat_cmp}
 use Rattle.std.proofs.lemmas.Cmp.{ranked}
@@ -16,13 +16,10 @@ use Rattle.bimap_rows.specs.declared.serve.Ending.TheVariants.{Clean, InputFaile
 pub ascends : (pairs : List (ℕ × ℕ)) → AllPairs (λ p q. nat_cmp p.0 q.0 ≡ Less) pairs → AscendsByLeft pairs
 ascends pairs up = λ i j d earlier within. ranked _ _ Less (sym (up i j d earlier within))
 
--- more was written
-wrote_more : (Say : List ℕ → List Request → Type 0) (input o p q : Option (List ℕ)) (pairs : List (ℕ × ℕ)) (end more : List ℕ) → IsServed Say input o p pairs end → Appends p q more → IsServed Say input o q pairs (end ++ more)
-wrote_more Say input o p q pairs end more s a =
-    record { history = s.history; leads = s.leads; says = s.says; wrote = subst (Appends o q) (append_assoc (told s.history) end more) (Appends-trans o p q (told s.history ++ end) more s.wrote a) }
-
-nothing_more : (Say : List ℕ → List Request → Type 0) (input o p q : Option (List ℕ)) (pairs : List (ℕ × ℕ)) (end : List ℕ) → IsServed Say input o p pairs end → Appends p q [] → IsServed Say input o q pairs end
-nothing_more Say input o p q pairs end s a = subst (IsServed Say input o q pairs) (append-nil end) (wrote_more Say input o p q pairs end [] s a)
+-- more was written, or nothing
+wrote_more : (Say : List ℕ → List Request → Type 0) (input o p q : Option (List ℕ)) (pairs : List (ℕ × ℕ)) (end more all : List ℕ) → IsServed Say input o p pairs end → Appends p q more → end ++ more ≡ all → IsServed Say input o q pairs all
+wrote_more Say input o p q pairs end more all s a e =
+    record { history = s.history; leads = s.leads; says = s.says; wrote = subst (Appends o q) (append_assoc (told s.history) end more ∙ ap (λ l. told s.history ++ l) e) (Appends-trans o p q (told s.history ++ end) more s.wrote a) }
 
 -- the lines ended early, and the output was flushed
 pub ends_stopped : (ending result : Ending) (input left o p q : Option (List ℕ)) → Stops ending input o p → IsFlushed ending result p q → Ends result input left o q
@@ -32,12 +29,12 @@ ends_stopped ending result input left o p q s (inr h) = subst (λ k. Ends k inpu
     by : (k : Ending) → Stops k input o p → Ends k input left o q
     by Clean t = absurd t
     by OutputFailed t = tt
-    by InputFailed t = (t.0, nothing_more _ input o p q t.0 [] t.1 h.1)
-    by (BadLine n) t = (t.0, nothing_more _ input o p q t.0 [] t.1 h.1)
-    by NoMemory t = (t.0, nothing_more _ input o p q t.0 [] t.1 h.1)
+    by InputFailed t = (t.0, wrote_more _ input o p q t.0 [] [] [] t.1 h.1 refl)
+    by (BadLine n) t = (t.0, wrote_more _ input o p q t.0 [] [] [] t.1 h.1 refl)
+    by NoMemory t = (t.0, wrote_more _ input o p q t.0 [] [] [] t.1 h.1 refl)
 
 -- all lines were served, and what is held was written
 pub ends_clean : (result : Ending) (input left o p q r : Option (List ℕ)) (pairs : List (ℕ × ℕ)) → AscendsByLeft pairs → IsServed SaysInAll input o p pairs [] → IsReadOut input left → Appends p q (tail pairs) → IsFlushed Clean result q r → Ends result input left o r
 ends_clean result input left o p q r pairs up s end a (inl e) = subst (λ k. Ends k input left o r) (sym e) tt
 ends_clean result input left o p q r pairs up s end a (inr h) =
-    subst (λ k. Ends k input left o r) (sym h.0) (pairs, up, nothing_more SaysInAll input o q r pairs (tail pairs) (wrote_more SaysInAll input o p q pairs [] (tail pairs) s a) h.1, end)
+    subst (λ k. Ends k input left o r) (sym h.0) (pairs, up, wrote_more SaysInAll input o q r pairs (tail pairs) [] (tail pairs) (wrote_more SaysInAll input o p q pairs [] (tail pairs) (tail pairs) s a refl) h.1 (append-nil (tail pairs)), end)

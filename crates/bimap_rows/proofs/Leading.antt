@@ -1,9 +1,10 @@
 -- A history of the program that grows by one entry, and the history of one call.
-use Rattle.std.proofs.Common.{◌≡◌, ◌↔◌, inl, inr, ℕ, List, [], ◌∷◌, ◌++◌, Bool, refl, sym, ap, subst, arith, nat_eq, ◌∙◌, ◌≢◌, length, Option, None, Some, IfSome, MatchOption}
+use Rattle.std.proofs.Common.{◌≡◌, ◌↔◌, inl, inr, ℕ, List, [], ◌∷◌, ◌++◌, Bool, refl, sym, ap, subst, arith, nat_eq, ◌≢◌, length, Some}
 use Rattle.std.specs.List.{zip}
 use Rattle.std.proofs.lemmas.List.{length_push}
 use Rattle.bimap.specs.declared.call.Reply.{Reply}
-use Rattle.std.specs.Prelude.{Contains}
+use Rattle.std.specs.Prelude.{Contains, Result, Ok, Err}
+use Rattle.std.specs.Result.{result_ok}
 use Rattle.std.proofs.lemmas.List.Elements.{Contains-append_cases, Contains-append_right, Contains-push_cases}
 use Rattle.bimap.specs.Holding.{Holding}
 use Rattle.bimap.proofs.Members.{none_in, head_in}
@@ -14,11 +15,6 @@ use Rattle.bimap.specs.History.{Puts, Touches, IsNoRoom, IsRight, IsLegal, IsSur
 use Rattle.bimap.proofs.Histories.{IsHistory_append, IsRight_along}
 use Rattle.bimap_rows.specs.Lines.{Request}
 use Rattle.bimap_rows.specs.Serving.{Answered, NoTest, LeadsTo}
-
--- what holds of a value that may be there
-pub weaker : {X : Type 0} (o : Option X) (P Q : X → Type 0) → ((x : X) → P x → Q x) → IfSome o P → IfSome o Q
-weaker None P Q f p = tt
-weaker (Some x) P Q f p = f x p
 
 -- with no places counted, since none is wanted
 abbrev holding : List (ℕ × ℕ) → Holding ℕ ℕ
@@ -100,23 +96,15 @@ wants_memory : (call : Request) (reply : Reply ℕ ℕ) → IsNoRoom (call, repl
 wants_memory call (NoRoom l r) n = (l, r, refl)
 wants_memory call reply n = absurd n
 
--- the one reply of a list is the last
-only_reply : (replies front : List (Reply ℕ ℕ)) (reply : Reply ℕ ℕ) → length replies ≡ 1 → replies ≡ front ++ reply ∷ [] → replies ≡ reply ∷ []
-only_reply replies [] reply n e = e
-only_reply replies (x ∷ front) reply n e = absurd (omega (arith, n, ap length e, length_push front reply))
-
 -- a list of one call, run
-pub LeadsTo_run : (Test : Unit {0} → ℕ × ℕ → Bool → Type 0) (old new : Holding ℕ ℕ) (calls : List Request) (replies front : List (Reply ℕ ℕ)) (call : Request) (reply kept : Reply ℕ ℕ)
+pub LeadsTo_run : (Test : Unit {0} → ℕ × ℕ → Bool → Type 0) (old new : Holding ℕ ℕ) (calls : List Request) (replies front : List (Reply ℕ ℕ)) (call : Request) (reply : Reply ℕ ℕ)
     → IsHistory nat_eq nat_eq Test old (zip calls replies) new → calls ≡ call ∷ [] → length replies ≡ length calls → replies ≡ front ++ reply ∷ []
-    → ((key : Unit {0}) → call ≢ Retain key) → (kept ≡ reply) × ((l r : ℕ) → reply ≢ NoRoom l r) → LeadsTo old.pairs ((call, kept) ∷ []) new.pairs
-LeadsTo_run Test old new calls replies front call reply kept h c n e other k =
-    let one : replies ≡ reply ∷ [] = only_reply replies front reply (n ∙ ap length c) e in
-    let both : zip calls replies ≡ (call, reply) ∷ [] = ap (λ cs. zip cs replies) c ∙ ap (zip (call ∷ [])) one in
-    subst (λ r. LeadsTo old.pairs ((call, r) ∷ []) new.pairs) (sym k.0)
-    (LeadsTo_one Test old new (call, reply) (subst (λ l. IsHistory nat_eq nat_eq Test old l new) both h) other
-    (λ w. let m = wants_memory call reply w in k.1 m.0 m.1 m.2))
+    → ((key : Unit {0}) → call ≢ Retain key) → ((l r : ℕ) → reply ≢ NoRoom l r) → LeadsTo old.pairs ((call, reply) ∷ []) new.pairs
+LeadsTo_run Test old new calls replies [] call reply h c n e other room =
+    LeadsTo_one Test old new (call, reply) (rw (c, e) at h) other (λ w. let m = wants_memory call reply w in room m.0 m.1 m.2)
+LeadsTo_run Test old new calls replies (x ∷ front) call reply h c n e other room = absurd (omega (arith, n, ap length c, ap length e, length_push front reply))
 
--- what follows from the facts of a value that may be there
-pub kept_leads : {X : Type 0} (o : Option X) (A : Type 0) (P Q : X → Type 0) → ((x : X) → P x → Q x) → MatchOption o A P → IfSome o Q
-kept_leads None A P Q f p = tt
-kept_leads (Some x) A P Q f p = f x p
+-- a value that `ok` gave
+pub was_ok : {X E : Type 0} (r : Result X E) (x : X) → Some x ≡ result_ok r → r ≡ Ok x
+was_ok (Ok y) x e = cc
+was_ok (Err d) x e = absurd cc

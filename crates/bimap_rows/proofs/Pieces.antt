@@ -1,85 +1,63 @@
 -- What stands up to a line feed.
-use Rattle.std.proofs.Common.{◌≡◌, ◌≢◌, ◌⊎◌, ℕ, zero, suc, List, [], ◌∷◌, ◌++◌, Bool, true, false, cond, eqb, length, get_or, take, ◌+◌, ◌-◌, Option, None, Some, ◌<◌, refl, sym, ap, subst, ◌∙◌, inl, inr, arith}
+use Rattle.std.proofs.Common.{◌≡◌, ◌⊎◌, ℕ, List, [], ◌∷◌, ◌++◌, Bool, true, false, cond, eqb, Option, None, Some, IfSome, length, refl, sym, ap, subst, ◌∙◌, inl, inr, arith, append-nil}
+use Rattle.std.specs.Prelude.{is_some, if◌then◌else◌}
+use Rattle.std.specs.Bool.{then_some}
 use Rattle.std.specs.Io.BufRead.{take_through, drop_through, DropsThrough}
-use borrow.Author.Tests.{eqb-true, eqb-false}
-use Rattle.std.specs.Option.{IfSome}
-use Rattle.std.proofs.lemmas.List.{length_push, take_at, get_or_push, get_or_default}
+use borrow.Author.Tests.{eqb-true, eqb-false, ne_eqb}
+use Rattle.std.proofs.lemmas.List.{length_push, same_from_push}
 use Rattle.bimap_rows.specs.Lines.{NoFeed}
 use Rattle.bimap_rows.specs.Steps.{IsNextLine}
 
--- the bytes up to the first line feed, and those after it
-record Cut (bytes : List ℕ) : Type 0 where
+-- the first line of the bytes, and whether a line feed ends it
+record FirstLine (bytes : List ℕ) : Type 0 where
   pub line : List ℕ
-  pub rest : List ℕ
-  pub is : bytes ≡ line ++ 10 ∷ rest
+  pub ended : Bool
+  pub taken : take_through 10 bytes ≡ line ++ (if ended then 10 ∷ [] else [])
   pub clean : NoFeed line
-  pub taken : take_through 10 bytes ≡ line ++ 10 ∷ []
-  pub left : drop_through 10 bytes ≡ rest
+  pub is : IsNextLine bytes line ended (Some (drop_through 10 bytes))
 
--- there is no line feed
-record Whole (bytes : List ℕ) : Type 0 where
-  pub clean : NoFeed bytes
-  pub taken : take_through 10 bytes ≡ bytes
-  pub left : drop_through 10 bytes ≡ []
+longer : (x : ℕ) (bytes line : List ℕ) (ended : Bool) (left : Option (List ℕ)) → NoFeed (x ∷ line) → IsNextLine bytes line ended left → IsNextLine (x ∷ bytes) (x ∷ line) ended left
+longer x bytes line true left clean h = (h.0, ap (λ l. x ∷ l) h.1, clean, h.3)
+longer x bytes line false left clean h = (ap (λ l. x ∷ l) h.0, clean, h.2)
 
-cut_at_feed : (bytes : List ℕ) → Cut bytes ⊎ Whole bytes
-cut_at_feed [] = inr (record { clean = tt; taken = refl; left = refl })
-cut_at_feed (x ∷ xs) = by (eqb x 10) refl (cut_at_feed xs)
+first_line : (bytes : List ℕ) → FirstLine bytes
+first_line [] = record { line = []; ended = false; taken = refl; clean = tt; is = (refl, tt, refl) }
+first_line (x ∷ xs) = by (eqb x 10) refl (first_line xs)
   where
-    by : (b : Bool) → eqb x 10 ≡ b → Cut xs ⊎ Whole xs → Cut (x ∷ xs) ⊎ Whole (x ∷ xs)
-    by true e r =
+    by : (b : Bool) → eqb x 10 ≡ b → FirstLine xs → FirstLine (x ∷ xs)
+    by true e f =
         let feed : x ≡ 10 = eqb-true x 10 e in
-        inl (record { line = []; rest = xs; is = ap (λ y. y ∷ xs) feed; clean = tt; taken = ap (λ b. cond b (x ∷ []) (x ∷ take_through 10 xs)) e ∙ ap (λ y. y ∷ []) feed; left = ap (λ b. cond b xs (drop_through 10 xs)) e })
-    by false e (inl c) = inl (record { line = x ∷ c.line; rest = c.rest; is = ap (λ l. x ∷ l) c.is; clean = (eqb-false x 10 e, c.clean); taken = ap (λ b. cond b (x ∷ []) (x ∷ take_through 10 xs)) e ∙ ap (λ l. x ∷ l) c.taken; left = ap (λ b. cond b xs (drop_through 10 xs)) e ∙ c.left })
-    by false e (inr w) = inr (record { clean = (eqb-false x 10 e, w.clean); taken = ap (λ b. cond b (x ∷ []) (x ∷ take_through 10 xs)) e ∙ ap (λ l. x ∷ l) w.taken; left = ap (λ b. cond b xs (drop_through 10 xs)) e ∙ w.left })
+        record { line = []; ended = true; taken = rw e (ap (λ y. y ∷ []) feed); clean = tt; is = (xs, ap (λ y. y ∷ xs) feed, tt, ap (λ b. Some (cond b xs (drop_through 10 xs))) e) }
+    by false e f =
+        let clean : NoFeed (x ∷ f.line) = (eqb-false x 10 e, f.clean) in
+        record { line = x ∷ f.line; ended = f.ended; taken = rw e (ap (λ l. x ∷ l) f.taken); clean = clean; is = rw e (longer x xs f.line f.ended _ clean f.is) }
 
-last_clean : (bytes : List ℕ) (n : ℕ) → NoFeed bytes → n + 1 ≡ length bytes → get_or bytes n 0 ≢ 10
-last_clean [] n h l = absurd (omega (arith, l))
-last_clean (x ∷ xs) zero h l = h.0
-last_clean (x ∷ xs) (suc n) h l = last_clean xs n h.1 (omega (arith, l))
+feed_last : (line : List ℕ) (x : ℕ) → NoFeed (line ++ x ∷ []) → eqb x 10 ≡ false
+feed_last [] x n = ne_eqb x 10 n.0
+feed_last (y ∷ line) x n = feed_last line x n.1
 
-full_line : (bytes items : List ℕ) (n : ℕ) (left : Option (List ℕ)) → items ≡ take_through 10 bytes → n + 1 ≡ length items → get_or items n 0 ≡ 10 → left ≡ Some (drop_through 10 bytes) → IsNextLine bytes (take n items) true left
-full_line bytes items n left e m feed l = by (cut_at_feed bytes)
-  where
-    by : Cut bytes ⊎ Whole bytes → IsNextLine bytes (take n items) true left
-    by (inl c) =
-        let is : items ≡ c.line ++ 10 ∷ [] = e ∙ c.taken in
-        let long : n + 1 ≡ length c.line + 1 = m ∙ ap length is ∙ length_push c.line 10 in
-        let front : take n items ≡ c.line = ap (take n) is ∙ take_at c.line (10 ∷ []) n (omega (arith, long)) in
-        (c.rest, c.is ∙ ap (λ w. w ++ 10 ∷ c.rest) (sym front), subst NoFeed (sym front) c.clean, l ∙ ap Some c.left)
-    by (inr w) =
-        let is : items ≡ bytes = e ∙ w.taken in
-        absurd (last_clean bytes n w.clean (m ∙ ap length is) (ap (λ ys. get_or ys n 0) (sym is) ∙ feed))
+-- what `pop_if` leaves and answers where the last byte goes if it is a line feed
+abbrev pub PopsFeed : List ℕ → List ℕ → Option ℕ → Type 0
+PopsFeed items line popped =
+    ((items ≡ []) × (line ≡ []) × (popped ≡ None))
+    ⊎ ((xs : List ℕ) × (x : ℕ) × (items ≡ xs ++ x ∷ []) × (popped ≡ then_some (eqb x 10) x) × (line ≡ (if eqb x 10 then xs else xs ++ x ∷ [])))
 
-last_line : (bytes items : List ℕ) (left : Option (List ℕ)) → items ≡ take_through 10 bytes → ((n : ℕ) → n + 1 ≡ length items → get_or items n 0 ≢ 10) → left ≡ Some (drop_through 10 bytes) → IsNextLine bytes items false left
-last_line bytes items left e other l = by (cut_at_feed bytes)
-  where
-    by : Cut bytes ⊎ Whole bytes → IsNextLine bytes items false left
-    by (inl c) =
-        let is : items ≡ c.line ++ 10 ∷ [] = e ∙ c.taken in
-        absurd (other (length c.line) (sym (length_push c.line 10) ∙ ap length (sym is)) (ap (λ ys. get_or ys (length c.line) 0) is ∙ get_or_push c.line 10 0 (length c.line) refl))
-    by (inr w) = let is : items ≡ bytes = e ∙ w.taken in (sym is, subst NoFeed (sym is) w.clean, l ∙ ap Some w.left)
+popped : (items line first : List ℕ) (ended : Bool) (r : Option ℕ) → PopsFeed items line r → items ≡ first ++ (if ended then 10 ∷ [] else []) → NoFeed first → (line ≡ first) × (is_some r ≡ ended)
+popped items line first true r (inl h) e clean = absurd (omega (arith, ap length (sym h.0 ∙ e), length_push first 10))
+popped items line first true r (inr h) e clean =
+    let same = same_from_push h.0 first h.1 10 (sym h.2 ∙ e) in
+    let feed : eqb h.1 10 ≡ true = ap (λ x. eqb x 10) same.1 in
+    ((rw feed at h.4) ∙ same.0, ap is_some (rw feed at h.3))
+popped items line first false r (inl h) e clean = (h.1 ∙ sym h.0 ∙ e ∙ append-nil first, ap is_some h.2)
+popped items line first false r (inr h) e clean =
+    let whole : h.0 ++ h.1 ∷ [] ≡ first = sym h.2 ∙ e ∙ append-nil first in
+    let other : eqb h.1 10 ≡ false = feed_last h.0 h.1 (subst NoFeed (sym whole) clean) in
+    ((rw other at h.4) ∙ whole, ap is_some (rw other at h.3))
 
-both_some : {X : Type 0} (o : Option X) (P Q R : X → Type 0) → ((x : X) → P x → Q x → R x) → IfSome o P → IfSome o Q → IfSome o R
-both_some None P Q R f p q = tt
-both_some (Some x) P Q R f p q = f x p q
-
--- the same of a reader's bytes, where they are known
-module _ (o left : Option (List ℕ)) (was items : List ℕ) (empty : was ≡ []) (bytes : IfSome o (λ xs. items ≡ was ++ take_through 10 xs)) (rest : DropsThrough o left 10) where
-  -- the last byte read is a line feed
-  pub known_full : (n b : ℕ) → n ≡ length items → 0 < n → b ≡ get_or items (n - 1) b → b ≡ 10 → IfSome o (λ xs. IsNextLine xs (take (n - 1) items) true left)
-  known_full n b long some last feed = both_some o (λ xs. items ≡ was ++ take_through 10 xs) (λ xs. left ≡ Some (drop_through 10 xs)) (λ xs. IsNextLine xs (take (n - 1) items) true left)
-      (λ xs e r. full_line xs items (n - 1) left (e ∙ ap (λ w. w ++ take_through 10 xs) empty) (omega (arith, long, some)) (get_or_default items (n - 1) 0 b (omega (arith, some, long)) ∙ sym last ∙ feed) r) bytes rest
-
-  -- it is none, or no byte was read
-  pub known_last : ((n : ℕ) → n + 1 ≡ length items → get_or items n 0 ≢ 10) → IfSome o (λ xs. IsNextLine xs items false left)
-  known_last other = both_some o (λ xs. items ≡ was ++ take_through 10 xs) (λ xs. left ≡ Some (drop_through 10 xs)) (λ xs. IsNextLine xs items false left)
-      (λ xs e r. last_line xs items left (e ∙ ap (λ w. w ++ take_through 10 xs) empty) other r) bytes rest
-
-pub no_bytes : (items : List ℕ) (n : ℕ) → n ≡ length items → n ≡ 0 → (k : ℕ) → k + 1 ≡ length items → get_or items k 0 ≢ 10
-no_bytes items n e z k l = absurd (omega (arith, e, z, l))
-
-pub other_byte : (items : List ℕ) (n b : ℕ) → n ≡ length items → 0 < n → b ≡ get_or items (n - 1) b → b ≢ 10 → (k : ℕ) → k + 1 ≡ length items → get_or items k 0 ≢ 10
-other_byte items n b e some last not k l feed =
-    let same : k ≡ n - 1 = omega (arith, e, l) in
-    not (last ∙ get_or_default items (n - 1) b 0 (omega (arith, some, e)) ∙ ap (λ i. get_or items i 0) (sym same) ∙ feed)
+-- the next line of a reader's bytes, where they are known
+pub next_line : (o left : Option (List ℕ)) (was items line : List ℕ) (r : Option ℕ) → was ≡ [] → IfSome o (λ xs. items ≡ was ++ take_through 10 xs) → DropsThrough o left 10 → PopsFeed items line r → IfSome o (λ xs. IsNextLine xs line (is_some r) left)
+next_line None left was items line r empty bytes rest p = tt
+next_line (Some xs) left was items line r empty bytes rest p =
+    let f = first_line xs in
+    let same = popped items line f.line f.ended r p (bytes ∙ ap (λ w. w ++ take_through 10 xs) empty ∙ f.taken) f.clean in
+    rw (same.0, same.1, rest) f.is

@@ -1,14 +1,15 @@
 -- One line on.
-use Rattle.std.proofs.Common.{◌≡◌, ◌⊎◌, ℕ, List, [], ◌∷◌, ◌++◌, Option, None, Some, IfSome, Bool, true, false, length, ◌+◌, refl, sym, ap, subst, ◌∙◌, inl, inr, append_assoc, append-nil}
+use Rattle.std.proofs.Common.{◌≡◌, ◌⊎◌, ℕ, List, [], ◌∷◌, ◌++◌, Option, None, Some, IfSome, Bool, true, false, length, ◌+◌, refl, sym, ap, subst, ◌∙◌, inl, inr, Result, Ok, Err, MatchResult, append_assoc, append-nil}
 use Rattle.std.specs.Io.KnownBytes.{Appends}
-use Rattle.std.proofs.KnownBytes.{Appends-trans}
-use Rattle.std.proofs.lemmas.List.{length_push}
+use Rattle.std.proofs.KnownBytes.{Appends-nil, Appends-trans}
+use Rattle.std.proofs.lemmas.List.{length_push, map_push}
+use Rattle.std.proofs.lemmas.Option.{IfSome_then}
 use Rattle.bimap_rows.specs.Lines.{Request, NoFeed, AreLinesThen, Says, SaysCall, IsBad, text_of, SaysAtFirst, SaysInAll, SaysBefore, reply_line}
 use Rattle.bimap_rows.specs.Serving.{Answered, LeadsTo, calls, told, IsServed, IsReadOut, Stops}
 use Rattle.bimap_rows.specs.Steps.{IsNextLine, TakesLine, StopsAtLine}
 use Rattle.bimap_rows.specs.declared.serve.Ending.{Ending}
 use Rattle.bimap_rows.specs.declared.serve.Ending.TheVariants.{InputFailed, OutputFailed, BadLine, NoMemory}
-use Rattle.bimap_rows.proofs.Leading.{weaker, LeadsTo_push, LeadsTo_none}
+use Rattle.bimap_rows.proofs.Leading.{LeadsTo_push, LeadsTo_none}
 
 -- so many lines of the bytes were read and say the calls, and these bytes are left
 pub record HasRead (bytes : List ℕ) (left : Option (List ℕ)) (number : ℕ) (said : List Request) : Type 0 where
@@ -41,7 +42,7 @@ Says_push (l ∷ lines) line said more (inl s) a = inl (s.0, Says_push lines lin
 Says_push (l ∷ lines) line said more (inr s) (inl h) = inr (s.0, s.1, h.1 ∙ s.2, s.3, Says_push lines line s.1 s.1 s.4 (inl (h.0, refl)))
 Says_push (l ∷ lines) line said more (inr s) (inr h) = inr (s.0, s.1 ++ h.0 ∷ [], h.2 ∙ ap (λ r. r ++ h.0 ∷ []) s.2, s.3, Says_push lines line s.1 (s.1 ++ h.0 ∷ []) s.4 (inr (h.0, h.1, refl)))
 
-module _ (bytes : List ℕ) (left : Option (List ℕ)) (number : ℕ) (said : List Request) (r : HasRead bytes left number said) (line : List ℕ) where
+module _ {bytes : List ℕ} {left : Option (List ℕ)} {number : ℕ} {said : List Request} (r : HasRead bytes left number said) (line : List ℕ) where
   here : (P : List ℕ → Type 0) → IfSome left P → P r.rest
   here P p = subst (λ o. IfSome o P) r.left_is p
 
@@ -64,18 +65,11 @@ module _ (bytes : List ℕ) (left : Option (List ℕ)) (number : ℕ) (said : Li
       let n = next_is ended after (here (λ x. IsNextLine x line ended after) p) in
       record { lines = r.lines; rest = r.rest; are = r.are; say = r.say; place = ap (λ k. k + 1) r.count; line = line; whole = n.0; next = n.1; bad = b }
 
-first_read : (bytes : List ℕ) (left : Option (List ℕ)) (number : ℕ) (said : List Request) → HasRead bytes left number said → SaysAtFirst bytes said
-first_read bytes left number said r = record { lines = r.lines; rest = r.rest; are = r.are; say = r.say }
-
-map_push : (history : List Answered) (e : Answered) → calls (history ++ e ∷ []) ≡ calls history ++ e.0 ∷ []
-map_push [] e = refl
-map_push (x ∷ history) e = ap (λ r. x.0 ∷ r) (map_push history e)
-
 told_push : (history : List Answered) (e : Answered) → told (history ++ e ∷ []) ≡ told history ++ reply_line e.1
 told_push [] e = append-nil (reply_line e.1)
 told_push (x ∷ history) e = ap (λ r. reply_line x.1 ++ r) (told_push history e) ∙ sym (append_assoc (reply_line x.1) (told history) (reply_line e.1))
 
-unwritten : (o p q : Option (List ℕ)) (bs : List ℕ) → Appends o p bs → Appends p q [] → Appends o q bs
+pub unwritten : (o p q : Option (List ℕ)) (bs : List ℕ) → Appends o p bs → Appends p q [] → Appends o q bs
 unwritten o p q bs a b = subst (Appends o q) (append-nil bs) (Appends-trans o p q bs [] a b)
 
 -- the history after a line that was taken
@@ -85,54 +79,55 @@ record Took (line : List ℕ) (before after : Option (List ℕ)) (said : List Re
   pub adds : Adds line said (calls history)
   pub wrote : Appends before after (told history)
 
-module _ (input left : Option (List ℕ)) (number : ℕ) (before between : Option (List ℕ)) (pairs : List (ℕ × ℕ)) (s : HasServed input left number before between pairs) where
-  took : (line : List ℕ) (after : Option (List ℕ)) (new : List (ℕ × ℕ)) → TakesLine line pairs new between after → Took line before after (calls s.history) new
-  took line after new (inl h) = record { history = s.history; leads = subst (LeadsTo [] s.history) (sym h.1) s.leads; adds = inl (h.0, refl); wrote = unwritten before between after (told s.history) s.wrote h.2 }
-  took line after new (inr h) = record {
-    history = s.history ++ h.0 ∷ [];
-    leads = LeadsTo_push [] s.history pairs h.0 new s.leads h.2;
-    adds = inr (h.0.0, h.1, map_push s.history h.0);
-    wrote = subst (Appends before after) (sym (told_push s.history h.0)) (Appends-trans before between after (told s.history) (reply_line h.0.1) s.wrote h.3);
-  }
-
-  -- after a line with a line feed
-  pub next_served : (line : List ℕ) (rest after : Option (List ℕ)) (new : List (ℕ × ℕ)) → TakesLine line pairs new between after → IfSome left (λ b. IsNextLine b line true rest) → HasServed input rest (number + 1) before after new
-  next_served line rest after new h p =
-      let t = took line after new h in
-      record { history = t.history; leads = t.leads; read = weaker input _ _ (λ bytes r. next_read bytes left number (calls s.history) r line (calls t.history) rest t.adds p) s.read; wrote = t.wrote }
-
-  -- after the last line no byte is left
-  pub all_read : (line : List ℕ) (rest : Option (List ℕ)) → IfSome left (λ b. IsNextLine b line false rest) → IsReadOut input rest
-  all_read line rest p = weaker input _ _ (λ bytes r. (here bytes left number (calls s.history) r line (λ b. IsNextLine b line false rest) p).2) s.read
-
-  -- and all is served
-  pub all_served : (line : List ℕ) (rest after : Option (List ℕ)) (new : List (ℕ × ℕ)) → TakesLine line pairs new between after → IfSome left (λ b. IsNextLine b line false rest) → IsServed SaysInAll input before after new []
-  all_served line rest after new h p =
-      let t = took line after new h in
-      record { history = t.history; leads = t.leads; says = weaker input _ _ (λ bytes r. last_read bytes left number (calls s.history) r line (calls t.history) rest t.adds p) s.read; wrote = subst (Appends before after) (sym (append-nil (told t.history))) t.wrote }
-
-  first_served : (after : Option (List ℕ)) → Appends between after [] → IsServed SaysAtFirst input before after pairs []
-  first_served after a = record { history = s.history; leads = s.leads; says = weaker input _ _ (λ bytes r. first_read bytes left number (calls s.history) r) s.read; wrote = Appends-trans before between after (told s.history) [] s.wrote a }
-
-  -- at a line that was not taken
-  pub stopped_at : (line : List ℕ) (ended : Bool) (rest after : Option (List ℕ)) (ending : Ending) → StopsAtLine line (number + 1) ending between after → IfSome left (λ b. IsNextLine b line ended rest) → Stops ending input before after
-  stopped_at line ended rest after OutputFailed h p = tt
-  stopped_at line ended rest after (BadLine n) h p = (
-    pairs,
-    record {
-      history = s.history;
-      leads = s.leads;
-      says = weaker input _ _ (λ bytes r. subst (λ k. SaysBefore k bytes (calls s.history)) (sym h.0) (bad_read bytes left number (calls s.history) r line ended rest h.1 p)) s.read;
-      wrote = Appends-trans before between after (told s.history) [] s.wrote h.2;
-    },
-  )
-  stopped_at line ended rest after NoMemory h p = (pairs, first_served after h)
-  stopped_at line ended rest after ending h p = absurd h
+module _ {input left : Option (List ℕ)} {number : ℕ} {before between : Option (List ℕ)} {pairs : List (ℕ × ℕ)} (s : HasServed input left number before between pairs) where
+  pub first_served : (after : Option (List ℕ)) → Appends between after [] → IsServed SaysAtFirst input before after pairs []
+  first_served after a = record { history = s.history; leads = s.leads; says = IfSome_then input s.read (λ bytes r. record { lines = r.lines; rest = r.rest; are = r.are; say = r.say }); wrote = Appends-trans before between after (told s.history) [] s.wrote a }
 
   -- where the next line could not be read
-  pub stopped_reading : (ending : Ending) → Appends between between [] → (ending ≡ NoMemory) ⊎ (ending ≡ InputFailed) → Stops ending input before between
-  stopped_reading ending a (inl e) = subst (λ k. Stops k input before between) (sym e) (pairs, first_served between a)
-  stopped_reading ending a (inr e) = subst (λ k. Stops k input before between) (sym e) (pairs, first_served between a)
+  pub stopped_reading : (ending : Ending) → (ending ≡ NoMemory) ⊎ (ending ≡ InputFailed) → Stops ending input before between
+  stopped_reading ending (inl e) = rw e (pairs, first_served between (Appends-nil between))
+  stopped_reading ending (inr e) = rw e (pairs, first_served between (Appends-nil between))
+
+  module _ (line : List ℕ) (rest after : Option (List ℕ)) where
+    took : (new : List (ℕ × ℕ)) → TakesLine line pairs new between after → Took line before after (calls s.history) new
+    took new (inl h) = record { history = s.history; leads = subst (LeadsTo [] s.history) (sym h.1) s.leads; adds = inl (h.0, refl); wrote = unwritten before between after (told s.history) s.wrote h.2 }
+    took new (inr h) = record {
+      history = s.history ++ h.0 ∷ [];
+      leads = LeadsTo_push [] s.history pairs h.0 new s.leads h.2;
+      adds = inr (h.0.0, h.1, map_push (λ e. e.0) s.history h.0);
+      wrote = subst (Appends before after) (sym (told_push s.history h.0)) (Appends-trans before between after (told s.history) (reply_line h.0.1) s.wrote h.3);
+    }
+
+    -- after a line with a line feed
+    pub next_served : (new : List (ℕ × ℕ)) → TakesLine line pairs new between after → IfSome left (λ b. IsNextLine b line true rest) → HasServed input rest (number + 1) before after new
+    next_served new h p =
+        let t = took new h in
+        record { history = t.history; leads = t.leads; read = IfSome_then input s.read (λ bytes r. next_read r line (calls t.history) rest t.adds p); wrote = t.wrote }
+
+    -- after the last line no byte is left
+    pub all_read : IfSome left (λ b. IsNextLine b line false rest) → IsReadOut input rest
+    all_read p = IfSome_then input s.read (λ bytes r. (here r line (λ b. IsNextLine b line false rest) p).2)
+
+    -- and all is served
+    pub all_served : (new : List (ℕ × ℕ)) → TakesLine line pairs new between after → IfSome left (λ b. IsNextLine b line false rest) → IsServed SaysInAll input before after new []
+    all_served new h p =
+        let t = took new h in
+        record { history = t.history; leads = t.leads; says = IfSome_then input s.read (λ bytes r. last_read r line (calls t.history) rest t.adds p); wrote = subst (Appends before after) (sym (append-nil (told t.history))) t.wrote }
+
+    -- at a line that was not taken
+    pub stopped_at : (ended : Bool) (ending : Ending) → StopsAtLine line (number + 1) ending between after → IfSome left (λ b. IsNextLine b line ended rest) → Stops ending input before after
+    stopped_at ended OutputFailed h p = tt
+    stopped_at ended (BadLine n) h p = (
+      pairs,
+      record {
+        history = s.history;
+        leads = s.leads;
+        says = IfSome_then input s.read (λ bytes r. subst (λ k. SaysBefore k bytes (calls s.history)) (sym h.0) (bad_read r line ended rest h.1 p));
+        wrote = Appends-trans before between after (told s.history) [] s.wrote h.2;
+      },
+    )
+    stopped_at ended NoMemory h p = (pairs, first_served after h)
+    stopped_at ended ending h p = absurd h
 
 pub none_served : (input out : Option (List ℕ)) (pairs : List (ℕ × ℕ)) → pairs ≡ [] → Appends out out [] → HasServed input input 0 out out pairs
 none_served input out pairs e a = record { history = []; leads = LeadsTo_none pairs e; read = known input; wrote = a }
@@ -140,3 +135,12 @@ none_served input out pairs e a = record { history = []; leads = LeadsTo_none pa
     known : (o : Option (List ℕ)) → IfSome o (λ bytes. HasRead bytes o 0 [])
     known None = tt
     known (Some bytes) = record { lines = []; rest = bytes; left_is = refl; are = refl; count = refl; say = refl }
+
+-- the answer that `map_err` was given
+pub value_of : {X E : Type 0} (D : Type 0) (r : Result X E) (x : X) → MatchResult r (λ y. ◌≡◌ {A = Result X D} (Ok x) (Ok y)) (λ e. ⊥) → r ≡ Ok x
+value_of D (Ok y) x h = cc
+value_of D (Err e) x h = absurd h
+
+pub fault_of : {X E D : Type 0} (r : Result X E) (d : D) {P : E → Type 0} {Q : Type 0} → MatchResult r (λ y. ◌≡◌ {A = Result X D} (Err d) (Ok y)) P → ((e : E) → P e → Q) → Q
+fault_of (Ok y) d h f = absurd cc
+fault_of (Err e) d h f = f e h

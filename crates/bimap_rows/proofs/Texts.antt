@@ -1,5 +1,5 @@
 -- A line that says a call is a text.
-use Rattle.std.proofs.Common.{rules, ◌≡◌, ◌&&◌, ℕ, List, [], ◌∷◌, Bool, true, refl, sym, ap, subst, append-nil, codes, ◌≢◌, ◌∙◌, ◌==◌, length, false, true≢false}
+use Rattle.std.proofs.Common.{rules, ◌≡◌, ◌&&◌, ℕ, List, [], ◌∷◌, Bool, true, refl, sym, ap, subst, append-nil, codes, ◌≢◌, ◌∙◌, ◌==◌, length, false, true≢false, Option, None, Some, MatchOption}
 use Rattle.std.specs.Char.{encode_utf8, is_ascii_digit}
 use Rattle.std.specs.Str.{IsUtf8, all_ascii_digits}
 use Rattle.std.specs.Cmp.{first_so, second_so}
@@ -8,9 +8,10 @@ use Rattle.bimap_rows.specs.Lines.{Request, IsSymbol, IsPairText, letter, policy
 use Rattle.bimap_rows.specs.declared.line.Command.{Command}
 use Rattle.bimap_rows.specs.declared.line.Command.TheVariants as command
 use Rattle.bimap.specs.declared.call.Call.TheVariants.{Insert, InsertNoOverwrite, InsertWith, RemoveByLeft, RemoveByRight, Clear}
-use Rattle.bimap.specs.Types.{OnHeld}
-use Rattle.bimap.specs.Types.{Overwrite, Refuse}
-use Rattle.bimap.specs.Types.{Policy}
+use Rattle.bimap.specs.Types.{OnHeld, Overwrite, Refuse, Policy}
+use Rattle.bimap_rows.specs.Steps.{IsRead}
+use Rattle.bimap_rows.specs.declared.line.Line.{Line}
+use Rattle.bimap_rows.specs.declared.line.Line.TheVariants.{Call, Bad}
 
 pub empty_utf8 : (text : List ℕ) → text ≡ [] → IsUtf8 text
 empty_utf8 text e = subst IsUtf8 (sym e) ([], (refl, refl))
@@ -63,3 +64,8 @@ arguments_utf8 c rest call h = absurd h
 
 pub says_utf8 : (line : List ℕ) (call : Request) → SaysCall line call → IsUtf8 line
 says_utf8 line call h = subst IsUtf8 (sym h.2) (IsUtf8-append (command_text h.0) h.1 (command_utf8 h.0) (arguments_utf8 h.0 h.1 call h.3))
+
+-- what is made of the call of a text
+pub read_call : (text : List ℕ) (o : Option Request) (line : Line) → text ≢ [] → MatchOption o ((call : Request) → SaysCall text call → ⊥) (SaysCall text) → MatchOption o (line ≡ Bad) (λ call. line ≡ Call call) → IsRead text line
+read_call text None line some none e = rw e (some, none)
+read_call text (Some call) line some says e = rw e says

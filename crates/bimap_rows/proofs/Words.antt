@@ -1,8 +1,8 @@
 -- The words of a line.
-use Rattle.std.proofs.Common.{◌≡◌, ◌≢◌, ℕ, ◌<◌, List, [], ◌∷◌, ◌++◌, Bool, true, false, Some, length, take, drop, get_or, eqb, refl, sym, ap, subst, ◌∙◌, arith, append-nil}
+use Rattle.std.proofs.Common.{◌≡◌, ◌≢◌, ℕ, ◌<◌, List, [], ◌∷◌, ◌++◌, Bool, true, false, Option, None, Some, MatchOption, length, drop, get_or, eqb, refl, sym, ap, subst, ◌∙◌, arith, append-nil}
 use Rattle.std.specs.Char.{encode_utf8}
-use Rattle.std.specs.Str.Pattern.{FindsChar}
-use Rattle.std.proofs.lemmas.Str.Pattern.{NoCharPasses-char, finds_char_after}
+use denote.Ref.{Bor}
+use Rattle.std.proofs.lemmas.Str.Pattern.{NoCharPasses-char, IsSplitOnceResult, split_after}
 use borrow.Author.Tests.{eqb-true}
 use Rattle.bimap_rows.specs.Lines.{Request, IsSymbol, IsNumeral, IsPairText, policy_text, IsArguments}
 use Rattle.bimap_rows.specs.declared.line.Command.TheVariants as command
@@ -30,23 +30,12 @@ space_no_symbol word s c e is h =
     let t : word ≡ 32 ∷ [] = e ∙ ap encode_utf8 is ∙ space_text in
     symbol_no_space word c h 0 (subst (λ w. 0 < length w) (sym t) (omega arith)) (ap (λ w. get_or w 0 0) t)
 
-at_end : (xs ys : List ℕ) (x : ℕ) → get_or (xs ++ x ∷ ys) (length xs) 0 ≡ x
-at_end [] ys x = refl
-at_end (y ∷ xs) ys x = at_end xs ys x
-
-long : (xs ys : List ℕ) (x : ℕ) → length xs < length (xs ++ x ∷ ys)
-long [] ys x = omega arith
-long (y ∷ xs) ys x = omega (arith, long xs ys x)
-
--- a text without a space has no two words
-pub one_word : (text : List ℕ) (c n : ℕ) → ((i : ℕ) → i < length text → get_or text i 0 ≢ 32) → IsPairText text c n → ⊥
-one_word text c n f h = f (length h.0) (subst (λ t. length h.0 < length t) (sym h.2) (long h.0 h.1 32)) (ap (λ t. get_or t (length h.0) 0) h.2 ∙ at_end h.0 h.1 32)
-
--- what stands before the first space and after it are the words of the pair
-pub only_words : (text word digits : List ℕ) (i j c n : ℕ) → FindsChar 32 text (Some (i, j)) → word ≡ take i text → digits ≡ drop j text → IsPairText text c n → IsSymbol word c × IsNumeral digits n
-only_words text word digits i j c n f w d h =
-    let cut = finds_char_after 32 text h.0 h.1 (Some (i, j)) f (omega arith) h.2 (symbol_no_space h.0 c h.3) in
-    (subst (λ x. IsSymbol x c) (sym (w ∙ cut.0)) h.3, subst (λ x. IsNumeral x n) (sym (d ∙ cut.1)) h.4)
+-- the words of a pair are what `split_once` parts
+pub words_of : (text : List ℕ) (c n : ℕ) (r : Option (Bor (List ℕ) × Bor (List ℕ))) → IsSplitOnceResult 32 text r → IsPairText text c n → MatchOption r ⊥ (λ x. IsSymbol x.0.now c × IsNumeral x.1.now n)
+words_of text c n None f h = split_after 32 text h.0 h.1 None f (omega arith) h.2 (symbol_no_space h.0 c h.3)
+words_of text c n (Some x) f h =
+    let cut = split_after 32 text h.0 h.1 (Some x) f (omega arith) h.2 (symbol_no_space h.0 c h.3) in
+    (subst (λ w. IsSymbol w c) (sym cut.0) h.3, subst (λ w. IsNumeral w n) (sym cut.1) h.4)
 
 -- without a pair there is no insertion
 pub no_insert : (rest : List ℕ) → ((c n : ℕ) → IsPairText rest c n → ⊥) → (call : Request) → IsArguments command.Insert rest call → ⊥
@@ -60,7 +49,3 @@ no_put rest f call h = h
 pub no_insert_with : (rest pair : List ℕ) (policy : Policy) → rest ≡ policy_text policy ++ pair → ((c n : ℕ) → IsPairText pair c n → ⊥) → (call : Request) → IsArguments command.InsertWith rest call → ⊥
 no_insert_with rest pair policy e f (InsertWith c n other) h = f c n (subst (λ x. IsPairText x c n) (ap (drop 3) (sym h.1 ∙ e)) h.2)
 no_insert_with rest pair policy e f call h = h
-
--- what follows the first two
-pub after_two : (text first second rest : List ℕ) (x y a b : ℕ) → text ≡ x ∷ first → first ≡ y ∷ second → text ≡ a ∷ b ∷ rest → second ≡ rest
-after_two text first second rest x y a b e f h = ap (drop 1) (sym f) ∙ ap (drop 2) (sym e ∙ h)

@@ -14,8 +14,7 @@ pub type Held = BiBTreeMap<char, u32>;
 pub fn write_held<W: Write>(output: &mut W, held: &Held) -> io::Result<()>
     ensures { OnOk result (Appends (W.contents output.old) (W.contents output.new) (tail (holding held.now).pairs)) }
 {
-    let count = held.len();
-    writeln!(output, "held {count}")?;
+    writeln!(output, "held {}", held.len())?;
     for (left, right) in held.iter() {
         writeln!(output, "{left} <> {right}")?;
     }

@@ -11,25 +11,12 @@ pub fn read_line<I: BufRead>(input: &mut I, line: &mut Vec<u8>) -> io::Result<bo
 {
     line.clear();
     input.read_until(b'\n', line)?;
-    let len = line.len();
-    if len == 0 {
-        return Ok(false);
-    }
-    if line[len - 1] != b'\n' {
-        return Ok(false);
-    }
-    line.truncate(len - 1);
-    Ok(true)
+    Ok(line.pop_if(|byte| *byte == b'\n').is_some())
 }
 
 /// A line without one carriage return at its end.
 pub fn without_return(line: &[u8]) -> &[u8]
     ensures { result.now ≡ text_of line.now }
 {
-    let len = line.len();
-    if len > 0 && line[len - 1] == b'\r' {
-        &line[..len - 1]
-    } else {
-        line
-    }
+    line.strip_suffix(b"\r").unwrap_or(line)
 }

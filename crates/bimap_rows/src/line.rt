@@ -48,17 +48,15 @@ fn split_command(text: &str) -> Option<(Command, &str)>
     if let Some(rest) = text.strip_prefix("drop-right ") {
         return Some((Command::DropRight, rest));
     }
-    if let Some(rest) = text.strip_prefix("clear") {
-        return Some((Command::Clear, rest));
-    }
-    None
+    let rest = text.strip_prefix("clear")?;
+    Some((Command::Clear, rest))
 }
 
 // The character that a word is.
 fn parse_symbol(word: &str) -> Option<char>
     ensures { MatchOption result ((c : ℕ) → IsSymbol word.now c → ⊥) (λ c. IsSymbol word.now c) }
 {
-    match word.parse::<char>() {
+    match word.parse() {
         Ok(' ') => None,
         Ok(symbol) => Some(symbol),
         Err(_) => None,
@@ -72,26 +70,15 @@ fn parse_number(word: &str) -> Option<u32>
     if word.starts_with('+') {
         return None;
     }
-    match word.parse::<u32>() {
-        Ok(number) => Some(number),
-        Err(_) => None,
-    }
+    word.parse().ok()
 }
 
 // The two values that a text of two words names.
 fn parse_pair(text: &str) -> Option<(char, u32)>
     ensures { MatchOption result ((c n : ℕ) → IsPairText text.now c n → ⊥) (λ p. IsPairText text.now p.0 p.1) }
 {
-    let Some((word, digits)) = text.split_once(' ') else {
-        return None;
-    };
-    let Some(left) = parse_symbol(word) else {
-        return None;
-    };
-    let Some(right) = parse_number(digits) else {
-        return None;
-    };
-    Some((left, right))
+    let (word, digits) = text.split_once(' ')?;
+    Some((parse_symbol(word)?, parse_number(digits)?))
 }
 
 // What a letter makes of a held value, and what follows it.
@@ -101,39 +88,18 @@ fn parse_letter(text: &str) -> Option<(OnHeld, &str)>
     if let Some(rest) = text.strip_prefix('o') {
         return Some((OnHeld::Overwrite, rest));
     }
-    if let Some(rest) = text.strip_prefix('r') {
-        return Some((OnHeld::Refuse, rest));
-    }
-    None
+    let rest = text.strip_prefix('r')?;
+    Some((OnHeld::Refuse, rest))
 }
 
 // The policy that the first word of a text names, and what follows the space after it.
 fn parse_policy(text: &str) -> Option<(Policy, &str)>
     ensures { MatchOption result ((policy : _) (rest : List ℕ) → text.now ≢ policy_text policy ++ rest) (λ p. text.now ≡ policy_text p.0 ++ p.1.now) }
 {
-    let Some((left, rest)) = parse_letter(text) else {
-        return None;
-    };
-    let Some((right, rest)) = parse_letter(rest) else {
-        return None;
-    };
-    match rest.strip_prefix(' ') {
-        Some(rest) => Some((Policy { left, right }, rest)),
-        None => None,
-    }
-}
-
-// The insertion under a policy that the rest of a line asks for.
-fn parse_insert_with(rest: &str) -> Option<Request>
-    ensures { MatchOption result ((call : _) → IsArguments Command.InsertWith rest.now call → ⊥) (λ call. IsArguments Command.InsertWith rest.now call) }
-{
-    let Some((policy, rest)) = parse_policy(rest) else {
-        return None;
-    };
-    match parse_pair(rest) {
-        Some((left, right)) => Some(Call::InsertWith(left, right, policy)),
-        None => None,
-    }
+    let (left, rest) = parse_letter(text)?;
+    let (right, rest) = parse_letter(rest)?;
+    let rest = rest.strip_prefix(' ')?;
+    Some((Policy { left, right }, rest))
 }
 
 // The call that a command makes with the rest of its line.
@@ -141,30 +107,22 @@ fn parse_arguments(command: Command, rest: &str) -> Option<Request>
     ensures { MatchOption result ((call : _) → IsArguments command rest.now call → ⊥) (λ call. IsArguments command rest.now call) }
 {
     match command {
-        Command::Insert => match parse_pair(rest) {
-            Some((left, right)) => Some(Call::Insert(left, right)),
-            None => None,
-        },
-        Command::Put => match parse_pair(rest) {
-            Some((left, right)) => Some(Call::InsertNoOverwrite(left, right)),
-            None => None,
-        },
-        Command::InsertWith => parse_insert_with(rest),
-        Command::DropLeft => match parse_symbol(rest) {
-            Some(left) => Some(Call::RemoveByLeft(left)),
-            None => None,
-        },
-        Command::DropRight => match parse_number(rest) {
-            Some(right) => Some(Call::RemoveByRight(right)),
-            None => None,
-        },
-        Command::Clear => {
-            if rest.is_empty() {
-                Some(Call::Clear)
-            } else {
-                None
-            }
+        Command::Insert => {
+            let (left, right) = parse_pair(rest)?;
+            Some(Call::Insert(left, right))
         }
+        Command::Put => {
+            let (left, right) = parse_pair(rest)?;
+            Some(Call::InsertNoOverwrite(left, right))
+        }
+        Command::InsertWith => {
+            let (policy, rest) = parse_policy(rest)?;
+            let (left, right) = parse_pair(rest)?;
+            Some(Call::InsertWith(left, right, policy))
+        }
+        Command::DropLeft => parse_symbol(rest).map(Call::RemoveByLeft),
+        Command::DropRight => parse_number(rest).map(Call::RemoveByRight),
+        Command::Clear => rest.is_empty().then_some(Call::Clear),
     }
 }
 
@@ -172,10 +130,8 @@ fn parse_arguments(command: Command, rest: &str) -> Option<Request>
 fn parse_call(text: &str) -> Option<Request>
     ensures { MatchOption result ((call : _) → SaysCall text.now call → ⊥) (λ call. SaysCall text.now call) }
 {
-    match split_command(text) {
-        Some((command, rest)) => parse_arguments(command, rest),
-        None => None,
-    }
+    let (command, rest) = split_command(text)?;
+    parse_arguments(command, rest)
 }
 
 /// What a line says, without its line feed and one carriage return before it. It takes no memory.
@@ -188,8 +144,5 @@ pub fn parse_line(text: &[u8]) -> Line
     let Ok(text) = str::from_utf8(text) else {
         return Line::Bad;
     };
-    match parse_call(text) {
-        Some(call) => Line::Call(call),
-        None => Line::Bad,
-    }
+    parse_call(text).map_or(Line::Bad, Line::Call)
 }

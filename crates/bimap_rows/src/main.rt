@@ -17,14 +17,10 @@ use std::io::{self, BufReader, BufWriter};
 use std::process::ExitCode;
 
 // The work over standard input and output, which are read and written in blocks.
-fn run(rt: &HostRuntime) -> Ending {
-    let Ok(mut input) = BufReader::new(rt.alloc(), rt.reader()) else {
-        return Ending::NoMemory;
-    };
-    let Ok(mut output) = BufWriter::new(rt.alloc(), io::writer(rt)) else {
-        return Ending::NoMemory;
-    };
-    serve(rt.alloc(), &mut input, &mut output)
+fn run(rt: &HostRuntime) -> io::Result<Ending> {
+    let mut input = BufReader::new(rt.alloc(), rt.reader())?;
+    let mut output = BufWriter::new(rt.alloc(), io::writer(rt))?;
+    Ok(serve(rt.alloc(), &mut input, &mut output))
 }
 
 // The status that tells how the work ended.
@@ -40,7 +36,8 @@ fn status(ending: Ending) -> u8
 }
 
 fn main(rt: HostRuntime) -> ExitCode {
-    let ending = run(&rt);
+    // The blocks for reading and writing want memory, and nothing else fails there.
+    let ending = run(&rt).unwrap_or(Ending::NoMemory);
     // Where standard error fails too, the status still tells.
     let _ = match ending {
         Ending::Clean => Ok(()),

@@ -29,16 +29,6 @@ pub enum Ending {
     NoMemory,
 }
 
-// The reply, unless it is that there was no memory.
-fn with_room(reply: Reply<char, u32>) -> Option<Reply<char, u32>>
-    ensures { MatchOption result ((left : ℕ) × (right : ℕ) × (reply ≡ Reply.NoRoom left right)) (λ kept. (kept ≡ reply) × ((left right : ℕ) → reply ≢ Reply.NoRoom left right)) }
-{
-    match reply {
-        Reply::NoRoom(_, _) => None,
-        reply => Some(reply),
-    }
-}
-
 // Performs one call, and answers `None` where there was no memory.
 fn perform<B: Bijection<char, u32>>(
     alloc: Global,
@@ -48,15 +38,11 @@ fn perform<B: Bijection<char, u32>>(
     requires no_retain { (key : _) → call ≢ Call.Retain key }
     ensures { IfSome result (λ reply. LeadsTo (B.holding held.old).pairs ((call, reply) ∷ []) (B.holding held.new).pairs) }
 {
-    let Ok(calls) = Vec::from_array(alloc, [call]) else {
-        return None;
-    };
-    let Ok(mut replies) = run(alloc, held, calls, |_: &(), _: &char, _: &u32| true) else {
-        return None;
-    };
-    match replies.pop() {
-        Some(reply) => with_room(reply),
-        None => None,
+    let calls = Vec::from_array(alloc, [call]).ok()?;
+    let mut replies = run(alloc, held, calls, |_: &(), _: &char, _: &u32| true).ok()?;
+    match replies.pop()? {
+        Reply::NoRoom(_, _) => None,
+        reply => Some(reply),
     }
 }
 
@@ -76,19 +62,14 @@ fn take_line<B: Bijection<char, u32>, W: Write>(
         Line::Bad => return Err(Ending::BadLine(number)),
         Line::Call(call) => call,
     };
-    let Some(reply) = perform(alloc, held, call) else {
-        return Err(Ending::NoMemory);
-    };
-    match write_reply(output, reply) {
-        Ok(()) => Ok(()),
-        Err(_) => Err(Ending::OutputFailed),
-    }
+    let reply = perform(alloc, held, call).ok_or(Ending::NoMemory)?;
+    write_reply(output, reply).map_err(|_| Ending::OutputFailed)
 }
 
 // Why a line could not be read.
-fn read_fault(error: &Error) -> Ending
-    ensures memory { error_kind error.now ≡ ErrorKind.OutOfMemory → result ≡ Ending.NoMemory }
-    ensures other { error_kind error.now ≢ ErrorKind.OutOfMemory → result ≡ Ending.InputFailed }
+fn read_fault(error: Error) -> Ending
+    ensures memory { error_kind error ≡ ErrorKind.OutOfMemory → result ≡ Ending.NoMemory }
+    ensures other { error_kind error ≢ ErrorKind.OutOfMemory → result ≡ Ending.InputFailed }
     ensures either { (result ≡ Ending.NoMemory) ⊎ (result ≡ Ending.InputFailed) }
 {
     if error.kind() == ErrorKind::OutOfMemory {
@@ -111,17 +92,9 @@ fn serve_lines<B: Bijection<char, u32>, I: BufRead, W: Write>(
     ensures err { IfErr result (λ ending. Stops ending (I.remaining input.old) (W.contents output.old) (W.contents output.new)) }
 {
     let mut line = Vec::new(alloc);
-    let mut number = 0u64;
-    while number < u64::MAX {
-        number += 1;
-        let ended = match read_line(input, &mut line) {
-            Ok(ended) => ended,
-            Err(error) => return Err(read_fault(&error)),
-        };
-        match take_line(alloc, held, output, line.as_slice(), number) {
-            Ok(()) => {}
-            Err(ending) => return Err(ending),
-        }
+    for taken in 0..u64::MAX {
+        let ended = read_line(input, &mut line).map_err(read_fault)?;
+        take_line(alloc, held, output, line.as_slice(), taken + 1)?;
         if !ended {
             return Ok(());
         }
@@ -133,10 +106,7 @@ fn serve_lines<B: Bijection<char, u32>, I: BufRead, W: Write>(
 fn finish<W: Write>(output: &mut W, ending: Ending) -> Ending
     ensures { IsFlushed ending result (W.contents output.old) (W.contents output.new) }
 {
-    match output.flush() {
-        Ok(()) => ending,
-        Err(_) => Ending::OutputFailed,
-    }
+    output.flush().map_or(Ending::OutputFailed, |()| ending)
 }
 
 /// Performs the lines of the input on an empty bimap, writes their replies, and at the end of the input what is held.

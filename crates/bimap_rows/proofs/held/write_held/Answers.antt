@@ -15,4 +15,4 @@ returns g c =
     let w = g.W.Write.contents in
     let pairs = (holding c.args.held.now).pairs in
     let all : map deref_pair c.loop-left.yielded ≡ pairs = search (rules, iter_end) in
-    all_shown (w c.args.output.now) (w c.writeln.new.self) (w c.loop-left.output) c.len-count.result c.loop-left.yielded pairs all (search rules) c.in_ok-writeln.ensures.bytes c.loop-left.invariant
+    all_shown (w c.args.output.now) (w c.writeln.new.self) (w c.loop-left.output) c.len.result c.loop-left.yielded pairs all (search rules) c.in_ok-writeln.ensures.bytes c.loop-left.invariant

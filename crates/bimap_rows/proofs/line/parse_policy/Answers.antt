@@ -1,12 +1,11 @@
-use Rattle.std.proofs.Common.{◌∷◌, None, arith}
+use Rattle.std.proofs.Common.{◌∷◌, ◌∙◌, None, drop, sym, ap, arith}
 use Rattle.std.proofs.lemmas.Str.Pattern.{strip_prefix_char}
-use Rattle.bimap_rows.specs.Lines.{letter}
-use Rattle.bimap_rows.proofs.Words.{after_two}
 use Rattle.bimap_rows.proofs.line.parse_policy.Goals as goal
 
-pub returns-in-None : goal.returns-in-None
-returns-in-None c policy rest e =
-    let left = c.in-Some in
-    let right = c.in-Some-parse_letter in
-    strip_prefix_char 32 right.rest.now None c.in-None.ensures.cases (omega arith) rest
-    (after_two c.args.text.now left.rest.now right.rest.now (32 ∷ rest) (letter left.left) (letter right.right) (letter policy.left) (letter policy.right) left.ensures right.ensures e)
+pub returns-in_err-right : goal.returns-in_err-right
+returns-in_err-right c = rw c.from_residual-in_err-right.ensures (λ policy rest e. c.in_err-right.ensures policy.right (32 ∷ rest) (ap (drop 1) (sym c.in_ok-left.ensures ∙ e)))
+
+pub returns-in_err-rest : goal.returns-in_err-rest
+returns-in_err-rest c =
+    rw c.from_residual-in_err-rest.ensures
+    (λ policy rest e. strip_prefix_char 32 c.in_ok-right.rest.now None c.in_err-rest.ensures.cases (omega arith) rest (ap (drop 1) (sym c.in_ok-right.ensures ∙ ap (drop 1) (sym c.in_ok-left.ensures ∙ e))))
