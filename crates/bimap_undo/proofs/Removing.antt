@@ -1,5 +1,5 @@
 -- What a recorded removal answers and leaves, by its three ends. Once for both sides: `part` is the side.
-use Rattle.std.proofs.Common.{◌≡◌, ◌↔◌, ◌∙◌, ◌+◌, ◌≤◌, Bool, true, false, List, [], ◌∷◌, ◌++◌, length, refl, ap, arith, length-append}
+use Rattle.std.proofs.Common.{◌≡◌, ◌↔◌, ◌∙◌, ◌≤◌, Bool, true, false, List, [], ◌∷◌, ◌++◌, length, refl, ap, arith, length-append}
 use Rattle.std.specs.Prelude.{Contains, Ok, Err}
 use Rattle.bimap.specs.Sets.{IsApart}
 use Rattle.bimap.specs.Holding.{Holding}

@@ -24,10 +24,7 @@ impl CopyLeft for char {
 impl CopyLeft for String {
     /// Takes memory for the text.
     fn copy_left(&self, _alloc: Global) -> Result<String, NoMemory> {
-        match self.clone() {
-            Ok(copy) => Ok(copy),
-            Err(_) => Err(NoMemory),
-        }
+        Ok(self.clone()?)
     }
 }
 

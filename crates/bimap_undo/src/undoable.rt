@@ -102,14 +102,10 @@ impl<B: Bijection<L, R> + Drop, L: CopyLeft + Drop, R: Eq + Drop> Undoable<B, L,
         let Ok(()) = self.changes.reserve(1) else {
             return Err(NotInsertedWith::Memory(left, right));
         };
-        match self.bimap.insert_with(left, right, policy) {
-            Ok(answer) => {
-                let overwrote = answer.did_overwrite();
-                self.changes.push_reserved(Entry::Inserted(copy, answer));
-                Ok(overwrote)
-            }
-            Err(refused) => Err(refused),
-        }
+        let answer = self.bimap.insert_with(left, right, policy)?;
+        let overwrote = answer.did_overwrite();
+        self.changes.push_reserved(Entry::Inserted(copy, answer));
+        Ok(overwrote)
     }
 
     /// Inserts all items in order where the policy lets each overwrite what it shares a value with, or none of them.
@@ -136,17 +132,13 @@ impl<B: Bijection<L, R> + Drop, L: CopyLeft + Drop, R: Eq + Drop> Undoable<B, L,
         let mark = self.mark();
         let mut taken = 0usize;
         for (left, right) in items {
-            match self.insert_with(left, right, policy) {
-                Ok(_) => {
-                    // Of what a bimap holds, no two pairs share a value.
-                    let _held = self.held();
-                    taken = taken.saturating_add(1);
-                }
-                Err(why) => {
-                    self.back_to(mark);
-                    return Err(ItemRefused { taken, why });
-                }
+            if let Err(why) = self.insert_with(left, right, policy) {
+                self.back_to(mark);
+                return Err(ItemRefused { taken, why });
             }
+            // Of what a bimap holds, no two pairs share a value.
+            let _held = self.held();
+            taken = taken.saturating_add(1);
         }
         Ok(())
     }
@@ -161,16 +153,10 @@ impl<B: Bijection<L, R> + Drop, L: CopyLeft + Drop, R: Eq + Drop> Undoable<B, L,
         if !self.bimap.contains_left(left) {
             return Ok(false);
         }
-        let Ok(()) = self.changes.reserve(1) else {
-            return Err(NoMemory);
-        };
-        match self.bimap.remove_by_left(left) {
-            Some((left, right)) => {
-                self.changes.push_reserved(Entry::Removed(left, right));
-                Ok(true)
-            }
-            None => unreachable!(),
-        }
+        self.changes.reserve(1)?;
+        let (left, right) = self.bimap.remove_by_left(left).unwrap();
+        self.changes.push_reserved(Entry::Removed(left, right));
+        Ok(true)
     }
 
     /// Takes out the pair of a right, and answers whether it was held.
@@ -183,16 +169,10 @@ impl<B: Bijection<L, R> + Drop, L: CopyLeft + Drop, R: Eq + Drop> Undoable<B, L,
         if !self.bimap.contains_right(right) {
             return Ok(false);
         }
-        let Ok(()) = self.changes.reserve(1) else {
-            return Err(NoMemory);
-        };
-        match self.bimap.remove_by_right(right) {
-            Some((left, right)) => {
-                self.changes.push_reserved(Entry::Removed(left, right));
-                Ok(true)
-            }
-            None => unreachable!(),
-        }
+        self.changes.reserve(1)?;
+        let (left, right) = self.bimap.remove_by_right(right).unwrap();
+        self.changes.push_reserved(Entry::Removed(left, right));
+        Ok(true)
     }
 
     /// The number of recorded changes. It and each lower number are marks, and each stands for one set of pairs.
@@ -217,10 +197,8 @@ impl<B: Bijection<L, R> + Drop, L: CopyLeft + Drop, R: Eq + Drop> Undoable<B, L,
         ensures room { self.new.held.room ≡ self.old.held.room }
     {
         while self.changes.len() > mark {
-            match self.changes.pop() {
-                Some(entry) => take_back(&mut self.bimap, entry),
-                None => unreachable!(),
-            }
+            let entry = self.changes.pop().unwrap();
+            take_back(&mut self.bimap, entry);
         }
     }
 

@@ -7,10 +7,10 @@ pub take_back-requires : goal.take_back-requires
 take_back-requires g c =
     before_last g.L.PartialEq.eq g.R.PartialEq.eq g.met.L.Eq.laws g.met.R.Eq.laws
     (marked (g.B.Bijection.holding c.loop-self.self-inside.bimap) c.loop-self.self-inside.changes.items)
-    c.pop.new.self.items c.in-Some.entry c.in-Some.ensures.items c.loop-self.invariant.marks
+    c.pop.new.self.items c.unwrap-entry.result (rw c.unwrap-entry.ensures at c.pop.ensures.items) c.loop-self.invariant.marks
 
 shorter : (g : _) (c : goal.After-take_back g) → length c.loop-self.self-inside.changes.items ≡ length c.pop.new.self.items + 1
-shorter g c = ap length c.in-Some.ensures.items ∙ length-append c.pop.new.self.items (c.in-Some.entry ∷ [])
+shorter g c = ap length (rw c.unwrap-entry.ensures at c.pop.ensures.items) ∙ length-append c.pop.new.self.items (c.unwrap-entry.result ∷ [])
 
 pub loop-self-preserved : goal.loop-self-preserved
 loop-self-preserved g c = record {
@@ -18,12 +18,12 @@ loop-self-preserved g c = record {
   marks = marks_pop g.L.PartialEq.eq g.R.PartialEq.eq g.met.L.Eq.laws g.met.R.Eq.laws
       (marked (g.B.Bijection.holding c.loop-self.self-inside.bimap) c.loop-self.self-inside.changes.items)
       (marked (g.B.Bijection.holding c.take_back.new.bimap) c.pop.new.self.items)
-      c.in-Some.entry c.in-Some.ensures.items c.take_back.ensures.taken_back c.loop-self.invariant.marks c.take_back.ensures.room;
+      c.unwrap-entry.result (rw c.unwrap-entry.ensures at c.pop.ensures.items) c.take_back.ensures.taken_back c.loop-self.invariant.marks c.take_back.ensures.room;
   kept = λ mark within A b.
       keeps_pop g.L.PartialEq.eq g.R.PartialEq.eq g.met.L.Eq.laws g.met.R.Eq.laws
       (marked (g.B.Bijection.holding c.loop-self.self-inside.bimap) c.loop-self.self-inside.changes.items)
       (marked (g.B.Bijection.holding c.take_back.new.bimap) c.pop.new.self.items)
-      c.in-Some.entry c.in-Some.ensures.items c.take_back.ensures.taken_back mark within A (c.loop-self.invariant.kept mark (omega (arith, within, shorter g c)) A b);
+      c.unwrap-entry.result (rw c.unwrap-entry.ensures at c.pop.ensures.items) c.take_back.ensures.taken_back mark within A (c.loop-self.invariant.kept mark (omega (arith, within, shorter g c)) A b);
   room = omega (arith, c.take_back.ensures.room, c.loop-self.invariant.room);
 }
 

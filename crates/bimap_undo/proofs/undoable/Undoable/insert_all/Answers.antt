@@ -25,7 +25,7 @@ loop-left-preserved g c =
     let p = c.in-Some.ensures.goes.on c.loop-left.invariant.ends in
     let more = length_push c.loop-left.yielded (c.in-Some.left, c.in-Some.right) in
     let i = c.loop-left.invariant in
-    let e = c.in-Ok.ensures in
+    let e = c.in_default.ensures in
     let apart = subst (λ held. IsApart g.L.PartialEq.eq g.R.PartialEq.eq held.pairs) c.held-held.ensures (g.met.B.Bijection.apart c.held-held.result.now) in
     record {
       callable = p.0;
