@@ -42,12 +42,10 @@ pub fn run_and_look<
     ensures handed_back { IfErr result (λ refused. refused.calls.items ≡ calls.items) }
 {
     let replies = run(alloc, bimap, calls, test)?;
-    let of_left = bimap.get_by_left(left);
-    let of_right = bimap.get_by_right(right);
     Ok(Shown {
         replies,
-        of_left,
-        of_right,
+        of_left: bimap.get_by_left(left),
+        of_right: bimap.get_by_right(right),
     })
 }
 
@@ -84,7 +82,6 @@ pub fn run_and_look_ordered<
 }
 
 /// Performs the calls on an empty hashed bimap, and looks a left and a right up.
-#[tactic(auto, using(bimap::proofs::Histories::IsWholeHistory_from))]
 pub fn run_and_look_hashed<
     'a,
     L: Eq + Hash + Drop,
@@ -106,10 +103,5 @@ pub fn run_and_look_hashed<
     ensures shown { IfOk result (λ shown. IsShown L.eq R.eq (Answers F.Fn test) (zip calls.items shown.replies.items) left.now right.now shown.of_left shown.of_right) }
     ensures handed_back { IfErr result (λ refused. refused.calls.items ≡ calls.items) }
 {
-    let replies = run(alloc, bimap, calls, test)?;
-    Ok(Shown {
-        replies,
-        of_left: bimap.get_by_left(left),
-        of_right: bimap.get_by_right(right),
-    })
+    run_and_look(alloc, bimap, calls, test, left, right)
 }
