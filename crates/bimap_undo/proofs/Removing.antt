@@ -1,6 +1,6 @@
 -- What a recorded removal answers and leaves, by its three ends. Once for both sides: `part` is the side.
 use Rattle.std.proofs.Common.{◌≡◌, ◌↔◌, ◌∙◌, ◌≤◌, Bool, true, false, List, [], ◌∷◌, ◌++◌, length, refl, ap, arith, length-append}
-use Rattle.std.specs.Prelude.{Contains, Ok, Err}
+use Rattle.std.specs.Prelude.{Contains, Result, Ok, Err, IsErr}
 use Rattle.bimap.specs.Sets.{IsApart}
 use Rattle.bimap.specs.Holding.{Holding}
 use Rattle.bimap.specs.Exchange.{IsRemoving}
@@ -16,8 +16,9 @@ module _ {L R K : Type 0} (same_left : L → L → Bool) (same_right : R → R �
   absent lacks = record { found = lacks; without = λ q. (λ m. (m, lacks q m), λ m. m.0); recorded = refl; kept = λ mark within A b. b; room = refl; refused = tt; unchanged = tt }
 
   -- there is no memory for the record
-  pub refused : (e : NoMemory) → (q : L × R) × Contains old.pairs q × (same (part q) value ≡ true) → entries' ≡ entries → IsRecordedRemoval same_left same_right part same (marked old entries) value (Err e) (marked old entries')
-  refused e has still = record { found = tt; without = tt; recorded = tt; kept = tt; room = refl; refused = has; unchanged = ap (marked old) still }
+  pub refused : (r : Result Bool NoMemory) → IsErr r → (q : L × R) × Contains old.pairs q × (same (part q) value ≡ true) → entries' ≡ entries → IsRecordedRemoval same_left same_right part same (marked old entries) value r (marked old entries')
+  refused (Ok b) no_ok has still = absurd cc
+  refused (Err e) some has still = record { found = tt; without = tt; recorded = tt; kept = tt; room = refl; refused = has; unchanged = ap (marked old) still }
 
   -- the pair is taken out and recorded
   module _ (removing : (A : List (L × R)) (p : L × R) (B : List (L × R)) → IsApart same_left same_right A → (k : K) → Contains A p → same (part p) k ≡ true → ((q : L × R) → Contains B q ↔ (Contains A q × (same (part q) k ≡ false))) → IsRemoving A p B)

@@ -1,5 +1,4 @@
 use Rattle.std.proofs.Common.{refl, Contains}
-use Rattle.std.proofs.lemmas.Result.{err_from_is_err_and}
 use Rattle.bimap.proofs.Members.{lacking}
 use Rattle.bimap.proofs.Removals.{removing_right}
 use Rattle.bimap_undo.proofs.Removing.{absent, refused, marks_recorded, recorded}
@@ -15,9 +14,7 @@ pub invariant_of-self-2 : goal.invariant_of-self-2
 invariant_of-self-2 g c = marks_recorded g.L.PartialEq.eq g.R.PartialEq.eq (λ p. p.1) g.R.PartialEq.eq (g.B.Bijection.holding c.self.inside.bimap) c.self.inside.changes.items c.push_reserved.new.self.items c.args.right.now (removing_right g.L.PartialEq.eq g.R.PartialEq.eq g.met.L.Eq.laws g.met.R.Eq.laws) (g.B.Bijection.holding c.remove_by_right.new.self) c.unwrap-left.result (g.met.B.Bijection.apart c.self.inside.bimap) (g.met.B.Bijection.apart c.remove_by_right.new.self) (rw c.unwrap-left.ensures at c.remove_by_right.ensures.removed) c.remove_by_right.ensures.without c.remove_by_right.ensures.room c.reserve.new.self.items c.push_reserved.ensures.items c.reserve.ensures.items c.self.invariant (g.met.B.Bijection.fits c.remove_by_right.new.self)
 
 pub returns-in_err-reserve : goal.returns-in_err-reserve
-returns-in_err-reserve g c =
-    let p = err_from_is_err_and c.from_residual.result c.from_residual.ensures.1 in
-    rw (← c.self.view_is, p.1) (refused g.L.PartialEq.eq g.R.PartialEq.eq (λ p. p.1) g.R.PartialEq.eq (g.B.Bijection.holding c.self.inside.bimap) c.self.inside.changes.items c.reserve.new.self.items c.args.right.now p.0 (c.if-not-contains_right.ensures.0 refl) c.reserve.ensures.items)
+returns-in_err-reserve g c = rw (← c.self.view_is) (refused g.L.PartialEq.eq g.R.PartialEq.eq (λ p. p.1) g.R.PartialEq.eq (g.B.Bijection.holding c.self.inside.bimap) c.self.inside.changes.items c.reserve.new.self.items c.args.right.now c.from_residual.result c.from_residual.ensures.0 (c.if-not-contains_right.ensures.0 refl) c.reserve.ensures.items)
 
 pub returns : goal.returns
 returns g c = rw (← c.self.view_is) (recorded g.L.PartialEq.eq g.R.PartialEq.eq (λ p. p.1) g.R.PartialEq.eq (g.B.Bijection.holding c.self.inside.bimap) c.self.inside.changes.items c.push_reserved.new.self.items c.args.right.now (removing_right g.L.PartialEq.eq g.R.PartialEq.eq g.met.L.Eq.laws g.met.R.Eq.laws) (g.B.Bijection.holding c.remove_by_right.new.self) c.unwrap-left.result (g.met.B.Bijection.apart c.self.inside.bimap) (g.met.B.Bijection.apart c.remove_by_right.new.self) (rw c.unwrap-left.ensures at c.remove_by_right.ensures.removed) c.remove_by_right.ensures.without c.remove_by_right.ensures.room c.reserve.new.self.items c.push_reserved.ensures.items c.reserve.ensures.items)
