@@ -1,7 +1,8 @@
 -- One line on.
-use Rattle.std.proofs.Common.{◌≡◌, ◌⊎◌, ℕ, List, [], ◌∷◌, ◌++◌, Option, None, Some, IfSome, Bool, true, false, length, ◌+◌, refl, sym, ap, subst, ◌∙◌, inl, inr, Result, Ok, Err, MatchResult, append_assoc, append-nil}
+use Rattle.std.proofs.Common.{◌≡◌, ◌⊎◌, ℕ, List, [], ◌∷◌, ◌++◌, Option, None, Some, IfSome, Bool, true, false, length, ◌+◌, refl, sym, ap, subst, ◌∙◌, inl, inr, Result, Ok, Err, MatchResult, append-nil}
 use Rattle.std.specs.Io.KnownBytes.{Appends}
 use Rattle.std.proofs.KnownBytes.{Appends-nil, Appends-trans}
+use Rattle.std.proofs.lemmas.Grind.{flat_map-append}
 use Rattle.std.proofs.lemmas.List.{length_push, map_push}
 use Rattle.std.proofs.lemmas.Option.{IfSome_then}
 use Rattle.bimap_rows.specs.Lines.{Request, NoFeed, AreLinesThen, Says, SaysCall, IsBad, text_of, SaysAtFirst, SaysInAll, SaysBefore, reply_line}
@@ -66,10 +67,9 @@ module _ {bytes : List ℕ} {left : Option (List ℕ)} {number : ℕ} {said : Li
       record { lines = r.lines; rest = r.rest; are = r.are; say = r.say; place = ap (λ k. k + 1) r.count; line = line; whole = n.0; next = n.1; bad = b }
 
 told_push : (history : List Answered) (e : Answered) → told (history ++ e ∷ []) ≡ told history ++ reply_line e.1
-told_push [] e = append-nil (reply_line e.1)
-told_push (x ∷ history) e = ap (λ r. reply_line x.1 ++ r) (told_push history e) ∙ sym (append_assoc (reply_line x.1) (told history) (reply_line e.1))
+told_push history e = flat_map-append (λ x. reply_line x.1) history (e ∷ []) ∙ ap (λ l. told history ++ l) (append-nil (reply_line e.1))
 
-pub unwritten : (o p q : Option (List ℕ)) (bs : List ℕ) → Appends o p bs → Appends p q [] → Appends o q bs
+unwritten : (o p q : Option (List ℕ)) (bs : List ℕ) → Appends o p bs → Appends p q [] → Appends o q bs
 unwritten o p q bs a b = subst (Appends o q) (append-nil bs) (Appends-trans o p q bs [] a b)
 
 -- the history after a line that was taken

@@ -1,6 +1,8 @@
 -- The lines of pairs that are shown one after the other.
 use Rattle.std.proofs.Common.{◌≡◌, ℕ, List, [], ◌∷◌, ◌++◌, Option, length, map, ap, sym, subst, ◌∙◌, append_assoc, append-nil, codes}
 use Rattle.std.specs.Prelude.{flat_map, decimal}
+use Rattle.std.proofs.lemmas.Grind.{flat_map-append}
+use Rattle.std.proofs.lemmas.List.{map_push}
 use Rattle.std.specs.Map.Iter.{deref_pair}
 use denote.Ref.{Bor}
 use Rattle.std.specs.Io.KnownBytes.{Appends}
@@ -8,8 +10,7 @@ use Rattle.std.proofs.KnownBytes.{Appends-trans}
 use Rattle.bimap_rows.specs.Serving.{pair_line, tail}
 
 lines_push : (xs : List (Bor ℕ × Bor ℕ)) (x : Bor ℕ × Bor ℕ) → flat_map pair_line (map deref_pair (xs ++ x ∷ [])) ≡ flat_map pair_line (map deref_pair xs) ++ pair_line (deref_pair x)
-lines_push [] x = append-nil (pair_line (deref_pair x))
-lines_push (y ∷ xs) x = ap (λ r. pair_line (deref_pair y) ++ r) (lines_push xs x) ∙ sym (append_assoc (pair_line (deref_pair y)) (flat_map pair_line (map deref_pair xs)) (pair_line (deref_pair x)))
+lines_push xs x = ap (flat_map pair_line) (map_push deref_pair xs x) ∙ flat_map-append pair_line (map deref_pair xs) (deref_pair x ∷ []) ∙ ap (λ l. flat_map pair_line (map deref_pair xs) ++ l) (append-nil (pair_line (deref_pair x)))
 
 pub next_shown : (o p q : Option (List ℕ)) (xs : List (Bor ℕ × Bor ℕ)) (x : Bor ℕ × Bor ℕ) → Appends o p (flat_map pair_line (map deref_pair xs)) → Appends p q (pair_line (deref_pair x)) → Appends o q (flat_map pair_line (map deref_pair (xs ++ x ∷ [])))
 next_shown o p q xs x a b = subst (Appends o q) (sym (lines_push xs x)) (Appends-trans o p q (flat_map pair_line (map deref_pair xs)) (pair_line (deref_pair x)) a b)

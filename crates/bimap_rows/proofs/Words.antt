@@ -1,21 +1,17 @@
 -- The words of a line.
-use Rattle.std.proofs.Common.{◌≡◌, ◌≢◌, ℕ, ◌<◌, List, [], ◌∷◌, ◌++◌, Bool, true, false, Option, None, Some, MatchOption, length, drop, get_or, eqb, refl, sym, ap, subst, ◌∙◌, arith, append-nil}
+use Rattle.std.proofs.Common.{◌≡◌, ◌≢◌, ℕ, ◌<◌, List, [], ◌∷◌, ◌++◌, Option, None, Some, MatchOption, length, drop, get_or, refl, sym, ap, subst, ◌∙◌, arith, append-nil}
 use Rattle.std.specs.Char.{encode_utf8}
 use denote.Ref.{Bor}
 use Rattle.std.proofs.lemmas.Str.Pattern.{NoCharPasses-char, IsSplitOnceResult, split_after}
-use borrow.Author.Tests.{eqb-true}
+use borrow.Author.Tests.{ne_eqb}
 use Rattle.bimap_rows.specs.Lines.{Request, IsSymbol, IsNumeral, IsPairText, policy_text, IsArguments}
 use Rattle.bimap_rows.specs.declared.line.Command.TheVariants as command
 use Rattle.bimap.specs.declared.call.Call.TheVariants.{Insert, InsertNoOverwrite, InsertWith}
 use Rattle.bimap.specs.Types.{Policy}
 
-no_test : (c : ℕ) → c ≢ 32 → (b : Bool) → eqb c 32 ≡ b → b ≡ false
-no_test c n true e = absurd (n (eqb-true c 32 e))
-no_test c n false e = refl
-
 -- no byte of a character but a space is a space
 no_space : (c : ℕ) → c ≢ 32 → (i : ℕ) → i < length (encode_utf8 c) → get_or (encode_utf8 c) i 0 ≢ 32
-no_space c n i l = NoCharPasses-char 32 (encode_utf8 c) i (c ∷ [], append-nil (encode_utf8 c), (no_test c n (eqb c 32) refl, tt)) (omega arith) l
+no_space c n i l = NoCharPasses-char 32 (encode_utf8 c) i (c ∷ [], append-nil (encode_utf8 c), (ne_eqb c 32 n, tt)) (omega arith) l
 
 symbol_no_space : (word : List ℕ) (c : ℕ) → IsSymbol word c → (i : ℕ) → i < length word → get_or word i 0 ≢ 32
 symbol_no_space word c h = subst (λ w. (i : ℕ) → i < length w → get_or w i 0 ≢ 32) (sym h.0) (no_space c h.2)
