@@ -13,6 +13,7 @@ use Rattle.std.proofs.lemmas.Cmp.{tied_itself}
 use Rattle.std.proofs.lemmas.List.{get_or_default}
 use Rattle.bimap_base.specs.Keyed.{Ascends}
 use Rattle.bimap_tree.specs.Order.{AllStand, IsSplit, order_of, after_key}
+use Rattle.bimap_tree.proofs.Distinct.{all_behind}
 
 -- ---- what holds of each place of a list
 pub all_at : (P : ℕ → Type 0) (xs : List ℕ) → ((i : ℕ) → i < length xs → P (slice_index xs i)) → AllByRecursion P xs
@@ -31,10 +32,6 @@ all_without P (x ∷ xs) ys p h = (h.0, all_without P xs ys p h.1)
 all_with : (P : ℕ → Type 0) (xs ys : List ℕ) (p : ℕ) → P p → AllByRecursion P (xs ++ ys) → AllByRecursion P (xs ++ p ∷ ys)
 all_with P [] ys p here h = (here, h)
 all_with P (x ∷ xs) ys p here h = (h.0, all_with P xs ys p here h.1)
-
-all_behind : (P : ℕ → Type 0) (xs ys : List ℕ) → AllByRecursion P (xs ++ ys) → AllByRecursion P ys
-all_behind P [] ys h = h
-all_behind P (x ∷ xs) ys h = all_behind P xs ys h.1
 
 -- ---- lists that rise
 sorted_none : (c : ℕ → ℕ → Ordering) → IsStrictlySortedBy c []

@@ -1,5 +1,5 @@
 -- A place with a tree on the side of a turn, and one on the other.
-use Rattle.std.proofs.Common.{◌≡◌, ℕ, ◌+◌, ◌≤◌, ◌<◌, max, Bool, true, false, not, List, Some, length, refl, sym, ap, ◌∙◌, arith}
+use Rattle.std.proofs.Common.{◌≡◌, ℕ, ◌+◌, ◌≤◌, ◌<◌, max, Bool, true, false, not, List, Option, Some, length, refl, sym, ap, ◌∙◌, arith}
 use Rattle.std.specs.Prelude.{slice_get, slice_set}
 use Rattle.bimap_base.specs.declared.cells.Node.{Node}
 use Rattle.bimap_tree.specs.Tree.{Tree, height, size, root_of, IsBalanced, Shows, is_at, occurs, Stands, branch, node_on, near_of, far_of}
@@ -45,17 +45,12 @@ far-node_on true near far = refl
 far-node_on false near far = refl
 
 -- a node is told by its children on both sides, its height and its size
+same_node : (n m : Node) → n.left ≡ m.left → n.right ≡ m.right → n.height ≡ m.height → n.size ≡ m.size → n ≡ m
+same_node n m a b c d = let e : record { left = n.left; right = n.right; height = n.height; size = n.size } ≡ record { left = m.left; right = m.right; height = m.height; size = m.size } = cc in e
+
 pub node_is : (turn : Bool) (n m : Node) → near_of turn n ≡ near_of turn m → far_of turn n ≡ far_of turn m → n.height ≡ m.height → n.size ≡ m.size → n ≡ m
-node_is true n m a b c d =
-    ap (λ x. record { left = x; right = n.right; height = n.height; size = n.size }) b
-    ∙ ap (λ x. record { left = m.left; right = x; height = n.height; size = n.size }) a
-    ∙ ap (λ x. record { left = m.left; right = m.right; height = x; size = n.size }) c
-    ∙ ap (λ x. record { left = m.left; right = m.right; height = m.height; size = x }) d
-node_is false n m a b c d =
-    ap (λ x. record { left = x; right = n.right; height = n.height; size = n.size }) a
-    ∙ ap (λ x. record { left = m.left; right = x; height = n.height; size = n.size }) b
-    ∙ ap (λ x. record { left = m.left; right = m.right; height = x; size = n.size }) c
-    ∙ ap (λ x. record { left = m.left; right = m.right; height = m.height; size = x }) d
+node_is true n m a b c d = same_node n m b a c d
+node_is false n m a b c d = same_node n m a b c d
 
 -- what the nodes show of it
 pub record Parts (ns : List Node) (turn : Bool) (near : Tree) (p : ℕ) (far : Tree) : Type 0 where
@@ -98,33 +93,16 @@ Shows-linked ns ms turn near p far e within nn nf hn hf =
 -- a tree whose root is a place, with the node of that place
 pub record Opened (ns : List Node) (p : ℕ) (turn : Bool) (node : Node) (t near far : Tree) : Type 0 where
   pub is : t ≡ branch turn near p far
-  pub node_is : node ≡ node_on turn near far
   pub near_stands : Stands ns (near_of turn node) near
   pub far_stands : Stands ns (far_of turn node) far
 
-pub opened_on : (ns : List Node) (p : ℕ) (turn : Bool) (node : Node) (t : Tree) → Stands ns (Some p) t → slice_get ns p ≡ Some node → (near : Tree) × (far : Tree) × Opened ns p turn node t near far
-opened_on ns p true node t h e =
-    let (l, r, o) = opened ns p node t h e in (
-      r,
-      l,
-      record {
-        is = o.is;
-        node_is = o.node_is;
-        near_stands = record { root_is = sym (ap (λ n. n.right) o.node_is); shown = o.right_shown };
-        far_stands = record { root_is = sym (ap (λ n. n.left) o.node_is); shown = o.left_shown };
-      },
-    )
-opened_on ns p false node t h e =
-    let (l, r, o) = opened ns p node t h e in (
-      l,
-      r,
-      record {
-        is = o.is;
-        node_is = o.node_is;
-        near_stands = record { root_is = sym (ap (λ n. n.left) o.node_is); shown = o.left_shown };
-        far_stands = record { root_is = sym (ap (λ n. n.right) o.node_is); shown = o.right_shown };
-      },
-    )
+pub opened_on : (ns : List Node) (root : Option ℕ) (p : ℕ) (turn : Bool) (node : Node) (t : Tree) → Stands ns root t → root ≡ Some p → slice_get ns p ≡ Some node → (near : Tree) × (far : Tree) × Opened ns p turn node t near far
+opened_on ns root p true node t h some e =
+    let (l, r, o) = opened ns root p node t h some e in
+    (r, l, record { is = o.is; near_stands = o.right_stands; far_stands = o.left_stands })
+opened_on ns root p false node t h some e =
+    let (l, r, o) = opened ns root p node t h some e in
+    (l, r, record { is = o.is; near_stands = o.left_stands; far_stands = o.right_stands })
 
 -- the root that is told of a tree that the nodes show is there
 pub told_there : (ns : List Node) (told : Subtree) (t : Tree) → Measures told t → Shows ns t → IsThere (length ns) told.root

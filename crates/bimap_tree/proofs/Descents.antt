@@ -18,8 +18,8 @@ use Rattle.bimap_tree.proofs.Branch.{opened_on, height-branch}
 use Rattle.bimap_tree.proofs.Follow.{goes_on}
 use Rattle.bimap_tree.proofs.Removes.{descent, first_here, first_left}
 use Rattle.bimap_tree.proofs.Searches.{seek_into, found_right, found_left, found_here, counted_right, counted_left, counted_fits}
-use Rattle.bimap_tree.proofs.Ranks.{rank_into, rank_left, rank_here, rank_right}
-use Rattle.bimap_tree.proofs.Shown.{Stands-at, root_within, height_told, size-reading}
+use Rattle.bimap_tree.proofs.Ranks.{rank_left, rank_here, rank_right}
+use Rattle.bimap_tree.proofs.Shown.{no_root, opened, Stands-at, root_within, height_told, size-reading}
 use Rattle.bimap_tree.proofs.Split.{count_length}
 
 -- ---- a test of how a place stands
@@ -64,7 +64,7 @@ module _ (ns : List Node) (top : Option ℕ) (each before : ℕ) where
         -- the next level
         near_stands : (s : Tree) → Stands ns root s → (near : Tree) × Stands ns (near_of turn node) near × (height near + 1 ≤ height s)
         near_stands s k =
-            let (near, far, o) = opened_on ns at turn node s (Stands-at ns root (Some at) s is k) told in
+            let (near, far, o) = opened_on ns root at turn node s k is told in
             (near, o.near_stands, omega (arith, ap height o.is, height-branch turn near at far))
 
         pub costs_on : (next : Option ℕ) → next ≡ near_of turn node → (later : ℕ) → later ≤ now + each → Costs next later
@@ -106,12 +106,10 @@ module _ (ns : List Node) (live : ℕ → Type 0) (go : ℕ → Ordering) where
       found_here ns root at node live go s l r i same
 
   none_below : (root : Option ℕ) (s : Tree) → CanSeek ns root live go s → root ≡ None → count_below go (reading s) ≡ 0
-  none_below root leaf h e = refl
-  none_below root (fork l p r) h e = absurd (let x : Some p ≡ None = h.tree.root_is ∙ e in cc)
+  none_below root s h e = ap (λ t. count_below go (reading t)) (no_root s (h.tree.root_is ∙ e))
 
   none_here : (root : Option ℕ) (s : Tree) → CanSeek ns root live go s → root ≡ None → first_equal go (reading s) ≡ None
-  none_here root leaf h e = refl
-  none_here root (fork l p r) h e = absurd (let x : Some p ≡ None = h.tree.root_is ∙ e in cc)
+  none_here root s h e = ap (λ t. first_equal go (reading t)) (no_root s (h.tree.root_is ∙ e))
 
   live_here : (root : Option ℕ) (at : ℕ) (node : Node) (s : Tree) → CanSeek ns root live go s → root ≡ Some at → slice_get ns at ≡ Some node → live at
   live_here root at node s h e f = let (l, r, i) = seek_into ns root at node live go s h e f in i.at_live
@@ -182,10 +180,6 @@ module _ (ns : List Node) (live : ℕ → Type 0) (go : ℕ → Ordering) where
           }
 
 -- ---- where a rank leads
-no_size : (t : Tree) → root_of t ≡ None → size t ≡ 0
-no_size leaf e = refl
-no_size (fork l p r) e = absurd (cc)
-
 module _ (ns : List Node) (top : Option ℕ) (first : ℕ) where
   -- the place at this rank from here is the one at the first rank from the top
   pub record Leads (root : Option ℕ) (rank : ℕ) : Type 0 where
@@ -196,38 +190,38 @@ module _ (ns : List Node) (top : Option ℕ) (first : ℕ) where
 
   module _ (root : Option ℕ) (rank : ℕ) (d : Leads root rank) where
     pub leads_none : root ≡ None → (t : Tree) → Stands ns top t → first < size t → ⊥
-    leads_none e t h few = let (s, k, low, f) = d.alike t h few in absurd (omega (arith, no_size s (k.root_is ∙ e)))
+    leads_none e t h few = let (s, k, low, f) = d.alike t h few in absurd (omega (arith, ap size (no_root s (k.root_is ∙ e))))
 
     module _ (at : ℕ) (is : root ≡ Some at) (node : Node) (told : slice_get ns at ≡ Some node) where
       -- the tree on the left
       pub leads_before : (t : Tree) → Stands ns top t → first < size t → (l : Tree) × Stands ns node.left l
       leads_before t h few =
           let (s, k, low, f) = d.alike t h few in
-          let (l, r, i) = rank_into ns root at node s k is told in
-          (l, i.left_tree)
+          let (l, r, i) = opened ns root at node s k is told in
+          (l, i.left_stands)
 
       module _ (before : ℕ) (counted : (l : Tree) → Stands ns node.left l → before ≡ size l) where
         pub leads_here : rank ≡ before → (t : Tree) → Stands ns top t → first < size t → slice_get (reading t) first ≡ Some at
         leads_here e t h few =
             let (s, k, low, f) = d.alike t h few in
-            let (l, r, i) = rank_into ns root at node s k is told in
-            f at (rank_here s l r at rank i.is (e ∙ counted l i.left_tree))
+            let (l, r, i) = opened ns root at node s k is told in
+            f at (rank_here s l r at rank i.is (e ∙ counted l i.left_stands))
 
         pub leads_left : rank < before → Leads node.left rank
         leads_left lt = record {
           alike = λ t h few. let (s, k, low, f) = d.alike t h few in
-              let (l, r, i) = rank_into ns root at node s k is told in
-              let less : rank < size l = omega (arith, lt, counted l i.left_tree) in
-              (l, i.left_tree, less, λ p e. f p (rank_left s l r at rank p i.is less e));
+              let (l, r, i) = opened ns root at node s k is told in
+              let less : rank < size l = omega (arith, lt, counted l i.left_stands) in
+              (l, i.left_stands, less, λ p e. f p (rank_left s l r at rank p i.is less e));
         }
 
         pub leads_right : before < rank → Leads node.right (rank - (before + 1))
         leads_right gt = record {
           alike = λ t h few. let (s, k, low, f) = d.alike t h few in
-              let (l, r, i) = rank_into ns root at node s k is told in
-              let b = counted l i.left_tree in
+              let (l, r, i) = opened ns root at node s k is told in
+              let b = counted l i.left_stands in
               let n = ap size i.is in
-              (r, i.right_tree, omega arith, λ p e. f p (rank_right s l r at rank (rank - (before + 1)) p i.is (omega arith) e));
+              (r, i.right_stands, omega arith, λ p e. f p (rank_right s l r at rank (rank - (before + 1)) p i.is (omega arith) e));
         }
 
 -- ---- a way that is noted

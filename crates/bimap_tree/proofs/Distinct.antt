@@ -1,11 +1,13 @@
 -- How often a place stands in a tree, and in its reading.
-use Rattle.std.proofs.Common.{◌≡◌, ◌≢◌, ℕ, zero, suc, ◌+◌, ◌≤◌, ◌<◌, List, [], ◌∷◌, ◌++◌, length, refl, sym, subst, ap, arith, inl, inr, get_or}
-use Rattle.std.specs.List.{All, AllByRecursion, AllPairs, Contains}
-use Rattle.std.proofs.lemmas.List.Kept.{AllPairs-cons}
+use Rattle.std.proofs.Common.{◌≡◌, ◌≢◌, ℕ, zero, suc, ◌+◌, ◌≤◌, ◌<◌, false, List, [], ◌∷◌, ◌++◌, length, refl, sym, subst, ap, arith, inl, inr, get_or, eqb, eqb-true, eq-eqb}
+use Rattle.std.specs.List.{AllByRecursion, AllPairs, Contains, IsDistinct}
+use Rattle.std.proofs.lemmas.Map.Keys.{IsDistinct-cons, apart_from_distinct}
+use Rattle.std.proofs.lemmas.Map.Steps.{length-le_from_distinct_below}
+use Rattle.std.proofs.lemmas.Map.Views.{Contains-from_any}
 use Rattle.std.proofs.lemmas.Bool.Decides.{eqb_tells, leb_tells}
 use Rattle.bimap_base.specs.Keyed.{Adds, Drops}
-use Rattle.bimap_tree.specs.Tree.{Tree, leaf, fork, reading, occurs, is_at, IsDistinctTree}
-use Rattle.bimap_tree.proofs.Shown.{is_at-same, is_at-other}
+use Rattle.bimap_tree.specs.Tree.{Tree, leaf, fork, reading, size, occurs, is_at, IsDistinctTree}
+use Rattle.bimap_tree.proofs.Shown.{is_at-same, is_at-other, by_side, size-reading}
 
 -- how often a place stands in the list
 abbrev pub tally : ℕ → List ℕ → ℕ
@@ -25,18 +27,24 @@ tally_at [] k d h = absurd (omega arith)
 tally_at (x ∷ xs) zero d h = omega (arith, is_at-same x)
 tally_at (x ∷ xs) (suc k) d h = omega (arith, tally_at xs k d (omega arith))
 
-tally_out : (x : ℕ) (xs : List ℕ) → tally x xs ≡ 0 → All (λ y. x ≢ y) xs
-tally_out x xs none k d h e = absurd (let t : 1 ≤ tally x xs = rw (← e) at (tally_at xs k d h) in omega arith)
+tally_out : (x : ℕ) (xs : List ℕ) → tally x xs ≡ 0 → AllByRecursion (λ y. eqb x y ≡ false) xs
+tally_out x [] none = tt
+tally_out x (y ∷ ys) none =
+    (elim (eqb_tells x y) [ inl w ↦ absurd (omega (arith, none, ap (λ z. is_at z y) w.1, is_at-same y)) | inr w ↦ w.0 ], tally_out x ys (omega (arith, none)))
 
-pub tally_pairs : (xs : List ℕ) → ((q : ℕ) → tally q xs ≤ 1) → AllPairs (λ x y. x ≢ y) xs
-tally_pairs [] h = λ i j d a b. absurd (omega arith)
-tally_pairs (x ∷ xs) h =
-    AllPairs-cons (λ x y. x ≢ y) x xs
-    (tally_out x xs (omega (arith, h x, is_at-same x)))
-    (tally_pairs xs (λ q. omega (arith, h q)))
+tally_distinct : (xs : List ℕ) → ((q : ℕ) → tally q xs ≤ 1) → IsDistinct eqb xs
+unfolding IsDistinct
+tally_distinct [] h = tt
+tally_distinct (x ∷ xs) h = IsDistinct-cons eqb x xs (tally_out x xs (omega (arith, h x, is_at-same x))) (tally_distinct xs (λ q. omega (arith, h q)))
+
+distinct_places : (t : Tree) → IsDistinctTree t → IsDistinct eqb (reading t)
+distinct_places t d = tally_distinct (reading t) (λ q. omega (arith, tally-reading q t, d q))
 
 pub distinct_reading : (t : Tree) → IsDistinctTree t → AllPairs (λ x y. x ≢ y) (reading t)
-distinct_reading t d = tally_pairs (reading t) (λ q. omega (arith, tally-reading q t, d q))
+distinct_reading t d i j z lt few e =
+    let apart = apart_from_distinct eqb (reading t) i j z (distinct_places t d) lt few in
+    let same = eq-eqb (get_or (reading t) i z) (get_or (reading t) j z) e in
+    cc
 
 tally_contains : (xs : List ℕ) (q : ℕ) → 1 ≤ tally q xs → Contains xs q
 tally_contains [] q h = absurd (omega arith)
@@ -91,24 +99,24 @@ drops t u place once less p = (
 )
 
 -- what holds of the list holds of each place of the tree
-all_front : (P : ℕ → Type 0) (xs ys : List ℕ) → AllByRecursion P (xs ++ ys) → AllByRecursion P xs
+pub all_front : (P : ℕ → Type 0) (xs ys : List ℕ) → AllByRecursion P (xs ++ ys) → AllByRecursion P xs
 all_front P [] ys h = tt
 all_front P (x ∷ xs) ys h = (h.0, all_front P xs ys h.1)
 
-all_back : (P : ℕ → Type 0) (xs ys : List ℕ) → AllByRecursion P (xs ++ ys) → AllByRecursion P ys
-all_back P [] ys h = h
-all_back P (x ∷ xs) ys h = all_back P xs ys h.1
+pub all_behind : (P : ℕ → Type 0) (xs ys : List ℕ) → AllByRecursion P (xs ++ ys) → AllByRecursion P ys
+all_behind P [] ys h = h
+all_behind P (x ∷ xs) ys h = all_behind P xs ys h.1
 
 pub occurs_all : (P : ℕ → Type 0) (t : Tree) → AllByRecursion P (reading t) → (q : ℕ) → 0 < occurs q t → P q
 occurs_all P leaf h q n = absurd (omega arith)
 occurs_all P (fork l p r) h q n =
-    elim (leb_tells 1 (occurs q l)) [
-      | inl w ↦ occurs_all P l (all_front P (reading l) (p ∷ reading r) h) q w.1
-      | inr w ↦ elim (leb_tells 1 (occurs q r)) [
-        | inl v ↦ occurs_all P r (all_back P (reading l) (p ∷ reading r) h).1 q v.1
-        | inr v ↦ elim (eqb_tells q p) [
-          | inl y ↦ rw y.1 (all_back P (reading l) (p ∷ reading r) h).0
-          | inr y ↦ absurd (omega (arith, is_at-other q p y.1))
-        ]
-      ]
-    ]
+    by_side q l p r n
+    (occurs_all P l (all_front P (reading l) (p ∷ reading r) h) q)
+    (occurs_all P r (all_behind P (reading l) (p ∷ reading r) h).1 q)
+    (λ e. rw e (all_behind P (reading l) (p ∷ reading r) h).0)
+
+-- distinct places below a number are no more than it
+pub size_within : (t : Tree) (n : ℕ) → IsDistinctTree t → ((q : ℕ) → 0 < occurs q t → q < n) → size t ≤ n
+size_within t n d low =
+    rw (← size-reading t) (length-le_from_distinct_below (reading t) n (distinct_places t d)
+    (λ q any. low q (contains_occurs t q (Contains-from_any (λ x y. eqb-true x y) q (reading t) any))))

@@ -5,7 +5,7 @@ use Rattle.std.proofs.lemmas.List.{take_all, take_more_set}
 use Rattle.bimap_base.specs.declared.cells.Node.{Node}
 use Rattle.bimap_tree.specs.Filled.{CanFill, IsFilled, place_in}
 use Rattle.bimap_tree.specs.Tree.{Tree, leaf, fork, reading, height, size, root_of, node_of, IsBalanced, Stands}
-use Rattle.bimap_tree.proofs.Shown.{opened, left_stands, right_stands, Stands-at, size-reading}
+use Rattle.bimap_tree.proofs.Shown.{Opened, opened, Stands-at, size-reading}
 
 -- a place stands behind all that was put, and more is put behind it
 pub behind : (w f : ℕ) (old xs ys b new : List ℕ) (at n m : ℕ) → f ≤ length old → n ≡ f + length xs → IsFilled w f old xs b n → IsFilled w (n + 1) (slice_set b n at) ys new m → IsFilled w f old (xs ++ at ∷ ys) new m
@@ -48,42 +48,20 @@ two_levels f old b new node l r at n m e hl hr few long h k =
     on 64 f old (reading l) (reading r) b new at n m (omega (arith, few, long)) (omega (arith, few, one_place l hl)) (told 64 f old _ _ b n el h) (told 64 (n + 1) (slice_set b n at) _ _ new m er k)
 
 -- the two trees below a place
-pub record Parts (ns : List Node) (at : ℕ) (node : Node) (t l r : Tree) : Type 0 where
-  pub is : t ≡ fork l at r
-  pub node_is : node ≡ node_of l r
-  pub left_tree : Stands ns node.left l
-  pub right_tree : Stands ns node.right r
-  pub left_level : height l ≤ height r + 1
-  pub right_level : height r ≤ height l + 1
-  pub left_balanced : IsBalanced l
-  pub right_balanced : IsBalanced r
-
-pub parts : (ns : List Node) (at : ℕ) (node : Node) (t : Tree) → CanFill ns at node t → (l : Tree) × (r : Tree) × Parts ns at node t l r
+pub parts : (ns : List Node) (at : ℕ) (node : Node) (t : Tree) → CanFill ns at node t → (l : Tree) × (r : Tree) × Opened ns at node t l r × IsBalanced l × IsBalanced r
 parts ns at node t h =
-    let (l, r, o) = opened ns at node t h.tree h.node_is in
-    let b : IsBalanced (fork l at r) = subst IsBalanced o.is h.balanced in (
-      l,
-      r,
-      record {
-        is = o.is;
-        node_is = o.node_is;
-        left_tree = left_stands ns at node t l r o;
-        right_tree = right_stands ns at node t l r o;
-        left_level = b.0;
-        right_level = b.1;
-        left_balanced = b.2;
-        right_balanced = b.3;
-      },
-    )
+    let (l, r, o) = opened ns (Some at) at node t h.tree refl h.node_is in
+    let b : IsBalanced (fork l at r) = subst IsBalanced o.is h.balanced in
+    (l, r, o, b.2, b.3)
 
 pub below : (ns : List Node) (root : Option ℕ) (p : ℕ) (node : Node) (t : Tree) → Stands ns root t → IsBalanced t → root ≡ Some p → slice_get ns p ≡ Some node → CanFill ns p node t
 below ns root p node t h b e f = record { tree = Stands-at ns root (Some p) t e h; node_is = f; balanced = b }
 
 pub told_size : (ns : List Node) (p : ℕ) (node : Node) (t : Tree) → CanFill ns p node t → node.size ≡ size t
-told_size ns p node t h = let (l, r, i) = parts ns p node t h in ap (λ z. z.size) i.node_is ∙ ap size (sym i.is)
+told_size ns p node t h = let (l, r, i, _, _) = parts ns p node t h in ap (λ z. z.size) i.node_is ∙ ap size (sym i.is)
 
 pub told_height : (ns : List Node) (p : ℕ) (node : Node) (t : Tree) → CanFill ns p node t → node.height ≡ height t
-told_height ns p node t h = let (l, r, i) = parts ns p node t h in ap (λ z. z.height) i.node_is ∙ ap height (sym i.is)
+told_height ns p node t h = let (l, r, i, _, _) = parts ns p node t h in ap (λ z. z.height) i.node_is ∙ ap height (sym i.is)
 
 -- the tree on the left, the place and the tree on the right
 pub both_sides : (f : ℕ) (old b new : List ℕ) (ns : List Node) (at left right : ℕ) (node left_node right_node : Node) (t : Tree) → CanFill ns at node t → node.left ≡ Some left → node.right ≡ Some right → slice_get ns left ≡ Some left_node → slice_get ns right ≡ Some right_node → f + size t < 62 → length old ≡ 64
@@ -91,9 +69,9 @@ pub both_sides : (f : ℕ) (old b new : List ℕ) (ns : List Node) (at left righ
     → ((r : Tree) → CanFill ns right right_node r → f + left_node.size + 1 + size r < 62 → IsFilled 64 (f + left_node.size + 1) (slice_set b (f + left_node.size) at) (reading r) new (f + left_node.size + 1 + size r))
     → IsFilled 64 f old (reading t) new (f + size t)
 both_sides f old b new ns at left right node left_node right_node t h el er gl gr few long kl kr =
-    let (l, r, i) = parts ns at node t h in
-    let hl = below ns node.left left left_node l i.left_tree i.left_balanced el gl in
-    let hr = below ns node.right right right_node r i.right_tree i.right_balanced er gr in
+    let (l, r, i, bl, br) = parts ns at node t h in
+    let hl = below ns node.left left left_node l i.left_stands bl el gl in
+    let hr = below ns node.right right right_node r i.right_stands br er gr in
     let n : left_node.size ≡ size l = told_size ns left left_node l hl in
     let whole : size t ≡ size l + size r + 1 = ap size i.is in
     let first = subst (λ z. IsFilled 64 f old (reading l) b z) (ap (λ z. f + z) (sym n)) (kl l hl (omega arith)) in

@@ -12,13 +12,8 @@ use Rattle.bimap_tree.specs.declared.route.Route.{Route}
 use Rattle.bimap_tree.proofs.Paths.{occurs-plug, size-plug, reading-plug, steps_within, balanced_inside, tells, holds_of, Holds-frame, Holds-alike, IsBalanced-alike, Follows-frame, Follows-noted}
 use Rattle.bimap_tree.proofs.Heights.{low}
 use Rattle.bimap_tree.proofs.Rooms.{room_for}
-use Rattle.bimap_tree.proofs.Shown.{is_at-same, is_at-apart, Shows-frame, get-written, get-elsewhere, opened, left_stands, Stands-at, height_told, there}
+use Rattle.bimap_tree.proofs.Shown.{is_at-same, is_at-apart, Shows-frame, get-written, get-elsewhere, no_root, opened, Stands-at, height_told, there}
 use Rattle.bimap_tree.specs.Index.{height_at}
-
--- a tree with no root has no place
-no_root : (t : Tree) → root_of t ≡ None → t ≡ leaf
-no_root leaf e = refl
-no_root (fork l p r) e = absurd (cc)
 
 -- a test for no child
 pub no_child : (child : Option ℕ) (b : Bool) → is_some child ≡ not b → b ≡ true → child ≡ None
@@ -37,17 +32,16 @@ module _ (nodes : List Node) (at depth : ℕ) (node : Node) (s : Tree) (h : CanD
 
   pub descent : (l : Tree) × (r : Tree) × Descent l r
   descent =
-      let (l, r, o) = opened nodes at node s h.tree told in
-      let stands = left_stands nodes at node s l r o in
+      let (l, r, o) = opened nodes (Some at) at node s h.tree refl told in
       let tall = ap height o.is in (
         l,
         r,
         record {
           is = o.is;
-          left_stands = stands;
+          left_stands = o.left_stands;
           here = omega (arith, h.deep, tall);
           deeper = omega (arith, h.deep, tall);
-          lower = omega (arith, height_told nodes (Some at) s h.tree, height_told nodes node.left l stands, tall);
+          lower = omega (arith, height_told nodes (Some at) s h.tree, height_told nodes node.left l o.left_stands, tall);
           low = omega (arith, tall);
         },
       )

@@ -243,7 +243,7 @@ module _ (turn : Bool) (N0 : List Node) (place heavy : ℕ) (upper_node : Node) 
 
   pub upper_of : CanRebalance N0 place n f → root_of n ≡ Some heavy → slice_get N0 heavy ≡ Some upper_node → outer ≡ near_of turn upper_node → inner_root ≡ far_of turn upper_node → (a : Tree) × (b : Tree) × Upper a b
   upper_of h root e near far =
-      let (a, b, o) = opened_on N0 heavy turn upper_node n record { root_is = root; shown = h.link.near_shown } e in (
+      let (a, b, o) = opened_on N0 (Some heavy) heavy turn upper_node n record { root_is = root; shown = h.link.near_shown } refl e in (
         a,
         b,
         record {
@@ -265,7 +265,7 @@ module _ (turn : Bool) (N0 : List Node) (place heavy : ℕ) (upper_node : Node) 
 
   pub inner_of : (a b : Tree) → Upper a b → (middle : ℕ) → inner_root ≡ Some middle → (inner_node : Node) → slice_get N0 middle ≡ Some inner_node → (near far : Option ℕ) → near ≡ near_of turn inner_node → far ≡ far_of turn inner_node → (b2 : Tree) × (d : Tree) × Inner middle near far a b2 d
   inner_of a b u middle some inner_node e near far en ef =
-      let (b2, d, o) = opened_on N0 middle turn inner_node b (Stands-at N0 inner_root (Some middle) b some u.inner_stands) e in (
+      let (b2, d, o) = opened_on N0 inner_root middle turn inner_node b u.inner_stands some e in (
         b2,
         d,
         record {

@@ -36,8 +36,8 @@ module _ (ns : List Node) (places : List ℕ) (rank : ℕ) where
     pub part_left : (left : ℕ) (left_node : Node) → part.node.left ≡ Some left → slice_get ns left ≡ Some left_node → rank < part.start + left_node.size
         → (l : Tree) × IsPart ns places rank (record { start = part.start; before = part.before; behind = Some part.at; at = left; node = left_node }) l × (height l + 1 ≤ height s)
     part_left left left_node el gl le =
-        let (l, r, i) = parts ns part.at part.node s h.shown in
-        let hl = below ns part.node.left left left_node l i.left_tree i.left_balanced el gl in (
+        let (l, r, i, bl, br) = parts ns part.at part.node s h.shown in
+        let hl = below ns part.node.left left left_node l i.left_stands bl el gl in (
           l,
           record {
             front = h.front;
@@ -57,9 +57,9 @@ module _ (ns : List Node) (places : List ℕ) (rank : ℕ) where
     pub part_right : (left right : ℕ) (left_node right_node : Node) → part.node.left ≡ Some left → part.node.right ≡ Some right → slice_get ns left ≡ Some left_node → slice_get ns right ≡ Some right_node → part.start + left_node.size ≤ rank
         → (r : Tree) × IsPart ns places rank (record { start = part.start + left_node.size + 1; before = Some part.at; behind = part.behind; at = right; node = right_node }) r × (height r + 1 ≤ height s)
     part_right left right left_node right_node el er gl gr le =
-        let (l, r, i) = parts ns part.at part.node s h.shown in
-        let hl = below ns part.node.left left left_node l i.left_tree i.left_balanced el gl in
-        let hr = below ns part.node.right right right_node r i.right_tree i.right_balanced er gr in
+        let (l, r, i, bl, br) = parts ns part.at part.node s h.shown in
+        let hl = below ns part.node.left left left_node l i.left_stands bl el gl in
+        let hr = below ns part.node.right right right_node r i.right_stands br er gr in
         let n : left_node.size ≡ size l = told_size ns left left_node l hl in
         let whole : size s ≡ size l + size r + 1 = ap size i.is in
         let long : length (h.front ++ (place_in part.before ++ reading l)) ≡ part.start + left_node.size = omega (arith, h.start_is, n, size-reading l, length-append h.front (place_in part.before ++ reading l), length-append (place_in part.before) (reading l)) in (

@@ -9,41 +9,29 @@ use Rattle.bimap_tree.specs.Order.{AllStand, IsSplit, first_equal, count_below}
 use Rattle.bimap_tree.proofs.Split.{split_front, split_back, split_below, split_above, first_after, first_before, less_not_greater, not_less, count-append, count_all, count_none, count_length}
 use Rattle.bimap_tree.specs.Index.{height_at}
 use Rattle.bimap_tree.specs.Search.{CanSeek}
-use Rattle.bimap_tree.proofs.Shown.{is_at-same, opened, left_stands, right_stands, Stands-at, height_told, size-reading}
+use Rattle.bimap_tree.proofs.Shown.{is_at-same, opened, size-reading}
 
 -- what is known of a tree that may be searched, at its root
 pub record SeekInto (ns : List Node) (root : Option ℕ) (at : ℕ) (node : Node) (live : ℕ → Type 0) (go : ℕ → Ordering) (t l r : Tree) : Type 0 where
   pub is : t ≡ fork l at r
-  pub node_is : node ≡ node_of l r
   pub can_left : CanSeek ns node.left live go l
   pub can_right : CanSeek ns node.right live go r
   pub in_order : IsSplit go (reading l ++ at ∷ reading r)
-  pub left_lower : height_at ns node.left < height_at ns root
-  pub right_lower : height_at ns node.right < height_at ns root
   pub at_live : live at
 
 pub seek_into : (ns : List Node) (root : Option ℕ) (at : ℕ) (node : Node) (live : ℕ → Type 0) (go : ℕ → Ordering) (t : Tree) → CanSeek ns root live go t → root ≡ Some at → slice_get ns at ≡ Some node → (l : Tree) × (r : Tree) × SeekInto ns root at node live go t l r
 seek_into ns root at node live go t h e f =
-    let (l, r, o) = opened ns at node t (Stands-at ns root (Some at) t e h.tree) f in
+    let (l, r, o) = opened ns root at node t h.tree e f in
     let h2 : CanSeek ns root live go (fork l at r) = subst (λ x. CanSeek ns root live go x) o.is h in
-    let hl = left_stands ns at node t l r o in
-    let hr = right_stands ns at node t l r o in
-    let top = height_told ns root t h.tree in
-    let tl = height_told ns node.left l hl in
-    let tr = height_told ns node.right r hr in
-    let is = ap height o.is in
     let few = h2.fits in
     let z = is_at-same at in (
       l,
       r,
       record {
         is = o.is;
-        node_is = o.node_is;
-        can_left = record { tree = hl; all_live = λ q n. h2.all_live q (omega arith); in_order = split_front go (reading l) (at ∷ reading r) h2.in_order; fits = omega arith };
-        can_right = record { tree = hr; all_live = λ q n. h2.all_live q (omega arith); in_order = (split_back go (reading l) (at ∷ reading r) h2.in_order).1; fits = omega arith };
+        can_left = record { tree = o.left_stands; all_live = λ q n. h2.all_live q (omega arith); in_order = split_front go (reading l) (at ∷ reading r) h2.in_order; fits = omega arith };
+        can_right = record { tree = o.right_stands; all_live = λ q n. h2.all_live q (omega arith); in_order = (split_back go (reading l) (at ∷ reading r) h2.in_order).1; fits = omega arith };
         in_order = h2.in_order;
-        left_lower = omega arith;
-        right_lower = omega arith;
         at_live = h2.all_live at (omega arith);
       },
     )

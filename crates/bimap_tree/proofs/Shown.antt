@@ -6,7 +6,7 @@ use Rattle.std.proofs.lemmas.Option.{slice_get_within}
 use Rattle.std.proofs.lemmas.Bool.Decides.{eqb_tells, leb_tells}
 use Rattle.bimap_base.specs.declared.cells.Node.{Node}
 use Rattle.bimap_base.specs.Packed.{IsThere}
-use Rattle.bimap_tree.specs.Tree.{Tree, leaf, fork, reading, height, size, node_of, Shows, is_at, occurs, IsDistinctTree, Stands}
+use Rattle.bimap_tree.specs.Tree.{Tree, leaf, fork, reading, height, size, root_of, node_of, Shows, is_at, occurs, IsDistinctTree, Stands}
 use Rattle.bimap_tree.specs.Index.{height_at}
 
 pub is_at-same : (p : ℕ) → is_at p p ≡ 1
@@ -42,21 +42,34 @@ Shows-keeps ns ms t p v e none h =
 pub is_at-apart : (q p : ℕ) → is_at q p ≡ 0 → q ≢ p
 is_at-apart q p z e = let h : is_at p p ≡ 0 = rw e at z in absurd (omega (arith, is_at-same p))
 
+-- a tree with no root has no place
+pub no_root : (t : Tree) → root_of t ≡ None → t ≡ leaf
+no_root leaf e = refl
+no_root (fork l p r) e = absurd (cc)
+
 -- a tree whose root is a place, with the node of that place
 pub record Opened (ns : List Node) (p : ℕ) (node : Node) (t l r : Tree) : Type 0 where
   pub is : t ≡ fork l p r
   pub node_is : node ≡ node_of l r
-  pub left_shown : Shows ns l
-  pub right_shown : Shows ns r
+  pub left_stands : Stands ns node.left l
+  pub right_stands : Stands ns node.right r
 
-pub opened : (ns : List Node) (p : ℕ) (node : Node) (t : Tree) → Stands ns (Some p) t → slice_get ns p ≡ Some node → (l : Tree) × (r : Tree) × Opened ns p node t l r
-opened ns p node leaf h e = absurd (let x = h.root_is in cc)
-opened ns p node (fork l q r) h e =
-    let x : Some q ≡ Some p = h.root_is in
+pub opened : (ns : List Node) (root : Option ℕ) (p : ℕ) (node : Node) (t : Tree) → Stands ns root t → root ≡ Some p → slice_get ns p ≡ Some node → (l : Tree) × (r : Tree) × Opened ns p node t l r
+opened ns root p node leaf h some e = absurd (let x = h.root_is ∙ some in cc)
+opened ns root p node (fork l q r) h some e =
+    let x : Some q ≡ Some p = h.root_is ∙ some in
     let same : q ≡ p = cc in
-    let at : slice_get ns p ≡ Some (node_of l r) = rw same at h.shown.0 in
-    let n : Some node ≡ Some (node_of l r) = sym e ∙ at in
-    (l, r, record { is = ap (λ y. fork l y r) same; node_is = cc; left_shown = h.shown.1; right_shown = h.shown.2 })
+    let told : Some node ≡ Some (node_of l r) = sym e ∙ (rw same at h.shown.0) in
+    let is : node ≡ node_of l r = cc in (
+      l,
+      r,
+      record {
+        is = ap (λ y. fork l y r) same;
+        node_is = is;
+        left_stands = record { root_is = sym (ap (λ n. n.left) is); shown = h.shown.1 };
+        right_stands = record { root_is = sym (ap (λ n. n.right) is); shown = h.shown.2 };
+      },
+    )
 
 pub root_within : (ns : List Node) (p : ℕ) (t : Tree) → Stands ns (Some p) t → p < length ns
 root_within ns p leaf h = absurd (let x = h.root_is in cc)
@@ -64,12 +77,6 @@ root_within ns p (fork l q r) h =
     let x : Some q ≡ Some p = h.root_is in
     let same : q ≡ p = cc in
     slice_get_within ns p (node_of l r) (rw same at h.shown.0)
-
-pub left_stands : (ns : List Node) (p : ℕ) (node : Node) (t l r : Tree) → Opened ns p node t l r → Stands ns node.left l
-left_stands ns p node t l r o = record { root_is = sym (ap (λ n. n.left) o.node_is); shown = o.left_shown }
-
-pub right_stands : (ns : List Node) (p : ℕ) (node : Node) (t l r : Tree) → Opened ns p node t l r → Stands ns node.right r
-right_stands ns p node t l r o = record { root_is = sym (ap (λ n. n.right) o.node_is); shown = o.right_shown }
 
 pub Stands-at : (ns : List Node) (a b : Option ℕ) (t : Tree) → a ≡ b → Stands ns a t → Stands ns b t
 Stands-at ns a b t e h = record { root_is = h.root_is ∙ e; shown = h.shown }
@@ -80,8 +87,7 @@ there ns root leaf h = rw (sym h.root_is) tt
 there ns root (fork l p r) h = rw (sym h.root_is) (slice_get_within ns p (node_of l r) h.shown.0)
 
 pub no_tree : (ns : List Node) (root : Option ℕ) (t : Tree) → Stands ns root t → root ≡ None → height t ≡ 0
-no_tree ns root leaf h e = refl
-no_tree ns root (fork l p r) h e = absurd (let x = h.root_is ∙ e in cc)
+no_tree ns root t h e = ap height (no_root t (h.root_is ∙ e))
 
 -- the node at the root tells the tree's height
 pub height_told : (ns : List Node) (root : Option ℕ) (t : Tree) → Stands ns root t → height_at ns root ≡ height t
@@ -93,20 +99,21 @@ pub size-reading : (t : Tree) → length (reading t) ≡ size t
 size-reading leaf = refl
 size-reading (fork l p r) = rw length-append (omega (arith, size-reading l, size-reading r))
 
+-- a place of a tree stands in its left tree, in its right one or at its top
+pub by_side : {P : Type 0} (q : ℕ) (l : Tree) (p : ℕ) (r : Tree) → 0 < occurs q (fork l p r) → (0 < occurs q l → P) → (0 < occurs q r → P) → (q ≡ p → P) → P
+by_side q l p r n left right top =
+    elim (leb_tells 1 (occurs q l)) [
+      | inl w ↦ left w.1
+      | inr w ↦ elim (leb_tells 1 (occurs q r)) [
+        | inl v ↦ right v.1
+        | inr v ↦ elim (eqb_tells q p) [ inl y ↦ top y.1 | inr y ↦ absurd (omega (arith, is_at-other q p y.1)) ]
+      ]
+    ]
+
 -- a place of a tree that the nodes show has a node
 pub in_tree : (ns : List Node) (t : Tree) (q : ℕ) → Shows ns t → 0 < occurs q t → q < length ns
 in_tree ns leaf q h n = absurd (omega arith)
-in_tree ns (fork l p r) q h n =
-    elim (leb_tells 1 (occurs q l)) [
-      | inl w ↦ in_tree ns l q h.1 w.1
-      | inr w ↦ elim (leb_tells 1 (occurs q r)) [
-        | inl v ↦ in_tree ns r q h.2 v.1
-        | inr v ↦ elim (eqb_tells q p) [
-          | inl y ↦ root_within ns q (fork l p r) (record { root_is = ap Some (sym y.1); shown = h })
-          | inr y ↦ absurd (omega (arith, is_at-other q p y.1))
-        ]
-      ]
-    ]
+in_tree ns (fork l p r) q h n = by_side q l p r n (in_tree ns l q h.1) (in_tree ns r q h.2) (λ e. rw e (slice_get_within ns p (node_of l r) h.0))
 
 -- a place that the tree does not hold can be put beside it
 pub with_absent : (t : Tree) (place q : ℕ) → IsDistinctTree t → occurs place t ≡ 0 → occurs q t + is_at q place ≤ 1

@@ -7,16 +7,16 @@ use Rattle.bimap_tree.proofs.walk.+fill.Goals as goal
 pub fill_high-fill_tree-requires : goal.fill_high-fill_tree-requires
 fill_high-fill_tree-requires g t c κs within =
     let (node, x, h, el, er, few) = c.requires.tree in
-    let (l, r, i) = parts _ _ _ x h in
-    let hl = below _ _ _ _ l i.left_tree i.left_balanced el c.read-left_node.ensures.node in
+    let (l, r, i, bl, br) = parts _ _ _ x h in
+    let hl = below _ _ _ _ l i.left_stands bl el c.read-left_node.ensures.node in
     (omega (arith, told_height _ _ _ l hl, height_told _ _ x h.tree, ap height i.is), (within.0, (within.1, ((l, hl, omega (arith, few, ap size i.is)), c.requires.long))))
 
 pub fill_high-fill_tree-requires-2 : goal.fill_high-fill_tree-requires-2
 fill_high-fill_tree-requires-2 g t c κs within =
     let (node, x, h, el, er, few) = c.requires.tree in
-    let (l, r, i) = parts _ _ _ x h in
-    let hl = below _ _ _ _ l i.left_tree i.left_balanced el c.read-left_node.ensures.node in
-    let hr = below _ _ _ _ r i.right_tree i.right_balanced er c.read-right_node.ensures.node in
+    let (l, r, i, bl, br) = parts _ _ _ x h in
+    let hl = below _ _ _ _ l i.left_stands bl el c.read-left_node.ensures.node in
+    let hr = below _ _ _ _ r i.right_stands br er c.read-right_node.ensures.node in
     (omega (arith, told_height _ _ _ r hr, height_told _ _ x h.tree, ap height i.is), (within.0, (within.1, ((r, hr, omega (arith, few, ap size i.is, told_size _ _ _ l hl)), length-set _ _ _ ∙ c.fill_tree.array_long))))
 
 pub fill_high-returns-clause-filled : goal.fill_high-returns-clause-filled

@@ -15,15 +15,15 @@ pub read-left_node-requires : goal.read-left_node-requires
 read-left_node-requires g c =
     let (t, h, b, few, fits) = c.requires.tree in
     let (s, p, cost) = c.loop-part.invariant.parts t h b few in
-    let (l, r, i) = parts _ _ _ s p.shown in
-    root_within _ _ l (Stands-at _ _ _ l c.in-Some-Some.is-0 i.left_tree)
+    let (l, r, i, bl, br) = parts _ _ _ s p.shown in
+    root_within _ _ l (Stands-at _ _ _ l c.in-Some-Some.is-0 i.left_stands)
 
 pub overflow_add-middle : goal.overflow_add-middle
 overflow_add-middle g c =
     let (t, h, b, few, fits) = c.requires.tree in
     let (s, p, cost) = c.loop-part.invariant.parts t h b few in
-    let (l, r, i) = parts _ _ _ s p.shown in
-    let n = told_size _ _ _ l (below _ _ _ _ l i.left_tree i.left_balanced c.in-Some-Some.is-0 c.read-left_node.ensures.node) in
+    let (l, r, i, bl, br) = parts _ _ _ s p.shown in
+    let n = told_size _ _ _ l (below _ _ _ _ l i.left_stands bl c.in-Some-Some.is-0 c.read-left_node.ensures.node) in
     omega (arith, fits, n, ap size i.is, size-reading t, part_within _ _ _ _ s p)
 
 pub loop-part-preserved-then-rank-middle : goal.loop-part-preserved-then-rank-middle
@@ -38,8 +38,8 @@ pub read-right_node-requires : goal.read-right_node-requires
 read-right_node-requires g c =
     let (t, h, b, few, fits) = c.requires.tree in
     let (s, p, cost) = c.loop-part.invariant.parts t h b few in
-    let (l, r, i) = parts _ _ _ s p.shown in
-    root_within _ _ r (Stands-at _ _ _ r c.in-Some-Some.is-1 i.right_tree)
+    let (l, r, i, bl, br) = parts _ _ _ s p.shown in
+    root_within _ _ r (Stands-at _ _ _ r c.in-Some-Some.is-1 i.right_stands)
 
 pub loop-part-preserved : goal.loop-part-preserved
 loop-part-preserved g c = record {
