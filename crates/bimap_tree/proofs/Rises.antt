@@ -9,10 +9,8 @@ use Rattle.bimap_tree.specs.Tree.{Tree, leaf, fork, reading, height, size, root_
 use Rattle.bimap_tree.specs.Link.{CanRebalance, IsRebalanced}
 use Rattle.bimap_tree.specs.Path.{Path, top, below, steps, front, back, Tells, one_if, Moves, CanRise, CanRelink, CanPut, IsRisen}
 use Rattle.bimap_tree.proofs.Branch.{height-branch, size-branch, height-node_on, size-node_on, near-node_on, far-node_on, node_is, level, Shows-linked}
-use Rattle.bimap_tree.proofs.Heights.{low as low_tree}
 use Rattle.bimap_tree.proofs.Paths.{balanced_inside, Holds-frame, holds_of}
-use Rattle.bimap_tree.proofs.Rooms.{room_for}
-use Rattle.bimap_tree.proofs.Rotate.{no_rotation}
+use Rattle.bimap_tree.proofs.Rotate.{can_link, no_rotation}
 use Rattle.bimap_tree.proofs.Shown.{is_at-same, is_at-apart, get-elsewhere, size-reading, there}
 
 pub one_way : (grew : Bool) → one_if grew + one_if (not grew) ≡ 1
@@ -40,42 +38,13 @@ module _ (nodes : List Node) (at : ℕ) (turn grew : Bool) (node : Node) (sister
   pub can_rebalance : CanRebalance nodes at u sister
   can_rebalance =
       let lv = level turn s at sister h.steady in
-      let l1 = lv.near_level in
-      let l2 = lv.far_level in
-      let m1 = h.moves.sizes in
-      let m2 = h.moves.not_lower in
-      let m3 = h.moves.not_higher in
-      let f = h.fits in
       let one = one_way grew in
-      let room = room_for nodes u at sister h.shown h.sister_shown h.has_cell h.distinct in
-      record {
-        link = record {
-          has_cell = h.has_cell;
-          near_shown = h.shown;
-          far_shown = h.sister_shown;
-          room = room;
-          near_low = low_tree u h.balanced (length nodes) (omega arith);
-          far_low = low_tree sister lv.far_balanced (length nodes) (omega arith);
-          fits = omega arith;
-        };
-        distinct = h.distinct;
-        near_balanced = h.balanced;
-        far_balanced = lv.far_balanced;
-        near_level = omega arith;
-        far_level = omega arith;
-      }
+      can_link nodes at u sister h.has_cell h.shown h.sister_shown h.distinct h.balanced lv.far_balanced (omega arith) (omega arith) (omega arith)
 
   -- the whole has moved as the child has, if at all
   pub moved : (new : List Node) (t : Tree) → IsRebalanced nodes new turn at u sister t → Moves grew (branch turn s at sister) t
   moved new t b =
       let lv = level turn s at sister h.steady in
-      let l1 = lv.near_level in
-      let l2 = lv.far_level in
-      let m1 = h.moves.sizes in
-      let m2 = h.moves.not_lower in
-      let m3 = h.moves.not_higher in
-      let b1 = b.not_lower in
-      let b2 = b.at_most_one_higher in
       let one = one_way grew in
       let hs = height-branch turn s at sister in
       let zs = size-branch turn s at sister in
@@ -98,9 +67,8 @@ module _ (nodes : List Node) (at : ℕ) (turn grew : Bool) (node : Node) (sister
 
   pub retold : (new : List Node) (more : Node) → max (height u) (height sister) ≡ max (height s) (height sister) → height u ≤ height sister + 1 → height sister ≤ height u + 1 → near_of turn more ≡ root_of u → far_of turn more ≡ far_of turn node → more.height ≡ node.height → more.size + one_if (not grew) ≡ node.size + one_if grew → new ≡ slice_set nodes at more → Retold new more
   retold new more even l1 l2 near far tall counted e =
-      let m1 = h.moves.sizes in
       let same_height : more.height ≡ max (height u) (height sister) + 1 = omega (arith, tall, h.told.height_is, even) in
-      let same_size : more.size ≡ size u + size sister + 1 = omega (arith, counted, h.told.size_is, m1) in
+      let same_size : more.size ≡ size u + size sister + 1 = omega (arith, counted, h.told.size_is) in
       let is : more ≡ node_on turn u sister = node_is turn more (node_on turn u sister)
       (near ∙ sym (near-node_on turn u sister))
       (far ∙ h.told.far_is ∙ sym (far-node_on turn u sister))
@@ -117,11 +85,6 @@ module _ (nodes : List Node) (at : ℕ) (turn grew : Bool) (node : Node) (sister
   pub low : grew ≡ true → (level : ℕ) → level ≡ height u → level < node.height → (new : List Node) (more : Node) → near_of turn more ≡ root_of u → far_of turn more ≡ far_of turn node → more.height ≡ node.height → more.size ≡ node.size + 1 → new ≡ slice_set nodes at more → Retold new more
   low up lvl e few new more near far tall counted w =
       let lv = level turn s at sister h.steady in
-      let l1 = lv.near_level in
-      let l2 = lv.far_level in
-      let m2 = h.moves.not_lower in
-      let m3 = h.moves.not_higher in
-      let t = h.told.height_is in
       let a : one_if grew ≡ 1 = ap one_if up in
       let b : one_if (not grew) ≡ 0 = ap (λ x. one_if (not x)) up in
       retold new more (omega arith) (omega arith) (omega arith) near far tall (omega (arith, counted, a, b)) w
@@ -130,8 +93,6 @@ module _ (nodes : List Node) (at : ℕ) (turn grew : Bool) (node : Node) (sister
   pub steady : height u ≡ height s → (new : List Node) (more : Node) → near_of turn more ≡ root_of u → far_of turn more ≡ far_of turn node → more.height ≡ node.height → more.size + one_if (not grew) ≡ node.size + one_if grew → new ≡ slice_set nodes at more → Retold new more
   steady same new more near far tall counted w =
       let lv = level turn s at sister h.steady in
-      let l1 = lv.near_level in
-      let l2 = lv.far_level in
       retold new more (omega arith) (omega arith) (omega arith) near far tall counted w
 
   pub as_told : node.height ≡ height (branch turn s at sister)
@@ -144,8 +105,6 @@ module _ (nodes : List Node) (at : ℕ) (turn grew : Bool) (node : Node) (sister
   -- a place more or less can be counted below its node
   pub can_count : CanCount (length nodes) grew node
   can_count =
-      let t = h.told.size_is in
-      let m = h.moves.sizes in
       let room = can_rebalance.link.room in
       record { more = λ e. omega (arith, ap one_if e, ap (λ b. one_if (not b)) e); less = λ e. omega arith }
 
@@ -157,8 +116,6 @@ module _ (nodes : List Node) (at : ℕ) (turn grew : Bool) (node : Node) (sister
   -- the node's count can be told
   pub counts : (node.size + one_if grew < 2 ^ 64) × (one_if (not grew) ≤ node.size)
   counts =
-      let f = h.fits in
-      let t = h.told.size_is in
       let one = one_way grew in
       (omega arith, omega arith)
 

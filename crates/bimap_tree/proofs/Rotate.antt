@@ -1,13 +1,14 @@
 -- The rotations of a tree that is two levels higher on the side of a turn.
-use Rattle.std.proofs.Common.{◌≡◌, ℕ, ◌+◌, ◌^◌, ◌≤◌, ◌<◌, Bool, true, false, not, List, ◌∷◌, Option, Some, refl, sym, subst, ◌∙◌, ap, arith, length, append_assoc, length-set}
+use Rattle.std.proofs.Common.{◌≡◌, ℕ, ◌+◌, ◌^◌, ◌≤◌, ◌<◌, max, Bool, true, false, not, List, ◌∷◌, Option, Some, refl, sym, subst, ◌∙◌, ap, arith, length, append_assoc, length-set}
 use Rattle.std.specs.Prelude.{slice_get, slice_set}
 use Rattle.std.proofs.lemmas.Option.{slice_get_within}
 use Rattle.bimap_base.specs.declared.cells.Node.{Node}
-use Rattle.bimap_base.specs.Digits.{most_height}
-use Rattle.bimap_tree.specs.Tree.{Tree, reading, height, size, root_of, Shows, Stands, is_at, occurs, branch, node_on, near_of, far_of}
-use Rattle.bimap_tree.specs.Link.{CanLink, CanRebalance, IsRebalanced}
-use Rattle.bimap_tree.proofs.Shown.{is_at-same, is_at-apart, Shows-keeps, get-elsewhere, Stands-at}
-use Rattle.bimap_tree.proofs.Branch.{branch-not, height-branch, size-branch, occurs-branch, Parts, parts, level, IsBalanced-branch, Shows-linked, opened_on}
+use Rattle.bimap_tree.specs.Tree.{Tree, reading, height, size, root_of, IsBalanced, Shows, Stands, is_at, occurs, branch, node_on, near_of, far_of}
+use Rattle.bimap_tree.specs.Link.{CanRebalance, IsRebalanced}
+use Rattle.bimap_tree.proofs.Shown.{is_at-same, is_at-apart, Shows-frame, get-elsewhere}
+use Rattle.bimap_tree.proofs.Heights.{low}
+use Rattle.bimap_tree.proofs.Rooms.{room_for}
+use Rattle.bimap_tree.proofs.Branch.{branch-not, height-branch, size-branch, occurs-branch, Parts, parts, Level, level, IsBalanced-branch, Shows-linked, opened_on}
 
 single_reading : (turn : Bool) (a : Tree) (heavy : ℕ) (b : Tree) (place : ℕ) (r : Tree) → reading (branch turn a heavy (branch turn b place r)) ≡ reading (branch turn (branch turn a heavy b) place r)
 single_reading true a heavy b place r = append_assoc (reading r) (place ∷ reading b) (heavy ∷ reading a)
@@ -16,6 +17,27 @@ single_reading false a heavy b place r = sym (append_assoc (reading a) (heavy �
 double_reading : (turn : Bool) (a : Tree) (heavy : ℕ) (b : Tree) (middle : ℕ) (d : Tree) (place : ℕ) (r : Tree) → reading (branch turn (branch turn a heavy b) middle (branch turn d place r)) ≡ reading (branch turn (branch turn a heavy (branch turn b middle d)) place r)
 double_reading true a heavy b middle d place r = simp append_assoc
 double_reading false a heavy b middle d place r = simp append_assoc
+
+-- a place may be linked above two trees that the nodes show, apart from each other and from it
+pub can_link : (ns : List Node) (place : ℕ) (n f : Tree) → place < length ns → Shows ns n → Shows ns f → ((q : ℕ) → occurs q n + is_at q place + occurs q f ≤ 1) → IsBalanced n → IsBalanced f → height n ≤ height f + 2 → height f ≤ height n + 2 → size n + size f + 1 < 2 ^ 64 → CanRebalance ns place n f
+can_link ns place n f within near far distinct near_balanced far_balanced a b fits =
+    let room = room_for ns n place f near far within distinct in
+    record {
+      link = record {
+        has_cell = within;
+        near_shown = near;
+        far_shown = far;
+        room = room;
+        near_low = low n near_balanced (length ns) (omega arith);
+        far_low = low f far_balanced (length ns) (omega arith);
+        fits = fits;
+      };
+      distinct = distinct;
+      near_balanced = near_balanced;
+      far_balanced = far_balanced;
+      near_level = a;
+      far_level = b;
+    }
 
 -- a place linked above two trees of about one height needs no rotation
 pub no_rotation : (N0 N1 : List Node) (turn : Bool) (place : ℕ) (n f : Tree) → CanRebalance N0 place n f → height n ≤ height f + 1 → height f ≤ height n + 1 → N1 ≡ slice_set N0 place (node_on turn n f) → IsRebalanced N0 N1 turn place n f (branch turn n place f)
@@ -38,93 +60,72 @@ no_rotation N0 N1 turn place n f h a b e =
     }
 
 -- ---- one rotation: a heavy b, place, r becomes a, heavy, b place r
-module _ (turn : Bool) (N0 : List Node) (place heavy : ℕ) (a b r : Tree) (h : CanRebalance N0 place (branch turn a heavy b) r) where
+module _ (turn : Bool) (N0 : List Node) (place heavy : ℕ) (a b r : Tree) (h : CanRebalance N0 place (branch turn a heavy b) r) (two : height (branch turn a heavy b) ≡ height r + 2) where
   below_heavy : Parts N0 turn a heavy b
   below_heavy = parts N0 turn a heavy b h.link.near_shown
+
+  levels : Level a b
+  levels = level turn a heavy b h.near_balanced
 
   -- how often a place stands in all of them
   each_once : (q : ℕ) → occurs q a + is_at q heavy + occurs q b + is_at q place + occurs q r ≤ 1
   each_once q = omega (arith, h.distinct q, occurs-branch q turn a heavy b)
 
-  heavy_within : heavy < length N0
-  heavy_within = slice_get_within N0 heavy (node_on turn a b) below_heavy.node
+  -- how high the inner tree is
+  inner_level : (height b ≤ height r + 1) × (height r ≤ height b + 1)
+  inner_level = let lv = levels in let tall = height-branch turn a heavy b in (omega arith, omega arith)
 
-  pub single_first : CanLink N0 place b r
-  single_first = record {
-    has_cell = h.link.has_cell;
-    near_shown = below_heavy.far_shown;
-    far_shown = h.link.far_shown;
-    room = let f = h.link.room in omega (arith, size-branch turn a heavy b);
-    near_low = let f = h.link.near_low in omega (arith, height-branch turn a heavy b);
-    far_low = h.link.far_low;
-    fits = let f = h.link.fits in omega (arith, size-branch turn a heavy b);
-  }
+  pub single_first : CanRebalance N0 place b r
+  single_first =
+      can_link N0 place b r h.link.has_cell below_heavy.far_shown h.link.far_shown (λ q. omega (arith, each_once q)) levels.far_balanced h.far_balanced
+      (omega (arith, inner_level)) (omega (arith, inner_level)) (omega (arith, h.link.fits, size-branch turn a heavy b))
 
   module _ (N1 : List Node) (e1 : N1 ≡ slice_set N0 place (node_on turn b r)) where
-    outer_shown : Shows N1 a
-    outer_shown =
-        let d = each_once place in
-        let z = is_at-same place in
-        Shows-keeps N0 N1 a place (node_on turn b r) e1 (omega arith) below_heavy.near_shown
+    lower : IsRebalanced N0 N1 turn place b r (branch turn b place r)
+    lower = no_rotation N0 N1 turn place b r single_first inner_level.0 inner_level.1 e1
 
-    lower_shown : Shows N1 (branch turn b place r)
-    lower_shown =
-        let d = each_once place in
-        let z = is_at-same place in
-        Shows-linked N0 N1 turn b place r e1 h.link.has_cell (omega arith) (omega arith) below_heavy.far_shown h.link.far_shown
+    pub single_second : CanRebalance N1 heavy a (branch turn b place r)
+    single_second =
+        let lv = levels in
+        let tall = height-branch turn a heavy b in
+        let low = height-branch turn b place r in
+        can_link N1 heavy a (branch turn b place r) (omega (arith, lower.same_length, slice_get_within N0 heavy (node_on turn a b) below_heavy.node))
+        (Shows-frame N0 N1 a (λ q n. lower.same_elsewhere q (omega (arith, each_once q))) below_heavy.near_shown) lower.shown
+        (λ q. omega (arith, each_once q, lower.same_places q)) levels.near_balanced lower.balanced
+        (omega arith) (omega arith) (omega (arith, h.link.fits, size-branch turn a heavy b, size-branch turn b place r))
 
-    many : length N1 ≡ length N0
-    many = rw (e1, length-set) refl
-
-    pub single_second : height (branch turn a heavy b) ≡ height r + 2 → CanLink N1 heavy a (branch turn b place r)
-    single_second two = record {
-      has_cell = rw many heavy_within;
-      near_shown = outer_shown;
-      far_shown = lower_shown;
-      room = rw many (let f = h.link.room in omega (arith, size-branch turn a heavy b, size-branch turn b place r));
-      near_low = rw many (let f = h.link.near_low in omega (arith, height-branch turn a heavy b));
-      far_low = rw many (let f = h.link.near_low in omega (arith, two, height-branch turn a heavy b, height-branch turn b place r));
-      fits = let f = h.link.fits in omega (arith, size-branch turn a heavy b, size-branch turn b place r);
-    }
-
-    pub single_done : (N2 : List Node) → N2 ≡ slice_set N1 heavy (node_on turn a (branch turn b place r)) → height (branch turn a heavy b) ≡ height r + 2 → height b ≤ height a → IsRebalanced N0 N2 turn place (branch turn a heavy b) r (branch turn a heavy (branch turn b place r))
-    single_done N2 e2 two le =
-        let d = each_once heavy in
-        let z = is_at-same heavy in
-        let lv = level turn a heavy b h.near_balanced in
-        let l1 = lv.near_level in
-        let l2 = lv.far_level in
-        let hu = height-branch turn a heavy b in
-        let hl = height-branch turn b place r in
-        let ht = height-branch turn a heavy (branch turn b place r) in
+    pub single_done : (N2 : List Node) → N2 ≡ slice_set N1 heavy (node_on turn a (branch turn b place r)) → height b ≤ height a → IsRebalanced N0 N2 turn place (branch turn a heavy b) r (branch turn a heavy (branch turn b place r))
+    single_done N2 e2 le =
+        let lv = levels in
+        let tall = height-branch turn a heavy b in
+        let low = height-branch turn b place r in
+        let all = height-branch turn a heavy (branch turn b place r) in
+        let done = no_rotation N1 N2 turn heavy a (branch turn b place r) single_second (omega arith) (omega arith) e2 in
         record {
-          shown = Shows-linked N1 N2 turn a heavy (branch turn b place r) e2 (single_second two).has_cell (omega arith) (omega (arith, occurs-branch heavy turn b place r)) outer_shown lower_shown;
+          shown = done.shown;
           in_order = single_reading turn a heavy b place r;
-          same_places = λ q. omega (arith, occurs-branch q turn a heavy (branch turn b place r), occurs-branch q turn b place r, occurs-branch q turn a heavy b);
-          balanced = IsBalanced-branch turn a heavy (branch turn b place r) record {
-            near_level = omega arith;
-            far_level = omega arith;
-            near_balanced = lv.near_balanced;
-            far_balanced = IsBalanced-branch turn b place r record { near_level = omega arith; far_level = omega arith; near_balanced = lv.far_balanced; far_balanced = h.far_balanced };
-          };
+          same_places = λ q. omega (arith, done.same_places q, lower.same_places q, occurs-branch q turn a heavy b);
+          balanced = done.balanced;
           not_lower = omega arith;
           at_most_one_higher = omega arith;
           level = λ x y. absurd (omega arith);
-          same_elsewhere = λ q none.
-              let o = occurs-branch q turn a heavy b in
-              let n1 : is_at q heavy ≡ 0 = omega arith in
-              let n2 : is_at q place ≡ 0 = omega arith in
-              rw (e2, e1) (get-elsewhere (slice_set N0 place (node_on turn b r)) heavy q (node_on turn a (branch turn b place r)) (is_at-apart q heavy n1) ∙ get-elsewhere N0 place q (node_on turn b r) (is_at-apart q place n2));
-          same_length = rw (e2, length-set, e1, length-set) refl;
+          same_elsewhere = λ q none. let o = occurs-branch q turn a heavy b in done.same_elsewhere q (omega (arith, lower.same_places q)) ∙ lower.same_elsewhere q (omega arith);
+          same_length = done.same_length ∙ lower.same_length;
         }
 
 -- ---- two rotations: a heavy (b middle d), place, r becomes a heavy b, middle, d place r
-module _ (turn : Bool) (N0 : List Node) (place heavy middle : ℕ) (a b d r : Tree) (h : CanRebalance N0 place (branch turn a heavy (branch turn b middle d)) r) where
+module _ (turn : Bool) (N0 : List Node) (place heavy middle : ℕ) (a b d r : Tree) (h : CanRebalance N0 place (branch turn a heavy (branch turn b middle d)) r) (two : height (branch turn a heavy (branch turn b middle d)) ≡ height r + 2) (lt : height a < height (branch turn b middle d)) where
   upper : Parts N0 turn a heavy (branch turn b middle d)
   upper = parts N0 turn a heavy (branch turn b middle d) h.link.near_shown
 
   inner : Parts N0 turn b middle d
   inner = parts N0 turn b middle d upper.far_shown
+
+  upper_levels : Level a (branch turn b middle d)
+  upper_levels = level turn a heavy (branch turn b middle d) h.near_balanced
+
+  inner_levels : Level b d
+  inner_levels = level turn b middle d upper_levels.far_balanced
 
   -- how often a place stands in all of them
   all_once : (q : ℕ) → occurs q a + is_at q heavy + occurs q b + is_at q middle + occurs q d + is_at q place + occurs q r ≤ 1
@@ -134,147 +135,124 @@ module _ (turn : Bool) (N0 : List Node) (place heavy middle : ℕ) (a b d r : Tr
   all_fit : size a + size b + size d + size r + 3 < 2 ^ 64
   all_fit = omega (arith, h.link.fits, size-branch turn a heavy (branch turn b middle d), size-branch turn b middle d)
 
-  all_room : size a + size b + size d + size r + 3 ≤ length N0
-  all_room = omega (arith, h.link.room, size-branch turn a heavy (branch turn b middle d), size-branch turn b middle d)
+  -- how high they are
+  record Even : Type 0 where
+    outer : height a ≡ height r
+    near : (height b ≤ height r) × (height r ≤ height b + 1)
+    far : (height d ≤ height r) × (height r ≤ height d + 1)
+    one : max (height b) (height d) + 1 ≡ height r + 1
 
-  -- and how high they are
-  all_low : (height a + 1 ≤ most_height (length N0)) × (height b + 2 ≤ most_height (length N0)) × (height d + 2 ≤ most_height (length N0)) × (height r ≤ most_height (length N0))
-  all_low =
-      let u = height-branch turn a heavy (branch turn b middle d) in
-      let i = height-branch turn b middle d in
-      let n = h.link.near_low in
-      (omega arith, omega arith, omega arith, h.link.far_low)
+  even : Even
+  even =
+      let lu = upper_levels in
+      let li = inner_levels in
+      let tall = height-branch turn a heavy (branch turn b middle d) in
+      let low = height-branch turn b middle d in
+      record { outer = omega arith; near = (omega arith, omega arith); far = (omega arith, omega arith); one = omega arith }
 
-  pub double_first : CanLink N0 heavy a b
-  double_first = record {
-    has_cell = slice_get_within N0 heavy (node_on turn a (branch turn b middle d)) upper.node;
-    near_shown = upper.near_shown;
-    far_shown = inner.near_shown;
-    room = let f = all_room in omega arith;
-    near_low = let t = all_low in omega arith;
-    far_low = let t = all_low in omega arith;
-    fits = let f = all_fit in omega arith;
-  }
+  pub double_first : CanRebalance N0 heavy a b
+  double_first =
+      let v = even in
+      can_link N0 heavy a b (slice_get_within N0 heavy (node_on turn a (branch turn b middle d)) upper.node) upper.near_shown inner.near_shown
+      (λ q. omega (arith, all_once q)) upper_levels.near_balanced inner_levels.near_balanced (omega arith) (omega arith) (omega (arith, all_fit))
 
   module _ (N1 : List Node) (e1 : N1 ≡ slice_set N0 heavy (node_on turn a b)) where
-    pub double_second : CanLink N1 place d r
-    double_second =
-        let o = all_once heavy in
-        let z = is_at-same heavy in
-        record {
-          has_cell = rw (e1, length-set) h.link.has_cell;
-          near_shown = Shows-keeps N0 N1 d heavy (node_on turn a b) e1 (omega arith) inner.far_shown;
-          far_shown = Shows-keeps N0 N1 r heavy (node_on turn a b) e1 (omega arith) h.link.far_shown;
-          room = rw (e1, length-set) (let f = all_room in omega arith);
-          near_low = rw (e1, length-set) (let t = all_low in omega arith);
-          far_low = rw (e1, length-set) h.link.far_low;
-          fits = let f = all_fit in omega arith;
-        }
+    near_side : IsRebalanced N0 N1 turn heavy a b (branch turn a heavy b)
+    near_side = let v = even in no_rotation N0 N1 turn heavy a b double_first (omega arith) (omega arith) e1
 
-    heavy_shown : Shows N1 (branch turn a heavy b)
-    heavy_shown =
-        let o = all_once heavy in
-        let z = is_at-same heavy in
-        Shows-linked N0 N1 turn a heavy b e1 double_first.has_cell (omega arith) (omega arith) upper.near_shown inner.near_shown
+    -- what they do not hold is as it was
+    kept : (t : Tree) → ((q : ℕ) → occurs q a + is_at q heavy + occurs q b + occurs q t ≤ 1) → Shows N0 t → Shows N1 t
+    kept t apart shown = Shows-frame N0 N1 t (λ q n. near_side.same_elsewhere q (omega (arith, apart q))) shown
+
+    pub double_second : CanRebalance N1 place d r
+    double_second =
+        let v = even in
+        can_link N1 place d r (omega (arith, near_side.same_length, h.link.has_cell)) (kept d (λ q. omega (arith, all_once q)) inner.far_shown) (kept r (λ q. omega (arith, all_once q)) h.link.far_shown)
+        (λ q. omega (arith, all_once q)) inner_levels.far_balanced h.far_balanced (omega arith) (omega arith) (omega (arith, all_fit))
 
     module _ (N2 : List Node) (e2 : N2 ≡ slice_set N1 place (node_on turn d r)) where
-      pub double_third : height (branch turn a heavy (branch turn b middle d)) ≡ height r + 2 → CanLink N2 middle (branch turn a heavy b) (branch turn d place r)
-      double_third two =
-          let o = all_once place in
-          let z = is_at-same place in
-          record {
-            has_cell = rw (e2, length-set, e1, length-set) (slice_get_within N0 middle (node_on turn b d) inner.node);
-            near_shown = Shows-keeps N1 N2 (branch turn a heavy b) place (node_on turn d r) e2 (omega (arith, occurs-branch place turn a heavy b)) heavy_shown;
-            far_shown = Shows-linked N1 N2 turn d place r e2 double_second.has_cell (omega arith) (omega arith) double_second.near_shown double_second.far_shown;
-            room = rw (e2, length-set, e1, length-set) (omega (arith, all_room, size-branch turn a heavy b, size-branch turn d place r));
-            near_low = rw (e2, length-set, e1, length-set) (omega (arith, all_low.0, all_low.1, height-branch turn a heavy b));
-            far_low = rw (e2, length-set, e1, length-set) (let n = h.link.near_low in omega (arith, all_low.2, two, height-branch turn d place r));
-            fits = omega (arith, all_fit, size-branch turn a heavy b, size-branch turn d place r);
-          }
+      far_side : IsRebalanced N1 N2 turn place d r (branch turn d place r)
+      far_side = let v = even in no_rotation N1 N2 turn place d r double_second (omega arith) (omega arith) e2
 
-      pub double_done : (N3 : List Node) → N3 ≡ slice_set N2 middle (node_on turn (branch turn a heavy b) (branch turn d place r)) → height (branch turn a heavy (branch turn b middle d)) ≡ height r + 2 → height a < height (branch turn b middle d) → IsRebalanced N0 N3 turn place (branch turn a heavy (branch turn b middle d)) r (branch turn (branch turn a heavy b) middle (branch turn d place r))
-      double_done N3 e3 two lt =
-          let o = all_once middle in
-          let z = is_at-same middle in
-          let lu = level turn a heavy (branch turn b middle d) h.near_balanced in
-          let li = level turn b middle d lu.far_balanced in
-          let u1 = lu.near_level in
-          let u2 = lu.far_level in
-          let i1 = li.near_level in
-          let i2 = li.far_level in
-          let hu = height-branch turn a heavy (branch turn b middle d) in
-          let hi = height-branch turn b middle d in
+      pub double_third : CanRebalance N2 middle (branch turn a heavy b) (branch turn d place r)
+      double_third =
+          let v = even in
           let hn = height-branch turn a heavy b in
           let hf = height-branch turn d place r in
-          let ht = height-branch turn (branch turn a heavy b) middle (branch turn d place r) in
+          can_link N2 middle (branch turn a heavy b) (branch turn d place r) (omega (arith, far_side.same_length, near_side.same_length, slice_get_within N0 middle (node_on turn b d) inner.node))
+          (Shows-frame N1 N2 (branch turn a heavy b) (λ q n. far_side.same_elsewhere q (omega (arith, all_once q, near_side.same_places q))) near_side.shown) far_side.shown
+          (λ q. omega (arith, all_once q, near_side.same_places q, far_side.same_places q)) near_side.balanced far_side.balanced
+          (omega arith) (omega arith) (omega (arith, all_fit, size-branch turn a heavy b, size-branch turn d place r))
+
+      pub double_done : (N3 : List Node) → N3 ≡ slice_set N2 middle (node_on turn (branch turn a heavy b) (branch turn d place r)) → IsRebalanced N0 N3 turn place (branch turn a heavy (branch turn b middle d)) r (branch turn (branch turn a heavy b) middle (branch turn d place r))
+      double_done N3 e3 =
+          let v = even in
+          let hn = height-branch turn a heavy b in
+          let hf = height-branch turn d place r in
+          let all = height-branch turn (branch turn a heavy b) middle (branch turn d place r) in
+          let done = no_rotation N2 N3 turn middle (branch turn a heavy b) (branch turn d place r) double_third (omega arith) (omega arith) e3 in
           record {
-            shown = Shows-linked N2 N3 turn (branch turn a heavy b) middle (branch turn d place r) e3 (double_third two).has_cell (omega (arith, occurs-branch middle turn a heavy b)) (omega (arith, occurs-branch middle turn d place r)) (double_third two).near_shown (double_third two).far_shown;
+            shown = done.shown;
             in_order = double_reading turn a heavy b middle d place r;
-            same_places = λ q. omega (arith, occurs-branch q turn (branch turn a heavy b) middle (branch turn d place r), occurs-branch q turn a heavy b, occurs-branch q turn d place r, occurs-branch q turn a heavy (branch turn b middle d), occurs-branch q turn b middle d);
-            balanced = IsBalanced-branch turn (branch turn a heavy b) middle (branch turn d place r) record {
-              near_level = omega arith;
-              far_level = omega arith;
-              near_balanced = IsBalanced-branch turn a heavy b record { near_level = omega arith; far_level = omega arith; near_balanced = lu.near_balanced; far_balanced = li.near_balanced };
-              far_balanced = IsBalanced-branch turn d place r record { near_level = omega arith; far_level = omega arith; near_balanced = li.far_balanced; far_balanced = h.far_balanced };
-            };
+            same_places = λ q. omega (arith, done.same_places q, near_side.same_places q, far_side.same_places q, occurs-branch q turn a heavy (branch turn b middle d), occurs-branch q turn b middle d);
+            balanced = done.balanced;
             not_lower = omega arith;
             at_most_one_higher = omega arith;
             level = λ x y. absurd (omega arith);
             same_elsewhere = λ q none.
                 let ou = occurs-branch q turn a heavy (branch turn b middle d) in
                 let oi = occurs-branch q turn b middle d in
-                let n1 : is_at q heavy ≡ 0 = omega arith in
-                let n2 : is_at q place ≡ 0 = omega arith in
-                let n3 : is_at q middle ≡ 0 = omega arith in
-                rw (e3, e2, e1) (get-elsewhere (slice_set (slice_set N0 heavy (node_on turn a b)) place (node_on turn d r)) middle q (node_on turn (branch turn a heavy b) (branch turn d place r)) (is_at-apart q middle n3)
-                ∙ get-elsewhere (slice_set N0 heavy (node_on turn a b)) place q (node_on turn d r) (is_at-apart q place n2)
-                ∙ get-elsewhere N0 heavy q (node_on turn a b) (is_at-apart q heavy n1));
-            same_length = rw (e3, length-set, e2, length-set, e1, length-set) refl;
+                done.same_elsewhere q (omega (arith, near_side.same_places q, far_side.same_places q)) ∙ far_side.same_elsewhere q (omega arith) ∙ near_side.same_elsewhere q (omega arith);
+            same_length = done.same_length ∙ far_side.same_length ∙ near_side.same_length;
           }
 
 -- ---- the tree that is too high, as its nodes tell it
-module _ (turn : Bool) (N0 : List Node) (place heavy : ℕ) (upper_node : Node) (outer inner_root : Option ℕ) (n f : Tree) where
+module _ (turn : Bool) (N0 : List Node) (place heavy : ℕ) (n f : Tree) where
   -- its two trees
-  pub record Upper (a b : Tree) : Type 0 where
+  pub record Upper (outer inner : Option ℕ) (a b : Tree) : Type 0 where
     pub is : n ≡ branch turn a heavy b
     pub outer_stands : Stands N0 outer a
-    pub inner_stands : Stands N0 inner_root b
+    pub inner_stands : Stands N0 inner b
     pub can : CanRebalance N0 place (branch turn a heavy b) f
+    pub two : height (branch turn a heavy b) ≡ height f + 2
 
-  pub upper_of : CanRebalance N0 place n f → root_of n ≡ Some heavy → slice_get N0 heavy ≡ Some upper_node → outer ≡ near_of turn upper_node → inner_root ≡ far_of turn upper_node → (a : Tree) × (b : Tree) × Upper a b
-  upper_of h root e near far =
-      let (a, b, o) = opened_on N0 (Some heavy) heavy turn upper_node n record { root_is = root; shown = h.link.near_shown } refl e in (
+  pub upper_of : (node : Node) (outer inner : Option ℕ) → CanRebalance N0 place n f → root_of n ≡ Some heavy → height n ≡ height f + 2 → slice_get N0 heavy ≡ Some node → outer ≡ near_of turn node → inner ≡ far_of turn node → (a : Tree) × (b : Tree) × Upper outer inner a b
+  upper_of node outer inner h root two e near far =
+      let (a, b, o) = opened_on N0 (Some heavy) heavy turn node n record { root_is = root; shown = h.link.near_shown } refl e in (
         a,
         b,
         record {
           is = o.is;
-          outer_stands = Stands-at N0 (near_of turn upper_node) outer a (sym near) o.near_stands;
-          inner_stands = Stands-at N0 (far_of turn upper_node) inner_root b (sym far) o.far_stands;
+          outer_stands = rw near o.near_stands;
+          inner_stands = rw far o.far_stands;
           can = subst (λ x. CanRebalance N0 place x f) o.is h;
+          two = ap height (sym o.is) ∙ two;
         },
       )
 
   -- the two trees of the inner one
-  pub record Inner (middle : ℕ) (near far : Option ℕ) (a b d : Tree) : Type 0 where
+  pub record Inner (middle : ℕ) (outer near far : Option ℕ) (a b d : Tree) : Type 0 where
     pub is : n ≡ branch turn a heavy (branch turn b middle d)
     pub outer_stands : Stands N0 outer a
-    pub inner_stands : Stands N0 inner_root (branch turn b middle d)
     pub near_stands : Stands N0 near b
     pub far_stands : Stands N0 far d
     pub can : CanRebalance N0 place (branch turn a heavy (branch turn b middle d)) f
+    pub two : height (branch turn a heavy (branch turn b middle d)) ≡ height f + 2
+    pub lt : height a < height (branch turn b middle d)
 
-  pub inner_of : (a b : Tree) → Upper a b → (middle : ℕ) → inner_root ≡ Some middle → (inner_node : Node) → slice_get N0 middle ≡ Some inner_node → (near far : Option ℕ) → near ≡ near_of turn inner_node → far ≡ far_of turn inner_node → (b2 : Tree) × (d : Tree) × Inner middle near far a b2 d
-  inner_of a b u middle some inner_node e near far en ef =
-      let (b2, d, o) = opened_on N0 inner_root middle turn inner_node b u.inner_stands some e in (
-        b2,
+  pub inner_of : (outer inner : Option ℕ) (a x : Tree) → Upper outer inner a x → height a < height x → (middle : ℕ) → inner ≡ Some middle → (node : Node) → slice_get N0 middle ≡ Some node → (near far : Option ℕ) → near ≡ near_of turn node → far ≡ far_of turn node → (b : Tree) × (d : Tree) × Inner middle outer near far a b d
+  inner_of outer inner a x u lt middle some node e near far en ef =
+      let (b, d, o) = opened_on N0 inner middle turn node x u.inner_stands some e in (
+        b,
         d,
         record {
-          is = u.is ∙ ap (λ x. branch turn a heavy x) o.is;
+          is = u.is ∙ ap (λ y. branch turn a heavy y) o.is;
           outer_stands = u.outer_stands;
-          inner_stands = subst (λ x. Stands N0 inner_root x) o.is u.inner_stands;
-          near_stands = Stands-at N0 (near_of turn inner_node) near b2 (sym en) o.near_stands;
-          far_stands = Stands-at N0 (far_of turn inner_node) far d (sym ef) o.far_stands;
-          can = subst (λ x. CanRebalance N0 place (branch turn a heavy x) f) o.is u.can;
+          near_stands = rw en o.near_stands;
+          far_stands = rw ef o.far_stands;
+          can = subst (λ y. CanRebalance N0 place (branch turn a heavy y) f) o.is u.can;
+          two = ap (λ y. height (branch turn a heavy y)) (sym o.is) ∙ u.two;
+          lt = omega (arith, lt, ap height o.is);
         },
       )
 
@@ -284,22 +262,8 @@ rebalanced_of old new turn place n x f t e h = subst (λ y. IsRebalanced old new
 
 -- the same from the other side
 pub can_turned : (ns : List Node) (place : ℕ) (n f : Tree) → CanRebalance ns place n f → CanRebalance ns place f n
-can_turned ns place n f h = record {
-  link = record {
-    has_cell = h.link.has_cell;
-    near_shown = h.link.far_shown;
-    far_shown = h.link.near_shown;
-    room = let z = h.link.room in omega arith;
-    near_low = h.link.far_low;
-    far_low = h.link.near_low;
-    fits = let z = h.link.fits in omega arith;
-  };
-  distinct = λ q. let d = h.distinct q in omega arith;
-  near_balanced = h.far_balanced;
-  far_balanced = h.near_balanced;
-  near_level = h.far_level;
-  far_level = h.near_level;
-}
+can_turned ns place n f h =
+    can_link ns place f n h.link.has_cell h.link.far_shown h.link.near_shown (λ q. omega (arith, h.distinct q)) h.far_balanced h.near_balanced h.far_level h.near_level (omega (arith, h.link.fits))
 
 pub turned : (old new : List Node) (turn : Bool) (place : ℕ) (n f t : Tree) → IsRebalanced old new (not turn) place f n t → IsRebalanced old new turn place n f t
 turned old new turn place n f t h =
