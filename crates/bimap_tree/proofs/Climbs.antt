@@ -78,7 +78,7 @@ module _ (ns : List Node) (places : List ℕ) (turns : List Bool) (grew : Bool) 
 
       pub climbs_on : (node : Node) → slice_get now at ≡ Some node → (new : List Node) (after : Tree → Tree → Type 0) → ((sister x t : Tree) → CanRelink now at turn grew node sister x t → next x t → (y : Tree) × Raised new after sister x t y) → Climbs new (depth - 1) after
       climbs_on node told new after raise = record {
-        deep = let few = d.deep in omega arith;
+        deep = omega arith;
         alike = λ path s u c. let (low, x, t, r, e, n, f) = d.alike path s u c in
             let (up, sister, i) = last_step now places turns grew x t depth low r e more at turn p q in
             let (y, z) = raise sister x t (can_relink now places turns grew x t up turn at sister i.here node told) n in (

@@ -53,7 +53,6 @@ tally_contains (x ∷ xs) q h =
       | inl w ↦ (0, omega arith, sym w.1)
       | inr w ↦
           let c = tally_contains xs q (omega (arith, is_at-other q x w.1)) in
-          let b = c.1 in
           (suc c.0, omega arith, c.2)
     ]
 

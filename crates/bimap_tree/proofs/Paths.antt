@@ -108,10 +108,8 @@ Wants-alike go other (below up turn p sister) same w = (same p (omega (arith, is
 pub Holds-alike : (ns : List Node) (path : Path) (s t : Tree) → height t ≡ height s → size t ≡ size s → Holds ns path s → Holds ns path t
 Holds-alike ns top s t a b h = tt
 Holds-alike ns (below up turn p sister) s t a b h =
-    let told = h.0.2 in
-    let e1 = told.height_is in
-    let e2 = told.size_is in (
-      (h.0.0, h.0.1, record { far_is = told.far_is; height_is = omega arith; size_is = omega arith }),
+    (
+      (h.0.0, h.0.1, record { far_is = h.0.2.far_is; height_is = omega arith; size_is = omega arith }),
       h.1,
       Holds-alike ns up (branch turn s p sister) (branch turn t p sister)
           (omega (arith, height-branch turn s p sister, height-branch turn t p sister, a))
@@ -123,7 +121,5 @@ pub IsBalanced-alike : (path : Path) (s t : Tree) → height t ≡ height s → 
 IsBalanced-alike top s t same b h = b
 IsBalanced-alike (below up turn p sister) s t same b h =
     let lv = level turn s p sister (balanced_inside up (branch turn s p sister) h) in
-    let l1 = lv.near_level in
-    let l2 = lv.far_level in
     IsBalanced-alike up (branch turn s p sister) (branch turn t p sister) (omega (arith, height-branch turn s p sister, height-branch turn t p sister, same))
     (IsBalanced-branch turn t p sister record { near_level = omega arith; far_level = omega arith; near_balanced = b; far_balanced = lv.far_balanced }) h

@@ -27,24 +27,10 @@ module _ (nodes : List Node) (at depth : ℕ) (node : Node) (s : Tree) (h : CanD
     pub left_stands : Stands nodes node.left l
     pub here : depth < 128
     pub deeper : depth + 1 + height l ≤ 128
-    pub lower : height_at nodes node.left < height_at nodes (Some at)
-    pub low : height l + 1 ≤ height s
-
   pub descent : (l : Tree) × (r : Tree) × Descent l r
   descent =
       let (l, r, o) = opened nodes (Some at) at node s h.tree refl told in
-      let tall = ap height o.is in (
-        l,
-        r,
-        record {
-          is = o.is;
-          left_stands = o.left_stands;
-          here = omega (arith, h.deep, tall);
-          deeper = omega (arith, h.deep, tall);
-          lower = omega (arith, height_told nodes (Some at) s h.tree, height_told nodes node.left l o.left_stands, tall);
-          low = omega (arith, tall);
-        },
-      )
+      (l, r, record { is = o.is; left_stands = o.left_stands; here = omega (arith, h.deep, ap height o.is); deeper = omega (arith, h.deep, ap height o.is) })
 
   -- it is this place, which has no left child
   pub first_here : node.left ≡ None → (route : Route) → (lefts : List (ℕ × Tree)) × (rest : Tree) × IsFirst route route depth s at depth lefts rest
@@ -134,17 +120,8 @@ Holds-onward ns ms path (x ∷ xs) s same h shown =
     Holds-onward ns ms (below path false x.0 x.1) xs s (λ q o. same q (omega arith)) step shown.1
 
 -- a place alone above one tree is one place more
-pub left_alone : (t : Tree) (at : ℕ) (l : Tree) → l ≡ leaf → Moves false (fork l at t) t
-left_alone t at l e =
-    let h : height l ≡ 0 = ap height e in
-    let z : size l ≡ 0 = ap size e in
-    record { sizes = omega arith; not_lower = omega arith; not_higher = omega arith }
-
-pub right_alone : (t : Tree) (at : ℕ) (r : Tree) → r ≡ leaf → Moves false (fork t at r) t
-right_alone t at r e =
-    let h : height r ≡ 0 = ap height e in
-    let z : size r ≡ 0 = ap size e in
-    record { sizes = omega arith; not_lower = omega arith; not_higher = omega arith }
+one_less : (s t : Tree) → size s ≡ size t + 1 → height s ≡ height t + 1 → Moves false s t
+one_less s t few low = record { sizes = omega arith; not_lower = omega arith; not_higher = omega arith }
 
 -- ---- the place at the path's end
 module _ (nodes : List Node) (route : Route) (path : Path) (l : Tree) (at : ℕ) (r : Tree) (h : CanTake nodes route path l at r) where
@@ -179,56 +156,50 @@ module _ (nodes : List Node) (route : Route) (path : Path) (l : Tree) (at : ℕ)
   balanced_here : IsBalanced (fork l at r)
   balanced_here = balanced_inside path (fork l at r) h.balanced
 
-  -- there is no left tree, and the right one rises, or the other way round
-  pub rises_right : (node : Node) → slice_get nodes at ≡ Some node → node.left ≡ None → CanRise nodes route.places route.turns path false (fork l at r) r
-  rises_right node e none = record {
+  -- a tree that is all there is below the place rises in its position
+  rises : (t : Tree) → Shows nodes t → IsBalanced t → ((q : ℕ) → occurs q t ≤ occurs q (fork l at r)) → Moves false (fork l at r) t → CanRise nodes route.places route.turns path false (fork l at r) t
+  rises t shown balanced few moves = record {
     follows = h.follows;
     holds = (holds_of nodes path (fork l at r) h.shown).0;
-    shown = shown_here.2;
-    distinct = λ q. omega (arith, once q);
+    shown = shown;
+    distinct = λ q. omega (arith, once q, few q);
     steady = h.balanced;
-    balanced = balanced_here.3;
+    balanced = balanced;
     fits = omega (arith, fit);
-    moves = left_alone r at l (no_root l ((left_tree node e).root_is ∙ none));
+    moves = moves;
   }
 
-  pub rises_left : (node : Node) → slice_get nodes at ≡ Some node → node.right ≡ None → CanRise nodes route.places route.turns path false (fork l at r) l
-  rises_left node e none = record {
-    follows = h.follows;
-    holds = (holds_of nodes path (fork l at r) h.shown).0;
-    shown = shown_here.1;
-    distinct = λ q. omega (arith, once q);
-    steady = h.balanced;
-    balanced = balanced_here.2;
-    fits = omega (arith, fit);
-    moves = right_alone l at r (no_root r ((right_tree node e).root_is ∙ none));
-  }
+  taken : (t : Tree) → reading t ≡ reading l ++ reading r → ((q : ℕ) → occurs q t ≡ occurs q l + occurs q r) → (new : List Node) (root : Option ℕ) → (v : Tree) × IsRisen nodes new path t root v → (v : Tree) × IsTaken nodes new path l r root v
+  taken t reads counts new root (v, i) = (
+    v,
+    record {
+      tree = i.tree;
+      in_order = i.in_order ∙ ap (λ x. front path ++ x ++ back path) reads ∙ simp append_assoc;
+      same_places = λ q. omega (arith, i.same_places q, counts q);
+      balanced = i.balanced;
+      same_length = i.same_length;
+    },
+  )
 
-  pub taken_right : (node : Node) → slice_get nodes at ≡ Some node → node.left ≡ None → (new : List Node) (root : Option ℕ) → (v : Tree) × IsRisen nodes new path r root v → (v : Tree) × IsTaken nodes new path l r root v
-  taken_right node e none new root (v, i) =
-      let no = no_root l ((left_tree node e).root_is ∙ none) in (
-        v,
-        record {
-          tree = i.tree;
-          in_order = i.in_order ∙ ap (λ x. x ++ reading r ++ back path) (sym (ap (λ x. front path ++ reading x) no ∙ append-nil (front path)));
-          same_places = λ q. omega (arith, i.same_places q, ap (λ x. occurs q x) no);
-          balanced = i.balanced;
-          same_length = i.same_length;
-        },
-      )
+  -- there is no left tree, and it is the right one, or the other way round
+  module _ (node : Node) (e : slice_get nodes at ≡ Some node) where
+    pub rises_right : node.left ≡ None → CanRise nodes route.places route.turns path false (fork l at r) r
+    rises_right none =
+        let no = no_root l ((left_tree node e).root_is ∙ none) in
+        rises r shown_here.2 balanced_here.3 (λ q. omega arith) (one_less (fork l at r) r (omega (arith, ap size no)) (omega (arith, ap height no)))
 
-  pub taken_left : (node : Node) → slice_get nodes at ≡ Some node → node.right ≡ None → (new : List Node) (root : Option ℕ) → (v : Tree) × IsRisen nodes new path l root v → (v : Tree) × IsTaken nodes new path l r root v
-  taken_left node e none new root (v, i) =
-      let no = no_root r ((right_tree node e).root_is ∙ none) in (
-        v,
-        record {
-          tree = i.tree;
-          in_order = i.in_order ∙ ap (λ x. x ++ back path) (sym (ap (λ x. (front path ++ reading l) ++ reading x) no ∙ append-nil (front path ++ reading l)));
-          same_places = λ q. omega (arith, i.same_places q, ap (λ x. occurs q x) no);
-          balanced = i.balanced;
-          same_length = i.same_length;
-        },
-      )
+    pub rises_left : node.right ≡ None → CanRise nodes route.places route.turns path false (fork l at r) l
+    rises_left none =
+        let no = no_root r ((right_tree node e).root_is ∙ none) in
+        rises l shown_here.1 balanced_here.2 (λ q. omega arith) (one_less (fork l at r) l (omega (arith, ap size no)) (omega (arith, ap height no)))
+
+    pub taken_right : node.left ≡ None → (new : List Node) (root : Option ℕ) → (v : Tree) × IsRisen nodes new path r root v → (v : Tree) × IsTaken nodes new path l r root v
+    taken_right none = let no = no_root l ((left_tree node e).root_is ∙ none) in taken r (ap (λ x. reading x ++ reading r) (sym no)) (λ q. omega (arith, ap (λ x. occurs q x) no))
+
+    pub taken_left : node.right ≡ None → (new : List Node) (root : Option ℕ) → (v : Tree) × IsRisen nodes new path l root v → (v : Tree) × IsTaken nodes new path l r root v
+    taken_left none =
+        let no = no_root r ((right_tree node e).root_is ∙ none) in
+        taken l (sym (ap (λ x. reading l ++ reading x) no ∙ append-nil (reading l))) (λ q. omega (arith, ap (λ x. occurs q x) no))
 
   -- the way to the right tree's first place
   pub can_descend : (node : Node) → slice_get nodes at ≡ Some node → (right : ℕ) → node.right ≡ Some right → (depth : ℕ) → depth ≡ route.depth → CanDescend nodes right (depth + 1) r
@@ -236,13 +207,6 @@ module _ (nodes : List Node) (route : Route) (path : Path) (l : Tree) (at : ℕ)
     tree = Stands-at nodes node.right (Some right) r some (right_tree node e);
     deep = omega (arith, is, h.depth_is, depth_within);
   }
-
-  -- both children of its node are there
-  pub left_there : (node : Node) → slice_get nodes at ≡ Some node → IsThere (length nodes) node.left
-  left_there node e = there nodes node.left l (left_tree node e)
-
-  pub right_there : (node : Node) → slice_get nodes at ≡ Some node → IsThere (length nodes) node.right
-  right_there node e = there nodes node.right r (right_tree node e)
 
   -- a cell can keep its node
   pub kept : (node : Node) → slice_get nodes at ≡ Some node → (node.height ≤ most_height (length nodes) + 1) × (node.size ≤ length nodes)
@@ -321,7 +285,7 @@ module _ (nodes : List Node) (route : Route) (path : Path) (l : Tree) (at first 
           steady = subst (λ x. IsBalanced x) (sym (as_whole (fork leaf first rest))) (IsBalanced-alike path (fork l at (hang lefts (fork leaf first rest))) (fork l first (hang lefts (fork leaf first rest))) refl bal h.balanced);
           balanced = (balanced_inside (onward top lefts) (fork leaf first rest) (subst (λ x. IsBalanced x) (sym (plug-onward top lefts (fork leaf first rest))) bal.3)).3;
           fits = omega (arith, fit nodes route path l at (hang lefts (fork leaf first rest)) h, size-plug (onward (below path true first l) lefts) (fork leaf first rest), ap size (as_whole (fork leaf first rest)), size-plug path (fork l first (hang lefts (fork leaf first rest))));
-          moves = left_alone rest first leaf refl;
+          moves = one_less (fork leaf first rest) rest (omega arith) (omega arith);
         }
 
     pub taken_first : (last : List Node) (root : Option ℕ) → (v : Tree) × IsRisen new last (onward (below path true first l) lefts) rest root v → (v : Tree) × IsTaken nodes last path l (hang lefts (fork leaf first rest)) root v
@@ -346,10 +310,7 @@ pub first_followed : (path : Path) (l : Tree) (old mid : Route) (places : List �
 first_followed path l old mid places turns depth first low s lefts rest follows is i a b e f =
     let kept = Follows-frame old.places mid.places old.turns mid.turns path (λ j few. i.same_places j (omega (arith, is, few))) (λ j few. i.same_turns j (omega (arith, is, few))) follows in
     let noted = Follows-noted mid.places mid.turns path true first l (omega (arith, is, a, i.as_long.0)) (omega (arith, is, b, i.as_long.1)) kept in
-    let next : depth + 1 ≡ suc (steps path) = omega (arith, is) in
-    let on : FollowsOn mid.places mid.turns (suc (steps path)) lefts = subst (λ d. FollowsOn mid.places mid.turns d lefts) next i.follows in
-    let all : Follows (slice_set mid.places (steps path) first) (slice_set mid.turns (steps path) true) (onward (below path true first l) lefts) = Follows-onward (slice_set mid.places (steps path) first) (slice_set mid.turns (steps path) true) (below path true first l) lefts noted (FollowsOn-keeps mid.places mid.turns (steps path) first true (suc (steps path)) lefts (omega arith) on) in
-    let there : Follows (slice_set mid.places depth first) (slice_set mid.turns depth true) (onward (below path true first l) lefts) = subst (λ d. Follows (slice_set mid.places d first) (slice_set mid.turns d true) (onward (below path true first l) lefts)) (sym is) all in (
-      subst (λ x. Follows x turns (onward (below path true first l) lefts)) (sym e) (subst (λ x. Follows (slice_set mid.places depth first) x (onward (below path true first l) lefts)) (sym f) there),
+    let on : FollowsOn mid.places mid.turns (suc (steps path)) lefts = subst (λ d. FollowsOn mid.places mid.turns d lefts) (omega (arith, is)) i.follows in (
+      rw (e, f, is) (Follows-onward _ _ (below path true first l) lefts noted (FollowsOn-keeps mid.places mid.turns (steps path) first true (suc (steps path)) lefts (omega arith) on)),
       omega (arith, i.low_is, is, steps-onward (below path true first l) lefts),
     )

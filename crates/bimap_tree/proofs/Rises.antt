@@ -144,7 +144,6 @@ module _ (nodes : List Node) (places : List ℕ) (turns : List Bool) (grew : Boo
 
     pub can_relink : (node : Node) → slice_get nodes at ≡ Some node → CanRelink nodes at turn grew node sister s u
     can_relink node e =
-        let f = c.fits in
         let both : Some c.holds.0.0 ≡ Some node = sym c.holds.0.1 ∙ e in
         let same : c.holds.0.0 ≡ node = cc in
         record {
@@ -168,7 +167,7 @@ module _ (nodes : List Node) (places : List ℕ) (turns : List Bool) (grew : Boo
       distinct = λ q. let d = c.distinct q in omega (arith, b.same_places q);
       steady = c.steady;
       balanced = b.balanced;
-      fits = let f = c.fits in omega (arith, size-branch turn s at sister);
+      fits = omega (arith, size-branch turn s at sister);
       moves = m;
     }
 
@@ -215,7 +214,7 @@ module _ (nodes : List Node) (places : List ℕ) (turns : List Bool) (depth : �
         distinct = λ q. let d = h.distinct q in omega arith;
         steady = h.balanced;
         balanced = (omega arith, omega arith, tt, tt);
-        fits = let f = h.fits in omega arith;
+        fits = omega arith;
         moves = record { sizes = refl; not_lower = omega arith; not_higher = omega arith };
       }
 

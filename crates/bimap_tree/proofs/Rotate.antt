@@ -267,8 +267,6 @@ can_turned ns place n f h =
 
 pub turned : (old new : List Node) (turn : Bool) (place : ℕ) (n f t : Tree) → IsRebalanced old new (not turn) place f n t → IsRebalanced old new turn place n f t
 turned old new turn place n f t h =
-    let low = h.not_lower in
-    let high = h.at_most_one_higher in
     record {
       shown = h.shown;
       in_order = h.in_order ∙ ap reading (branch-not turn n place f);

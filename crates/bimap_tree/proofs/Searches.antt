@@ -23,7 +23,6 @@ pub seek_into : (ns : List Node) (root : Option ℕ) (at : ℕ) (node : Node) (l
 seek_into ns root at node live go t h e f =
     let (l, r, o) = opened ns root at node t h.tree e f in
     let h2 : CanSeek ns root live go (fork l at r) = subst (λ x. CanSeek ns root live go x) o.is h in
-    let few = h2.fits in
     let z = is_at-same at in (
       l,
       r,

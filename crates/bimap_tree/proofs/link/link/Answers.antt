@@ -7,11 +7,9 @@ use Rattle.bimap_tree.proofs.link.link.Goals.{then-near-far, else-near-far, then
 
 pub overflow_add-height : goal.overflow_add-height
 overflow_add-height g c =
-    let n = c.requires.3.height_is in
-    let f = c.requires.4.height_is in
     elim c.if-near-far.branch [
-      | then-near-far w ↦ omega (arith, c.requires.2.fits, n, f, w.taller-is, height_below_size c.requires.0, height_below_size c.requires.1)
-      | else-near-far w ↦ omega (arith, c.requires.2.fits, n, f, w.taller-is, height_below_size c.requires.0, height_below_size c.requires.1)
+      | then-near-far w ↦ omega (arith, c.requires.2.fits, w.taller-is, height_below_size c.requires.0, height_below_size c.requires.1)
+      | else-near-far w ↦ omega (arith, c.requires.2.fits, w.taller-is, height_below_size c.requires.0, height_below_size c.requires.1)
     ]
 
 pub write-requires-clause-left : goal.write-requires-clause-left
@@ -30,11 +28,9 @@ write-requires-clause-right g c =
 
 pub write-requires-clause-height : goal.write-requires-clause-height
 write-requires-clause-height g c =
-    let n = c.requires.3.height_is in
-    let f = c.requires.4.height_is in
     elim c.if-near-far.branch [
-      | then-near-far w ↦ omega (arith, c.requires.2.far_low, f, w.taller-is)
-      | else-near-far w ↦ omega (arith, c.requires.2.near_low, n, w.taller-is)
+      | then-near-far w ↦ omega (arith, c.requires.2.far_low, w.taller-is)
+      | else-near-far w ↦ omega (arith, c.requires.2.near_low, w.taller-is)
     ]
 
 pub write-requires-clause-size : goal.write-requires-clause-size

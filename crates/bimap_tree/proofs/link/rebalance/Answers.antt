@@ -21,13 +21,11 @@ rotate-requires-then-far-near g c =
     let h = c.requires.2 in
     let n = c.requires.3 in
     let f = c.requires.4 in
-    let level = h.far_level in
-    (c.requires.1, c.requires.0, can_turned _ _ _ _ h, f.root_is ∙ c.in-Some-root.is, n, omega (arith, level, c.if-far-near.true, n.height_is, f.height_is))
+    (c.requires.1, c.requires.0, can_turned _ _ _ _ h, f.root_is ∙ c.in-Some-root.is, n, omega (arith, c.if-far-near.true, n.height_is, f.height_is))
 
 pub returns-then-far-near-clause-tree : goal.returns-then-far-near-clause-tree
 returns-then-far-near-clause-tree g c n f h near far =
-    let level = h.far_level in
-    let (t, m, i) = c.rotate-then-far-near.ensures.tree f n (can_turned _ _ _ _ h) (far.root_is ∙ c.in-Some-root.is) near (omega (arith, level, c.if-far-near.true, near.height_is, far.height_is)) in
+    let (t, m, i) = c.rotate-then-far-near.ensures.tree f n (can_turned _ _ _ _ h) (far.root_is ∙ c.in-Some-root.is) near (omega (arith, c.if-far-near.true, near.height_is, far.height_is)) in
     (t, m, turned _ _ _ _ _ _ t i)
 
 pub returns-clause-tree : goal.returns-clause-tree

@@ -1,7 +1,8 @@
 use Rattle.std.proofs.Common.{arith, ap, ◌∙◌}
 use Rattle.bimap_tree.specs.Tree.{fork}
 use Rattle.bimap_tree.proofs.Paths.{steps_within}
-use Rattle.bimap_tree.proofs.Removes.{no_child, at_within, left_tree, right_tree, left_there, right_there, kept, depth_few, node_told, rises_left, rises_right, taken_left, taken_right, can_descend, low_within, first_within, rest_stands, was_height, rises_first, taken_first, first_followed, taking, taken_of}
+use Rattle.bimap_tree.proofs.Removes.{no_child, at_within, left_tree, right_tree, kept, depth_few, node_told, rises_left, rises_right, taken_left, taken_right, can_descend, low_within, first_within, rest_stands, was_height, rises_first, taken_first, first_followed, taking, taken_of}
+use Rattle.bimap_tree.proofs.Shown.{there}
 use Rattle.bimap_tree.proofs.remove.take_at.Goals as goal
 
 pub read-node-requires : goal.read-node-requires
@@ -66,23 +67,18 @@ measure-rest-requires g c =
     let (lefts, rest, i) = c.first_under-first.ensures.first _ (can_descend _ _ _ _ _ _ h _ c.read-node.ensures.node _ c.in-Some.is _ c.depth-depth.ensures) in
     (rest, rest_stands _ c.args.route.now c.requires.0 c.requires.1 c.args.at _ lefts rest (taking _ _ _ _ _ _ _ h i.whole) _ c.read-last.ensures.node)
 
-pub write-requires-clause-place : goal.write-requires-clause-place
-write-requires-clause-place g c =
+pub write-requires : goal.write-requires
+write-requires g c =
     let h = c.requires.3 in
     let (lefts, rest, i) = c.first_under-first.ensures.first _ (can_descend _ _ _ _ _ _ h _ c.read-node.ensures.node _ c.in-Some.is _ c.depth-depth.ensures) in
-    first_within _ c.args.route.now c.requires.0 c.requires.1 c.args.at _ lefts rest (taking _ _ _ _ _ _ _ h i.whole)
-
-pub write-requires-clause-left : goal.write-requires-clause-left
-write-requires-clause-left g c = left_there _ _ _ _ _ _ c.requires.3 _ c.read-node.ensures.node
-
-pub write-requires-clause-right : goal.write-requires-clause-right
-write-requires-clause-right g c = right_there _ _ _ _ _ _ c.requires.3 _ c.read-node.ensures.node
-
-pub write-requires-clause-height : goal.write-requires-clause-height
-write-requires-clause-height g c = (kept _ _ _ _ _ _ c.requires.3 _ c.read-node.ensures.node).0
-
-pub write-requires-clause-size : goal.write-requires-clause-size
-write-requires-clause-size g c = (kept _ _ _ _ _ _ c.requires.3 _ c.read-node.ensures.node).1
+    let (low, few) = kept _ _ _ _ _ _ h _ c.read-node.ensures.node in
+    record {
+      place = first_within _ c.args.route.now c.requires.0 c.requires.1 c.args.at _ lefts rest (taking _ _ _ _ _ _ _ h i.whole);
+      left = there _ _ _ (left_tree _ _ _ _ _ _ h _ c.read-node.ensures.node);
+      right = there _ _ _ (right_tree _ _ _ _ _ _ h _ c.read-node.ensures.node);
+      height = low;
+      size = few;
+    }
 
 pub note-requires : goal.note-requires
 note-requires g c =

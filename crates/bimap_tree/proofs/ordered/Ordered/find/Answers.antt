@@ -10,20 +10,13 @@ use Rattle.bimap_tree.proofs.ordered.Ordered.find.Goals as goal
 pub find_under-requires : goal.find_under-requires
 find_under-requires g c = (tree_in (nodes_in c.self.inside.cells) c.self.inside.root, can_seek _ _ _ _ c.self.invariant c.self.view_is _ _ g.met.K.Keys.total c.requires _)
 
-pub returns-clause-found : goal.returns-clause-found
-returns-clause-found g c =
+pub returns : goal.returns
+returns g c =
     let s = can_seek _ _ _ _ c.self.invariant c.self.view_is _ _ g.met.K.Keys.total c.requires c.args.key.now in
-    found_in (λ q. standing (g.K.Keys.key_at c.args.keys.now) g.K.Keys.order c.args.key.now q) _ _
-    (c.find_under.ensures.found _ s ∙ ap (λ x. first_equal (λ q. order_of g.K.Keys.order (g.K.Keys.key_at c.args.keys.now q) (Some c.args.key.now)) x) (places_are _ _ _ _ c.self.invariant c.self.view_is))
-
-pub returns-clause-none : goal.returns-clause-none
-returns-clause-none g c =
-    let s = can_seek _ _ _ _ c.self.invariant c.self.view_is _ _ g.met.K.Keys.total c.requires c.args.key.now in
-    none_in (λ q. standing (g.K.Keys.key_at c.args.keys.now) g.K.Keys.order c.args.key.now q) _ _
-    (c.find_under.ensures.found _ s ∙ ap (λ x. first_equal (λ q. order_of g.K.Keys.order (g.K.Keys.key_at c.args.keys.now q) (Some c.args.key.now)) x) (places_are _ _ _ _ c.self.invariant c.self.view_is))
-
-pub returns-clause-comparisons : goal.returns-clause-comparisons
-returns-clause-comparisons g c = omega (arith, c.find_under.ensures.comparisons _ c.self.invariant.index.tree, height_within _ _ _ _ c.self.invariant c.self.view_is)
-
-pub returns-clause-touches : goal.returns-clause-touches
-returns-clause-touches g c = omega (arith, c.find_under.ensures.touches _ c.self.invariant.index.tree, height_within _ _ _ _ c.self.invariant c.self.view_is)
+    let first = c.find_under.ensures.found _ s ∙ ap (λ x. first_equal (λ q. order_of g.K.Keys.order (g.K.Keys.key_at c.args.keys.now q) (Some c.args.key.now)) x) (places_are _ _ _ _ c.self.invariant c.self.view_is) in
+    record {
+      found = found_in (λ q. standing (g.K.Keys.key_at c.args.keys.now) g.K.Keys.order c.args.key.now q) _ _ first;
+      none = none_in (λ q. standing (g.K.Keys.key_at c.args.keys.now) g.K.Keys.order c.args.key.now q) _ _ first;
+      comparisons = omega (arith, c.find_under.ensures.comparisons _ c.self.invariant.index.tree, height_within _ _ _ _ c.self.invariant c.self.view_is);
+      touches = omega (arith, c.find_under.ensures.touches _ c.self.invariant.index.tree, height_within _ _ _ _ c.self.invariant c.self.view_is);
+    }

@@ -1,4 +1,4 @@
-use Rattle.std.proofs.Common.{arith, sym, ◌∙◌}
+use Rattle.std.proofs.Common.{arith, rules, sym, ◌∙◌}
 use Rattle.bimap_base.specs.Keyed.{standing}
 use Rattle.bimap_tree.proofs.Found.{found_in, none_in}
 use Rattle.bimap_tree.proofs.UnderWay.{goes_on_down}
@@ -10,17 +10,14 @@ finish_under-requires-clause-follows g c =
     let (can, found) = goes_on_down _ _ _ _ c.self.invariant c.self.view_is _ _ g.met.K.Keys.total c.requires.ascends c.args.key.now c.args.descent c.args.route.now (omega arith) (omega arith) c.requires.under_way in
     (_, _, can)
 
-pub returns-clause-found : goal.returns-clause-found
-returns-clause-found g c =
+pub returns : goal.returns
+returns g c =
     let (can, found) = goes_on_down _ _ _ _ c.self.invariant c.self.view_is _ _ g.met.K.Keys.total c.requires.ascends c.args.key.now c.args.descent c.args.route.now (omega arith) (omega arith) c.requires.under_way in
-    found_in (λ q. standing (g.K.Keys.key_at c.args.keys.now) g.K.Keys.order c.args.key.now q) _ _ (c.finish_under.ensures.found _ _ can ∙ sym found)
-
-pub returns-clause-none : goal.returns-clause-none
-returns-clause-none g c =
-    let (can, found) = goes_on_down _ _ _ _ c.self.invariant c.self.view_is _ _ g.met.K.Keys.total c.requires.ascends c.args.key.now c.args.descent c.args.route.now (omega arith) (omega arith) c.requires.under_way in
-    none_in (λ q. standing (g.K.Keys.key_at c.args.keys.now) g.K.Keys.order c.args.key.now q) _ _ (c.finish_under.ensures.found _ _ can ∙ sym found)
-
-pub returns-clause-route : goal.returns-clause-route
-returns-clause-route g c =
-    let (can, found) = goes_on_down _ _ _ _ c.self.invariant c.self.view_is _ _ g.met.K.Keys.total c.requires.ascends c.args.key.now c.args.descent c.args.route.now (omega arith) (omega arith) c.requires.under_way in
-    route_if_none _ _ _ _ c.self.invariant c.self.view_is _ c.requires.under_way.of_index (λ q. standing (g.K.Keys.key_at c.args.keys.now) g.K.Keys.order c.args.key.now q) _ _ (c.finish_under.ensures.follows _ _ can)
+    let first = c.finish_under.ensures.found _ _ can ∙ sym found in
+    record {
+      found = found_in (λ q. standing (g.K.Keys.key_at c.args.keys.now) g.K.Keys.order c.args.key.now q) _ _ first;
+      none = none_in (λ q. standing (g.K.Keys.key_at c.args.keys.now) g.K.Keys.order c.args.key.now q) _ _ first;
+      route = route_if_none _ _ _ _ c.self.invariant c.self.view_is _ c.requires.under_way.of_index (λ q. standing (g.K.Keys.key_at c.args.keys.now) g.K.Keys.order c.args.key.now q) _ _ (c.finish_under.ensures.follows _ _ can);
+      comparisons = search rules;
+      touches = search rules;
+    }

@@ -38,34 +38,15 @@ invariant_of-self g c =
     let h = can_put _ _ _ _ c.self.invariant c.self.view_is _ _ r _ _ c.requires.cell c.requires.unlisted c.places.ensures (omega arith) in
     put_whole _ _ _ _ c.self.invariant c.self.view_is _ _ r _ _ c.requires.cell c.requires.unlisted c.places.ensures (omega arith) _ _ (c.put_at-self-inside.ensures.tree _ h)
 
-pub returns-clause-len : goal.returns-clause-len
-returns-clause-len g c =
-    let (k, is, r) = the_route g (goal.at.returns-clause-len g c).After-route_under-self-inside in
-    let h = can_put _ _ _ _ c.self.invariant c.self.view_is _ _ r _ _ c.requires.cell c.requires.unlisted c.places.ensures (omega arith) in
-    put_length _ _ _ _ c.self.invariant c.self.view_is _ _ r _ _ c.requires.cell c.requires.unlisted c.places.ensures (omega arith) _ _ (c.put_at-self-inside.ensures.tree _ h)
-
-pub returns-clause-adds : goal.returns-clause-adds
-returns-clause-adds g c =
-    let (k, is, r) = the_route g (goal.at.returns-clause-adds g c).After-route_under-self-inside in
-    let h = can_put _ _ _ _ c.self.invariant c.self.view_is _ _ r _ _ c.requires.cell c.requires.unlisted c.places.ensures (omega arith) in
-    put_adds _ _ _ _ c.self.invariant c.self.view_is _ _ r _ _ c.requires.cell c.requires.unlisted c.places.ensures (omega arith) _ _ (c.put_at-self-inside.ensures.tree _ h)
-
-pub returns-clause-ascends : goal.returns-clause-ascends
-returns-clause-ascends g c =
-    let (k, is, r) = the_route g (goal.at.returns-clause-ascends g c).After-route_under-self-inside in
-    let h = can_put _ _ _ _ c.self.invariant c.self.view_is _ _ r _ _ c.requires.cell c.requires.unlisted c.places.ensures (omega arith) in
-    put_ascends _ _ _ _ c.self.invariant c.self.view_is _ _ r _ _ c.requires.cell c.requires.unlisted c.places.ensures (omega arith) _ _ (c.put_at-self-inside.ensures.tree _ h) _ _ g.met.K.Keys.total c.requires.ascends k is (λ q. refl)
-
-pub returns-clause-cells : goal.returns-clause-cells
-returns-clause-cells g c =
-    let (k, is, r) = the_route g (goal.at.returns-clause-cells g c).After-route_under-self-inside in
-    let h = can_put _ _ _ _ c.self.invariant c.self.view_is _ _ r _ _ c.requires.cell c.requires.unlisted c.places.ensures (omega arith) in
-    put_cells _ _ _ _ c.self.invariant c.self.view_is _ _ r _ _ c.requires.cell c.requires.unlisted c.places.ensures (omega arith) _ _ (c.put_at-self-inside.ensures.tree _ h)
-
-pub returns-clause-comparisons : goal.returns-clause-comparisons
-returns-clause-comparisons g c = omega (arith, c.route_under-self-inside.ensures.comparisons _ c.self.invariant.index.tree, height_within _ _ _ _ c.self.invariant c.self.view_is)
-
-pub returns-clause-touches : goal.returns-clause-touches
-returns-clause-touches g c =
-    let (k, is, r) = the_route g (goal.at.returns-clause-touches g c).After-route_under-self-inside in
-    omega (arith, c.route_under-self-inside.ensures.touches _ c.self.invariant.index.tree, c.put_at-self-inside.ensures.touches, height_within _ _ _ _ c.self.invariant c.self.view_is, route_depth _ _ _ _ c.self.invariant c.self.view_is _ _ r)
+pub returns : goal.returns
+returns g c =
+    let (k, is, r) = the_route g (goal.at.returns g c).After-route_under-self-inside in
+    let done = c.put_at-self-inside.ensures.tree _ (can_put _ _ _ _ c.self.invariant c.self.view_is _ _ r _ _ c.requires.cell c.requires.unlisted c.places.ensures (omega arith)) in
+    record {
+      len = put_length _ _ _ _ c.self.invariant c.self.view_is _ _ r _ _ c.requires.cell c.requires.unlisted c.places.ensures (omega arith) _ _ done;
+      adds = put_adds _ _ _ _ c.self.invariant c.self.view_is _ _ r _ _ c.requires.cell c.requires.unlisted c.places.ensures (omega arith) _ _ done;
+      ascends = put_ascends _ _ _ _ c.self.invariant c.self.view_is _ _ r _ _ c.requires.cell c.requires.unlisted c.places.ensures (omega arith) _ _ done _ _ g.met.K.Keys.total c.requires.ascends k is (λ q. refl);
+      cells = put_cells _ _ _ _ c.self.invariant c.self.view_is _ _ r _ _ c.requires.cell c.requires.unlisted c.places.ensures (omega arith) _ _ done;
+      comparisons = omega (arith, c.route_under-self-inside.ensures.comparisons _ c.self.invariant.index.tree, height_within _ _ _ _ c.self.invariant c.self.view_is);
+      touches = omega (arith, c.route_under-self-inside.ensures.touches _ c.self.invariant.index.tree, c.put_at-self-inside.ensures.touches, height_within _ _ _ _ c.self.invariant c.self.view_is, route_depth _ _ _ _ c.self.invariant c.self.view_is _ _ r);
+    }

@@ -20,35 +20,16 @@ invariant_of-self g c =
     let h = can_put _ _ _ _ c.self.invariant c.self.view_is _ _ r _ _ c.requires.cell c.requires.unlisted c.places.ensures (omega arith) in
     put_whole _ _ _ _ c.self.invariant c.self.view_is _ _ r _ _ c.requires.cell c.requires.unlisted c.places.ensures (omega arith) _ _ (c.put_at-self-inside.ensures.tree _ h)
 
-pub returns-clause-len : goal.returns-clause-len
-returns-clause-len g c =
+pub returns : goal.returns
+returns g c =
     let (k, is) = key_is (g.K.Keys.key_at c.args.keys.now) g.K.Keys.order _ c.requires.live in
     let r = c.requires.route k is in
-    let h = can_put _ _ _ _ c.self.invariant c.self.view_is _ _ r _ _ c.requires.cell c.requires.unlisted c.places.ensures (omega arith) in
-    put_length _ _ _ _ c.self.invariant c.self.view_is _ _ r _ _ c.requires.cell c.requires.unlisted c.places.ensures (omega arith) _ _ (c.put_at-self-inside.ensures.tree _ h)
-
-pub returns-clause-adds : goal.returns-clause-adds
-returns-clause-adds g c =
-    let (k, is) = key_is (g.K.Keys.key_at c.args.keys.now) g.K.Keys.order _ c.requires.live in
-    let r = c.requires.route k is in
-    let h = can_put _ _ _ _ c.self.invariant c.self.view_is _ _ r _ _ c.requires.cell c.requires.unlisted c.places.ensures (omega arith) in
-    put_adds _ _ _ _ c.self.invariant c.self.view_is _ _ r _ _ c.requires.cell c.requires.unlisted c.places.ensures (omega arith) _ _ (c.put_at-self-inside.ensures.tree _ h)
-
-pub returns-clause-ascends : goal.returns-clause-ascends
-returns-clause-ascends g c =
-    let (k, is) = key_is (g.K.Keys.key_at c.args.keys.now) g.K.Keys.order _ c.requires.live in
-    let r = c.requires.route k is in
-    let h = can_put _ _ _ _ c.self.invariant c.self.view_is _ _ r _ _ c.requires.cell c.requires.unlisted c.places.ensures (omega arith) in
-    put_ascends _ _ _ _ c.self.invariant c.self.view_is _ _ r _ _ c.requires.cell c.requires.unlisted c.places.ensures (omega arith) _ _ (c.put_at-self-inside.ensures.tree _ h) _ _ g.met.K.Keys.total c.requires.ascends k is (λ q. refl)
-
-pub returns-clause-cells : goal.returns-clause-cells
-returns-clause-cells g c =
-    let (k, is) = key_is (g.K.Keys.key_at c.args.keys.now) g.K.Keys.order _ c.requires.live in
-    let r = c.requires.route k is in
-    let h = can_put _ _ _ _ c.self.invariant c.self.view_is _ _ r _ _ c.requires.cell c.requires.unlisted c.places.ensures (omega arith) in
-    put_cells _ _ _ _ c.self.invariant c.self.view_is _ _ r _ _ c.requires.cell c.requires.unlisted c.places.ensures (omega arith) _ _ (c.put_at-self-inside.ensures.tree _ h)
-
-pub returns-clause-touches : goal.returns-clause-touches
-returns-clause-touches g c =
-    let (k, is) = key_is (g.K.Keys.key_at c.args.keys.now) g.K.Keys.order _ c.requires.live in
-    omega (arith, c.put_at-self-inside.ensures.touches, route_depth _ _ _ _ c.self.invariant c.self.view_is _ _ (c.requires.route k is))
+    let done = c.put_at-self-inside.ensures.tree _ (can_put _ _ _ _ c.self.invariant c.self.view_is _ _ r _ _ c.requires.cell c.requires.unlisted c.places.ensures (omega arith)) in
+    record {
+      len = put_length _ _ _ _ c.self.invariant c.self.view_is _ _ r _ _ c.requires.cell c.requires.unlisted c.places.ensures (omega arith) _ _ done;
+      adds = put_adds _ _ _ _ c.self.invariant c.self.view_is _ _ r _ _ c.requires.cell c.requires.unlisted c.places.ensures (omega arith) _ _ done;
+      ascends = put_ascends _ _ _ _ c.self.invariant c.self.view_is _ _ r _ _ c.requires.cell c.requires.unlisted c.places.ensures (omega arith) _ _ done _ _ g.met.K.Keys.total c.requires.ascends k is (λ q. refl);
+      cells = put_cells _ _ _ _ c.self.invariant c.self.view_is _ _ r _ _ c.requires.cell c.requires.unlisted c.places.ensures (omega arith) _ _ done;
+      comparisons = c.put_at-self-inside.ensures.comparisons;
+      touches = omega (arith, c.put_at-self-inside.ensures.touches, route_depth _ _ _ _ c.self.invariant c.self.view_is _ _ r);
+    }

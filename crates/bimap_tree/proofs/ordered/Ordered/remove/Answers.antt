@@ -34,30 +34,16 @@ invariant_of-self g c =
     let (low, s, f) = the_way g (goal.at.invariant_of-self g c).After-route_under-self-inside in
     take_whole _ _ _ _ c.self.invariant c.self.view_is _ _ _ low s f _ _ (c.take_at-self-inside.ensures.tree low _ _ (can_take _ _ _ _ c.self.invariant c.self.view_is _ _ _ low s f))
 
-pub returns-clause-len : goal.returns-clause-len
-returns-clause-len g c =
-    let (low, s, f) = the_way g (goal.at.returns-clause-len g c).After-route_under-self-inside in
-    take_length _ _ _ _ c.self.invariant c.self.view_is _ _ _ low s f _ _ (c.take_at-self-inside.ensures.tree low _ _ (can_take _ _ _ _ c.self.invariant c.self.view_is _ _ _ low s f))
-
-pub returns-clause-drops : goal.returns-clause-drops
-returns-clause-drops g c =
-    let (low, s, f) = the_way g (goal.at.returns-clause-drops g c).After-route_under-self-inside in
-    take_drops _ _ _ _ c.self.invariant c.self.view_is _ _ _ low s f _ _ (c.take_at-self-inside.ensures.tree low _ _ (can_take _ _ _ _ c.self.invariant c.self.view_is _ _ _ low s f))
-
-pub returns-clause-ascends : goal.returns-clause-ascends
-returns-clause-ascends g c =
-    let (low, s, f) = the_way g (goal.at.returns-clause-ascends g c).After-route_under-self-inside in
-    take_ascends _ _ _ _ c.self.invariant c.self.view_is _ _ _ low s f _ _ (c.take_at-self-inside.ensures.tree low _ _ (can_take _ _ _ _ c.self.invariant c.self.view_is _ _ _ low s f)) _ _ c.requires.ascends
-
-pub returns-clause-cells : goal.returns-clause-cells
-returns-clause-cells g c =
-    let (low, s, f) = the_way g (goal.at.returns-clause-cells g c).After-route_under-self-inside in
-    take_cells _ _ _ _ c.self.invariant c.self.view_is _ _ _ low s f _ _ (c.take_at-self-inside.ensures.tree low _ _ (can_take _ _ _ _ c.self.invariant c.self.view_is _ _ _ low s f))
-
-pub returns-clause-comparisons : goal.returns-clause-comparisons
-returns-clause-comparisons g c = omega (arith, c.route_under-self-inside.ensures.comparisons _ c.self.invariant.index.tree, height_within _ _ _ _ c.self.invariant c.self.view_is)
-
-pub returns-clause-touches : goal.returns-clause-touches
-returns-clause-touches g c =
-    let (low, s, f) = the_way g (goal.at.returns-clause-touches g c).After-route_under-self-inside in
-    omega (arith, c.route_under-self-inside.ensures.touches _ c.self.invariant.index.tree, height_within _ _ _ _ c.self.invariant c.self.view_is, c.take_at-self-inside.ensures.touches low _ _ (can_take _ _ _ _ c.self.invariant c.self.view_is _ _ _ low s f), take_height _ _ _ _ c.self.invariant c.self.view_is _ _ _ low s f)
+pub returns : goal.returns
+returns g c =
+    let (low, s, f) = the_way g (goal.at.returns g c).After-route_under-self-inside in
+    let can = can_take _ _ _ _ c.self.invariant c.self.view_is _ _ _ low s f in
+    let done = c.take_at-self-inside.ensures.tree low _ _ can in
+    record {
+      len = take_length _ _ _ _ c.self.invariant c.self.view_is _ _ _ low s f _ _ done;
+      drops = take_drops _ _ _ _ c.self.invariant c.self.view_is _ _ _ low s f _ _ done;
+      ascends = take_ascends _ _ _ _ c.self.invariant c.self.view_is _ _ _ low s f _ _ done _ _ c.requires.ascends;
+      cells = take_cells _ _ _ _ c.self.invariant c.self.view_is _ _ _ low s f _ _ done;
+      comparisons = omega (arith, c.route_under-self-inside.ensures.comparisons _ c.self.invariant.index.tree, height_within _ _ _ _ c.self.invariant c.self.view_is);
+      touches = omega (arith, c.route_under-self-inside.ensures.touches _ c.self.invariant.index.tree, height_within _ _ _ _ c.self.invariant c.self.view_is, c.take_at-self-inside.ensures.touches low _ _ can, take_height _ _ _ _ c.self.invariant c.self.view_is _ _ _ low s f);
+    }

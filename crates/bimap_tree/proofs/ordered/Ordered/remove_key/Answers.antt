@@ -32,10 +32,6 @@ returns-in_err-found-clause-comparisons g c = omega (arith, c.route_under.ensure
 pub returns-in_err-found-clause-touches : goal.returns-in_err-found-clause-touches
 returns-in_err-found-clause-touches g c = omega (arith, c.route_under.ensures.touches _ c.self.invariant.index.tree, height_within _ _ _ _ c.self.invariant c.self.view_is)
 
-pub returns-clause-found : goal.returns-clause-found
-returns-clause-found g c =
-    found_in (λ q. standing (g.K.Keys.key_at c.args.keys.now) g.K.Keys.order c.args.key.now q) _ (Some c.in_ok-found.found) (sym c.in_ok-found.was ∙ first g (goal.at.returns-clause-found g c).After-route_under)
-
 -- the way that it went, to the place found
 the_way : (g : Over) (c : In_ok-found g) → (low : Path) × (s : Tree) × IsFollowed (λ q. order_of g.K.Keys.order (g.K.Keys.key_at c.args.keys.now q) (Some c.args.key.now)) c.route_under.new.route.places c.route_under.new.route.turns c.route_under.new.route.depth (Some c.in_ok-found.found) (tree_in (nodes_in c.self.inside.cells) c.self.inside.root) low s
 the_way g c =
@@ -52,30 +48,19 @@ invariant_of-self g c =
     let (low, s, f) = the_way g (goal.at.invariant_of-self g c).In_ok-found in
     take_whole _ _ _ _ c.self.invariant c.self.view_is _ _ _ low s f _ _ (c.take_at-self-inside.ensures.tree low _ _ (can_take _ _ _ _ c.self.invariant c.self.view_is _ _ _ low s f))
 
-pub returns-clause-len : goal.returns-clause-len
-returns-clause-len g c =
-    let (low, s, f) = the_way g (goal.at.returns-clause-len g c).In_ok-found in
-    take_length _ _ _ _ c.self.invariant c.self.view_is _ _ _ low s f _ _ (c.take_at-self-inside.ensures.tree low _ _ (can_take _ _ _ _ c.self.invariant c.self.view_is _ _ _ low s f))
-
-pub returns-clause-drops : goal.returns-clause-drops
-returns-clause-drops g c =
-    let (low, s, f) = the_way g (goal.at.returns-clause-drops g c).In_ok-found in
-    take_drops _ _ _ _ c.self.invariant c.self.view_is _ _ _ low s f _ _ (c.take_at-self-inside.ensures.tree low _ _ (can_take _ _ _ _ c.self.invariant c.self.view_is _ _ _ low s f))
-
-pub returns-clause-ascends : goal.returns-clause-ascends
-returns-clause-ascends g c =
-    let (low, s, f) = the_way g (goal.at.returns-clause-ascends g c).In_ok-found in
-    take_ascends _ _ _ _ c.self.invariant c.self.view_is _ _ _ low s f _ _ (c.take_at-self-inside.ensures.tree low _ _ (can_take _ _ _ _ c.self.invariant c.self.view_is _ _ _ low s f)) _ _ c.requires
-
-pub returns-clause-cells : goal.returns-clause-cells
-returns-clause-cells g c =
-    let (low, s, f) = the_way g (goal.at.returns-clause-cells g c).In_ok-found in
-    take_cells _ _ _ _ c.self.invariant c.self.view_is _ _ _ low s f _ _ (c.take_at-self-inside.ensures.tree low _ _ (can_take _ _ _ _ c.self.invariant c.self.view_is _ _ _ low s f))
-
-pub returns-clause-comparisons : goal.returns-clause-comparisons
-returns-clause-comparisons g c = omega (arith, c.route_under.ensures.comparisons _ c.self.invariant.index.tree, height_within _ _ _ _ c.self.invariant c.self.view_is)
-
-pub returns-clause-touches : goal.returns-clause-touches
-returns-clause-touches g c =
-    let (low, s, f) = the_way g (goal.at.returns-clause-touches g c).In_ok-found in
-    omega (arith, c.route_under.ensures.touches _ c.self.invariant.index.tree, height_within _ _ _ _ c.self.invariant c.self.view_is, c.take_at-self-inside.ensures.touches low _ _ (can_take _ _ _ _ c.self.invariant c.self.view_is _ _ _ low s f), take_height _ _ _ _ c.self.invariant c.self.view_is _ _ _ low s f)
+pub returns : goal.returns
+returns g c =
+    let (low, s, f) = the_way g (goal.at.returns g c).In_ok-found in
+    let can = can_take _ _ _ _ c.self.invariant c.self.view_is _ _ _ low s f in
+    let done = c.take_at-self-inside.ensures.tree low _ _ can in
+    record {
+      found = found_in (λ q. standing (g.K.Keys.key_at c.args.keys.now) g.K.Keys.order c.args.key.now q) _ (Some c.in_ok-found.found) (sym c.in_ok-found.was ∙ first g (goal.at.returns g c).After-route_under);
+      none = tt;
+      unchanged = tt;
+      len = take_length _ _ _ _ c.self.invariant c.self.view_is _ _ _ low s f _ _ done;
+      drops = take_drops _ _ _ _ c.self.invariant c.self.view_is _ _ _ low s f _ _ done;
+      ascends = take_ascends _ _ _ _ c.self.invariant c.self.view_is _ _ _ low s f _ _ done _ _ c.requires;
+      cells = take_cells _ _ _ _ c.self.invariant c.self.view_is _ _ _ low s f _ _ done;
+      comparisons = omega (arith, c.route_under.ensures.comparisons _ c.self.invariant.index.tree, height_within _ _ _ _ c.self.invariant c.self.view_is);
+      touches = omega (arith, c.route_under.ensures.touches _ c.self.invariant.index.tree, height_within _ _ _ _ c.self.invariant c.self.view_is, c.take_at-self-inside.ensures.touches low _ _ can, take_height _ _ _ _ c.self.invariant c.self.view_is _ _ _ low s f);
+    }
