@@ -31,7 +31,3 @@ whole_of ns root len t h e few =
 
 pub no_index : (ns : List Node) → IsIndex ns None leaf
 no_index ns = record { tree = record { root_is = refl; shown = tt }; balanced = tt; distinct = λ q. omega arith }
-
--- nodes show one tree at a root
-pub one_tree : (ns : List Node) (root : Option ℕ) (t u : Tree) → Stands ns root t → Stands ns root u → t ≡ u
-one_tree ns root t u h k = sym (tree_in-shown ns root t h) ∙ tree_in-shown ns root u k

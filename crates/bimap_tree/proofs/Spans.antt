@@ -12,7 +12,7 @@ use Rattle.std.specs.declared.cmp.Ordering.TheVariants.{Less, Equal, Greater}
 use Rattle.std.specs.declared.ops.Bound.{Bound}
 use Rattle.std.specs.declared.ops.Bound.TheVariants.{Included, Excluded, Unbounded}
 use Rattle.bimap_base.specs.Keyed.{standing}
-use Rattle.bimap_tree.specs.Start.{IsStart}
+use Rattle.bimap_tree.specs.Start.{IsStart, LetsIn}
 use Rattle.bimap_tree.specs.Spans.{IsCut, IsSpan}
 
 module _ {K : Type 0} (key_at : ℕ → Option K) (order : K → K → Ordering) (total : IsTotalOrder order) where
@@ -23,63 +23,30 @@ module _ {K : Type 0} (key_at : ℕ → Option K) (order : K → K → Ordering)
   turned : (k bound : K) (o : Ordering) → order k bound ≡ o → order bound k ≡ ordering_reverse o
   turned k bound o is = total.antisymm bound k ∙ ap ordering_reverse is
 
-  included_after : (a : K) (p : ℕ) (k : K) → key_at p ≡ Some k → (standing key_at order a p ≡ Some Equal) ⊎ (standing key_at order a p ≡ Some Greater) → is_le (order a k) ≡ true
-  included_after a p k has (inl at) = let e = stands p k a (order k a) has refl in ap is_le (turned k a Equal (cc))
-  included_after a p k has (inr at) = let e = stands p k a (order k a) has refl in ap is_le (turned k a Greater (cc))
-
-  included_before : (a : K) (p : ℕ) (k : K) → key_at p ≡ Some k → ((standing key_at order a p ≡ Some Equal) ⊎ (standing key_at order a p ≡ Some Greater) → ⊥) → is_le (order a k) ≡ false
-  included_before a p k has out = by (order k a) refl
+  -- a start lets a key in, and it is in the range, or neither
+  tells : (bound : Bound (Bor K)) (p : ℕ) (k : K) → key_at p ≡ Some k → (LetsIn key_at order bound p × (is_from_start order (bound_map (λ x. x.now) bound) k ≡ true)) ⊎ ((LetsIn key_at order bound p → ⊥) × (is_from_start order (bound_map (λ x. x.now) bound) k ≡ false))
+  tells Unbounded p k has = inl (tt, refl)
+  tells (Included a) p k has = by (order k a.now) refl
     where
-      by : (o : Ordering) → order k a ≡ o → is_le (order a k) ≡ false
-      by Less is = ap is_le (turned k a Less is)
-      by Equal is = absurd (out (inl (stands p k a Equal has is)))
-      by Greater is = absurd (out (inr (stands p k a Greater has is)))
-
-  excluded_after : (a : K) (p : ℕ) (k : K) → key_at p ≡ Some k → standing key_at order a p ≡ Some Greater → is_lt (order a k) ≡ true
-  excluded_after a p k has at = let e = stands p k a (order k a) has refl in ap is_lt (turned k a Greater (cc))
-
-  excluded_before : (a : K) (p : ℕ) (k : K) → key_at p ≡ Some k → (standing key_at order a p ≡ Some Greater → ⊥) → is_lt (order a k) ≡ false
-  excluded_before a p k has out = by (order k a) refl
+      by : (o : Ordering) → order k a.now ≡ o → (LetsIn key_at order (Included a) p × (is_le (order a.now k) ≡ true)) ⊎ ((LetsIn key_at order (Included a) p → ⊥) × (is_le (order a.now k) ≡ false))
+      by Less is = let e = stands p k a.now Less has is in inr ((λ w. elim w [ inl x ↦ cc | inr x ↦ cc ]), ap is_le (turned k a.now Less is))
+      by Equal is = inl (inl (stands p k a.now Equal has is), ap is_le (turned k a.now Equal is))
+      by Greater is = inl (inr (stands p k a.now Greater has is), ap is_le (turned k a.now Greater is))
+  tells (Excluded a) p k has = by (order k a.now) refl
     where
-      by : (o : Ordering) → order k a ≡ o → is_lt (order a k) ≡ false
-      by Less is = ap is_lt (turned k a Less is)
-      by Equal is = ap is_lt (turned k a Equal is)
-      by Greater is = absurd (out (stands p k a Greater has is))
+      by : (o : Ordering) → order k a.now ≡ o → (LetsIn key_at order (Excluded a) p × (is_lt (order a.now k) ≡ true)) ⊎ ((LetsIn key_at order (Excluded a) p → ⊥) × (is_lt (order a.now k) ≡ false))
+      by Less is = let e = stands p k a.now Less has is in inr ((λ x. cc), ap is_lt (turned k a.now Less is))
+      by Equal is = let e = stands p k a.now Equal has is in inr ((λ x. cc), ap is_lt (turned k a.now Equal is))
+      by Greater is = inl (stands p k a.now Greater has is, ap is_lt (turned k a.now Greater is))
 
   -- where the start of a range cuts
   pub cut_from_start : (bound : Bound (Bor K)) (places : List ℕ) (rank : ℕ) → IsStart key_at order bound places rank → IsCut (is_from_start order (bound_map (λ x. x.now) bound)) key_at places rank
-  cut_from_start Unbounded places rank start =
+  cut_from_start bound places rank start =
       record {
         within = start.within;
-        before = λ i p k l at has. absurd (start.before i p l at tt);
-        after = λ i p k l at has. refl;
+        before = λ i p k l at has. elim (tells bound p k has) [ inl w ↦ absurd (start.before i p l at w.0) | inr w ↦ w.1 ];
+        after = λ i p k l at has. elim (tells bound p k has) [ inl w ↦ w.1 | inr w ↦ absurd (w.0 (start.after i p l at)) ];
       }
-  cut_from_start (Included a) places rank start =
-      record {
-        within = start.within;
-        before = λ i p k l at has. included_before a.now p k has (start.before i p l at);
-        after = λ i p k l at has. included_after a.now p k has (start.after i p l at);
-      }
-  cut_from_start (Excluded a) places rank start =
-      record {
-        within = start.within;
-        before = λ i p k l at has. excluded_before a.now p k has (start.before i p l at);
-        after = λ i p k l at has. excluded_after a.now p k has (start.after i p l at);
-      }
-
-  -- a range with no end cuts behind the last
-  pub cut_at_end : (places : List ℕ) (rank : ℕ) → rank ≡ length places → IsCut (is_past_end order Unbounded) key_at places rank
-  cut_at_end places rank e =
-      record {
-        within = omega (arith, e);
-        before = λ i p k l at has. refl;
-        after = λ i p k l at has. absurd (past places i p at (omega (arith, e, l)));
-      }
-    where
-      past : (xs : List ℕ) (i p : ℕ) → slice_get xs i ≡ Some p → length xs ≤ i → ⊥
-      past [] i p at l = absurd (cc)
-      past (x ∷ xs) zero p at l = omega (arith, l)
-      past (x ∷ xs) (suc i) p at l = past xs i p at (omega (arith, l))
 
 -- between the two cuts the keys lie in the range
 pub span_from_cuts : {K : Type 0} (key_at : ℕ → Option K) (order : K → K → Ordering) (low high : Bound K) (places : List ℕ) (front cut back : ℕ) → IsCut (is_from_start order low) key_at places front → IsCut (is_past_end order high) key_at places cut → back ≡ max front cut → IsSpan (range_contains order low high) key_at places front back

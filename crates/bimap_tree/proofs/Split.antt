@@ -4,19 +4,12 @@ use Rattle.std.specs.Ordering.{is_lt, is_eq}
 use Rattle.std.specs.declared.cmp.Ordering.{Ordering}
 use Rattle.std.specs.declared.cmp.Ordering.TheVariants.{Less, Equal, Greater}
 use Rattle.bimap_tree.specs.Order.{AllStand, IsSplit, first_equal, count_below}
+use Rattle.bimap_tree.proofs.Distinct.{all_front, all_behind}
 
 module _ (go : ℕ → Ordering) where
-  pub stand_front : (how : Ordering) (xs ys : List ℕ) → AllStand go how (xs ++ ys) → AllStand go how xs
-  stand_front how [] ys h = tt
-  stand_front how (x ∷ xs) ys h = (h.0, stand_front how xs ys h.1)
-
-  pub stand_back : (how : Ordering) (xs ys : List ℕ) → AllStand go how (xs ++ ys) → AllStand go how ys
-  stand_back how [] ys h = h
-  stand_back how (x ∷ xs) ys h = stand_back how xs ys h.1
-
   pub split_front : (xs ys : List ℕ) → IsSplit go (xs ++ ys) → IsSplit go xs
   split_front [] ys h = tt
-  split_front (x ∷ xs) ys h = (elim h.0 [ inl a ↦ inl a | inr a ↦ inr (stand_front Greater xs ys a) ], split_front xs ys h.1)
+  split_front (x ∷ xs) ys h = (elim h.0 [ inl a ↦ inl a | inr a ↦ inr (all_front (λ q. go q ≡ Greater) xs ys a) ], split_front xs ys h.1)
 
   pub split_back : (xs ys : List ℕ) → IsSplit go (xs ++ ys) → IsSplit go ys
   split_back [] ys h = h
@@ -25,7 +18,7 @@ module _ (go : ℕ → Ordering) where
   -- what stands before a place that is not above the key is below it
   pub split_below : (xs ys : List ℕ) (p : ℕ) → IsSplit go (xs ++ p ∷ ys) → go p ≢ Greater → AllStand go Less xs
   split_below [] ys p h n = tt
-  split_below (x ∷ xs) ys p h n = (elim h.0 [ inl a ↦ a | inr a ↦ absurd (n (stand_back Greater xs (p ∷ ys) a).0) ], split_below xs ys p h.1 n)
+  split_below (x ∷ xs) ys p h n = (elim h.0 [ inl a ↦ a | inr a ↦ absurd (n (all_behind (λ q. go q ≡ Greater) xs (p ∷ ys) a).0) ], split_below xs ys p h.1 n)
 
   -- what stands after a place that is not below the key is above it
   pub split_above : (xs ys : List ℕ) (p : ℕ) → IsSplit go (xs ++ p ∷ ys) → go p ≢ Less → AllStand go Greater ys
