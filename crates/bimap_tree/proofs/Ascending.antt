@@ -7,23 +7,19 @@ use Rattle.std.specs.List.Sorted.{IsStrictlySortedBy}
 use Rattle.std.specs.Ordering.{ordering_reverse}
 use Rattle.std.specs.declared.cmp.Ordering.{Ordering}
 use Rattle.std.specs.declared.cmp.Ordering.TheVariants.{Less, Equal, Greater}
-use Rattle.std.proofs.lemmas.Map.Keys.{sorted_head, sorted_tail}
+use Rattle.std.proofs.lemmas.Map.Keys.{Less-from_sorted, sorted_head, sorted_tail}
+use Rattle.std.proofs.lemmas.List.Elements.{All-from_recursion, recursion_from_All}
 use Rattle.std.proofs.lemmas.Bool.Decides.{leb_tells}
 use Rattle.std.proofs.lemmas.Cmp.{tied_itself}
 use Rattle.std.proofs.lemmas.List.{get_or_default}
 use Rattle.bimap_base.specs.Keyed.{Ascends}
 use Rattle.bimap_tree.specs.Order.{AllStand, IsSplit, order_of, after_key}
-use Rattle.bimap_tree.proofs.Distinct.{all_behind}
+use Rattle.bimap_tree.proofs.Distinct.{all_behind, all_both}
+use Rattle.bimap_tree.proofs.Split.{less_or_not}
 
 -- ---- what holds of each place of a list
-pub all_at : (P : ℕ → Type 0) (xs : List ℕ) → ((i : ℕ) → i < length xs → P (slice_index xs i)) → AllByRecursion P xs
-all_at P [] h = tt
-all_at P (x ∷ xs) h = (h 0 (omega arith), all_at P xs (λ i few. h (suc i) (omega arith)))
-
-pub at_all : (P : ℕ → Type 0) (xs : List ℕ) → AllByRecursion P xs → (i : ℕ) → i < length xs → P (slice_index xs i)
-at_all P [] h i few = absurd (omega arith)
-at_all P (x ∷ xs) h zero few = h.0
-at_all P (x ∷ xs) h (suc i) few = at_all P xs h.1 i (omega arith)
+all_at : (P : ℕ → Type 0) (xs : List ℕ) → ((i : ℕ) → i < length xs → P (slice_index xs i)) → AllByRecursion P xs
+all_at P xs h = recursion_from_All P xs (λ i d few. subst P (get_or_default xs i 0 d few) (h i few))
 
 all_without : (P : ℕ → Type 0) (xs ys : List ℕ) (p : ℕ) → AllByRecursion P (xs ++ p ∷ ys) → AllByRecursion P (xs ++ ys)
 all_without P [] ys p h = h.1
@@ -84,15 +80,11 @@ module _ {K : Type 0} (key : ℕ → Option K) (order : K → K → Ordering) wh
       order_is x (slice_index xs i) first.0 next.0 first.1 next.1 ∙ up.rises 0 (suc i) first.0 next.0 (omega arith) (omega arith) first.1 next.1))
       (rising xs (ascends_tail x xs up))
 
-  rises_from : (xs : List ℕ) → IsStrictlySortedBy (λ a b. order_of order (key a) (key b)) xs → (i j : ℕ) (k l : K) → i < j → j < length xs → key (slice_index xs i) ≡ Some k → key (slice_index xs j) ≡ Some l → order k l ≡ Less
-  rises_from [] s i j k l lt few e f = absurd (omega arith)
-  rises_from (x ∷ xs) s i zero k l lt few e f = absurd (omega arith)
-  rises_from (x ∷ xs) s zero (suc j) k l lt few e f =
-      sym (order_is x (slice_index xs j) k l e f) ∙ at_all (λ y. order_of order (key x) (key y) ≡ Less) xs (sorted_head (λ a b. order_of order (key a) (key b)) x xs s) j (omega arith)
-  rises_from (x ∷ xs) s (suc i) (suc j) k l lt few e f = rises_from xs (sorted_tail (λ a b. order_of order (key a) (key b)) x xs s) i j k l (omega arith) (omega arith) e f
-
   ascends_from : (xs : List ℕ) → AllByRecursion (λ q. IsSome (key q)) xs → IsStrictlySortedBy (λ a b. order_of order (key a) (key b)) xs → Ascends key order xs
-  ascends_from xs live s = record { live = at_all (λ q. IsSome (key q)) xs live; rises = rises_from xs s }
+  ascends_from xs live s = record {
+    live = λ i few. All-from_recursion (λ q. IsSome (key q)) xs live i 0 few;
+    rises = λ i j k l lt few e f. sym (order_is (slice_index xs i) (slice_index xs j) k l e f) ∙ Less-from_sorted (λ a b. order_of order (key a) (key b)) xs i j 0 s lt few;
+  }
 
   -- a list from which a place was taken out
   pub ascends_without : (xs ys : List ℕ) (p : ℕ) → Ascends key order (xs ++ p ∷ ys) → Ascends key order (xs ++ ys)
@@ -103,11 +95,6 @@ module _ {K : Type 0} (key : ℕ → Option K) (order : K → K → Ordering) wh
 
   module _ (total : IsTotalOrder order) where
     -- ---- as seen from one key
-    stands : (o : Ordering) → (o ≡ Less) ⊎ (o ≢ Less)
-    stands Less = inl refl
-    stands Equal = inr (λ e. let x : Equal ≡ Less = e in cc)
-    stands Greater = inr (λ e. let x : Greater ≡ Less = e in cc)
-
     -- a key above one that is not below the sought one is above that
     above_step : (x y k : K) (o : Ordering) → order x k ≡ o → o ≢ Less → order x y ≡ Less → order y k ≡ Greater
     above_step x y k Less e n h = absurd (n refl)
@@ -123,39 +110,32 @@ module _ {K : Type 0} (key : ℕ → Option K) (order : K → K → Ordering) wh
     above_all None b k x y n h = absurd (let w : false ≡ true = x in cc)
     above_all (Some a) None k x y n h = absurd (let w : false ≡ true = y in cc)
 
-    rest_above : (k : K) (x : ℕ) (xs : List ℕ) → IsSome (key x) → AllByRecursion (λ q. IsSome (key q)) xs → order_of order (key x) (Some k) ≢ Less → AllByRecursion (λ y. order_of order (key x) (key y) ≡ Less) xs → AllStand (λ q. order_of order (key q) (Some k)) Greater xs
-    rest_above k x [] h live n up = tt
-    rest_above k x (y ∷ ys) h live n up = (above_all (key x) (key y) k h live.0 n up.0, rest_above k x ys h live.1 n up.1)
-
     pub split : (k : K) (xs : List ℕ) → Ascends key order xs → IsSplit (λ q. order_of order (key q) (Some k)) xs
     split k [] up = tt
     split k (x ∷ xs) up = (
-      elim (stands (order_of order (key x) (Some k))) [
+      elim (less_or_not (order_of order (key x) (Some k))) [
         | inl w ↦ inl w
-        | inr w ↦ inr (rest_above k x xs (up.live 0 (omega arith)) (live_all xs (ascends_tail x xs up)) w (sorted_head (λ a b. order_of order (key a) (key b)) x xs (rising (x ∷ xs) up)))
+        | inr n ↦ inr (all_both (λ q. IsSome (key q)) (λ y. order_of order (key x) (key y) ≡ Less) (λ q. order_of order (key q) (Some k) ≡ Greater)
+            (λ y live less. above_all (key x) (key y) k (up.live 0 (omega arith)) live n less) xs
+            (live_all xs (ascends_tail x xs up)) (sorted_head (λ a b. order_of order (key a) (key b)) x xs (rising (x ∷ xs) up)))
       ],
       split k xs (ascends_tail x xs up),
     )
 
     -- ---- a list into which a place was put
-    before_key : (p : ℕ) (k : K) → key p ≡ Some k → (xs : List ℕ) → AllStand (λ q. order_of order (key q) (Some k)) Less xs → AllByRecursion (λ x. order_of order (key x) (key p) ≡ Less) xs
-    before_key p k e [] h = tt
-    before_key p k e (x ∷ xs) h = (ap (λ o. order_of order (key x) o) e ∙ h.0, before_key p k e xs h.1)
-
     flipped : (a : Option K) (k : K) → IsSome a → order_of order a (Some k) ≡ Greater → order_of order (Some k) a ≡ Less
     flipped (Some a) k some h = total.antisymm k a ∙ ap ordering_reverse h
     flipped None k some h = absurd (let w : false ≡ true = some in cc)
-
-    behind_key : (p : ℕ) (k : K) → key p ≡ Some k → (ys : List ℕ) → AllByRecursion (λ q. IsSome (key q)) ys → AllStand (λ q. order_of order (key q) (Some k)) Greater ys → AllByRecursion (λ y. order_of order (key p) (key y) ≡ Less) ys
-    behind_key p k e [] live h = tt
-    behind_key p k e (y ∷ ys) live h = (ap (λ o. order_of order o (key y)) e ∙ flipped (key y) k live.0 h.0, behind_key p k e ys live.1 h.1)
 
     pub ascends_with : (xs ys : List ℕ) (p : ℕ) (k : K) → key p ≡ Some k → AllStand (λ q. order_of order (key q) (Some k)) Less xs → AllStand (λ q. order_of order (key q) (Some k)) Greater ys → Ascends key order (xs ++ ys) → Ascends key order (xs ++ p ∷ ys)
     ascends_with xs ys p k e a b up =
         let live = live_all (xs ++ ys) up in
         ascends_from (xs ++ p ∷ ys)
         (all_with (λ q. IsSome (key q)) xs ys p (ap is_some e) live)
-        (sorted_with (λ a b. order_of order (key a) (key b)) xs ys p (before_key p k e xs a) (behind_key p k e ys (all_behind (λ q. IsSome (key q)) xs ys live) b) (rising (xs ++ ys) up))
+        (sorted_with (λ a b. order_of order (key a) (key b)) xs ys p 
+        (all_both (λ q. order_of order (key q) (Some k) ≡ Less) (λ q. order_of order (key q) (Some k) ≡ Less) (λ x. order_of order (key x) (key p) ≡ Less) (λ x h _. ap (λ o. order_of order (key x) o) e ∙ h) xs a a)
+        (all_both (λ q. IsSome (key q)) (λ q. order_of order (key q) (Some k) ≡ Greater) (λ y. order_of order (key p) (key y) ≡ Less) (λ y l h. ap (λ o. order_of order o (key y)) e ∙ flipped (key y) k l h) ys (all_behind (λ q. IsSome (key q)) xs ys live) b)
+        (rising (xs ++ ys) up))
 
     -- ---- only one place of a list has a key equal to this one
     apart : (xs : List ℕ) → Ascends key order xs → (k : K) (i j : ℕ) → i < j → j < length xs → order_of order (key (slice_index xs i)) (Some k) ≡ Equal → order_of order (key (slice_index xs j)) (Some k) ≡ Equal → ⊥
@@ -186,11 +166,7 @@ module _ {K : Type 0} (key : ℕ → Option K) (order : K → K → Ordering) wh
     pub own_key : (p : ℕ) (k : K) → key p ≡ Some k → order_of order (key p) (Some k) ≡ Equal
     own_key p k e = ap (λ o. order_of order o (Some k)) e ∙ tied_itself total k
 
-all_above : (go : ℕ → Ordering) (xs : List ℕ) → AllStand go Greater xs → AllStand (λ q. after_key (go q)) Greater xs
-all_above go [] h = tt
-all_above go (x ∷ xs) h = (ap after_key h.0, all_above go xs h.1)
-
 -- a list split at a key is split just after it too
 pub split_after : (go : ℕ → Ordering) (xs : List ℕ) → IsSplit go xs → IsSplit (λ q. after_key (go q)) xs
 split_after go [] h = tt
-split_after go (x ∷ xs) h = (elim h.0 [ inl a ↦ inl (ap after_key a) | inr a ↦ inr (all_above go xs a) ], split_after go xs h.1)
+split_after go (x ∷ xs) h = (elim h.0 [ inl a ↦ inl (ap after_key a) | inr a ↦ inr (all_both (λ q. go q ≡ Greater) (λ q. go q ≡ Greater) (λ q. after_key (go q) ≡ Greater) (λ q e _. ap after_key e) xs a a) ], split_after go xs h.1)

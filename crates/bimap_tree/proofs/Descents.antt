@@ -1,5 +1,5 @@
 -- What a loop down a tree keeps: what it costs, and what it finds from where it has come.
-use Rattle.std.proofs.Common.{◌≡◌, ◌≢◌, ℕ, ◌+◌, ◌-◌, ◌*◌, ◌≤◌, ◌<◌, ◌^◌, Bool, true, false, List, Option, Some, None, length, length-set, refl, sym, ◌∙◌, ap, arith}
+use Rattle.std.proofs.Common.{◌≡◌, ◌≢◌, ℕ, ◌+◌, ◌-◌, ◌*◌, ◌≤◌, ◌<◌, ◌^◌, Bool, true, false, List, Option, Some, None, length, length-set, refl, sym, ◌∙◌, ap, arith, inl, inr}
 use Rattle.std.proofs.Math.Nat.{mul-le-mul_left, mul-suc}
 use Rattle.std.specs.Prelude.{slice_get, slice_set}
 use Rattle.std.specs.Ordering.{is_eq, is_lt}
@@ -20,28 +20,23 @@ use Rattle.bimap_tree.proofs.Removes.{descent, first_here, first_left}
 use Rattle.bimap_tree.proofs.Searches.{seek_into, found_right, found_left, found_here, counted_right, counted_left, counted_fits}
 use Rattle.bimap_tree.proofs.Ranks.{rank_left, rank_here, rank_right}
 use Rattle.bimap_tree.proofs.Shown.{no_root, opened, Stands-at, root_within, height_told, size-reading}
-use Rattle.bimap_tree.proofs.Split.{count_length}
+use Rattle.bimap_tree.proofs.Split.{count_length, less_or_not, not_less}
+use Rattle.bimap_tree.proofs.Found.{equal_or_not}
 
 -- ---- a test of how a place stands
 pub wants : (how go : Ordering) (same turn : Bool) → how ≡ go → same ≡ is_eq how → same ≡ false → turn ≡ is_lt how → go ≡ wanted turn
 wants Less go same turn e f n t = sym e ∙ ap wanted (sym t)
-wants Equal go same turn e f n t = absurd (let x : true ≡ false = sym f ∙ n in cc)
+wants Equal go same turn e f n t = cc
 wants Greater go same turn e f n t = sym e ∙ ap wanted (sym t)
 
 pub is_equal : (how go : Ordering) (same : Bool) → how ≡ go → same ≡ is_eq how → same ≡ true → go ≡ Equal
-is_equal Less go same e f y = absurd (let x : false ≡ true = sym f ∙ y in cc)
-is_equal Equal go same e f y = sym e
-is_equal Greater go same e f y = absurd (let x : false ≡ true = sym f ∙ y in cc)
+is_equal how go same e f y = elim (equal_or_not how) [ inl w ↦ cc | inr n ↦ cc ]
 
 pub is_less : (how go : Ordering) (turn : Bool) → how ≡ go → turn ≡ is_lt how → turn ≡ true → go ≡ Less
-is_less Less go turn e f y = sym e
-is_less Equal go turn e f y = absurd (let x : false ≡ true = sym f ∙ y in cc)
-is_less Greater go turn e f y = absurd (let x : false ≡ true = sym f ∙ y in cc)
+is_less how go turn e f y = elim (less_or_not how) [ inl w ↦ cc | inr n ↦ let no = not_less how n in cc ]
 
 pub is_not_less : (how go : Ordering) (turn : Bool) → how ≡ go → turn ≡ is_lt how → turn ≡ false → go ≢ Less
-is_not_less Less go turn e f n less = absurd (let x : true ≡ false = sym f ∙ n in cc)
-is_not_less Equal go turn e f n less = absurd (let x : Equal ≡ Less = e ∙ less in cc)
-is_not_less Greater go turn e f n less = absurd (let x : Greater ≡ Less = e ∙ less in cc)
+is_not_less how go turn e f n less = let is : is_lt how ≡ true = ap is_lt (e ∙ less) in cc
 
 -- ---- what it costs
 module _ (ns : List Node) (top : Option ℕ) (each before : ℕ) where

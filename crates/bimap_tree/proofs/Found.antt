@@ -1,50 +1,39 @@
 -- What a search of a list finds, in terms of how its places stand to the key.
-use Rattle.std.proofs.Common.{◌≡◌, ◌≢◌, ◌⊎◌, ℕ, zero, suc, ◌+◌, ◌≤◌, ◌<◌, cond, List, [], ◌∷◌, Option, Some, None, refl, sym, subst, ◌∙◌, ap, arith, inl, inr}
+use Rattle.std.proofs.Common.{◌≡◌, ◌≢◌, ◌⊎◌, true, false, ℕ, zero, suc, ◌+◌, ◌≤◌, ◌<◌, cond, List, [], ◌∷◌, Option, Some, None, refl, sym, subst, ◌∙◌, ap, arith, inl, inr}
 use Rattle.std.specs.Prelude.{IfSome, IfNone, slice_get}
 use Rattle.std.specs.List.{Contains}
 use Rattle.std.specs.Ordering.{is_eq, is_lt}
 use Rattle.std.specs.declared.cmp.Ordering.{Ordering}
 use Rattle.std.specs.declared.cmp.Ordering.TheVariants.{Less, Equal, Greater}
 use Rattle.bimap_tree.specs.Order.{told, first_equal, count_below, AllStand, IsSplit}
-use Rattle.bimap_tree.proofs.Split.{count_none}
+use Rattle.bimap_tree.proofs.Split.{count_none, less_or_not, not_less}
+use Rattle.bimap_base.proofs.Members.{head_in, more_in, cases_in, none_in as none_within}
 
 pub told_equal : (o : Option Ordering) → told o ≡ Equal → o ≡ Some Equal
 told_equal (Some how) e = ap Some e
 told_equal None e = absurd (let x : Greater ≡ Equal = e in cc)
 
--- a place of a longer list
-pub contains_more : (x : ℕ) (xs : List ℕ) (p : ℕ) → Contains xs p → Contains (x ∷ xs) p
-contains_more x xs p (k, few, e) = (suc k, omega arith, e)
-
-pub contains_first : (x : ℕ) (xs : List ℕ) → Contains (x ∷ xs) x
-contains_first x xs = (0, omega arith, refl)
-
-pub contains_cases : (x : ℕ) (xs : List ℕ) (p : ℕ) → Contains (x ∷ xs) p → (p ≡ x) ⊎ Contains xs p
-contains_cases x xs p (zero, few, e) = inl (sym e)
-contains_cases x xs p (suc k, few, e) = inr (k, omega arith, e)
+pub equal_or_not : (o : Ordering) → (o ≡ Equal) ⊎ (is_eq o ≡ false)
+equal_or_not Less = inr refl
+equal_or_not Equal = inl refl
+equal_or_not Greater = inr refl
 
 module _ (go : ℕ → Ordering) where
-  first_step : (x : ℕ) (xs : List ℕ) (p : ℕ) (how : Ordering) → go x ≡ how → cond (is_eq how) (Some x) (first_equal go xs) ≡ Some p → (first_equal go xs ≡ Some p → Contains xs p × (go p ≡ Equal)) → Contains (x ∷ xs) p × (go p ≡ Equal)
-  first_step x xs p Less h e more = let (c, s) = more e in (contains_more x xs p c, s)
-  first_step x xs p Greater h e more = let (c, s) = more e in (contains_more x xs p c, s)
-  first_step x xs p Equal h e more =
-      let same : x ≡ p = cc in
-      (subst (λ y. Contains (x ∷ xs) y) same (contains_first x xs), ap go (sym same) ∙ h)
-
   pub first_is : (xs : List ℕ) (p : ℕ) → first_equal go xs ≡ Some p → Contains xs p × (go p ≡ Equal)
   first_is [] p e = absurd (cc)
-  first_is (x ∷ xs) p e = first_step x xs p (go x) refl e (first_is xs p)
-
-  none_step : (x : ℕ) (xs : List ℕ) (p : ℕ) (how : Ordering) → go x ≡ how → cond (is_eq how) (Some x) (first_equal go xs) ≡ None → (first_equal go xs ≡ None → Contains xs p → go p ≡ Equal → ⊥) → Contains (x ∷ xs) p → go p ≡ Equal → ⊥
-  none_step x xs p Equal h e more c s = absurd (cc)
-  none_step x xs p Less h e more c s =
-      elim (contains_cases x xs p c) [ inl w ↦ let y : Less ≡ Equal = sym h ∙ ap go (sym w) ∙ s in cc | inr w ↦ more e w s ]
-  none_step x xs p Greater h e more c s =
-      elim (contains_cases x xs p c) [ inl w ↦ let y : Greater ≡ Equal = sym h ∙ ap go (sym w) ∙ s in cc | inr w ↦ more e w s ]
+  first_is (x ∷ xs) p e =
+      elim (equal_or_not (go x)) [
+        | inl w ↦ let s : Some x ≡ Some p = rw w at e in let same : x ≡ p = cc in (subst (λ y. Contains (x ∷ xs) y) same (head_in x xs), ap go (sym same) ∙ w)
+        | inr n ↦ let (c, s) = first_is xs p (rw n at e) in (more_in x xs p c, s)
+      ]
 
   pub first_none : (xs : List ℕ) → first_equal go xs ≡ None → (p : ℕ) → Contains xs p → go p ≡ Equal → ⊥
-  first_none [] e p (k, few, at) s = absurd (omega arith)
-  first_none (x ∷ xs) e p c s = none_step x xs p (go x) refl e (λ n. first_none xs n p) c s
+  first_none [] e p c s = none_within p c
+  first_none (x ∷ xs) e p c s =
+      elim (equal_or_not (go x)) [
+        | inl w ↦ let s : Some x ≡ None = rw w at e in cc
+        | inr n ↦ elim (cases_in x xs p c) [ inl same ↦ let y : is_eq (go x) ≡ true = ap (λ z. is_eq (go z)) same ∙ ap is_eq s in cc | inr k ↦ first_none xs (rw n at e) p k s ]
+      ]
 
 -- the place that a search found, and that there is none where it found none
 pub found_in : (standing : ℕ → Option Ordering) (xs : List ℕ) (found : Option ℕ) → found ≡ first_equal (λ q. told (standing q)) xs → IfSome found (λ p. Contains xs p × (standing p ≡ Some Equal))
@@ -76,26 +65,24 @@ module _ (go : ℕ → Ordering) where
   above_at (x ∷ xs) h zero p e = let same : x ≡ p = cc in ap go (sym same) ∙ h.0
   above_at (x ∷ xs) h (suc i) p e = above_at xs h.1 i p e
 
-  below_step : (x : ℕ) (xs : List ℕ) (how : Ordering) → go x ≡ how → (how ≡ Less) ⊎ AllStand go Greater xs → (i p : ℕ) → i < cond (is_lt how) 1 0 + count_below go xs → slice_get (x ∷ xs) i ≡ Some p → ((j : ℕ) → j < count_below go xs → slice_get xs j ≡ Some p → go p ≡ Less) → go p ≡ Less
-  below_step x xs Less h either zero p few e more = let same : x ≡ p = cc in ap go (sym same) ∙ h
-  below_step x xs Less h either (suc i) p few e more = more i (omega arith) e
-  below_step x xs Equal h either i p few e more = elim either [ inl w ↦ absurd (let y : Equal ≡ Less = w in cc) | inr w ↦ absurd (omega (arith, few, count_none go xs w)) ]
-  below_step x xs Greater h either i p few e more = elim either [ inl w ↦ absurd (let y : Greater ≡ Less = w in cc) | inr w ↦ absurd (omega (arith, few, count_none go xs w)) ]
+  count_step : (x : ℕ) (xs : List ℕ) → count_below go (x ∷ xs) ≤ count_below go xs + 1
+  count_step x xs = elim (is_lt (go x)) as (λ b. cond b 1 0 + count_below go xs ≤ count_below go xs + 1) [ true ↦ omega arith | false ↦ omega arith ]
 
   pub below_first : (xs : List ℕ) → IsSplit go xs → (i p : ℕ) → i < count_below go xs → slice_get xs i ≡ Some p → go p ≡ Less
   below_first [] split i p few e = absurd (omega arith)
-  below_first (x ∷ xs) split i p few e = below_step x xs (go x) refl split.0 i p few e (λ j. below_first xs split.1 j p)
-
-  behind_step : (x : ℕ) (xs : List ℕ) (how : Ordering) → go x ≡ how → (how ≡ Less) ⊎ AllStand go Greater xs → (i p : ℕ) → cond (is_lt how) 1 0 + count_below go xs ≤ i → slice_get (x ∷ xs) i ≡ Some p → ((j : ℕ) → count_below go xs ≤ j → slice_get xs j ≡ Some p → go p ≢ Less) → go p ≢ Less
-  behind_step x xs Less h either zero p few e more = absurd (omega arith)
-  behind_step x xs Less h either (suc i) p few e more = more i (omega arith) e
-  behind_step x xs Equal h either zero p few e more = let same : x ≡ p = cc in λ l. let y : Equal ≡ Less = sym h ∙ ap go same ∙ l in cc
-  behind_step x xs Greater h either zero p few e more = let same : x ≡ p = cc in λ l. let y : Greater ≡ Less = sym h ∙ ap go same ∙ l in cc
-  behind_step x xs Equal h either (suc i) p few e more =
-      elim either [ inl w ↦ absurd (let y : Equal ≡ Less = w in cc) | inr w ↦ (λ l. let y : Greater ≡ Less = sym (above_at xs w i p e) ∙ l in cc) ]
-  behind_step x xs Greater h either (suc i) p few e more =
-      elim either [ inl w ↦ absurd (let y : Greater ≡ Less = w in cc) | inr w ↦ (λ l. let y : Greater ≡ Less = sym (above_at xs w i p e) ∙ l in cc) ]
+  below_first (x ∷ xs) split zero p few e =
+      let same : x ≡ p = cc in
+      elim (less_or_not (go x)) [
+        | inl w ↦ ap go (sym same) ∙ w
+        | inr n ↦ elim split.0 [ inl w ↦ absurd (n w) | inr a ↦ absurd (let f = rw (not_less (go x) n) at few in omega (arith, count_none go xs a)) ]
+      ]
+  below_first (x ∷ xs) split (suc i) p few e = below_first xs split.1 i p (omega (arith, few, count_step x xs)) e
 
   pub not_below : (xs : List ℕ) → IsSplit go xs → (i p : ℕ) → count_below go xs ≤ i → slice_get xs i ≡ Some p → go p ≢ Less
-  not_below [] split i p few e = absurd (cc)
-  not_below (x ∷ xs) split i p few e = behind_step x xs (go x) refl split.0 i p few e (λ j. not_below xs split.1 j p)
+  not_below [] split i p few e l = absurd (cc)
+  not_below (x ∷ xs) split zero p few e l = let same : x ≡ p = cc in let w : go x ≡ Less = ap go same ∙ l in absurd (let f = rw w at few in omega arith)
+  not_below (x ∷ xs) split (suc i) p few e l =
+      elim split.0 [
+        | inl w ↦ not_below xs split.1 i p (let f = rw w at few in omega arith) e l
+        | inr a ↦ let y : Greater ≡ Less = sym (above_at xs a i p e) ∙ l in cc
+      ]

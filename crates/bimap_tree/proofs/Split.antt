@@ -1,5 +1,5 @@
 -- Lists of places in the order of their keys, as seen from one key.
-use Rattle.std.proofs.Common.{◌≡◌, ◌≢◌, ℕ, ◌+◌, ◌≤◌, true, false, cond, List, [], ◌∷◌, ◌++◌, length, zero-add, refl, sym, ◌∙◌, ap, arith, inl, inr, Some, None}
+use Rattle.std.proofs.Common.{◌≡◌, ◌≢◌, ◌⊎◌, ℕ, ◌+◌, ◌≤◌, true, false, cond, List, [], ◌∷◌, ◌++◌, length, zero-add, refl, sym, ◌∙◌, ap, arith, inl, inr, Some, None}
 use Rattle.std.specs.Ordering.{is_lt, is_eq}
 use Rattle.std.specs.declared.cmp.Ordering.{Ordering}
 use Rattle.std.specs.declared.cmp.Ordering.TheVariants.{Less, Equal, Greater}
@@ -40,6 +40,11 @@ pub not_less : (o : Ordering) → o ≢ Less → is_lt o ≡ false
 not_less Less n = absurd (n refl)
 not_less Equal n = refl
 not_less Greater n = refl
+
+pub less_or_not : (o : Ordering) → (o ≡ Less) ⊎ (o ≢ Less)
+less_or_not Less = inl refl
+less_or_not Equal = inr (λ e. cc)
+less_or_not Greater = inr (λ e. cc)
 
 pub less_not_greater : (o : Ordering) → o ≡ Less → o ≢ Greater
 less_not_greater o e f = let x : Less ≡ Greater = sym e ∙ f in cc
