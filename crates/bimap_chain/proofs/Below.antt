@@ -1,10 +1,7 @@
 -- `last_below`: what it finds, and when two lists of cells give the same.
-use Rattle.std.proofs.Common.{◌≡◌, ℕ, zero, suc, ◌+◌, ◌<◌, ◌≤◌, true, false, None, Some, refl, sym, ◌∙◌, ap, subst, arith, ◌⊎◌, inl, inr}
+use Rattle.std.proofs.Common.{◌≡◌, ℕ, zero, suc, ◌+◌, ◌<◌, ◌≤◌, true, false, None, Some, refl, sym, ◌∙◌, ap, subst, arith, inl, inr}
+use Rattle.std.proofs.lemmas.Bool.{cases_eq}
 use Rattle.bimap_chain.specs.Chains.{Numbers, number_at, is_of, last_below, NoneWithin}
-
--- f is at the end, or below it
-le_or_suc : (f m : ℕ) → f ≤ suc m → (f ≡ suc m) ⊎ (f ≤ m)
-le_or_suc f m l = grind arith
 
 module _ (n b : ℕ) where
   -- the last cell is of the bucket
@@ -53,7 +50,10 @@ module _ (n b : ℕ) where
   pub skipped : (c : Numbers) (f m : ℕ) → f ≤ m → NoneWithin c n b f m → last_below c n b m ≡ last_below c n b f
   skipped c f zero l h = let e : zero ≡ f = omega arith in ap (last_below c n b) e
   skipped c f (suc m) l h =
-      elim (le_or_suc f m l) as (λ _. last_below c n b (suc m) ≡ last_below c n b f) [ inl e ↦ ap (last_below c n b) (sym e) | inr k ↦ last_lower c m (h m k (omega arith)) ∙ skipped c f m k (λ q i j. h q i (omega arith)) ]
+      elim (cases_eq f (suc m)) as (λ _. last_below c n b (suc m) ≡ last_below c n b f) [
+        | inl e ↦ ap (last_below c n b) (sym e)
+        | inr k ↦ last_lower c m (h m (omega arith) (omega arith)) ∙ skipped c f m (omega arith) (λ q i j. h q i (omega arith))
+      ]
 
   -- two lists of cells that agree from k on, where there is one of the bucket
   pub same_above : (c d : Numbers) (k m p : ℕ) → ((q : ℕ) → k ≤ q → q < m → is_of n b (number_at c q) ≡ is_of n b (number_at d q)) → k ≤ p → p < m → is_of n b (number_at c p) ≡ true → last_below c n b m ≡ last_below d n b m

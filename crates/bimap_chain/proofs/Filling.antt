@@ -24,24 +24,24 @@ module _ (numbers : Numbers) (place : ℕ) (inside : place < length numbers) whe
   room_left to n is fits =
       omega (arith, fits, ap (λ z. length (pairs_in z)) (take-append-drop (place + 1) numbers), ap length (pairs_in-append (take (place + 1) numbers) (drop (place + 1) numbers)), length-append (pairs_in (take (place + 1) numbers)) (pairs_in (drop (place + 1) numbers)), ap length (more_seen n is), length-append (pairs_in (take place numbers)) (n ∷ []))
 
-  -- one more number stands where it stood, of as many places and more
-  pub copied_more : (to : ℕ) (o : Option ℕ) → number_at numbers place ≡ o → length numbers ≤ to → slice_set (take place numbers ++ replicate (to - place) None) place o ≡ take (place + 1) numbers ++ replicate (to - (place + 1)) None
-  copied_more to o is most =
+  -- what is written at the first free place
+  seam : (to : ℕ) (o : Option ℕ) → length numbers ≤ to → slice_set (take place numbers ++ replicate (to - place) None) place o ≡ take place numbers ++ o ∷ replicate (to - (place + 1)) None
+  seam to o most =
       let done : Numbers = take place numbers in
       let rest : Numbers = replicate (to - (place + 1)) None in
       let e : to - place ≡ suc (to - (place + 1)) = omega arith in
       let long : length done ≡ place = length-take-le place numbers (omega arith) in
       ap (λ k. slice_set (done ++ replicate k None) place o) e ∙ ap (λ k. slice_set (done ++ None ∷ rest) k o) (sym long) ∙ set-append_seam done None rest o
-      ∙ sym (append_assoc done (o ∷ []) rest) ∙ ap (λ z. z ++ rest) (sym (take_more numbers place None inside ∙ ap (λ z. done ++ z ∷ []) is))
+
+  -- one more number stands where it stood, of as many places and more
+  pub copied_more : (to : ℕ) (o : Option ℕ) → number_at numbers place ≡ o → length numbers ≤ to → slice_set (take place numbers ++ replicate (to - place) None) place o ≡ take (place + 1) numbers ++ replicate (to - (place + 1)) None
+  copied_more to o is most =
+      seam to o most ∙ sym (append_assoc (take place numbers) (o ∷ []) (replicate (to - (place + 1)) None))
+      ∙ ap (λ z. z ++ replicate (to - (place + 1)) None) (sym (take_more numbers place None inside ∙ ap (λ z. take place numbers ++ z ∷ []) is))
 
   -- a place that is still free, written free
   pub left_free : (to : ℕ) → length numbers ≤ to → slice_set (take place numbers ++ replicate (to - place) None) place None ≡ take place numbers ++ replicate (to - place) None
-  left_free to most =
-      let done : Numbers = take place numbers in
-      let rest : Numbers = replicate (to - (place + 1)) None in
-      let e : to - place ≡ suc (to - (place + 1)) = omega arith in
-      let long : length done ≡ place = length-take-le place numbers (omega arith) in
-      ap (λ k. slice_set (done ++ replicate k None) place None) e ∙ ap (λ k. slice_set (done ++ None ∷ rest) k None) (sym long) ∙ set-append_seam done None rest None ∙ ap (λ k. done ++ replicate k None) (sym e)
+  left_free to most = let e : to - place ≡ suc (to - (place + 1)) = omega arith in seam to None most ∙ ap (λ k. take place numbers ++ replicate k None) (sym e)
 
 module _ (ns : List ℕ) (to : ℕ) (less : length ns < to) where
   abbrev rest : ℕ

@@ -2,14 +2,17 @@
 use Rattle.std.proofs.Common.{◌≡◌, ◌≢◌, ℕ, zero, suc, ◌+◌, ◌%◌, ◌<◌, ◌≤◌, true, false, List, [], ◌∷◌, length, Option, None, Some, refl, sym, ◌∙◌, ap, subst, arith, ◌⊎◌, inl, inr, eq-eqb, length-set, get_or-set_same, get_or-set_other}
 use Rattle.std.specs.Prelude.{slice_index_or, slice_set, IfSome}
 use Rattle.bimap_chain.specs.Chains.{Numbers, number_at, is_of, last_below, NoneWithin, IsThreaded, IsListed, GoesOver, Links, link_or_head}
+use Rattle.std.proofs.lemmas.Bool.{cases_eq, cases_order}
 use Rattle.bimap_chain.proofs.Below.{found, last_here, last_lower, same_last, skipped, same_above}
 use Rattle.bimap_chain.proofs.Walk.{leads, of_bucket}
 
-pub same_or_not : (p q : ℕ) → (p ≡ q) ⊎ (p ≢ q)
-same_or_not p q = grind arith
-
-below_same_above : (p q : ℕ) → (p < q) ⊎ ((p ≡ q) ⊎ (q < p))
-below_same_above p q = grind arith
+-- what stands in a list where one item was written
+pub written_at : (xs : List (Option ℕ)) (i k : ℕ) (v x : Option ℕ) → i < length xs → (k ≡ i → v ≡ x) → (k ≢ i → slice_index_or xs k None ≡ x) → slice_index_or (slice_set xs i v) k None ≡ x
+written_at xs i k v x fits same other =
+    elim (cases_eq k i) [
+      | inl e ↦ ap (λ j. slice_index_or (slice_set xs i v) j None) e ∙ get_or-set_same xs i v None fits ∙ same e
+      | inr n ↦ get_or-set_other xs i k v None n ∙ other n
+    ]
 
 pub listed_within : (c : Numbers) (q h : ℕ) → number_at c q ≡ Some h → q < length c
 listed_within [] q h e = cc
@@ -49,7 +52,7 @@ module _ (c : Numbers) (links heads : List (Option ℕ)) (b place : ℕ) (over :
     -- outside the bucket no cell has changed
     same_of : (k q : ℕ) → k ≢ b → is_of n k (number_at c q) ≡ is_of n k (number_at d q)
     same_of k q e =
-        elim (same_or_not q place) [
+        elim (cases_eq q place) [
           | inl i ↦ subst (λ r. is_of n k (number_at c r) ≡ is_of n k (number_at d r)) (sym i) (old_own k e ∙ sym (new_own k e) ∙ ap (is_of n k) (sym at_place))
           | inr i ↦ ap (is_of n k) (sym (at_other q i))
         ]
@@ -69,19 +72,14 @@ module _ (c : Numbers) (links heads : List (Option ℕ)) (b place : ℕ) (over :
     up_to : (m : ℕ) → place < m → NoneWithin c n b (place + 1) m → last_below d n b m ≡ last_below d n b (suc place)
     up_to m l h = skipped n b d (suc place) m (omega arith) (λ q i j. ap (is_of n b) (at_other q (omega arith)) ∙ h q (omega arith) j)
 
-    same_bucket_or_not : (k : ℕ) → (k ≡ b) ⊎ (k ≢ b)
-    same_bucket_or_not k = same_or_not k b
-
     heads_of : (p : Option ℕ) (links' heads' : List (Option ℕ)) → GoesOver c n b place p → Links b p (last_below d n b (suc place)) kept heads links' heads' → (k : ℕ) → k < length heads → slice_index_or heads' k None ≡ last_below d n k (length c)
     heads_of None links' heads' g w k l =
-        ap (λ hs. slice_index_or hs k None) w.1 ∙
-        (elim (same_bucket_or_not k) as (λ _. slice_index_or (slice_set heads b (last_below d n b (suc place))) k None ≡ last_below d n k (length c)) [
-          | inl i ↦ subst (λ m. slice_index_or (slice_set heads b (last_below d n b (suc place))) m None ≡ last_below d n m (length c)) (sym i) (get_or-set_same heads b (last_below d n b (suc place)) None fits ∙ sym (up_to (length c) inn g))
-          | inr i ↦ get_or-set_other heads b k (last_below d n b (suc place)) None i ∙ t.heads_begin k l ∙ sym (other_bucket k (length c) i)
-        ])
+        ap (λ hs. slice_index_or hs k None) w.1 ∙ written_at heads b k (last_below d n b (suc place)) (last_below d n k (length c)) fits
+        (λ i. sym (up_to (length c) inn g) ∙ ap (λ m. last_below d n m (length c)) (sym i))
+        (λ i. t.heads_begin k l ∙ sym (other_bucket k (length c) i))
     heads_of (Some p) links' heads' g w k l =
         ap (λ hs. slice_index_or hs k None) w.1 ∙ t.heads_begin k l ∙
-        (elim (same_bucket_or_not k) as (λ _. last_below c n k (length c) ≡ last_below d n k (length c)) [
+        (elim (cases_eq k b) as (λ _. last_below c n k (length c) ≡ last_below d n k (length c)) [
           | inl i ↦ subst (λ m. last_below c n m (length c) ≡ last_below d n m (length c)) (sym i) (sym (higher (length c) p g.0 g.1 g.2))
           | inr i ↦ sym (other_bucket k (length c) i)
         ])
@@ -92,7 +90,7 @@ module _ (c : Numbers) (links heads : List (Option ℕ)) (b place : ℕ) (over :
 
     own_bucket : (h : ℕ) → v ≡ Some h → h % n ≡ b
     own_bucket h e =
-        elim (same_or_not (h % n) b) [
+        elim (cases_eq (h % n) b) [
           | inl i ↦ i
           | inr i ↦ let f : is_of n (h % n) (Some h) ≡ false = ap (is_of n (h % n)) (sym e) ∙ new_own (h % n) i in let g = is_own n h in cc
         ]
@@ -103,25 +101,25 @@ module _ (c : Numbers) (links heads : List (Option ℕ)) (b place : ℕ) (over :
     -- what leads on from a place whose link was not written
     unchanged : (p : Option ℕ) → GoesOver c n b place p → (q h : ℕ) → q ≢ place → number_at c q ≡ Some h → (p ≡ Some q → ⊥) → last_below d n (h % n) q ≡ last_below c n (h % n) q
     unchanged p g q h e a differs =
-        elim (same_or_not (h % n) b) [
+        elim (cases_eq (h % n) b) [
           | inr i ↦ other_bucket (h % n) q i
-          | inl i ↦ elim (below_same_above q place) [
-            | inl l ↦ lower (h % n) q (omega arith)
-            | inr r ↦ elim r [ inl j ↦ absurd (e j) | inr l ↦ subst (λ k. last_below d n k q ≡ last_below c n k q) (sym i) (above p g l (of_own q h a i) differs) ]
+          | inl i ↦ elim (cases_order q place) [
+            | inl j ↦ absurd (e j)
+            | inr r ↦ elim r [ inl l ↦ lower (h % n) q (omega arith) | inr l ↦ subst (λ k. last_below d n k q ≡ last_below c n k q) (sym i) (above p g l (of_own q h a i) differs) ]
           ]
         ]
       where
         above : (p : Option ℕ) → GoesOver c n b place p → place < q → is_of n b (number_at c q) ≡ true → (p ≡ Some q → ⊥) → last_below d n b q ≡ last_below c n b q
         above None g l o differs = let f = g q (omega arith) (listed_within c q h a) in cc
         above (Some p) g l o differs =
-            elim (below_same_above q p) [
-              | inl k ↦ let f = g.3 q (omega arith) k in cc
-              | inr r ↦ elim r [ inl j ↦ absurd (differs (ap Some (sym j))) | inr k ↦ higher q p g.0 k g.2 ]
+            elim (cases_order q p) [
+              | inl j ↦ absurd (differs (ap Some (sym j)))
+              | inr r ↦ elim r [ inl k ↦ let f = g.3 q (omega arith) k in cc | inr k ↦ higher q p g.0 k g.2 ]
             ]
 
     links_of : (p : Option ℕ) (links' heads' : List (Option ℕ)) → GoesOver c n b place p → Links b p (last_below d n b (suc place)) kept heads links' heads' → (q h : ℕ) → number_at d q ≡ Some h → slice_index_or links' q None ≡ last_below d n (h % n) q
     links_of p links' heads' g w q h a =
-        elim (same_or_not q place) [ inl i ↦ at_it p g w i | inr i ↦ at_others p g w i (sym (at_other q i) ∙ a) ]
+        elim (cases_eq q place) [ inl i ↦ at_it p g w i | inr i ↦ at_others p g w i (sym (at_other q i) ∙ a) ]
       where
         kept_own : q ≡ place → slice_index_or kept q None ≡ last_below d n (h % n) q
         kept_own i =
@@ -135,15 +133,11 @@ module _ (c : Numbers) (links heads : List (Option ℕ)) (b place : ℕ) (over :
         at_others : (p : Option ℕ) → GoesOver c n b place p → Links b p (last_below d n b (suc place)) kept heads links' heads' → q ≢ place → number_at c q ≡ Some h → slice_index_or links' q None ≡ last_below d n (h % n) q
         at_others None g w i e = ap (λ ls. slice_index_or ls q None) w.0 ∙ link_kept q h i e (unchanged None g q h i e (λ j. cc))
         at_others (Some p) g w i e =
-            ap (λ ls. slice_index_or ls q None) w.0 ∙
-            (elim (same_or_not q p) [
-              | inl j ↦
-                  let k = of_bucket n b (number_at c p) g.2 in
-                  let s : h ≡ k.0 = let m = ap (number_at c) j in cc in
-                  ap (λ r. slice_index_or (slice_set kept p (last_below d n b (suc place))) r None) j ∙ get_or-set_same kept p (last_below d n b (suc place)) None (omega (arith, g.1, as_long, t.as_many_links)) ∙ sym (up_to p g.0 g.3)
-                  ∙ ap (λ m. last_below d n m p) (sym k.2 ∙ ap (λ m. m % n) (sym s)) ∙ ap (last_below d n (h % n)) (sym j)
-              | inr j ↦ get_or-set_other kept p q (last_below d n b (suc place)) None j ∙ link_kept q h i e (unchanged (Some p) g q h i e (λ m. j (let z : p ≡ q = cc in sym z)))
-            ])
+            ap (λ ls. slice_index_or ls q None) w.0 ∙ written_at kept p q (last_below d n b (suc place)) (last_below d n (h % n) q) (omega (arith, g.1, as_long, t.as_many_links))
+            (λ j. let k = of_bucket n b (number_at c p) g.2 in
+                let s : h ≡ k.0 = let m = ap (number_at c) j in cc in
+                sym (up_to p g.0 g.3) ∙ ap (λ m. last_below d n m p) (sym k.2 ∙ ap (λ m. m % n) (sym s)) ∙ ap (last_below d n (h % n)) (sym j))
+            (λ j. link_kept q h i e (unchanged (Some p) g q h i e (λ m. j (let z : p ≡ q = cc in sym z))))
 
     lengths : (p : Option ℕ) (links' heads' : List (Option ℕ)) → Links b p (last_below d n b (suc place)) kept heads links' heads' → (length links' ≡ length kept) × (length heads' ≡ length heads)
     lengths None links' heads' w = (ap length w.0, ap length w.1 ∙ length-set heads b (last_below d n b (suc place)))

@@ -2,8 +2,9 @@
 use Rattle.std.proofs.Common.{◌≡◌, ℕ, suc, ◌%◌, ◌<◌, ◌≤◌, List, length, Option, None, Some, sym, ◌∙◌, ap, subst, arith, ◌⊎◌, inl, inr, length-set, get_or-set_same, get_or-set_other}
 use Rattle.std.specs.Prelude.{slice_index_or, slice_set}
 use Rattle.bimap_chain.specs.Chains.{Numbers, number_at, is_of, last_below}
+use Rattle.std.proofs.lemmas.Bool.{cases_eq}
 use Rattle.bimap_chain.proofs.Below.{last_here, last_lower}
-use Rattle.bimap_chain.proofs.Relink.{listed_within, is_own, is_others, same_or_not}
+use Rattle.bimap_chain.proofs.Relink.{listed_within, is_own, is_others, written_at}
 
 -- The places below `done` are threaded.
 pub record ThreadedBelow (c : Numbers) (links heads : List (Option ℕ)) (done : ℕ) : Type 0 where
@@ -16,9 +17,6 @@ pub record ThreadedBelow (c : Numbers) (links heads : List (Option ℕ)) (done :
 abbrev pub EmptyBelow : List (Option ℕ) → ℕ → Type 0
 EmptyBelow heads done = (bucket : ℕ) → bucket < done → slice_index_or heads bucket None ≡ None
 
-same_or_below : (q place done : ℕ) → q < done → done ≡ suc place → (q ≡ place) ⊎ (q < place)
-same_or_below q place done l e = grind arith
-
 pub begun : (c : Numbers) (links heads : List (Option ℕ)) → length links ≡ length c → length c ≤ length heads → EmptyBelow heads (length heads) → ThreadedBelow c links heads 0
 unfolding last_below
 begun c links heads l h e = record { as_many_links = l; enough_heads = h; heads_begin = λ k i. e k i; links_lead = λ q m i a. absurd (omega arith) }
@@ -29,7 +27,7 @@ passed c links heads place done t e free = record {
   as_many_links = t.as_many_links;
   enough_heads = t.enough_heads;
   heads_begin = λ k i. t.heads_begin k i ∙ sym (last_lower (length heads) k c place (ap (is_of (length heads) k) free)) ∙ ap (last_below c (length heads) k) (sym e);
-  links_lead = λ q m l a. elim (same_or_below q place done l e) [ inl i ↦ let j = ap (number_at c) i in cc | inr i ↦ t.links_lead q m i a ];
+  links_lead = λ q m l a. elim (cases_eq q place) [ inl i ↦ let j = ap (number_at c) i in cc | inr i ↦ t.links_lead q m (omega arith) a ];
 }
 
 -- a place that is listed: it goes to the front of its chain
@@ -45,19 +43,14 @@ put_first c links heads b number place done old t e own held read =
       as_many_links = length-set links place old ∙ t.as_many_links;
       enough_heads = omega (arith, long, t.enough_heads);
       heads_begin = λ k i.
-          (elim (same_or_not k b) as (λ _. slice_index_or (slice_set heads b (Some place)) k None ≡ last_below c n k (suc place)) [
-            | inl j ↦ subst (λ m. slice_index_or (slice_set heads b (Some place)) m None ≡ last_below c n m (suc place)) (sym j)
-                (get_or-set_same heads b (Some place) None fits ∙ sym (last_here n b c place (ap (is_of n b) held ∙ ap (λ m. is_of n m (Some number)) own ∙ is_own n number)))
-            | inr j ↦ get_or-set_other heads b k (Some place) None j ∙ t.heads_begin k (omega (arith, long)) ∙ sym (last_lower n k c place (ap (is_of n k) held ∙ is_others n number k (λ z. j (z ∙ sym own))))
-          ])
+          written_at heads b k (Some place) (last_below c n k (suc place)) fits
+          (λ j. sym (last_here n b c place (ap (is_of n b) held ∙ ap (λ m. is_of n m (Some number)) own ∙ is_own n number)) ∙ ap (λ m. last_below c n m (suc place)) (sym j))
+          (λ j. t.heads_begin k (omega (arith, long)) ∙ sym (last_lower n k c place (ap (is_of n k) held ∙ is_others n number k (λ z. j (z ∙ sym own)))))
           ∙ ap (last_below c n k) (sym e) ∙ ap (λ m. last_below c m k done) (sym long);
       links_lead = λ q m l a.
-          (elim (same_or_below q place done l e) as (λ _. slice_index_or (slice_set links place old) q None ≡ last_below c n (m % n) q) [
-            | inl j ↦
-                let s : m ≡ number = let z = ap (number_at c) j in cc in
-                ap (λ r. slice_index_or (slice_set links place old) r None) j ∙ get_or-set_same links place old None (omega (arith, t.as_many_links)) ∙ read ∙ t.heads_begin b fits
-                ∙ ap (λ k. last_below c n k place) (own ∙ ap (λ r. r % n) (sym s)) ∙ ap (last_below c n (m % n)) (sym j)
-            | inr j ↦ get_or-set_other links place q old None (omega arith) ∙ t.links_lead q m j a
-          ])
+          written_at links place q old (last_below c n (m % n) q) (omega (arith, t.as_many_links))
+          (λ j. let s : m ≡ number = let z = ap (number_at c) j in cc in
+              read ∙ t.heads_begin b fits ∙ ap (λ k. last_below c n k place) (own ∙ ap (λ r. r % n) (sym s)) ∙ ap (last_below c n (m % n)) (sym j))
+          (λ j. t.links_lead q m (omega arith) a)
           ∙ ap (λ r. last_below c r (m % r) q) (sym long);
     }

@@ -4,6 +4,7 @@ use Rattle.std.specs.Prelude.{slice_index_or, IsSomeAnd, IsSome, IfSome, IsTrue,
 use Rattle.std.specs.Option.{MatchOption, option_eq}
 use Rattle.bimap_chain.specs.Chains.{Numbers, number_at, is_of, last_below, NoneWithin, IsThreaded, GoesOver, AreNumbered, Matches, IsListed}
 use Rattle.std.proofs.lemmas.List.{get_or_past}
+use Rattle.std.proofs.lemmas.Bool.{cases_lt}
 use Rattle.bimap_chain.proofs.Below.{found, found_none}
 
 -- a number that is of the bucket
@@ -24,11 +25,12 @@ pub record AtStep (c : Numbers) (n b place : ℕ) (over : Option ℕ) (end : ℕ
   pub within : end ≤ length c
   pub over_end : MatchOption over (end ≡ length c) (λ p. (p ≡ end) × (p < length c) × (is_of n b (number_at c p) ≡ true))
 
-pub came_to : (c : Numbers) (n b place : ℕ) (over : Option ℕ) (end next : ℕ) {at : Option ℕ} → AtStep c n b place over end at → at ≡ Some next → (next < end) × (next < length c)
-came_to c n b place over end next s e = let f = found n b c end next (sym s.at_last ∙ e) in (f.0, omega (arith, f.0, s.within))
-
-pub came_listed : (c : Numbers) (n b place : ℕ) (over : Option ℕ) (end next : ℕ) {at : Option ℕ} → AtStep c n b place over end at → at ≡ Some next → IsListed c next
-came_listed c n b place over end next s e = let o = of_bucket n b (number_at c next) (found n b c end next (sym s.at_last ∙ e)).1 in (o.0, o.1)
+-- the place that a chain leads to is listed, below the end
+pub arrived : (c : Numbers) (n b end next : ℕ) {at : Option ℕ} → at ≡ last_below c n b end → end ≤ length c → at ≡ Some next → (next < end) × (next < length c) × IsListed c next
+arrived c n b end next last within e =
+    let f = found n b c end next (sym last ∙ e) in
+    let o = of_bucket n b (number_at c next) f.1 in
+    (f.0, omega (arith, f.0, within), (o.0, o.1))
 
 pub stepped : (c : Numbers) (links heads : List (Option ℕ)) (b place : ℕ) (over : Option ℕ) (end next : ℕ) {at : Option ℕ} (read : Option ℕ) → IsThreaded c links heads → AtStep c (length heads) b place over end at → at ≡ Some next → place < next → read ≡ slice_index_or links next None → AtStep c (length heads) b place (Some next) next read
 stepped c links heads b place over end next read t s e l r =
@@ -79,13 +81,10 @@ same_number : {Key : Type 0} (test : Key → Bool) (number_of : Key → ℕ) (nu
 same_number test number_of number h (Some k) a t u = sym a ∙ u k t
 same_number test number_of number h None a t u = absurd a
 
-lt_or_le : (p e : ℕ) → (p < e) ⊎ (e ≤ p)
-lt_or_le p e = grind arith
-
 -- at the place, between it and the end, or past the end
 three : {P : Type 0} (place end p : ℕ) → place ≤ p → (place ≡ p → P) → (place < p → p < end → P) → (end ≤ p → P) → P
 three {P} place end p i at between past =
-    elim (lt_or_le p end) [ inl l ↦ elim (lt_or_le place p) [ inl k ↦ between k l | inr k ↦ at (omega arith) ] | inr l ↦ past l ]
+    elim (cases_lt p end) [ inl l ↦ elim (cases_lt place p) [ inl k ↦ between k l | inr k ↦ at (omega arith) ] | inr l ↦ past l ]
 
 -- a number is of its own bucket
 other : (c : Numbers) (number n p : ℕ) → number_at c p ≡ Some number → is_of n (number % n) (number_at c p) ≡ false → ⊥
@@ -102,13 +101,6 @@ module _ {Key : Type 0} (key_at : ℕ → Option Key) (test : Key → Bool) (c :
     where
       past_end : (p : ℕ) → length c ≤ p → Matches key_at test c p → ⊥
       past_end p i m = let e : number_at c p ≡ None = get_or_past c p None i in let o = m.0.1 in cc
-
-  pub arrived : (n b end place : ℕ) {at : Option ℕ} → Searched key_at test c n b end at → at ≡ Some place → (place < end) × (place < length c)
-  arrived n b end place s e = let f = found n b c end place (sym s.at_last ∙ e) in (f.0, omega (arith, f.0, s.within))
-
-  -- the place that a chain leads to is listed
-  pub arrived_listed : (n b end place : ℕ) {at : Option ℕ} → Searched key_at test c n b end at → at ≡ Some place → IsListed c place
-  arrived_listed n b end place s e = let o = of_bucket n b (number_at c place) (found n b c end place (sym s.at_last ∙ e)).1 in (o.0, o.1)
 
 module _ {Key : Type 0} (key_at : ℕ → Option Key) (number_of : Key → ℕ) (test : Key → Bool) (c : Numbers) where
   -- a listed place has a key
@@ -139,4 +131,4 @@ module _ {Key : Type 0} (key_at : ℕ → Option Key) (number_of : Key → ℕ) 
   -- at the end of the chain
   pub nothing_left : (n b number end : ℕ) {at : Option ℕ} → AreNumbered key_at number_of c → ((k : Key) → IsTrue (test k) → number_of k ≡ number) → b ≡ number % n → Searched key_at test c n b end at → at ≡ None → (p : ℕ) → Matches key_at test c p → ⊥
   nothing_left n b number end a u i s e p m =
-      elim (lt_or_le p end) [ inl l ↦ other c number n p (its_number p number a u m) (subst (λ k. is_of n k (number_at c p) ≡ false) i (found_none n b c end (sym s.at_last ∙ e) p (omega arith) l)) | inr l ↦ s.passed p l m ]
+      elim (cases_lt p end) [ inl l ↦ other c number n p (its_number p number a u m) (subst (λ k. is_of n k (number_at c p) ≡ false) i (found_none n b c end (sym s.at_last ∙ e) p (omega arith) l)) | inr l ↦ s.passed p l m ]

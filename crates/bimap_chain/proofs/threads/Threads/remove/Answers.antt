@@ -1,7 +1,7 @@
 use Rattle.std.proofs.Common.{◌≡◌, ◌∙◌, length, arith, sym, subst, ap, None, length-set}
 use Rattle.bimap_chain.specs.Chains.{IsThreaded, Links}
 use Rattle.bimap_chain.specs.Packed.{numbers_of, links_of}
-use Rattle.bimap_chain.proofs.Sized.{as_sized}
+use Rattle.bimap_chain.proofs.Sized.{sound_again}
 use Rattle.bimap_chain.proofs.Relink.{few, over_listed, listed_within, unlisted}
 use Rattle.bimap_chain.proofs.threads.Threads.remove.Goals as goal
 
@@ -17,17 +17,7 @@ set_link-requires-clause-to g c =
 
 pub returns-clause-sound : goal.returns-clause-sound
 returns-clause-sound g c =
-    let old = c.args.self.now in
-    let new = c.set_link.new.self in
-    let i = c.requires.sound in
-    let place = c.args.place in
-    let held = sym c.number.ensures ∙ c.in-Some.is in
-    let same = c.set_link.ensures.numbers ∙ c.unlist.ensures.numbers in
-    let heads : c.unlist.new.self.heads ≡ old.heads = c.unlist.ensures.heads in
-    let written = subst (λ v. Links c.bucket-bucket.result c.over-over.result c.next-next.result v old.heads (links_of new) new.heads) c.unlist.ensures.links
-    (subst (λ v. Links c.bucket-bucket.result c.over-over.result c.next-next.result (links_of c.unlist.new.self) v (links_of new) new.heads) heads c.set_link.ensures.links) in
-    record {
-      sized = as_sized _ _ _ _ i.sized (c.set_link.ensures.cells ∙ c.unlist.ensures.cells) (c.set_link.ensures.heads ∙ ap length c.unlist.ensures.heads);
-      threaded = subst (λ v. IsThreaded v (links_of new) new.heads) (sym same)
-          (unlisted _ _ _ _ c.in-Some.number place _ _ _ _ _ i.threaded c.bucket-bucket.ensures.value held c.over-over.ensures c.next-next.ensures written);
-    }
+    let mid = c.unlist.ensures in
+    let new = c.set_link.ensures in
+    sound_again _ _ _ _ _ _ _ _ c.requires.sound mid.numbers mid.links mid.cells mid.heads new.numbers new.links new.cells new.heads
+    (unlisted _ _ _ _ c.in-Some.number c.args.place _ _ _ _ _ c.requires.sound.threaded c.bucket-bucket.ensures.value (sym c.number.ensures ∙ c.in-Some.is) c.over-over.ensures c.next-next.ensures)
