@@ -6,7 +6,7 @@ use Rattle.bimap_tree.specs.Tree.{Tree, height, root_of, branch}
 use Rattle.bimap_tree.specs.Link.{Measures, IsRebalanced}
 use Rattle.bimap_tree.specs.Path.{Path, below, steps, Moves, CanRise, CanRelink, IsRisen}
 use Rattle.bimap_tree.specs.declared.link.Subtree.{Subtree}
-use Rattle.bimap_tree.proofs.Rises.{last_step, within, can_relink, can_rise, risen_on, at_top}
+use Rattle.bimap_tree.proofs.Rises.{last_step, can_relink, can_rise, risen_on, at_top}
 
 -- the tree u stands at this root in place of s, and is as high
 pub record Stays (root : Option ℕ) (s u : Tree) : Type 0 where
@@ -46,18 +46,12 @@ module _ (ns : List Node) (places : List ℕ) (turns : List Bool) (grew : Bool) 
       pub record Above (up : Path) (sister x t : Tree) : Type 0 where
         pub here : CanRise now places turns (below up turn at sister) grew x t
         pub known : next x t
-        pub depth_is : depth - 1 ≡ steps up
 
       pub above : (path : Path) (s u : Tree) → Start path s u → (up : Path) × (sister : Tree) × (x : Tree) × (t : Tree) × Above up sister x t
       above path s u c =
           let (low, x, t, r, e, n, f) = d.alike path s u c in
           let (up, sister, i) = last_step now places turns grew x t depth low r e more at turn p q in
-          (up, sister, x, t, record { here = i.here; known = n; depth_is = i.above })
-
-      pub cell_within : (path : Path) (s u : Tree) → Start path s u → at < length now
-      cell_within path s u c =
-          let (up, sister, x, t, a) = above path s u c in
-          within now places turns grew x t up turn at sister a.here
+          (up, sister, x, t, record { here = i.here; known = n })
 
       pub relinks : (path : Path) (s u : Tree) → Start path s u → (node : Node) → slice_get now at ≡ Some node → (sister : Tree) × (x : Tree) × (t : Tree) × CanRelink now at turn grew node sister x t × next x t
       relinks path s u c node told =

@@ -58,46 +58,6 @@ module _ (nodes : List Node) (at : ℕ) (turn grew : Bool) (node : Node) (sister
         | inr v ↦ record { sizes = omega arith; not_lower = omega arith; not_higher = omega arith }
       ]
 
-  -- the node that was told of the child alone, where its height is as it was
-  pub record Retold (new : List Node) (more : Node) : Type 0 where
-    pub linked : IsRebalanced nodes new turn at u sister (branch turn u at sister)
-    pub height_is : more.height ≡ height (branch turn u at sister)
-    pub size_is : more.size ≡ size (branch turn u at sister)
-    pub as_high : height (branch turn u at sister) ≡ height (branch turn s at sister)
-
-  pub retold : (new : List Node) (more : Node) → max (height u) (height sister) ≡ max (height s) (height sister) → height u ≤ height sister + 1 → height sister ≤ height u + 1 → near_of turn more ≡ root_of u → far_of turn more ≡ far_of turn node → more.height ≡ node.height → more.size + one_if (not grew) ≡ node.size + one_if grew → new ≡ slice_set nodes at more → Retold new more
-  retold new more even l1 l2 near far tall counted e =
-      let same_height : more.height ≡ max (height u) (height sister) + 1 = omega (arith, tall, h.told.height_is, even) in
-      let same_size : more.size ≡ size u + size sister + 1 = omega (arith, counted, h.told.size_is) in
-      let is : more ≡ node_on turn u sister = node_is turn more (node_on turn u sister)
-      (near ∙ sym (near-node_on turn u sister))
-      (far ∙ h.told.far_is ∙ sym (far-node_on turn u sister))
-      (same_height ∙ sym (height-node_on turn u sister))
-      (same_size ∙ sym (size-node_on turn u sister)) in
-      record {
-        linked = no_rotation nodes new turn at u sister can_rebalance l1 l2 (e ∙ ap (λ x. slice_set nodes at x) is);
-        height_is = same_height ∙ sym (height-branch turn u at sister);
-        size_is = same_size ∙ sym (size-branch turn u at sister);
-        as_high = height-branch turn u at sister ∙ ap (λ x. x + 1) even ∙ sym (height-branch turn s at sister);
-      }
-
-  -- a child that grew, but no higher than the place was above its sister
-  pub low : grew ≡ true → (level : ℕ) → level ≡ height u → level < node.height → (new : List Node) (more : Node) → near_of turn more ≡ root_of u → far_of turn more ≡ far_of turn node → more.height ≡ node.height → more.size ≡ node.size + 1 → new ≡ slice_set nodes at more → Retold new more
-  low up lvl e few new more near far tall counted w =
-      let lv = level turn s at sister h.steady in
-      let a : one_if grew ≡ 1 = ap one_if up in
-      let b : one_if (not grew) ≡ 0 = ap (λ x. one_if (not x)) up in
-      retold new more (omega arith) (omega arith) (omega arith) near far tall (omega (arith, counted, a, b)) w
-
-  -- a child that is as high as it was
-  pub steady : height u ≡ height s → (new : List Node) (more : Node) → near_of turn more ≡ root_of u → far_of turn more ≡ far_of turn node → more.height ≡ node.height → more.size + one_if (not grew) ≡ node.size + one_if grew → new ≡ slice_set nodes at more → Retold new more
-  steady same new more near far tall counted w =
-      let lv = level turn s at sister h.steady in
-      retold new more (omega arith) (omega arith) (omega arith) near far tall counted w
-
-  pub as_told : node.height ≡ height (branch turn s at sister)
-  as_told = h.told.height_is ∙ sym (height-branch turn s at sister)
-
   -- the child that its node is told of is there
   pub child_there : (child : Option ℕ) → root_of u ≡ child → IsThere (length nodes) child
   child_there child root = there nodes child u record { root_is = root; shown = h.shown }
@@ -108,10 +68,38 @@ module _ (nodes : List Node) (at : ℕ) (turn grew : Bool) (node : Node) (sister
       let room = can_rebalance.link.room in
       record { more = λ e. omega (arith, ap one_if e, ap (λ b. one_if (not b)) e); less = λ e. omega arith }
 
-  -- its node was counted anew above a child that is as high as before
-  pub as_steady : height u ≡ height s → (child : Option ℕ) → root_of u ≡ child → (new : List Node) → new ≡ slice_set nodes at (recounted turn child grew node) → Retold new (recounted turn child grew node)
-  as_steady same child root new w =
-      steady same new _ (near-recounted turn child grew node ∙ sym root) (far-recounted turn child grew node) refl (size-recounted turn child grew node can_count.less) w
+  -- its node was told of the child alone, where its height is as it was
+  pub record Retold (new : List Node) : Type 0 where
+    pub linked : IsRebalanced nodes new turn at u sister (branch turn u at sister)
+    pub as_high : height (branch turn u at sister) ≡ height (branch turn s at sister)
+
+  retold : (child : Option ℕ) → root_of u ≡ child → (new : List Node) → new ≡ slice_set nodes at (recounted turn child grew node) → max (height u) (height sister) ≡ max (height s) (height sister) → height u ≤ height sister + 1 → height sister ≤ height u + 1 → Retold new
+  retold child root new e even l1 l2 =
+      let tall : (recounted turn child grew node).height ≡ node.height = refl in
+      let is : recounted turn child grew node ≡ node_on turn u sister = node_is turn (recounted turn child grew node) (node_on turn u sister)
+      (near-recounted turn child grew node ∙ sym root ∙ sym (near-node_on turn u sister))
+      (far-recounted turn child grew node ∙ h.told.far_is ∙ sym (far-node_on turn u sister))
+      (omega (arith, tall, h.told.height_is, even, height-node_on turn u sister))
+      (omega (arith, size-recounted turn child grew node can_count.less, one_way grew, size-node_on turn u sister)) in
+      record {
+        linked = no_rotation nodes new turn at u sister can_rebalance l1 l2 (e ∙ ap (λ x. slice_set nodes at x) is);
+        as_high = height-branch turn u at sister ∙ ap (λ x. x + 1) even ∙ sym (height-branch turn s at sister);
+      }
+
+  -- above a child that grew, but no higher than the place was above its sister
+  pub low : (child : Option ℕ) → root_of u ≡ child → (new : List Node) → new ≡ slice_set nodes at (recounted turn child grew node) → grew ≡ true → height u < node.height → Retold new
+  low child root new e up few =
+      let lv = level turn s at sister h.steady in
+      let one : one_if grew ≡ 1 = ap one_if up in
+      let none : one_if (not grew) ≡ 0 = ap (λ x. one_if (not x)) up in
+      retold child root new e (omega arith) (omega arith) (omega arith)
+
+  -- above a child that is as high as it was
+  pub steady : (child : Option ℕ) → root_of u ≡ child → (new : List Node) → new ≡ slice_set nodes at (recounted turn child grew node) → height u ≡ height s → Retold new
+  steady child root new e same = let lv = level turn s at sister h.steady in retold child root new e (omega arith) (omega arith) (omega arith)
+
+  pub as_told : node.height ≡ height (branch turn s at sister)
+  as_told = h.told.height_is ∙ sym (height-branch turn s at sister)
 
   -- the node's count can be told
   pub counts : (node.size + one_if grew < 2 ^ 64) × (one_if (not grew) ≤ node.size)

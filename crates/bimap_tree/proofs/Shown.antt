@@ -1,5 +1,5 @@
 -- Trees that nodes show.
-use Rattle.std.proofs.Common.{◌≡◌, ◌≢◌, ℕ, zero, suc, ◌+◌, ◌≤◌, ◌<◌, List, [], ◌∷◌, Option, Some, None, refl, sym, ◌∙◌, ap, arith, length, length-append, inl, inr}
+use Rattle.std.proofs.Common.{◌≡◌, ◌≢◌, ℕ, zero, suc, ◌+◌, ◌≤◌, ◌<◌, List, [], ◌∷◌, Option, Some, None, refl, sym, subst, ◌∙◌, ap, arith, length, length-append, inl, inr}
 use Rattle.std.specs.Prelude.{slice_get, slice_set}
 use Rattle.std.proofs.lemmas.Bool.{eq-eqb}
 use Rattle.std.proofs.lemmas.Option.{slice_get_within}
@@ -47,6 +47,11 @@ pub no_root : (t : Tree) → root_of t ≡ None → t ≡ leaf
 no_root leaf e = refl
 no_root (fork l p r) e = absurd (cc)
 
+-- and one whose root is a place has two trees
+pub a_fork : (t : Tree) (at : ℕ) → root_of t ≡ Some at → (l : Tree) × (r : Tree) × (t ≡ fork l at r)
+a_fork leaf at e = absurd (cc)
+a_fork (fork l p r) at e = let same : p ≡ at = cc in (l, r, ap (λ x. fork l x r) same)
+
 -- a tree whose root is a place, with the node of that place
 pub record Opened (ns : List Node) (p : ℕ) (node : Node) (t l r : Tree) : Type 0 where
   pub is : t ≡ fork l p r
@@ -55,28 +60,26 @@ pub record Opened (ns : List Node) (p : ℕ) (node : Node) (t l r : Tree) : Type
   pub right_stands : Stands ns node.right r
 
 pub opened : (ns : List Node) (root : Option ℕ) (p : ℕ) (node : Node) (t : Tree) → Stands ns root t → root ≡ Some p → slice_get ns p ≡ Some node → (l : Tree) × (r : Tree) × Opened ns p node t l r
-opened ns root p node leaf h some e = absurd (let x = h.root_is ∙ some in cc)
-opened ns root p node (fork l q r) h some e =
-    let x : Some q ≡ Some p = h.root_is ∙ some in
-    let same : q ≡ p = cc in
-    let told : Some node ≡ Some (node_of l r) = sym e ∙ (rw same at h.shown.0) in
+opened ns root p node t h some e =
+    let (l, r, whole) = a_fork t p (h.root_is ∙ some) in
+    let shown : Shows ns (fork l p r) = subst (λ x. Shows ns x) whole h.shown in
+    let told : Some node ≡ Some (node_of l r) = sym e ∙ shown.0 in
     let is : node ≡ node_of l r = cc in (
       l,
       r,
       record {
-        is = ap (λ y. fork l y r) same;
+        is = whole;
         node_is = is;
-        left_stands = record { root_is = sym (ap (λ n. n.left) is); shown = h.shown.1 };
-        right_stands = record { root_is = sym (ap (λ n. n.right) is); shown = h.shown.2 };
+        left_stands = record { root_is = sym (ap (λ n. n.left) is); shown = shown.1 };
+        right_stands = record { root_is = sym (ap (λ n. n.right) is); shown = shown.2 };
       },
     )
 
 pub root_within : (ns : List Node) (p : ℕ) (t : Tree) → Stands ns (Some p) t → p < length ns
-root_within ns p leaf h = absurd (let x = h.root_is in cc)
-root_within ns p (fork l q r) h =
-    let x : Some q ≡ Some p = h.root_is in
-    let same : q ≡ p = cc in
-    slice_get_within ns p (node_of l r) (rw same at h.shown.0)
+root_within ns p t h =
+    let (l, r, whole) = a_fork t p h.root_is in
+    let shown : Shows ns (fork l p r) = subst (λ x. Shows ns x) whole h.shown in
+    slice_get_within ns p (node_of l r) shown.0
 
 pub Stands-at : (ns : List Node) (a b : Option ℕ) (t : Tree) → a ≡ b → Stands ns a t → Stands ns b t
 Stands-at ns a b t e h = record { root_is = h.root_is ∙ e; shown = h.shown }

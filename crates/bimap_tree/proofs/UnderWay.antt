@@ -7,7 +7,7 @@ use Rattle.std.specs.declared.cmp.Ordering.TheVariants.{Equal}
 use Rattle.bimap_base.specs.declared.cells.Node.{Node}
 use Rattle.bimap_base.specs.Digits.{most_height}
 use Rattle.bimap_base.specs.Keyed.{standing, Ascends}
-use Rattle.bimap_tree.specs.Tree.{Tree, leaf, fork, reading, root_of, branch, node_of}
+use Rattle.bimap_tree.specs.Tree.{Tree, Shows, fork, reading, root_of, branch, node_of}
 use Rattle.bimap_tree.specs.Index.{Index, IsBalancedIndex, IsWhole, index_of, tree_in, height_at}
 use Rattle.bimap_tree.specs.Order.{order_of, first_equal}
 use Rattle.bimap_tree.specs.Path.{Path, top, below, plug, Wants, wanted}
@@ -20,7 +20,7 @@ use Rattle.bimap_tree.proofs.Descents.{here}
 use Rattle.bimap_tree.proofs.Found.{told_equal}
 use Rattle.bimap_tree.proofs.Paths.{steps_within}
 use Rattle.bimap_tree.proofs.Searches.{seek_into, found_left, found_right}
-use Rattle.bimap_tree.proofs.Shown.{height_told}
+use Rattle.bimap_tree.proofs.Shown.{a_fork, height_told}
 use Rattle.bimap_tree.proofs.Whole.{can_seek_of, few_levels, height_within, shown_index}
 
 -- a search that has not found the key yet may still go down all that is below
@@ -30,11 +30,10 @@ levels_on ns descent e = ap (λ b. cond b 0 (height_at ns descent.root)) e
 module _ (ns : List Node) (live : ℕ → Type 0) (go : ℕ → Ordering) where
   -- a key that is found at the top is the first that is equal
   pub found_at : (root : Option ℕ) (s : Tree) (place : ℕ) → CanSeek ns root live go s → root ≡ Some place → go place ≡ Equal → root ≡ first_equal go (reading s)
-  found_at root leaf place h e same = absurd (let x = h.tree.root_is ∙ e in cc)
-  found_at root (fork l p r) place h e same =
-      let x : Some p ≡ Some place = h.tree.root_is ∙ e in
-      let at : place ≡ p = cc in
-      sym h.tree.root_is ∙ sym (here ns live go root p (node_of l r) (fork l p r) h (sym h.tree.root_is) h.tree.shown.0 (ap go (sym at) ∙ same))
+  found_at root s place h e same =
+      let (l, r, whole) = a_fork s place (h.tree.root_is ∙ e) in
+      let shown : Shows ns (fork l place r) = subst (λ x. Shows ns x) whole h.tree.shown in
+      e ∙ sym (here ns live go root place (node_of l r) s h e shown.0 same)
 
   a_level : (turn : Bool) (s sister : Tree) (p : ℕ) → CanSeek ns (root_of (branch turn s p sister)) live go (branch turn s p sister) → go p ≡ wanted turn → CanSeek ns (root_of s) live go s × (first_equal go (reading (branch turn s p sister)) ≡ first_equal go (reading s))
   a_level true s sister p h w =

@@ -24,15 +24,11 @@ use Rattle.bimap_tree.proofs.Heights.{height-bound}
 use Rattle.bimap_tree.proofs.Index.{tree_in-shown, whole_of}
 use Rattle.bimap_tree.proofs.Paths.{occurs-plug, size-plug, reading-plug, steps_within, front_below, back_above, Wants-alike}
 use Rattle.bimap_tree.proofs.Rooms.{size_room}
-use Rattle.bimap_tree.proofs.Shown.{Shows-frame, no_root, size-reading, with_absent, in_tree}
+use Rattle.bimap_tree.proofs.Shown.{Shows-frame, no_root, a_fork, size-reading, with_absent, in_tree}
 
 -- a tree whose number of places is that of a word has at most so many levels
 pub few_levels : (t : Tree) → IsBalanced t → size t < 2 ^ 64 → height t ≤ 128
 few_levels t balanced few = omega (arith, height-bound t balanced, bits-least (size t) 64 few)
-
-a_fork : (t : Tree) (at : ℕ) → root_of t ≡ Some at → (l : Tree) × (r : Tree) × (t ≡ fork l at r)
-a_fork leaf at e = absurd (cc)
-a_fork (fork l p r) at e = let same : p ≡ at = cc in (l, r, ap (λ x. fork l x r) same)
 
 length-middle : (xs ys : List ℕ) (p : ℕ) → length (xs ++ p ∷ ys) ≡ length (xs ++ ys) + 1
 length-middle [] ys p = omega arith

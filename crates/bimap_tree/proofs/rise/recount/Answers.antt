@@ -1,7 +1,7 @@
 use Rattle.std.proofs.Common.{arith, refl}
 use Rattle.bimap_tree.proofs.Branch.{root-branch}
 use Rattle.bimap_tree.proofs.Climbs.{climbs_none, climbs_end, climbs_on, relinked}
-use Rattle.bimap_tree.proofs.Rises.{as_steady, can_count, child_there, moved}
+use Rattle.bimap_tree.proofs.Rises.{steady, can_count, child_there, moved}
 use Rattle.bimap_tree.proofs.rise.recount.Goals as goal
 
 pub loop-depth-init : goal.loop-depth-init
@@ -25,7 +25,7 @@ loop-depth-preserved g c =
     let (node, _, _, _, is, _) = relinked _ _ _ _ _ _ _ _ _ c.loop-depth.invariant.climbs _ _ (omega arith) c.step-at.ensures.place c.step-at.ensures.turn _ _ _ record { rise = c.requires.3; start_is = c.requires.4; known = record { root_is = c.requires.6; as_high = c.requires.7 } } in
     record {
       climbs = climbs_on _ _ _ _ _ _ _ _ _ c.loop-depth.invariant.climbs _ _ (omega arith) c.step-at.ensures.place c.step-at.ensures.turn node is.node_is _ _ (λ sister x t h known.
-          let r = as_steady _ _ _ _ _ sister x t h known.as_high _ known.root_is _ (c.recount.ensures.written node is.node_is) in
+          let r = steady _ _ _ _ _ sister x t h _ known.root_is _ (c.recount.ensures.written node is.node_is) known.as_high in
           (_, record { tree = r.linked; moves = moved _ _ _ _ _ sister x t h _ _ r.linked; known = record { root_is = root-branch _ _ _ _; as_high = r.as_high } }));
       compared = omega arith;
       touched = omega arith;

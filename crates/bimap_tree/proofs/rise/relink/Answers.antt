@@ -1,8 +1,10 @@
-use Rattle.std.proofs.Common.{ap, arith, length, refl, subst, sym, true, ◌∙◌}
-use Rattle.bimap_base.specs.Packed.{CanCount}
+use Rattle.std.proofs.Common.{◌≡◌, ◌+◌, ap, arith, length, not, subst, sym, ◌∙◌}
+use Rattle.bimap_base.specs.Packed.{CanCount, recounted}
+use Rattle.std.specs.Prelude.{slice_set}
+use Rattle.bimap_tree.specs.Tree.{branch, size}
 use Rattle.bimap_tree.specs.Path.{one_if}
-use Rattle.bimap_tree.proofs.Branch.{root-branch}
-use Rattle.bimap_tree.proofs.Rises.{sister_stands, can_rebalance, can_count, child_there, counts, far-recounted, low, moved, near-recounted}
+use Rattle.bimap_tree.proofs.Branch.{root-branch, size-branch}
+use Rattle.bimap_tree.proofs.Rises.{sister_stands, can_rebalance, can_count, child_there, counts, as_told, low, moved}
 use Rattle.bimap_tree.proofs.Shown.{Stands-at}
 use Rattle.bimap_tree.proofs.rise.relink.Goals as goal
 
@@ -19,10 +21,10 @@ overflow_add-result g c = omega (arith, (counts _ _ _ _ _ _ _ _ c.requires.3).0,
 
 pub returns-then-child-node-clause-tree : goal.returns-then-child-node-clause-tree
 returns-then-child-node-clause-tree g c sister s u h child =
-    let near = near-recounted c.args.turn c.args.child.root true c.args.node in
-    let far = far-recounted c.args.turn c.args.child.root true c.args.node in
-    let r = low _ _ _ _ _ sister s u h c.if-grew.true _ child.height_is c.if-child-node.true _ _ (near ∙ sym child.root_is) far refl refl (c.recount.ensures.written _ h.node_is) in
-    (_, record { root_is = root-branch _ _ _ _; height_is = r.height_is; size_is = r.size_is }, r.linked, moved _ _ _ _ _ sister s u h _ _ r.linked)
+    let written = c.recount.ensures.written _ h.node_is ∙ ap (λ b. slice_set c.args.cells.now c.args.at (recounted c.args.turn c.args.child.root b c.args.node)) (sym c.if-grew.true) in
+    let r = low _ _ _ _ _ sister s u h _ child.root_is _ written c.if-grew.true (omega (arith, child.height_is, c.if-child-node.true)) in
+    let size_is : c.args.node.size + 1 ≡ size (branch c.args.turn u c.args.at sister) = omega (arith, size-branch c.args.turn u c.args.at sister, ap one_if c.if-grew.true, ap (λ b. one_if (not b)) c.if-grew.true) in
+    (_, record { root_is = root-branch _ _ _ _; height_is = as_told _ _ _ _ _ sister s u h ∙ sym r.as_high; size_is = size_is }, r.linked, moved _ _ _ _ _ sister s u h _ _ r.linked)
 
 pub rebalance-requires : goal.rebalance-requires
 rebalance-requires g c =

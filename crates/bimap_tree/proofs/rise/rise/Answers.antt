@@ -1,5 +1,5 @@
 use Rattle.std.proofs.Common.{arith, refl, sym, ◌∙◌}
-use Rattle.bimap_tree.proofs.Climbs.{climbs_none, climbs_end, climbs_on, cell_within, relinks}
+use Rattle.bimap_tree.proofs.Climbs.{climbs_none, climbs_end, climbs_on, relinks, relinked}
 use Rattle.bimap_tree.proofs.Rises.{as_told}
 use Rattle.bimap_tree.proofs.rise.rise.Goals as goal
 
@@ -15,7 +15,8 @@ step-at-requires g c = omega (arith, c.loop-child.invariant.climbs.deep)
 
 pub read-node-requires : goal.read-node-requires
 read-node-requires g c =
-    cell_within _ _ _ _ _ _ _ _ _ c.loop-child.invariant.climbs _ _ (omega arith) c.step-at.ensures.place c.step-at.ensures.turn _ _ _ record { rise = c.requires.3; start_is = c.requires.4; known = record { measured = c.requires.6; was_high = c.requires.7 } }
+    let (node, sister, x, t, h, known) = relinked _ _ _ _ _ _ _ _ _ c.loop-child.invariant.climbs _ _ (omega arith) c.step-at.ensures.place c.step-at.ensures.turn _ _ _ record { rise = c.requires.3; start_is = c.requires.4; known = record { measured = c.requires.6; was_high = c.requires.7 } } in
+    h.has_cell
 
 pub relink-child-requires : goal.relink-child-requires
 relink-child-requires g c =

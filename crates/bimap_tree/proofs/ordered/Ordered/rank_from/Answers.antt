@@ -18,28 +18,22 @@ rank_under-requires g c = (tree_in (nodes_in c.self.inside.cells) c.self.inside.
 pub rank_under-requires-in-Excluded : goal.rank_under-requires-in-Excluded
 rank_under-requires-in-Excluded g c = (tree_in (nodes_in c.self.inside.cells) c.self.inside.root, can_seek_after _ _ _ _ c.self.invariant c.self.view_is _ _ g.met.K.Keys.total c.requires _)
 
-pub returns-in-Included-clause-start : goal.returns-in-Included-clause-start
-returns-in-Included-clause-start g c =
+pub returns-in-Included : goal.returns-in-Included
+returns-in-Included g c =
     let s = can_seek _ _ _ _ c.self.invariant c.self.view_is _ _ g.met.K.Keys.total c.requires c.in-Included.key.now in
-    subst (λ b. IsStart (g.K.Keys.key_at c.args.keys.now) g.K.Keys.order b c.args.self.now.places c.rank_under.result) (sym c.in-Included.is)
-    (start_included _ _ g.met.K.Keys.total _ c.requires _ _
-    (c.rank_under.ensures.rank _ s ∙ ap (λ x. count_below (λ q. order_of g.K.Keys.order (g.K.Keys.key_at c.args.keys.now q) (Some c.in-Included.key.now)) x) (places_are _ _ _ _ c.self.invariant c.self.view_is)))
+    let rank = c.rank_under.ensures.rank _ s ∙ ap (λ x. count_below (λ q. order_of g.K.Keys.order (g.K.Keys.key_at c.args.keys.now q) (Some c.in-Included.key.now)) x) (places_are _ _ _ _ c.self.invariant c.self.view_is) in
+    record {
+      start = subst (λ b. IsStart (g.K.Keys.key_at c.args.keys.now) g.K.Keys.order b c.args.self.now.places c.rank_under.result) (sym c.in-Included.is) (start_included _ _ g.met.K.Keys.total _ c.requires _ _ rank);
+      comparisons = omega (arith, c.rank_under.ensures.comparisons _ c.self.invariant.index.tree, height_within _ _ _ _ c.self.invariant c.self.view_is);
+      touches = omega (arith, c.rank_under.ensures.touches _ c.self.invariant.index.tree, height_within _ _ _ _ c.self.invariant c.self.view_is);
+    }
 
-pub returns-in-Included-clause-comparisons : goal.returns-in-Included-clause-comparisons
-returns-in-Included-clause-comparisons g c = omega (arith, c.rank_under.ensures.comparisons _ c.self.invariant.index.tree, height_within _ _ _ _ c.self.invariant c.self.view_is)
-
-pub returns-in-Included-clause-touches : goal.returns-in-Included-clause-touches
-returns-in-Included-clause-touches g c = omega (arith, c.rank_under.ensures.touches _ c.self.invariant.index.tree, height_within _ _ _ _ c.self.invariant c.self.view_is)
-
-pub returns-in-Excluded-clause-start : goal.returns-in-Excluded-clause-start
-returns-in-Excluded-clause-start g c =
+pub returns-in-Excluded : goal.returns-in-Excluded
+returns-in-Excluded g c =
     let s = can_seek_after _ _ _ _ c.self.invariant c.self.view_is _ _ g.met.K.Keys.total c.requires c.in-Excluded.key.now in
-    subst (λ b. IsStart (g.K.Keys.key_at c.args.keys.now) g.K.Keys.order b c.args.self.now.places c.rank_under-in-Excluded.result) (sym c.in-Excluded.is)
-    (start_excluded _ _ g.met.K.Keys.total _ c.requires _ _
-    (c.rank_under-in-Excluded.ensures.rank _ s ∙ ap (λ x. count_below (λ q. after_key (order_of g.K.Keys.order (g.K.Keys.key_at c.args.keys.now q) (Some c.in-Excluded.key.now))) x) (places_are _ _ _ _ c.self.invariant c.self.view_is)))
-
-pub returns-in-Excluded-clause-comparisons : goal.returns-in-Excluded-clause-comparisons
-returns-in-Excluded-clause-comparisons g c = omega (arith, c.rank_under-in-Excluded.ensures.comparisons _ c.self.invariant.index.tree, height_within _ _ _ _ c.self.invariant c.self.view_is)
-
-pub returns-in-Excluded-clause-touches : goal.returns-in-Excluded-clause-touches
-returns-in-Excluded-clause-touches g c = omega (arith, c.rank_under-in-Excluded.ensures.touches _ c.self.invariant.index.tree, height_within _ _ _ _ c.self.invariant c.self.view_is)
+    let rank = c.rank_under-in-Excluded.ensures.rank _ s ∙ ap (λ x. count_below (λ q. after_key (order_of g.K.Keys.order (g.K.Keys.key_at c.args.keys.now q) (Some c.in-Excluded.key.now))) x) (places_are _ _ _ _ c.self.invariant c.self.view_is) in
+    record {
+      start = subst (λ b. IsStart (g.K.Keys.key_at c.args.keys.now) g.K.Keys.order b c.args.self.now.places c.rank_under-in-Excluded.result) (sym c.in-Excluded.is) (start_excluded _ _ g.met.K.Keys.total _ c.requires _ _ rank);
+      comparisons = omega (arith, c.rank_under-in-Excluded.ensures.comparisons _ c.self.invariant.index.tree, height_within _ _ _ _ c.self.invariant c.self.view_is);
+      touches = omega (arith, c.rank_under-in-Excluded.ensures.touches _ c.self.invariant.index.tree, height_within _ _ _ _ c.self.invariant c.self.view_is);
+    }
