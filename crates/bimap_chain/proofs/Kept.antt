@@ -2,7 +2,7 @@
 use Rattle.std.proofs.Common.{◌≡◌, ℕ, zero, suc, ◌-◌, ◌%◌, ◌<◌, List, [], ◌∷◌, length, map, replicate, refl, sym, ◌∙◌, ap, arith, bit_and}
 use Rattle.std.specs.Prelude.{slice_index_or, slice_set}
 use Rattle.std.specs.Int.{IsPowerOfTwo}
-use Rattle.std.proofs.lemmas.List.{length-map}
+use Rattle.std.proofs.lemmas.List.{length-map, set-get_or}
 use Rattle.std.proofs.lemmas.Nat.{and_mask}
 
 -- a mask keeps what is left of the number
@@ -28,7 +28,5 @@ everywhere (suc n) zero a = refl
 everywhere (suc n) (suc k) a = everywhere n k a
 
 -- what stands there, written again
-pub set_same : {A : Type 0} (xs : List A) (i : ℕ) (x d : A) → i < length xs → slice_index_or xs i d ≡ x → slice_set xs i x ≡ xs
-set_same [] i x d h e = refl
-set_same (y ∷ xs) zero x d h e = ap (λ z. z ∷ xs) (sym e)
-set_same (y ∷ xs) (suc i) x d h e = ap (λ z. y ∷ z) (set_same xs i x d (omega arith) e)
+pub set_same : {A : Type 0} (xs : List A) (i : ℕ) (x d : A) → slice_index_or xs i d ≡ x → slice_set xs i x ≡ xs
+set_same xs i x d e = ap (slice_set xs i) (sym e) ∙ set-get_or xs i d

@@ -23,7 +23,7 @@ module _ {X : Type 0} (f : X → Cell) (xs : List X) (cells : List Cell) (e : ma
 
   -- another link of a listed place leaves the numbers
   pub numbers_left : (place : ℕ) (x d y : X) (next : Option ℕ) → place < length (numbers_in cells) → x ≡ get_or xs place d → f y ≡ relinked_cell (f x) next → numbers_in (map f (slice_set xs place y)) ≡ numbers_in cells
-  numbers_left place x d y next h is r = rewritten (λ c. c.number) place y (relinked_cell (f x) next) r ∙ set_same (numbers_in cells) place (f x).number None h (seen (λ c. c.number) place x d h is)
+  numbers_left place x d y next h is r = rewritten (λ c. c.number) place y (relinked_cell (f x) next) r ∙ set_same (numbers_in cells) place (f x).number None (seen (λ c. c.number) place x d h is)
 
   -- each place is told by a link that is less than the greatest
   pub fits : (free : ℕ) (o : Option ℕ) → length xs < free → IfSome o (λ p. p < length (numbers_in cells)) → IfSome o (λ p. p + 1 < free)

@@ -14,7 +14,7 @@ use Rattle.std.proofs.lemmas.Cmp.{tied_itself}
 use Rattle.std.proofs.lemmas.List.{get_or_default}
 use Rattle.bimap_base.specs.Keyed.{Ascends}
 use Rattle.bimap_tree.specs.Order.{AllStand, IsSplit, order_of, after_key}
-use Rattle.bimap_tree.proofs.Distinct.{all_behind, all_both}
+use Rattle.bimap_tree.proofs.Distinct.{all_front, all_behind, all_append, all_both}
 use Rattle.bimap_tree.proofs.Split.{less_or_not}
 
 -- ---- what holds of each place of a list
@@ -22,12 +22,10 @@ all_at : (P : ℕ → Type 0) (xs : List ℕ) → ((i : ℕ) → i < length xs �
 all_at P xs h = recursion_from_All P xs (λ i d few. subst P (get_or_default xs i 0 d few) (h i few))
 
 all_without : (P : ℕ → Type 0) (xs ys : List ℕ) (p : ℕ) → AllByRecursion P (xs ++ p ∷ ys) → AllByRecursion P (xs ++ ys)
-all_without P [] ys p h = h.1
-all_without P (x ∷ xs) ys p h = (h.0, all_without P xs ys p h.1)
+all_without P xs ys p h = all_append P xs ys (all_front P xs (p ∷ ys) h) (all_behind P xs (p ∷ ys) h).1
 
 all_with : (P : ℕ → Type 0) (xs ys : List ℕ) (p : ℕ) → P p → AllByRecursion P (xs ++ ys) → AllByRecursion P (xs ++ p ∷ ys)
-all_with P [] ys p here h = (here, h)
-all_with P (x ∷ xs) ys p here h = (h.0, all_with P xs ys p here h.1)
+all_with P xs ys p here h = all_append P xs (p ∷ ys) (all_front P xs ys h) (here, all_behind P xs ys h)
 
 -- ---- lists that rise
 sorted_none : (c : ℕ → ℕ → Ordering) → IsStrictlySortedBy c []

@@ -106,6 +106,10 @@ pub all_behind : (P : ℕ → Type 0) (xs ys : List ℕ) → AllByRecursion P (x
 all_behind P [] ys h = h
 all_behind P (x ∷ xs) ys h = all_behind P xs ys h.1
 
+pub all_append : (P : ℕ → Type 0) (xs ys : List ℕ) → AllByRecursion P xs → AllByRecursion P ys → AllByRecursion P (xs ++ ys)
+all_append P [] ys a b = b
+all_append P (x ∷ xs) ys a b = (a.0, all_append P xs ys a.1 b)
+
 pub all_both : (P Q R : ℕ → Type 0) → ((q : ℕ) → P q → Q q → R q) → (xs : List ℕ) → AllByRecursion P xs → AllByRecursion Q xs → AllByRecursion R xs
 all_both P Q R f [] a b = tt
 all_both P Q R f (x ∷ xs) a b = (f x a.0 b.0, all_both P Q R f xs a.1 b.1)

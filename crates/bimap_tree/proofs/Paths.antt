@@ -8,6 +8,7 @@ use Rattle.bimap_tree.specs.Tree.{Tree, fork, reading, height, size, occurs, IsB
 use Rattle.bimap_tree.specs.Order.{AllStand, IsSplit}
 use Rattle.bimap_tree.specs.Path.{Path, top, below, plug, steps, front, back, occurs_on, size_on, Follows, wanted, Wants, Tells, Holds}
 use Rattle.bimap_tree.proofs.Branch.{height-branch, size-branch, occurs-branch, far-node_on, height-node_on, size-node_on, parts, level, IsBalanced-branch}
+use Rattle.bimap_tree.proofs.Distinct.{all_append}
 use Rattle.bimap_tree.proofs.Shown.{is_at-same, Shows-frame, get-written, get-elsewhere}
 use Rattle.bimap_tree.proofs.Split.{split_below, split_above}
 
@@ -73,31 +74,18 @@ Follows-noted places turns path turn p sister a b h = (
 )
 
 -- ---- what stands before the path's end is below the key, and what stands behind it is above
-AllStand-append : (go : ℕ → Ordering) (how : Ordering) (xs ys : List ℕ) → AllStand go how xs → AllStand go how ys → AllStand go how (xs ++ ys)
-AllStand-append go how [] ys a b = b
-AllStand-append go how (x ∷ xs) ys a b = (a.0, AllStand-append go how xs ys a.1 b)
-
-front_step : (go : ℕ → Ordering) (up : Path) (turn : Bool) (p : ℕ) (sister t : Tree) → IsSplit go (reading (plug up (branch turn t p sister))) → go p ≡ wanted turn → AllStand go Less (front up) → AllStand go Less (front (below up turn p sister))
-front_step go up true p sister t split less h =
+pub beside : (go : ℕ → Ordering) (path : Path) (t : Tree) → IsSplit go (reading (plug path t)) → Wants go path → AllStand go Less (front path) × AllStand go Greater (back path)
+beside go top t split w = (tt, tt)
+beside go (below up true p sister) t split w =
+    let (less, more) = beside go up (fork sister p t) split w.1 in
     let e : reading (plug up (fork sister p t)) ≡ (front up ++ reading sister) ++ p ∷ (reading t ++ back up) = reading-plug up (fork sister p t) ∙ simp append_assoc in
     let s : IsSplit go ((front up ++ reading sister) ++ p ∷ (reading t ++ back up)) = subst (λ x. IsSplit go x) e split in
-    AllStand-append go Less (front up ++ reading sister) (p ∷ []) (split_below go (front up ++ reading sister) (reading t ++ back up) p s (λ f. let x : Less ≡ Greater = sym less ∙ f in cc)) (less, tt)
-front_step go up false p sister t split more h = h
-
-pub front_below : (go : ℕ → Ordering) (path : Path) (t : Tree) → IsSplit go (reading (plug path t)) → Wants go path → AllStand go Less (front path)
-front_below go top t split w = tt
-front_below go (below up turn p sister) t split w = front_step go up turn p sister t split w.0 (front_below go up (branch turn t p sister) split w.1)
-
-back_step : (go : ℕ → Ordering) (up : Path) (turn : Bool) (p : ℕ) (sister t : Tree) → IsSplit go (reading (plug up (branch turn t p sister))) → go p ≡ wanted turn → AllStand go Greater (back up) → AllStand go Greater (back (below up turn p sister))
-back_step go up true p sister t split less h = h
-back_step go up false p sister t split more h =
+    (all_append (λ q. go q ≡ Less) (front up ++ reading sister) (p ∷ []) (split_below go (front up ++ reading sister) (reading t ++ back up) p s (λ f. let x : Less ≡ Greater = sym w.0 ∙ f in cc)) (w.0, tt), more)
+beside go (below up false p sister) t split w =
+    let (less, more) = beside go up (fork t p sister) split w.1 in
     let e : reading (plug up (fork t p sister)) ≡ (front up ++ reading t) ++ p ∷ (reading sister ++ back up) = reading-plug up (fork t p sister) ∙ simp append_assoc in
     let s : IsSplit go ((front up ++ reading t) ++ p ∷ (reading sister ++ back up)) = subst (λ x. IsSplit go x) e split in
-    (more, split_above go (front up ++ reading t) (reading sister ++ back up) p s (λ f. let x : Greater ≡ Less = sym more ∙ f in cc))
-
-pub back_above : (go : ℕ → Ordering) (path : Path) (t : Tree) → IsSplit go (reading (plug path t)) → Wants go path → AllStand go Greater (back path)
-back_above go top t split w = tt
-back_above go (below up turn p sister) t split w = back_step go up turn p sister t split w.0 (back_above go up (branch turn t p sister) split w.1)
+    (less, (w.0, split_above go (front up ++ reading t) (reading sister ++ back up) p s (λ f. let x : Greater ≡ Less = sym w.0 ∙ f in cc)))
 
 -- keys that stand alike to each place of the path want one way
 pub Wants-alike : (go other : ℕ → Ordering) (path : Path) → ((q : ℕ) → 0 < occurs_on q path → other q ≡ go q) → Wants go path → Wants other path

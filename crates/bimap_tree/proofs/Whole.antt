@@ -1,5 +1,5 @@
 -- The fields of an index, and what it shows.
-use Rattle.std.proofs.Common.{◌≡◌, ℕ, ◌+◌, ◌-◌, ◌*◌, ◌^◌, ◌≤◌, ◌<◌, Bool, List, [], ◌∷◌, ◌++◌, Option, Some, None, length, refl, sym, subst, ◌∙◌, ap, arith, append_assoc, append-nil}
+use Rattle.std.proofs.Common.{◌≡◌, ℕ, ◌+◌, ◌-◌, ◌*◌, ◌^◌, ◌≤◌, ◌<◌, Bool, List, [], ◌∷◌, ◌++◌, Option, Some, None, length, refl, sym, subst, ◌∙◌, ap, arith, append_assoc, append-nil, length-append}
 use Rattle.std.specs.Prelude.{IsSome, IfNone, slice_get}
 use Rattle.std.specs.Cmp.{IsTotalOrder}
 use Rattle.std.specs.List.{Contains}
@@ -22,17 +22,13 @@ use Rattle.bimap_tree.proofs.Distinct.{absent_reading, adds, drops, contains_occ
 use Rattle.bimap_tree.proofs.Found.{none_of, one_of}
 use Rattle.bimap_tree.proofs.Heights.{height-bound}
 use Rattle.bimap_tree.proofs.Index.{tree_in-shown, whole_of}
-use Rattle.bimap_tree.proofs.Paths.{occurs-plug, size-plug, reading-plug, steps_within, front_below, back_above, Wants-alike}
+use Rattle.bimap_tree.proofs.Paths.{occurs-plug, size-plug, reading-plug, steps_within, beside, Wants-alike}
 use Rattle.bimap_tree.proofs.Rooms.{size_room}
 use Rattle.bimap_tree.proofs.Shown.{Shows-frame, no_root, a_fork, size-reading, with_absent, in_tree}
 
 -- a tree whose number of places is that of a word has at most so many levels
 pub few_levels : (t : Tree) → IsBalanced t → size t < 2 ^ 64 → height t ≤ 128
 few_levels t balanced few = omega (arith, height-bound t balanced, bits-least (size t) 64 few)
-
-length-middle : (xs ys : List ℕ) (p : ℕ) → length (xs ++ p ∷ ys) ≡ length (xs ++ ys) + 1
-length-middle [] ys p = omega arith
-length-middle (x ∷ xs) ys p = omega (arith, length-middle xs ys p)
 
 module _ (ns : List Node) (root : Option ℕ) (len : ℕ) (v : Index) (w : IsWhole ns root len) (e : index_of ns root ≡ v) where
   pub places_are : reading (tree_in ns root) ≡ v.places
@@ -198,7 +194,7 @@ module _ (ns : List Node) (root : Option ℕ) (len : ℕ) (v : Index) (w : IsWho
         read_before = sym r.of_index.in_order ∙ reading-plug r.path leaf ∙ ap (λ x. x ++ back r.path) (append-nil (front r.path))
 
         sized : size done.0 ≡ len + 1
-        sized = omega (arith, size_before, size-reading done.0, ap length read_now, size-reading (plug r.path leaf), ap length r.of_index.in_order, ap length read_before, length-middle (front r.path) (back r.path) place)
+        sized = omega (arith, size_before, size-reading done.0, ap length read_now, size-reading (plug r.path leaf), ap length r.of_index.in_order, ap length read_before, length-append (front r.path) (place ∷ back r.path), length-append (front r.path) (back r.path))
 
         pub put_whole : IsWhole ms last (len + 1)
         put_whole =
@@ -225,10 +221,9 @@ module _ (ns : List Node) (root : Option ℕ) (len : ℕ) (v : Index) (w : IsWho
             let parts : Ascends key order (front r.path ++ back r.path) = subst (λ x. Ascends key order x) read_before up in
             let divided : IsSplit (λ q. order_of order (key q) (Some k)) (reading (plug r.path leaf)) = split key order total k (reading (plug r.path leaf)) (subst (λ x. Ascends key order x) (sym r.of_index.in_order) up) in
             let wants : Wants (λ q. order_of order (key q) (Some k)) r.path = Wants-alike (λ q. told (standing q)) (λ q. order_of order (key q) (Some k)) r.path (λ q n. sym (same q)) r.wants in
+            let (less, more) = beside (λ q. order_of order (key q) (Some k)) r.path leaf divided wants in
             subst (λ x. Ascends key order x) (sym (reads ∙ read_now))
-            (ascends_with key order total (front r.path) (back r.path) place k is
-            (front_below (λ q. order_of order (key q) (Some k)) r.path leaf divided wants)
-            (back_above (λ q. order_of order (key q) (Some k)) r.path leaf divided wants) parts)
+            (ascends_with key order total (front r.path) (back r.path) place k is less more parts)
 
   -- ---- the place at a route's end taken out
   module _ (go : ℕ → Ordering) (route : Route) (found : ℕ) (low : Path) (s : Tree) (f : IsFollowed go route.places route.turns route.depth (Some found) (tree_in ns root) low s) where
@@ -263,7 +258,7 @@ module _ (ns : List Node) (root : Option ℕ) (len : ℕ) (v : Index) (w : IsWho
       now_read = done.1.in_order ∙ append_assoc (front low ++ reading end.0) (reading end.1) (back low)
 
       left_size : size done.0 + 1 ≡ len
-      left_size = omega (arith, length_is, size-reading done.0, ap length now_read, ap length was_read, length-middle (front low ++ reading end.0) (reading end.1 ++ back low) found)
+      left_size = omega (arith, length_is, size-reading done.0, ap length now_read, ap length was_read, length-append (front low ++ reading end.0) (found ∷ (reading end.1 ++ back low)), length-append (front low ++ reading end.0) (reading end.1 ++ back low))
 
       left_reads : reading (tree_in ms last) ≡ reading done.0
       left_reads = ap reading (tree_in-shown ms last done.0 done.1.tree)

@@ -38,39 +38,28 @@ loop-root-preserved g c =
       touched = costs_on _ _ _ _ _ _ c.loop-root.invariant.touched _ c.in-Some.is _ c.read-node.ensures.node _ _ c.child-root.ensures _ (omega arith);
     }
 
-pub returns-clause-found : goal.returns-clause-found
-returns-clause-found g c path s h =
+pub returns : goal.returns
+returns g c =
     elim c.match-root.branch [
-      | in-Some+then-is_eq w ↦ w.root-is ∙ goes_here _ _ _ _ _ _ _ _ _ _ _ c.loop-root.invariant.goes _ w.in-Some.is _ w.read-node.ensures.node (is_equal _ _ _ w.side-side.ensures.side w.is_eq.ensures w.if-is_eq.true) path s h
+      | in-Some+then-is_eq w ↦ record {
+        found = λ path s h. w.root-is ∙ goes_here _ _ _ _ _ _ _ _ _ _ _ c.loop-root.invariant.goes _ w.in-Some.is _ w.read-node.ensures.node (is_equal _ _ _ w.side-side.ensures.side w.is_eq.ensures w.if-is_eq.true) path s h;
+        follows = λ path s h. rw w.route-is (rw w.depth-is (goes_end _ _ _ _ _ _ _ _ _ _ _ c.loop-root.invariant.goes _ (w.root-is ∙ sym w.in-Some.is) path s h));
+        comparisons = λ t h. omega (arith, ap g.M.Meter.comparisons w.meter-is, costs_last _ _ _ _ _ _ c.loop-root.invariant.compared _ w.in-Some.is _ w.read-node.ensures.node true (g.M.Meter.comparisons w.side-side.new.meter) (omega arith) t h);
+        touches = λ t h. omega (arith, ap g.M.Meter.touches w.meter-is, costs_last _ _ _ _ _ _ c.loop-root.invariant.touched _ w.in-Some.is _ w.read-node.ensures.node true (g.M.Meter.touches w.side-side.new.meter) (omega arith) t h);
+      }
       | in-Some+else-is_eq+then-is_far+then-turn+then-is_none w ↦
           let on = goes_right _ _ _ _ _ _ _ _ _ _ _ c.loop-root.invariant.goes _ w.in-Some.is _ w.read-node.ensures.node _ w.if-turn.true (is_less _ _ _ w.side-side.ensures.side w.is_lt-turn.ensures w.if-turn.true) _ _ w.note.ensures.places w.note.ensures.turns in
           let none = no_child _ _ w.is_none.ensures w.if-is_none.true in
-          w.root-is ∙ none ∙ goes_none _ _ _ _ _ _ _ _ _ _ _ on none path s h
-      | in_default w ↦ w.root-is ∙ w.in_default.is ∙ goes_none _ _ _ _ _ _ _ _ _ _ _ c.loop-root.invariant.goes w.in_default.is path s h
-    ]
-
-pub returns-clause-follows : goal.returns-clause-follows
-returns-clause-follows g c path s h =
-    elim c.match-root.branch [
-      | in-Some+then-is_eq w ↦ rw w.route-is (rw w.depth-is (goes_end _ _ _ _ _ _ _ _ _ _ _ c.loop-root.invariant.goes _ (w.root-is ∙ sym w.in-Some.is) path s h))
-      | in-Some+else-is_eq+then-is_far+then-turn+then-is_none w ↦
-          let on = goes_right _ _ _ _ _ _ _ _ _ _ _ c.loop-root.invariant.goes _ w.in-Some.is _ w.read-node.ensures.node _ w.if-turn.true (is_less _ _ _ w.side-side.ensures.side w.is_lt-turn.ensures w.if-turn.true) _ _ w.note.ensures.places w.note.ensures.turns in
-          rw w.route-is (rw w.depth-is (goes_end _ _ _ _ _ _ _ _ _ _ _ on _ w.root-is path s h))
-      | in_default w ↦ rw w.route-is (rw w.depth-is (goes_end _ _ _ _ _ _ _ _ _ _ _ c.loop-root.invariant.goes _ w.root-is path s h))
-    ]
-
-pub returns-clause-comparisons : goal.returns-clause-comparisons
-returns-clause-comparisons g c t h =
-    elim c.match-root.branch [
-      | in-Some+then-is_eq w ↦ omega (arith, ap g.M.Meter.comparisons w.meter-is, costs_last _ _ _ _ _ _ c.loop-root.invariant.compared _ w.in-Some.is _ w.read-node.ensures.node true (g.M.Meter.comparisons w.side-side.new.meter) (omega arith) t h)
-      | in-Some+else-is_eq+then-is_far+then-turn+then-is_none w ↦ omega (arith, ap g.M.Meter.comparisons w.meter-is, costs_last _ _ _ _ _ _ c.loop-root.invariant.compared _ w.in-Some.is _ w.read-node.ensures.node true (g.M.Meter.comparisons w.side-side.new.meter) (omega arith) t h)
-      | in_default w ↦ omega (arith, ap g.M.Meter.comparisons w.meter-is, costs_end _ _ _ _ _ _ c.loop-root.invariant.compared t h)
-    ]
-
-pub returns-clause-touches : goal.returns-clause-touches
-returns-clause-touches g c t h =
-    elim c.match-root.branch [
-      | in-Some+then-is_eq w ↦ omega (arith, ap g.M.Meter.touches w.meter-is, costs_last _ _ _ _ _ _ c.loop-root.invariant.touched _ w.in-Some.is _ w.read-node.ensures.node true (g.M.Meter.touches w.side-side.new.meter) (omega arith) t h)
-      | in-Some+else-is_eq+then-is_far+then-turn+then-is_none w ↦ omega (arith, ap g.M.Meter.touches w.meter-is, costs_last _ _ _ _ _ _ c.loop-root.invariant.touched _ w.in-Some.is _ w.read-node.ensures.node true (g.M.Meter.touches w.side-side.new.meter) (omega arith) t h)
-      | in_default w ↦ omega (arith, ap g.M.Meter.touches w.meter-is, costs_end _ _ _ _ _ _ c.loop-root.invariant.touched t h)
+          record {
+            found = λ path s h. w.root-is ∙ none ∙ goes_none _ _ _ _ _ _ _ _ _ _ _ on none path s h;
+            follows = λ path s h. rw w.route-is (rw w.depth-is (goes_end _ _ _ _ _ _ _ _ _ _ _ on _ w.root-is path s h));
+            comparisons = λ t h. omega (arith, ap g.M.Meter.comparisons w.meter-is, costs_last _ _ _ _ _ _ c.loop-root.invariant.compared _ w.in-Some.is _ w.read-node.ensures.node true (g.M.Meter.comparisons w.side-side.new.meter) (omega arith) t h);
+            touches = λ t h. omega (arith, ap g.M.Meter.touches w.meter-is, costs_last _ _ _ _ _ _ c.loop-root.invariant.touched _ w.in-Some.is _ w.read-node.ensures.node true (g.M.Meter.touches w.side-side.new.meter) (omega arith) t h);
+          }
+      | in_default w ↦ record {
+        found = λ path s h. w.root-is ∙ w.in_default.is ∙ goes_none _ _ _ _ _ _ _ _ _ _ _ c.loop-root.invariant.goes w.in_default.is path s h;
+        follows = λ path s h. rw w.route-is (rw w.depth-is (goes_end _ _ _ _ _ _ _ _ _ _ _ c.loop-root.invariant.goes _ w.root-is path s h));
+        comparisons = λ t h. omega (arith, ap g.M.Meter.comparisons w.meter-is, costs_end _ _ _ _ _ _ c.loop-root.invariant.compared t h);
+        touches = λ t h. omega (arith, ap g.M.Meter.touches w.meter-is, costs_end _ _ _ _ _ _ c.loop-root.invariant.touched t h);
+      }
     ]

@@ -34,8 +34,7 @@ loop-place-preserved g c =
     elim c.match-number.branch [
       | in-Some w ↦
           let held = sym c.number.ensures ∙ w.in-Some.is in
-          let within : place < length (numbers_of old) = omega (arith, c.loop-place-test.true, i.cells, length-map old.cells (λ e. e.number)) in
-          let same : numbers_of w.set_link.new.self ≡ numbers_of old = w.set_link.ensures.numbers ∙ w.list.ensures.numbers ∙ set_same (numbers_of old) place (Some w.in-Some.number) None within held in
+          let same : numbers_of w.set_link.new.self ≡ numbers_of old = w.set_link.ensures.numbers ∙ w.list.ensures.numbers ∙ set_same (numbers_of old) place (Some w.in-Some.number) None held in
           let long : length w.set_link.new.self.cells ≡ length old.cells = w.set_link.ensures.cells ∙ w.list.ensures.cells in
           let heads : length w.set_link.new.self.heads ≡ length old.heads = w.set_link.ensures.heads ∙ ap length w.list.ensures.heads in
           let first = put_first (numbers_of old) (links_of old) old.heads w.bucket-bucket.result w.in-Some.number place (place + 1) w.head-next.result i.threaded (add-one place) w.bucket-bucket.ensures.value held w.head-next.ensures in
