@@ -4,5 +4,4 @@ pub mod Rethread
 pub mod Walk
 pub mod Kept
 pub mod Seen
-pub mod Sized
 pub mod Filling

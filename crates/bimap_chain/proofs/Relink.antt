@@ -1,8 +1,9 @@
 -- One place is listed, or taken out, and one link or head is written: the chains stand again.
-use Rattle.std.proofs.Common.{◌≡◌, ◌≢◌, ℕ, zero, suc, ◌+◌, ◌%◌, ◌<◌, ◌≤◌, true, false, List, [], ◌∷◌, length, Option, None, Some, refl, sym, ◌∙◌, ap, subst, arith, ◌⊎◌, inl, inr, eq-eqb, length-set, get_or-set_same, get_or-set_other}
+use Rattle.std.proofs.Common.{◌≡◌, ◌≢◌, ℕ, zero, suc, ◌+◌, ◌%◌, ◌<◌, ◌≤◌, true, false, List, [], ◌∷◌, length, Option, None, Some, refl, sym, ◌∙◌, ap, subst, arith, inl, inr, eq-eqb, length-set, get_or-set_same, get_or-set_other}
 use Rattle.std.specs.Prelude.{slice_index_or, slice_set, IfSome}
 use Rattle.bimap_chain.specs.Chains.{Numbers, number_at, is_of, last_below, NoneWithin, IsThreaded, IsListed, GoesOver, Links, link_or_head}
 use Rattle.std.proofs.lemmas.Bool.{cases_eq, cases_order}
+use Rattle.bimap_chain.specs.Packed.{Threading, IsSized, IsSound, numbers_of, links_of as the_links}
 use Rattle.bimap_chain.proofs.Below.{found, last_here, last_lower, same_last, skipped, same_above}
 use Rattle.bimap_chain.proofs.Walk.{leads, of_bucket}
 
@@ -135,8 +136,8 @@ module _ (c : Numbers) (links heads : List (Option ℕ)) (b place : ℕ) (over :
         at_others (Some p) g w i e =
             ap (λ ls. slice_index_or ls q None) w.0 ∙ written_at kept p q (last_below d n b (suc place)) (last_below d n (h % n) q) (omega (arith, g.1, as_long, t.as_many_links))
             (λ j. let k = of_bucket n b (number_at c p) g.2 in
-                let s : h ≡ k.0 = let m = ap (number_at c) j in cc in
-                sym (up_to p g.0 g.3) ∙ ap (λ m. last_below d n m p) (sym k.2 ∙ ap (λ m. m % n) (sym s)) ∙ ap (last_below d n (h % n)) (sym j))
+            let s : h ≡ k.0 = let m = ap (number_at c) j in cc in
+            sym (up_to p g.0 g.3) ∙ ap (λ m. last_below d n m p) (sym k.2 ∙ ap (λ m. m % n) (sym s)) ∙ ap (last_below d n (h % n)) (sym j))
             (λ j. link_kept q h i e (unchanged (Some p) g q h i e (λ m. j (let z : p ≡ q = cc in sym z))))
 
     lengths : (p : Option ℕ) (links' heads' : List (Option ℕ)) → Links b p (last_below d n b (suc place)) kept heads links' heads' → (length links' ≡ length kept) × (length heads' ≡ length heads)
@@ -204,3 +205,17 @@ over_listed c n b place v (Some p) g = let o = of_bucket n b (number_at c p) g.2
 pub goes_listed : (c : Numbers) (n b place : ℕ) (over : Option ℕ) → GoesOver c n b place over → IfSome over (λ p. IsListed c p)
 goes_listed c n b place None g = tt
 goes_listed c n b place (Some p) g = let o = of_bucket n b (number_at c p) g.2 in (o.0, o.1)
+
+-- ---- threads that are sound again
+pub as_sized : (a b a' b' : ℕ) → IsSized a b → a' ≡ a → b' ≡ b → IsSized a' b'
+as_sized a b a' b' s e f = subst (λ x. IsSized x b') (sym e) (subst (λ y. IsSized a y) (sym f) s)
+
+-- a place was written, and then a link or a head
+pub sound_again : (old mid new : Threading) (b : ℕ) (over to : Option ℕ) (numbers : Numbers) (links : List (Option ℕ)) → IsSound old
+    → numbers_of mid ≡ numbers → the_links mid ≡ links → length mid.cells ≡ length old.cells → mid.heads ≡ old.heads
+    → numbers_of new ≡ numbers_of mid → Links b over to (the_links mid) mid.heads (the_links new) new.heads → length new.cells ≡ length mid.cells → length new.heads ≡ length mid.heads
+    → (Links b over to links old.heads (the_links new) new.heads → IsThreaded numbers (the_links new) new.heads) → IsSound new
+sound_again old mid new b over to numbers links sound same was cells heads kept written as_many as_long threaded = record {
+  sized = as_sized _ _ _ _ sound.sized (as_many ∙ cells) (as_long ∙ ap length heads);
+  threaded = rw (kept, same) (threaded (subst (λ v. Links b over to v old.heads (the_links new) new.heads) was (subst (λ v. Links b over to (the_links mid) v (the_links new) new.heads) heads written)));
+}

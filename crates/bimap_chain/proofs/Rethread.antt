@@ -1,5 +1,5 @@
 -- The chains threaded anew, place by place.
-use Rattle.std.proofs.Common.{◌≡◌, ℕ, suc, ◌%◌, ◌<◌, ◌≤◌, List, length, Option, None, Some, sym, ◌∙◌, ap, subst, arith, ◌⊎◌, inl, inr, length-set, get_or-set_same, get_or-set_other}
+use Rattle.std.proofs.Common.{◌≡◌, ℕ, suc, ◌%◌, ◌<◌, ◌≤◌, List, length, Option, None, Some, sym, ◌∙◌, ap, arith, inl, inr, length-set}
 use Rattle.std.specs.Prelude.{slice_index_or, slice_set}
 use Rattle.bimap_chain.specs.Chains.{Numbers, number_at, is_of, last_below}
 use Rattle.std.proofs.lemmas.Bool.{cases_eq}
@@ -50,7 +50,7 @@ put_first c links heads b number place done old t e own held read =
       links_lead = λ q m l a.
           written_at links place q old (last_below c n (m % n) q) (omega (arith, t.as_many_links))
           (λ j. let s : m ≡ number = let z = ap (number_at c) j in cc in
-              read ∙ t.heads_begin b fits ∙ ap (λ k. last_below c n k place) (own ∙ ap (λ r. r % n) (sym s)) ∙ ap (last_below c n (m % n)) (sym j))
+          read ∙ t.heads_begin b fits ∙ ap (λ k. last_below c n k place) (own ∙ ap (λ r. r % n) (sym s)) ∙ ap (last_below c n (m % n)) (sym j))
           (λ j. t.links_lead q m (omega arith) a)
           ∙ ap (λ r. last_below c r (m % r) q) (sym long);
     }

@@ -1,5 +1,5 @@
 -- Lists of places in the order of their keys.
-use Rattle.std.proofs.Common.{◌≡◌, ◌≢◌, ℕ, zero, suc, ◌+◌, ◌<◌, true, false, List, [], ◌∷◌, ◌++◌, length, Option, Some, None, refl, sym, ◌∙◌, ap, subst, arith, ◌⊎◌, inl, inr}
+use Rattle.std.proofs.Common.{◌≡◌, ◌≢◌, ℕ, suc, ◌+◌, ◌<◌, true, false, List, [], ◌∷◌, ◌++◌, length, Option, Some, None, refl, sym, ◌∙◌, ap, subst, arith, inl, inr}
 use Rattle.std.specs.Prelude.{is_some, IsSome, slice_index}
 use Rattle.std.specs.Cmp.{IsTotalOrder}
 use Rattle.std.specs.List.{AllByRecursion, Contains}
@@ -130,7 +130,7 @@ module _ {K : Type 0} (key : ℕ → Option K) (order : K → K → Ordering) wh
         let live = live_all (xs ++ ys) up in
         ascends_from (xs ++ p ∷ ys)
         (all_with (λ q. IsSome (key q)) xs ys p (ap is_some e) live)
-        (sorted_with (λ a b. order_of order (key a) (key b)) xs ys p 
+        (sorted_with (λ a b. order_of order (key a) (key b)) xs ys p
         (all_both (λ q. order_of order (key q) (Some k) ≡ Less) (λ q. order_of order (key q) (Some k) ≡ Less) (λ x. order_of order (key x) (key p) ≡ Less) (λ x h _. ap (λ o. order_of order (key x) o) e ∙ h) xs a a)
         (all_both (λ q. IsSome (key q)) (λ q. order_of order (key q) (Some k) ≡ Greater) (λ y. order_of order (key p) (key y) ≡ Less) (λ y l h. ap (λ o. order_of order o (key y)) e ∙ flipped (key y) k l h) ys (all_behind (λ q. IsSome (key q)) xs ys live) b)
         (rising (xs ++ ys) up))

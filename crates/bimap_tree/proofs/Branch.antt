@@ -1,5 +1,5 @@
 -- A place with a tree on the side of a turn, and one on the other.
-use Rattle.std.proofs.Common.{◌≡◌, ℕ, ◌+◌, ◌≤◌, ◌<◌, max, Bool, true, false, not, List, Option, Some, length, refl, sym, ap, ◌∙◌, arith}
+use Rattle.std.proofs.Common.{◌≡◌, ℕ, ◌+◌, ◌≤◌, ◌<◌, max, Bool, true, false, not, List, Option, Some, length, refl, arith}
 use Rattle.std.specs.Prelude.{slice_get, slice_set}
 use Rattle.bimap_base.specs.declared.cells.Node.{Node}
 use Rattle.bimap_tree.specs.Tree.{Tree, height, size, root_of, IsBalanced, Shows, is_at, occurs, Stands, branch, node_on, near_of, far_of}

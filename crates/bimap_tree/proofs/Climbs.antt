@@ -1,5 +1,5 @@
 -- What a loop up a path keeps: what rises from where it has come has risen from the path's end.
-use Rattle.std.proofs.Common.{◌≡◌, ◌≢◌, ℕ, ◌-◌, ◌≤◌, ◌<◌, Bool, List, Option, Some, length, arith}
+use Rattle.std.proofs.Common.{◌≡◌, ◌≢◌, ℕ, ◌-◌, ◌≤◌, Bool, List, Option, Some, arith}
 use Rattle.std.specs.Prelude.{slice_get}
 use Rattle.bimap_base.specs.declared.cells.Node.{Node}
 use Rattle.bimap_tree.specs.Tree.{Tree, height, root_of, branch}

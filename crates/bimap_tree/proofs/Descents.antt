@@ -6,7 +6,7 @@ use Rattle.std.specs.Ordering.{is_eq, is_lt}
 use Rattle.std.specs.declared.cmp.Ordering.{Ordering}
 use Rattle.std.specs.declared.cmp.Ordering.TheVariants.{Less, Equal, Greater}
 use Rattle.bimap_base.specs.declared.cells.Node.{Node}
-use Rattle.bimap_tree.specs.Tree.{Tree, leaf, fork, Stands, reading, height, size, root_of, branch, near_of}
+use Rattle.bimap_tree.specs.Tree.{Tree, Stands, reading, height, size, branch, near_of}
 use Rattle.bimap_tree.specs.Index.{height_at}
 use Rattle.bimap_tree.specs.Order.{first_equal, count_below}
 use Rattle.bimap_tree.specs.Path.{Path, below, plug, wanted}

@@ -1,5 +1,6 @@
 -- How often a place stands in a tree, and in its reading.
-use Rattle.std.proofs.Common.{◌≡◌, ◌≢◌, ℕ, zero, suc, ◌+◌, ◌≤◌, ◌<◌, false, List, [], ◌∷◌, ◌++◌, length, refl, sym, subst, ap, arith, inl, inr, get_or, eqb, eqb-true, eq-eqb}
+use Rattle.std.proofs.Common.{◌≡◌, ◌≢◌, ℕ, zero, suc, ◌+◌, ◌≤◌, ◌<◌, false, List, [], ◌∷◌, ◌++◌, length, refl, sym, subst, ap, arith, inl, inr}
+use Rattle.std.proofs.Common.{get_or, eqb, eqb-true, eq-eqb}
 use Rattle.std.specs.List.{AllByRecursion, AllPairs, Contains, IsDistinct}
 use Rattle.std.proofs.lemmas.Map.Keys.{IsDistinct-cons, apart_from_distinct}
 use Rattle.std.proofs.lemmas.Map.Steps.{length-le_from_distinct_below}
@@ -29,13 +30,16 @@ tally_at (x ∷ xs) (suc k) d h = omega (arith, tally_at xs k d (omega arith))
 
 tally_out : (x : ℕ) (xs : List ℕ) → tally x xs ≡ 0 → AllByRecursion (λ y. eqb x y ≡ false) xs
 tally_out x [] none = tt
-tally_out x (y ∷ ys) none =
-    (elim (eqb_tells x y) [ inl w ↦ absurd (omega (arith, none, ap (λ z. is_at z y) w.1, is_at-same y)) | inr w ↦ w.0 ], tally_out x ys (omega (arith, none)))
+tally_out x (y ∷ ys) none = (
+  elim (eqb_tells x y) [ inl w ↦ absurd (omega (arith, none, ap (λ z. is_at z y) w.1, is_at-same y)) | inr w ↦ w.0 ],
+  tally_out x ys (omega (arith, none)),
+)
 
 tally_distinct : (xs : List ℕ) → ((q : ℕ) → tally q xs ≤ 1) → IsDistinct eqb xs
 unfolding IsDistinct
 tally_distinct [] h = tt
-tally_distinct (x ∷ xs) h = IsDistinct-cons eqb x xs (tally_out x xs (omega (arith, h x, is_at-same x))) (tally_distinct xs (λ q. omega (arith, h q)))
+tally_distinct (x ∷ xs) h =
+    IsDistinct-cons eqb x xs (tally_out x xs (omega (arith, h x, is_at-same x))) (tally_distinct xs (λ q. omega (arith, h q)))
 
 distinct_places : (t : Tree) → IsDistinctTree t → IsDistinct eqb (reading t)
 distinct_places t d = tally_distinct (reading t) (λ q. omega (arith, tally-reading q t, d q))

@@ -6,7 +6,7 @@ use Rattle.std.specs.declared.cmp.Ordering.TheVariants.{Less, Greater}
 use Rattle.bimap_base.specs.declared.cells.Node.{Node}
 use Rattle.bimap_tree.specs.Tree.{Tree, fork, reading, height, size, occurs, IsBalanced, Shows, branch, node_on}
 use Rattle.bimap_tree.specs.Order.{AllStand, IsSplit}
-use Rattle.bimap_tree.specs.Path.{Path, top, below, plug, steps, front, back, occurs_on, size_on, Follows, wanted, Wants, Tells, Holds}
+use Rattle.bimap_tree.specs.Path.{Path, top, below, plug, steps, front, back, occurs_on, size_on, Follows, Wants, Tells, Holds}
 use Rattle.bimap_tree.proofs.Branch.{height-branch, size-branch, occurs-branch, far-node_on, height-node_on, size-node_on, parts, level, IsBalanced-branch}
 use Rattle.bimap_tree.proofs.Distinct.{all_append}
 use Rattle.bimap_tree.proofs.Shown.{is_at-same, Shows-frame, get-written, get-elsewhere}
@@ -95,14 +95,13 @@ Wants-alike go other (below up turn p sister) same w = (same p (omega (arith, is
 -- only the height and the size of a subtree matter to the places above
 pub Holds-alike : (ns : List Node) (path : Path) (s t : Tree) → height t ≡ height s → size t ≡ size s → Holds ns path s → Holds ns path t
 Holds-alike ns top s t a b h = tt
-Holds-alike ns (below up turn p sister) s t a b h =
-    (
-      (h.0.0, h.0.1, record { far_is = h.0.2.far_is; height_is = omega arith; size_is = omega arith }),
-      h.1,
-      Holds-alike ns up (branch turn s p sister) (branch turn t p sister)
-          (omega (arith, height-branch turn s p sister, height-branch turn t p sister, a))
-          (omega (arith, size-branch turn s p sister, size-branch turn t p sister, b)) h.2,
-    )
+Holds-alike ns (below up turn p sister) s t a b h = (
+  (h.0.0, h.0.1, record { far_is = h.0.2.far_is; height_is = omega arith; size_is = omega arith }),
+  h.1,
+  Holds-alike ns up (branch turn s p sister) (branch turn t p sister)
+      (omega (arith, height-branch turn s p sister, height-branch turn t p sister, a))
+      (omega (arith, size-branch turn s p sister, size-branch turn t p sister, b)) h.2,
+)
 
 -- a subtree of the same height keeps the whole in balance
 pub IsBalanced-alike : (path : Path) (s t : Tree) → height t ≡ height s → IsBalanced t → IsBalanced (plug path s) → IsBalanced (plug path t)

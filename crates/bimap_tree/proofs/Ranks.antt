@@ -1,8 +1,8 @@
 -- Places by their rank.
-use Rattle.std.proofs.Common.{◌≡◌, ℕ, zero, suc, ◌+◌, ◌<◌, List, [], ◌∷◌, ◌++◌, Option, Some, length, refl, sym, ◌∙◌, ap, arith, zero-add}
+use Rattle.std.proofs.Common.{◌≡◌, ℕ, suc, ◌+◌, ◌<◌, List, [], ◌∷◌, ◌++◌, Some, length, refl, ◌∙◌, ap, arith, zero-add}
 use Rattle.std.specs.Prelude.{slice_get}
 use Rattle.bimap_base.proofs.Packs.{get-front}
-use Rattle.bimap_tree.specs.Tree.{Tree, fork, reading, height, size, Stands}
+use Rattle.bimap_tree.specs.Tree.{Tree, fork, reading, size}
 use Rattle.bimap_tree.proofs.Shown.{size-reading}
 
 get_past : (xs ys : List ℕ) (j : ℕ) → slice_get (xs ++ ys) (length xs + j) ≡ slice_get ys j

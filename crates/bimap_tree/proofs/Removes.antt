@@ -4,16 +4,14 @@ use Rattle.std.specs.Prelude.{is_some, slice_get, slice_set}
 use Rattle.std.proofs.lemmas.Option.{slice_get_within}
 use Rattle.bimap_base.specs.declared.cells.Node.{Node}
 use Rattle.bimap_base.specs.Digits.{most_height}
-use Rattle.bimap_base.specs.Packed.{IsThere}
-use Rattle.bimap_tree.specs.Tree.{Tree, leaf, fork, reading, height, size, occurs, is_at, root_of, node_of, IsBalanced, Shows, Stands}
+use Rattle.bimap_tree.specs.Tree.{Tree, leaf, fork, reading, height, size, occurs, is_at, node_of, IsBalanced, Shows, Stands}
 use Rattle.bimap_tree.specs.Path.{Path, top, below, plug, steps, front, back, occurs_on, size_on, Follows, Tells, Holds, Moves, CanRise, IsRisen}
 use Rattle.bimap_tree.specs.Remove.{hang, onward, FollowsOn, CanDescend, IsFirst, CanTake, IsTaken}
 use Rattle.bimap_tree.specs.declared.route.Route.{Route}
 use Rattle.bimap_tree.proofs.Paths.{occurs-plug, size-plug, reading-plug, steps_within, balanced_inside, tells, holds_of, Holds-frame, Holds-alike, IsBalanced-alike, Follows-frame, Follows-noted}
 use Rattle.bimap_tree.proofs.Heights.{low}
 use Rattle.bimap_tree.proofs.Rooms.{room_for}
-use Rattle.bimap_tree.proofs.Shown.{is_at-same, is_at-apart, Shows-frame, get-written, get-elsewhere, no_root, opened, Stands-at, height_told, there}
-use Rattle.bimap_tree.specs.Index.{height_at}
+use Rattle.bimap_tree.proofs.Shown.{is_at-same, is_at-apart, Shows-frame, get-written, get-elsewhere, no_root, opened, Stands-at}
 
 -- a test for no child
 pub no_child : (child : Option ℕ) (b : Bool) → is_some child ≡ not b → b ≡ true → child ≡ None
@@ -27,6 +25,7 @@ module _ (nodes : List Node) (at depth : ℕ) (node : Node) (s : Tree) (h : CanD
     pub left_stands : Stands nodes node.left l
     pub here : depth < 128
     pub deeper : depth + 1 + height l ≤ 128
+
   pub descent : (l : Tree) × (r : Tree) × Descent l r
   descent =
       let (l, r, o) = opened nodes (Some at) at node s h.tree refl told in

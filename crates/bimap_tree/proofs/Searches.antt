@@ -1,13 +1,12 @@
 -- Finding places in a tree.
-use Rattle.std.proofs.Common.{◌≡◌, ◌≢◌, ℕ, ◌+◌, ◌≤◌, ◌<◌, List, ◌∷◌, ◌++◌, Option, Some, zero-add, refl, sym, subst, ◌∙◌, ap, arith}
+use Rattle.std.proofs.Common.{◌≡◌, ◌≢◌, ℕ, ◌+◌, ◌≤◌, List, ◌∷◌, ◌++◌, Option, Some, zero-add, refl, sym, subst, ◌∙◌, ap, arith}
 use Rattle.std.specs.Prelude.{slice_get}
 use Rattle.std.specs.declared.cmp.Ordering.{Ordering}
 use Rattle.std.specs.declared.cmp.Ordering.TheVariants.{Less, Equal, Greater}
 use Rattle.bimap_base.specs.declared.cells.Node.{Node}
-use Rattle.bimap_tree.specs.Tree.{Tree, fork, reading, height, size, node_of}
+use Rattle.bimap_tree.specs.Tree.{Tree, fork, reading, size}
 use Rattle.bimap_tree.specs.Order.{AllStand, IsSplit, first_equal, count_below}
 use Rattle.bimap_tree.proofs.Split.{split_front, split_back, split_below, split_above, first_after, first_before, less_not_greater, not_less, count-append, count_all, count_none, count_length}
-use Rattle.bimap_tree.specs.Index.{height_at}
 use Rattle.bimap_tree.specs.Search.{CanSeek}
 use Rattle.bimap_tree.proofs.Shown.{is_at-same, opened, size-reading}
 

@@ -1,5 +1,5 @@
 -- Trees that nodes show.
-use Rattle.std.proofs.Common.{◌≡◌, ◌≢◌, ℕ, zero, suc, ◌+◌, ◌≤◌, ◌<◌, List, [], ◌∷◌, Option, Some, None, refl, sym, subst, ◌∙◌, ap, arith, length, length-append, inl, inr}
+use Rattle.std.proofs.Common.{◌≡◌, ◌≢◌, ℕ, zero, suc, ◌+◌, ◌≤◌, ◌<◌, List, [], ◌∷◌, Option, Some, None, refl, sym, ◌∙◌, ap, arith, length, length-append, inl, inr}
 use Rattle.std.specs.Prelude.{slice_get, slice_set}
 use Rattle.std.proofs.lemmas.Bool.{eq-eqb}
 use Rattle.std.proofs.lemmas.Option.{slice_get_within}
@@ -59,10 +59,11 @@ pub record Opened (ns : List Node) (p : ℕ) (node : Node) (t l r : Tree) : Type
   pub left_stands : Stands ns node.left l
   pub right_stands : Stands ns node.right r
 
-pub opened : (ns : List Node) (root : Option ℕ) (p : ℕ) (node : Node) (t : Tree) → Stands ns root t → root ≡ Some p → slice_get ns p ≡ Some node → (l : Tree) × (r : Tree) × Opened ns p node t l r
+pub opened : (ns : List Node) (root : Option ℕ) (p : ℕ) (node : Node) (t : Tree) → Stands ns root t → root ≡ Some p → slice_get ns p ≡ Some node
+    → (l : Tree) × (r : Tree) × Opened ns p node t l r
 opened ns root p node t h some e =
     let (l, r, whole) = a_fork t p (h.root_is ∙ some) in
-    let shown : Shows ns (fork l p r) = subst (λ x. Shows ns x) whole h.shown in
+    let shown : Shows ns (fork l p r) = rw whole at h.shown in
     let told : Some node ≡ Some (node_of l r) = sym e ∙ shown.0 in
     let is : node ≡ node_of l r = cc in (
       l,
@@ -78,7 +79,7 @@ opened ns root p node t h some e =
 pub root_within : (ns : List Node) (p : ℕ) (t : Tree) → Stands ns (Some p) t → p < length ns
 root_within ns p t h =
     let (l, r, whole) = a_fork t p h.root_is in
-    let shown : Shows ns (fork l p r) = subst (λ x. Shows ns x) whole h.shown in
+    let shown : Shows ns (fork l p r) = rw whole at h.shown in
     slice_get_within ns p (node_of l r) shown.0
 
 pub Stands-at : (ns : List Node) (a b : Option ℕ) (t : Tree) → a ≡ b → Stands ns a t → Stands ns b t

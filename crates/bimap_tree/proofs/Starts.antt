@@ -48,7 +48,8 @@ module _ {K : Type 0} (key : ℕ → Option K) (order : K → K → Ordering) (t
       standing_live (key p) k (subst (λ q. IsSome (key q)) here (up.live i (slice_get_within xs i p e)))
 
   -- a bound that lets in the places that are not below, in the order of a split
-  starts : (go : ℕ → Ordering) → IsSplit go xs → (bound : Bound (Bor K)) (rank : ℕ) → rank ≡ count_below go xs → ((p : ℕ) → go p ≡ Less → LetsIn key order bound p → ⊥) → ((i p : ℕ) → slice_get xs i ≡ Some p → go p ≢ Less → LetsIn key order bound p) → IsStart key order bound xs rank
+  starts : (go : ℕ → Ordering) → IsSplit go xs → (bound : Bound (Bor K)) (rank : ℕ) → rank ≡ count_below go xs
+      → ((p : ℕ) → go p ≡ Less → LetsIn key order bound p → ⊥) → ((i p : ℕ) → slice_get xs i ≡ Some p → go p ≢ Less → LetsIn key order bound p) → IsStart key order bound xs rank
   starts go parts bound rank e out inside = record {
     within = omega (arith, e, count_length go xs);
     before = λ i p few at. out p (below_first go xs parts i p (omega (arith, e, few)) at);
@@ -57,7 +58,8 @@ module _ {K : Type 0} (key : ℕ → Option K) (order : K → K → Ordering) (t
 
   pub start_included : (k : Bor K) (rank : ℕ) → rank ≡ count_below (λ q. order_of order (key q) (Some k.now)) xs → IsStart key order (Included k) xs rank
   start_included k rank e =
-      starts (λ q. order_of order (key q) (Some k.now)) (split key order total k.now xs up) (Included k) rank e (λ p. not_in (standing key order k.now p)) (λ i p at. let_in (standing key order k.now p) (live_at i p k.now at))
+      starts (λ q. order_of order (key q) (Some k.now)) (split key order total k.now xs up) (Included k) rank e
+      (λ p. not_in (standing key order k.now p)) (λ i p at. let_in (standing key order k.now p) (live_at i p k.now at))
 
   pub start_excluded : (k : Bor K) (rank : ℕ) → rank ≡ count_below (λ q. after_key (order_of order (key q) (Some k.now))) xs → IsStart key order (Excluded k) xs rank
   start_excluded k rank e =

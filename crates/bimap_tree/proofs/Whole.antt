@@ -9,7 +9,7 @@ use Rattle.bimap_base.specs.declared.cells.Node.{Node}
 use Rattle.bimap_base.specs.Digits.{bits, most_height}
 use Rattle.bimap_base.specs.Keyed.{standing, Ascends, Adds, Drops}
 use Rattle.bimap_base.proofs.Digits.{bits-least}
-use Rattle.bimap_tree.specs.Tree.{Tree, leaf, fork, reading, height, size, root_of, occurs, is_at, IsBalanced, IsDistinctTree, Stands, Shows}
+use Rattle.bimap_tree.specs.Tree.{Tree, leaf, fork, reading, height, size, occurs, is_at, IsBalanced, IsDistinctTree, Stands, Shows}
 use Rattle.bimap_tree.specs.Index.{Index, IsIndex, IsBalancedIndex, IsWhole, index_of, tree_in}
 use Rattle.bimap_tree.specs.Order.{told, order_of, after_key, first_equal, IsSplit}
 use Rattle.bimap_tree.specs.Path.{Path, top, plug, front, back, Wants, CanPut, IsRisen}

@@ -1,7 +1,8 @@
-use Rattle.std.proofs.Common.{◌≡◌, ◌+◌, ap, arith, length, not, subst, sym, ◌∙◌}
+use Rattle.std.proofs.Common.{ap, arith, length, not, subst, sym, ◌∙◌}
 use Rattle.bimap_base.specs.Packed.{CanCount, recounted}
 use Rattle.std.specs.Prelude.{slice_set}
-use Rattle.bimap_tree.specs.Tree.{branch, size}
+use Rattle.bimap_tree.specs.Tree.{branch}
+use Rattle.bimap_tree.specs.Link.{Measures}
 use Rattle.bimap_tree.specs.Path.{one_if}
 use Rattle.bimap_tree.proofs.Branch.{root-branch, size-branch}
 use Rattle.bimap_tree.proofs.Rises.{sister_stands, can_rebalance, can_count, child_there, counts, as_told, low, moved}
@@ -21,10 +22,15 @@ overflow_add-result g c = omega (arith, (counts _ _ _ _ _ _ _ _ c.requires.3).0,
 
 pub returns-then-child-node-clause-tree : goal.returns-then-child-node-clause-tree
 returns-then-child-node-clause-tree g c sister s u h child =
-    let written = c.recount.ensures.written _ h.node_is ∙ ap (λ b. slice_set c.args.cells.now c.args.at (recounted c.args.turn c.args.child.root b c.args.node)) (sym c.if-grew.true) in
+    let written = c.recount.ensures.written _ h.node_is
+    ∙ ap (λ b. slice_set c.args.cells.now c.args.at (recounted c.args.turn c.args.child.root b c.args.node)) (sym c.if-grew.true) in
     let r = low _ _ _ _ _ sister s u h _ child.root_is _ written c.if-grew.true (omega (arith, child.height_is, c.if-child-node.true)) in
-    let size_is : c.args.node.size + 1 ≡ size (branch c.args.turn u c.args.at sister) = omega (arith, size-branch c.args.turn u c.args.at sister, ap one_if c.if-grew.true, ap (λ b. one_if (not b)) c.if-grew.true) in
-    (_, record { root_is = root-branch _ _ _ _; height_is = as_told _ _ _ _ _ sister s u h ∙ sym r.as_high; size_is = size_is }, r.linked, moved _ _ _ _ _ sister s u h _ _ r.linked)
+    let measured : Measures _ (branch c.args.turn u c.args.at sister) = record {
+      root_is = root-branch _ _ _ _;
+      height_is = as_told _ _ _ _ _ sister s u h ∙ sym r.as_high;
+      size_is = omega (arith, size-branch c.args.turn u c.args.at sister, ap one_if c.if-grew.true, ap (λ b. one_if (not b)) c.if-grew.true);
+    } in
+    (_, measured, r.linked, moved _ _ _ _ _ sister s u h _ _ r.linked)
 
 pub rebalance-requires : goal.rebalance-requires
 rebalance-requires g c =

@@ -1,8 +1,5 @@
-use Rattle.std.proofs.Common.{◌≡◌, ◌∙◌, suc, length, arith, sym, subst, ap, Some}
-use Rattle.bimap_chain.specs.Chains.{IsThreaded, Links}
-use Rattle.bimap_chain.specs.Packed.{links_of}
-use Rattle.bimap_chain.proofs.Sized.{sound_again}
-use Rattle.bimap_chain.proofs.Relink.{few, over_listed, goes_listed, link_over, listed}
+use Rattle.std.proofs.Common.{◌∙◌, suc, arith}
+use Rattle.bimap_chain.proofs.Relink.{sound_again, few, over_listed, goes_listed, link_over, listed}
 use Rattle.bimap_chain.proofs.threads.Threads.insert_under.Goals as goal
 
 pub link-next-requires-clause-listed : goal.link-next-requires-clause-listed

@@ -2,10 +2,12 @@ use Rattle.bimap_chain.proofs.Walk.{arrived, stepped, ended_none, ended_some}
 use Rattle.bimap_chain.proofs.threads.Threads.over.Goals as goal
 
 pub next-at-requires-clause-place : goal.next-at-requires-clause-place
-next-at-requires-clause-place g c = (arrived _ _ _ _ _ c.loop-at.invariant.at_last c.loop-at.invariant.within c.in-Some.is).1
+next-at-requires-clause-place g c =
+    (arrived _ _ _ _ _ c.loop-at.invariant.at_last c.loop-at.invariant.within c.in-Some.is).1
 
 pub next-at-requires-clause-listed : goal.next-at-requires-clause-listed
-next-at-requires-clause-listed g c = (arrived _ _ _ _ _ c.loop-at.invariant.at_last c.loop-at.invariant.within c.in-Some.is).2
+next-at-requires-clause-listed g c =
+    (arrived _ _ _ _ _ c.loop-at.invariant.at_last c.loop-at.invariant.within c.in-Some.is).2
 
 pub loop-at-smaller : goal.loop-at-smaller
 loop-at-smaller g c = (arrived _ _ _ _ _ c.loop-at.invariant.at_last c.loop-at.invariant.within c.in-Some.is).0

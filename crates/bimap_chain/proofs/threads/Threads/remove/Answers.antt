@@ -1,8 +1,6 @@
-use Rattle.std.proofs.Common.{◌≡◌, ◌∙◌, length, arith, sym, subst, ap, None, length-set}
-use Rattle.bimap_chain.specs.Chains.{IsThreaded, Links}
-use Rattle.bimap_chain.specs.Packed.{numbers_of, links_of}
-use Rattle.bimap_chain.proofs.Sized.{sound_again}
-use Rattle.bimap_chain.proofs.Relink.{few, over_listed, listed_within, unlisted}
+use Rattle.std.proofs.Common.{◌∙◌, length, arith, sym, ap, None, length-set}
+use Rattle.bimap_chain.specs.Packed.{numbers_of}
+use Rattle.bimap_chain.proofs.Relink.{sound_again, few, over_listed, listed_within, unlisted}
 use Rattle.bimap_chain.proofs.threads.Threads.remove.Goals as goal
 
 pub set_link-requires-clause-listed : goal.set_link-requires-clause-listed

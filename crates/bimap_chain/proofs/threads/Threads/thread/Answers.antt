@@ -1,10 +1,9 @@
-use Rattle.std.proofs.Common.{◌≡◌, ◌<◌, ◌∙◌, ◌+◌, length, ap, sym, refl, subst, arith, add-one, None, Some}
+use Rattle.std.proofs.Common.{◌≡◌, ◌∙◌, ◌+◌, length, ap, sym, refl, subst, arith, add-one, None, Some}
 use Rattle.std.specs.Prelude.{slice_index_or, slice_set}
 use Rattle.std.proofs.lemmas.List.{length-map}
 use Rattle.bimap_chain.specs.Packed.{numbers_of, links_of}
 use Rattle.bimap_chain.proofs.Kept.{everywhere, set_same}
-use Rattle.bimap_chain.proofs.Sized.{as_sized}
-use Rattle.bimap_chain.proofs.Relink.{few}
+use Rattle.bimap_chain.proofs.Relink.{as_sized, few}
 use Rattle.bimap_chain.proofs.Rethread.{ThreadedBelow, begun, passed, put_first}
 use Rattle.bimap_chain.proofs.threads.Threads.thread.Goals as goal
 use Rattle.bimap_chain.proofs.threads.Threads.thread.Goals.{in-Some, in_default}

@@ -13,7 +13,8 @@ find_under-requires g c = (tree_in (nodes_in c.self.inside.cells) c.self.inside.
 pub returns : goal.returns
 returns g c =
     let s = can_seek _ _ _ _ c.self.invariant c.self.view_is _ _ g.met.K.Keys.total c.requires c.args.key.now in
-    let first = c.find_under.ensures.found _ s ∙ ap (λ x. first_equal (λ q. order_of g.K.Keys.order (g.K.Keys.key_at c.args.keys.now q) (Some c.args.key.now)) x) (places_are _ _ _ _ c.self.invariant c.self.view_is) in
+    let first = c.find_under.ensures.found _ s
+    ∙ ap (λ x. first_equal (λ q. order_of g.K.Keys.order (g.K.Keys.key_at c.args.keys.now q) (Some c.args.key.now)) x) (places_are _ _ _ _ c.self.invariant c.self.view_is) in
     record {
       found = found_in (λ q. standing (g.K.Keys.key_at c.args.keys.now) g.K.Keys.order c.args.key.now q) _ _ first;
       none = none_in (λ q. standing (g.K.Keys.key_at c.args.keys.now) g.K.Keys.order c.args.key.now q) _ _ first;

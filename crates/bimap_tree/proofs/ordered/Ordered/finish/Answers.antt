@@ -17,7 +17,8 @@ returns g c =
     record {
       found = found_in (λ q. standing (g.K.Keys.key_at c.args.keys.now) g.K.Keys.order c.args.key.now q) _ _ first;
       none = none_in (λ q. standing (g.K.Keys.key_at c.args.keys.now) g.K.Keys.order c.args.key.now q) _ _ first;
-      route = route_if_none _ _ _ _ c.self.invariant c.self.view_is _ c.requires.under_way.of_index (λ q. standing (g.K.Keys.key_at c.args.keys.now) g.K.Keys.order c.args.key.now q) _ _ (c.finish_under.ensures.follows _ _ can);
+      route = route_if_none _ _ _ _ c.self.invariant c.self.view_is _ c.requires.under_way.of_index
+          (λ q. standing (g.K.Keys.key_at c.args.keys.now) g.K.Keys.order c.args.key.now q) _ _ (c.finish_under.ensures.follows _ _ can);
       comparisons = search rules;
       touches = search rules;
     }

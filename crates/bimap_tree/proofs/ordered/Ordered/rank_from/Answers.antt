@@ -21,7 +21,8 @@ rank_under-requires-in-Excluded g c = (tree_in (nodes_in c.self.inside.cells) c.
 pub returns-in-Included : goal.returns-in-Included
 returns-in-Included g c =
     let s = can_seek _ _ _ _ c.self.invariant c.self.view_is _ _ g.met.K.Keys.total c.requires c.in-Included.key.now in
-    let rank = c.rank_under.ensures.rank _ s ∙ ap (λ x. count_below (λ q. order_of g.K.Keys.order (g.K.Keys.key_at c.args.keys.now q) (Some c.in-Included.key.now)) x) (places_are _ _ _ _ c.self.invariant c.self.view_is) in
+    let rank = c.rank_under.ensures.rank _ s
+    ∙ ap (λ x. count_below (λ q. order_of g.K.Keys.order (g.K.Keys.key_at c.args.keys.now q) (Some c.in-Included.key.now)) x) (places_are _ _ _ _ c.self.invariant c.self.view_is) in
     record {
       start = subst (λ b. IsStart (g.K.Keys.key_at c.args.keys.now) g.K.Keys.order b c.args.self.now.places c.rank_under.result) (sym c.in-Included.is) (start_included _ _ g.met.K.Keys.total _ c.requires _ _ rank);
       comparisons = omega (arith, c.rank_under.ensures.comparisons _ c.self.invariant.index.tree, height_within _ _ _ _ c.self.invariant c.self.view_is);
@@ -31,7 +32,8 @@ returns-in-Included g c =
 pub returns-in-Excluded : goal.returns-in-Excluded
 returns-in-Excluded g c =
     let s = can_seek_after _ _ _ _ c.self.invariant c.self.view_is _ _ g.met.K.Keys.total c.requires c.in-Excluded.key.now in
-    let rank = c.rank_under-in-Excluded.ensures.rank _ s ∙ ap (λ x. count_below (λ q. after_key (order_of g.K.Keys.order (g.K.Keys.key_at c.args.keys.now q) (Some c.in-Excluded.key.now))) x) (places_are _ _ _ _ c.self.invariant c.self.view_is) in
+    let rank = c.rank_under-in-Excluded.ensures.rank _ s
+    ∙ ap (λ x. count_below (λ q. after_key (order_of g.K.Keys.order (g.K.Keys.key_at c.args.keys.now q) (Some c.in-Excluded.key.now))) x) (places_are _ _ _ _ c.self.invariant c.self.view_is) in
     record {
       start = subst (λ b. IsStart (g.K.Keys.key_at c.args.keys.now) g.K.Keys.order b c.args.self.now.places c.rank_under-in-Excluded.result) (sym c.in-Excluded.is) (start_excluded _ _ g.met.K.Keys.total _ c.requires _ _ rank);
       comparisons = omega (arith, c.rank_under-in-Excluded.ensures.comparisons _ c.self.invariant.index.tree, height_within _ _ _ _ c.self.invariant c.self.view_is);
