@@ -101,7 +101,7 @@ drops t u place once less p = (
   (λ both. occurs_contains u p (omega (arith, less p, contains_occurs t p both.0, is_at-other p place both.1))),
 )
 
--- what holds of the list holds of each place of the tree
+-- what holds of each place of a list
 pub all_front : (P : ℕ → Type 0) (xs ys : List ℕ) → AllByRecursion P (xs ++ ys) → AllByRecursion P xs
 all_front P [] ys h = tt
 all_front P (x ∷ xs) ys h = (h.0, all_front P xs ys h.1)
@@ -118,6 +118,7 @@ pub all_both : (P Q R : ℕ → Type 0) → ((q : ℕ) → P q → Q q → R q) 
 all_both P Q R f [] a b = tt
 all_both P Q R f (x ∷ xs) a b = (f x a.0 b.0, all_both P Q R f xs a.1 b.1)
 
+-- it holds of each place of a tree that reads so
 pub occurs_all : (P : ℕ → Type 0) (t : Tree) → AllByRecursion P (reading t) → (q : ℕ) → 0 < occurs q t → P q
 occurs_all P leaf h q n = absurd (omega arith)
 occurs_all P (fork l p r) h q n =
