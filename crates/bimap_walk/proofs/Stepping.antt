@@ -1,4 +1,4 @@
--- A step of a walk by rank, and what a step tells of the pair that it comes to.
+-- A step of a walk by rank.
 use Rattle.std.proofs.Common.{◌≡◌, ◌≢◌, ℕ, ◌+◌, ◌≤◌, List, [], ◌∷◌, ◌++◌, length, get_or, Option, None, Some, IsSome, refl, sym, ap, subst, arith, true≢false}
 use Rattle.std.specs.Prelude.{IsSomeAnd, slice_set}
 use Rattle.std.specs.List.{All, AllPairs, between}
@@ -11,14 +11,6 @@ use Rattle.bimap_walk.specs.Windows.{places_in, IsWindow, IsLiveWindow}
 use Rattle.bimap_walk.specs.declared.window.Window.{Window}
 use Rattle.bimap_walk.proofs.Ends.{All-first, All-behind, All-last, All-before, AllPairs-first, AllPairs-last}
 use Rattle.bimap_walk.proofs.Listed.{pairs_at-first, pairs_at-last, live_beside, pairs_beside}
-
--- the place that a step comes to has the pair that was ahead
-pub came_live : {P : Type 0} (Q : P → Type 0) (o : Option P) → IsSomeAnd o Q → IsSome o
-came_live Q None some = absurd some
-came_live Q (Some x) some = refl
-
-pub came_to : {P : Type 0} (Q : P → Type 0) (o : Option P) (x : P) → IsSomeAnd o Q → o ≡ Some x → Q x
-came_to Q o x some is = subst (λ z. IsSomeAnd z Q) is some
 
 AllPairs-between : {X : Type 0} (R : X → X → Type 0) (xs : List X) (i j : ℕ) → j ≤ length xs → AllPairs R xs → AllPairs R (between i j xs)
 AllPairs-between R xs i j within all a b d before inside =
