@@ -1,0 +1,1 @@
+pub const HELP: &str = "see later\n";

@@ -1,0 +1,72 @@
+//! Calls for which memory is refused.
+use crate::request::{Memory, Request};
+use crate::session::Session;
+use crate::side::{LeftIndex, RightIndex};
+use bimap_famine::Famine;
+use std::alloc::AllocError;
+
+/// How much may be said while nothing can be allocated.
+const SAID: usize = 1 << 16;
+
+// Whether memory was refused.
+fn is_refusal(said: &str) -> bool {
+    said.starts_with("Err(NoMemory") || said.starts_with("Err(NoRoom") || said.starts_with("Err(Memory")
+        || said.starts_with("Err(ExtendStopped") || said.starts_with("Err(RunRefused")
+        || said.starts_with("Err(UndoStopped") || said.contains("why: Memory")
+        || said.starts_with("NoRoom(")
+}
+
+// Makes the call again and again, each time with a little more memory, until it is not refused.
+fn eased<I: LeftIndex<J>, J: RightIndex<I>>(
+    session: &mut Session<I, J>,
+    request: &mut Request<'_>,
+    said: &mut String,
+) -> Result<bool, AllocError> {
+    let mut before = String::with_capacity(session.alloc, SAID)?;
+    let mut after = String::with_capacity(session.alloc, SAID)?;
+    session.show(&mut before)?;
+    let (mut refused, mut changed) = (false, false);
+    let mut famine = Famine::begin(session.alloc, 300)?;
+    for _ in 0..300u32 {
+        said.clear();
+        if !session.call(request, said)? {
+            return Ok(false);
+        }
+        if !is_refusal(said.as_str()) {
+            break;
+        }
+        refused = true;
+        after.clear();
+        session.show(&mut after)?;
+        changed = changed || before != after;
+        if !famine.ease()? {
+            break;
+        }
+    }
+    drop(famine);
+    let head = match (refused, changed) {
+        (false, _) => "never refused: ",
+        (true, false) => "refused, nothing changed; then ",
+        (true, true) => "refused, CHANGED; then ",
+    };
+    said.insert_str(0, head)?;
+    Ok(true)
+}
+
+/// Makes a call with the memory that its line leaves.
+pub fn call<I: LeftIndex<J>, J: RightIndex<I>>(
+    session: &mut Session<I, J>,
+    request: &mut Request<'_>,
+    said: &mut String,
+) -> Result<bool, AllocError> {
+    match request.memory {
+        Memory::Plenty => session.call(request, said),
+        Memory::Easing => eased(session, request, said),
+        Memory::Famine => {
+            let famine = Famine::begin(session.alloc, 0)?;
+            let has = session.call(request, said)?;
+            drop(famine);
+            Ok(has)
+        }
+    }
+}

@@ -1,0 +1,102 @@
+//! The five kinds, and what each answers to a line.
+use crate::hunger;
+use crate::json;
+use crate::request::{On, Request};
+use crate::session::Session;
+use bimap::{BiBTreeHashMap, BiBTreeMap, BiHashBTreeMap, BiHashMap, NoMemory};
+use bimap_calls::Zero;
+use bimap_index::HashIndex;
+use bimap_tree::Ordered;
+use std::alloc::{AllocError, Global};
+use std::hash::{BuildHasherDefault, FoldHasher};
+
+type Hashed = HashIndex<BuildHasherDefault<FoldHasher>>;
+type Crowded = HashIndex<Zero>;
+
+/// How a line and an answer name the kinds.
+pub const NAMES: [&str; 5] = ["ordered", "hashed", "ordered-hashed", "hashed-ordered", "crowded"];
+
+// Makes a bimap of the kind, or another call.
+macro_rules! answered {
+    ($session:expr, $request:ident, $said:ident, $new:expr, $with_capacity:expr) => {
+        match $request.call {
+            "new" if $request.on == On::Bimap => $session.begin::<NoMemory>(Ok($new), $said),
+            "with_capacity" => $session.begin($with_capacity, $said),
+            _ => hunger::call(&mut $session, $request, $said),
+        }
+    };
+}
+
+/// A session of each kind.
+#[derive(Drop)]
+pub struct Kinds {
+    ordered: Session<Ordered, Ordered>,
+    hashed: Session<Hashed, Hashed>,
+    ordered_left: Session<Ordered, Hashed>,
+    ordered_right: Session<Hashed, Ordered>,
+    crowded: Session<Crowded, Crowded>,
+}
+
+impl Kinds {
+    /// All empty.
+    pub fn new(alloc: Global) -> Kinds {
+        Kinds {
+            ordered: Session::new(alloc),
+            hashed: Session::new(alloc),
+            ordered_left: Session::new(alloc),
+            ordered_right: Session::new(alloc),
+            crowded: Session::new(alloc),
+        }
+    }
+
+    /// Makes a call on the kind of this number, and writes what it answered. It answers whether the kind has the call.
+    pub fn call(
+        &mut self,
+        kind: usize,
+        request: &mut Request<'_>,
+        said: &mut String,
+    ) -> Result<bool, AllocError> {
+        if request.call == "json" {
+            return json::call(kind, request, said);
+        }
+        match kind {
+            0 => self.on_ordered(request, said),
+            1 => self.on_hashed(request, said),
+            2 => self.on_ordered_left(request, said),
+            3 => self.on_ordered_right(request, said),
+            _ => self.on_crowded(request, said),
+        }
+    }
+
+    // One kind a function: all in one take minutes to prove, and apart seconds.
+    fn on_ordered(&mut self, request: &mut Request<'_>, said: &mut String) -> Result<bool, AllocError> {
+        let (alloc, capacity) = (request.alloc, request.number);
+        answered!(self.ordered, request, said, BiBTreeMap::new(alloc), BiBTreeMap::with_capacity(alloc, capacity))
+    }
+
+    fn on_hashed(&mut self, request: &mut Request<'_>, said: &mut String) -> Result<bool, AllocError> {
+        let (alloc, capacity) = (request.alloc, request.number);
+        answered!(self.hashed, request, said, BiHashMap::new(alloc), BiHashMap::with_capacity(alloc, capacity))
+    }
+
+    fn on_ordered_left(&mut self, request: &mut Request<'_>, said: &mut String) -> Result<bool, AllocError> {
+        let (alloc, capacity) = (request.alloc, request.number);
+        answered!(self.ordered_left, request, said, BiBTreeHashMap::new(alloc), BiBTreeHashMap::with_capacity(alloc, capacity))
+    }
+
+    fn on_ordered_right(&mut self, request: &mut Request<'_>, said: &mut String) -> Result<bool, AllocError> {
+        let (alloc, capacity) = (request.alloc, request.number);
+        answered!(self.ordered_right, request, said, BiHashBTreeMap::new(alloc), BiHashBTreeMap::with_capacity(alloc, capacity))
+    }
+
+    fn on_crowded(&mut self, request: &mut Request<'_>, said: &mut String) -> Result<bool, AllocError> {
+        let (alloc, capacity) = (request.alloc, request.number);
+        answered!(
+            self.crowded,
+            request,
+            said,
+            BiHashMap::with_hashers(alloc, Zero, Zero),
+            BiHashMap::with_capacity_and_hashers(alloc, capacity, Zero, Zero)
+        )
+    }
+}

@@ -1,0 +1,49 @@
+//! A shell for trying a bimap: each line of standard input is a call, which is made on each kind of bimap. `help` lists them.
+#![tactic(auto)]
+
+mod counted;
+mod course;
+mod forward;
+mod hashed_left;
+mod help;
+mod hunger;
+mod items;
+mod json;
+mod kinds;
+mod look;
+mod marks;
+mod meter;
+mod ordered_left;
+mod parse;
+mod put;
+mod request;
+mod right;
+mod rooms;
+mod runs;
+mod serve;
+mod session;
+mod side;
+mod times;
+mod values;
+mod word;
+
+use serve::Shell;
+use std::io;
+
+fn main(rt: HostRuntime) -> io::Result<()> {
+    let alloc = rt.alloc();
+    let mut shell = Shell::new(alloc)?;
+    for line in rt.lines(alloc) {
+        let line = line?;
+        let (echo, text) = match line.strip_prefix("> ") {
+            Some(text) => (true, text),
+            None => (false, line.as_str()),
+        };
+        if echo {
+            println!(rt; "{line}")?;
+        }
+        let said = shell.answer(text.trim())?;
+        print!(rt; "{said}")?;
+    }
+    Ok(())
+}

@@ -1,0 +1,59 @@
+//! The bimap with a record.
+use crate::request::Request;
+use crate::session::Session;
+use crate::side::{LeftIndex, RightIndex, Words};
+use crate::word::Word;
+use bimap::BijectiveMap;
+use bimap_undo::Undoable;
+use std::alloc::AllocError;
+use std::mem;
+
+fn changed<I: LeftIndex<J>, J: RightIndex<I>>(
+    record: &mut Undoable<Words<I, J>, Word, Word>,
+    request: &Request<'_>,
+    said: &mut String,
+) -> Result<bool, AllocError> {
+    let (left, right) = (request.first, request.second);
+    match request.call {
+        "insert" => write!(said, "{:?}", record.insert(left, right))?,
+        "insert_with" => write!(said, "{:?}", record.insert_with(left, right, request.policy))?,
+        "insert_all" => {
+            let items = request.pairs.iter().copied();
+            write!(said, "{:?}", record.insert_all(items, request.policy))?;
+        }
+        "remove_by_left" => write!(said, "{:?}", record.remove_by_left(&left))?,
+        "remove_by_right" => write!(said, "{:?}", record.remove_by_right(&left))?,
+        "mark" => write!(said, "{}", record.mark())?,
+        "back_to" if request.number > record.mark() => write!(said, "no such mark")?,
+        "back_to" => {
+            record.back_to(request.number);
+            write!(said, "()")?;
+        }
+        _ => return Ok(false),
+    }
+    Ok(true)
+}
+
+/// Makes the call, if it is one of these.
+pub fn call<I: LeftIndex<J>, J: RightIndex<I>>(
+    session: &mut Session<I, J>,
+    request: &Request<'_>,
+    said: &mut String,
+) -> Result<bool, AllocError> {
+    let alloc = session.alloc;
+    match request.call {
+        "held" => I::show(session.record.held(), said)?,
+        "new" => {
+            let bimap = mem::replace(&mut session.bimap, BijectiveMap::empty(alloc));
+            session.record = Undoable::new(alloc, bimap);
+            I::show(session.record.held(), said)?;
+        }
+        "into_inner" => {
+            let empty = Undoable::new(alloc, BijectiveMap::empty(alloc));
+            session.bimap = mem::replace(&mut session.record, empty).into_inner();
+            I::show(&session.bimap, said)?;
+        }
+        _ => return changed(&mut session.record, request, said),
+    }
+    Ok(true)
+}

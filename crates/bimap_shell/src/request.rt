@@ -1,0 +1,85 @@
+//! What a line asks for.
+use crate::word::Word;
+use bimap::{Call, OnHeld, Overwritten, Policy};
+use std::alloc::Global;
+use std::ops::Bound;
+
+/// A step of a walk.
+#[derive(Clone, Copy, Eq, PartialEq)]
+pub enum Step {
+    Front,
+    Back,
+    Len,
+    Hint,
+    Copy,
+    Rest,
+}
+
+/// Of what a call is made.
+#[derive(Clone, Copy, Eq, PartialEq)]
+pub enum On {
+    /// Of the bimap.
+    Bimap,
+    /// Of the bimap, with a meter whose number is shown.
+    Counted,
+    /// Of the bimap, with a meter whose number is compared with the bound.
+    Bounded,
+    /// Of the bimap with a record.
+    Record,
+}
+
+/// How much memory there is for a call.
+#[derive(Clone, Copy, Eq, PartialEq)]
+pub enum Memory {
+    Plenty,
+    Famine,
+    Easing,
+}
+
+/// One call, whose words are read. What it doesn't ask for stands at an empty value.
+#[derive(Drop)]
+pub struct Request<'a> {
+    pub alloc: Global,
+    pub on: On,
+    pub memory: Memory,
+    pub call: &'a str,
+    pub policy: Policy,
+    pub first: Word,
+    pub second: Word,
+    pub number: usize,
+    pub pairs: Vec<(Word, Word)>,
+    pub answer: Overwritten<Word, Word>,
+    pub calls: Vec<Call<Word, Word, Word>>,
+    pub range: (Bound<Word>, Bound<Word>),
+    pub steps: Vec<Step>,
+    pub types: (&'a str, &'a str),
+    pub text: &'a str,
+}
+
+pub const OVERWRITE: Policy = Policy {
+    left: OnHeld::Overwrite,
+    right: OnHeld::Overwrite,
+};
+
+impl<'a> Request<'a> {
+    /// A call with no words.
+    pub fn of(alloc: Global, on: On, memory: Memory, call: &'a str) -> Request<'a> {
+        Request {
+            alloc,
+            on,
+            memory,
+            call,
+            policy: OVERWRITE,
+            first: Word::none(),
+            second: Word::none(),
+            number: 0,
+            pairs: Vec::new(alloc),
+            answer: Overwritten::Neither,
+            calls: Vec::new(alloc),
+            range: (Bound::Unbounded, Bound::Unbounded),
+            steps: Vec::new(alloc),
+            types: ("", ""),
+            text: "",
+        }
+    }
+}

@@ -1,0 +1,77 @@
+//! Rooms, copies, and what is shown of the whole.
+use crate::request::Request;
+use crate::session::Session;
+use crate::side::{LeftIndex, RightIndex};
+use crate::word::Word;
+use bimap::{Bijection, BijectiveMap};
+use std::alloc::AllocError;
+use std::mem;
+
+fn room<I: LeftIndex<J>, J: RightIndex<I>>(
+    session: &mut Session<I, J>,
+    request: &Request<'_>,
+    said: &mut String,
+) -> Result<bool, AllocError> {
+    let bimap = &mut session.bimap;
+    match request.call {
+        "reserve" => write!(said, "{:?}", bimap.reserve(request.number))?,
+        "shrink_to" => write!(said, "{:?}", bimap.shrink_to(request.number))?,
+        "shrink_to_fit" => write!(said, "{:?}", bimap.shrink_to_fit())?,
+        _ => return Ok(false),
+    }
+    Ok(true)
+}
+
+fn each<B: Bijection<Word, Word>>(bimap: &B, said: &mut String) {
+    let mut between = "";
+    bimap.for_each(
+        |left: &Word, right: &Word| {
+            let _written = write!(said, "{between}({left:?}, {right:?})");
+            between = ", ";
+        },
+    );
+}
+
+fn copied<I: LeftIndex<J>, J: RightIndex<I>>(
+    session: &mut Session<I, J>,
+    said: &mut String,
+) -> Result<(), AllocError> {
+    match session.bimap.clone() {
+        Ok(copy) => {
+            session.other = copy;
+            write!(said, "Ok(")?;
+            I::show(&session.other, said)?;
+            write!(said, ")")
+        }
+        Err(refused) => write!(said, "Err({refused:?})"),
+    }
+}
+
+/// Makes the call, if it is one of these.
+pub fn call<I: LeftIndex<J>, J: RightIndex<I>>(
+    session: &mut Session<I, J>,
+    request: &Request<'_>,
+    said: &mut String,
+) -> Result<bool, AllocError> {
+    match request.call {
+        "show" => I::show(&session.bimap, said)?,
+        "for_each" => {
+            write!(said, "[")?;
+            each(&session.bimap, said);
+            write!(said, "]")?;
+        }
+        "clone" => copied(session, said)?,
+        "into_iter" => {
+            return match session.bimap.clone() {
+                Ok(copy) => I::walk_owned(copy, request, said),
+                Err(_) => Err(AllocError),
+            };
+        }
+        "swap" => {
+            mem::swap(&mut session.bimap, &mut session.other);
+            write!(said, "()")?;
+        }
+        _ => return room(session, request, said),
+    }
+    Ok(true)
+}

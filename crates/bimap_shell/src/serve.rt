@@ -1,0 +1,122 @@
+//! What a line is answered by all kinds.
+use crate::help::HELP;
+use crate::kinds::{Kinds, NAMES};
+use crate::parse::parse;
+use crate::times::times;
+use std::alloc::{AllocError, Global};
+
+/// How much may be said while nothing can be allocated.
+const SAID: usize = 1 << 16;
+
+/// The kinds, and which of them are asked.
+#[derive(Drop)]
+pub struct Shell {
+    alloc: Global,
+    kinds: Kinds,
+    chosen: Vec<usize>,
+}
+
+// The answers, each with the number of its kind: one line where they are alike.
+fn lines(alloc: Global, answers: &[(usize, String)]) -> Result<String, AllocError> {
+    let mut text = String::new(alloc);
+    let Some((_, first)) = answers.first() else {
+        return format!(in alloc; "no such call on these kinds\n");
+    };
+    if answers.iter().all(|(_, answer)| *answer == *first) {
+        writeln!(text, "{first}")?;
+        return Ok(text);
+    }
+    for (kind, answer) in answers {
+        writeln!(text, "[{}] {answer}", NAMES.get(*kind).unwrap_or(&""))?;
+    }
+    Ok(text)
+}
+
+impl Shell {
+    /// All kinds, each empty.
+    pub fn new(alloc: Global) -> Result<Shell, AllocError> {
+        let mut shell = Shell {
+            alloc,
+            kinds: Kinds::new(alloc),
+            chosen: Vec::new(alloc),
+        };
+        shell.choose("")?;
+        Ok(shell)
+    }
+
+    // Begins anew with the kinds that are named, or with all; false where a name is none.
+    fn choose(&mut self, names: &str) -> Result<bool, AllocError> {
+        let mut chosen = Vec::new(self.alloc);
+        for name in names.split_whitespace() {
+            match NAMES.iter().position(|known| *known == name) {
+                Some(kind) => chosen.push(kind)?,
+                None => return Ok(false),
+            }
+        }
+        if chosen.is_empty() {
+            for kind in 0..NAMES.len() {
+                chosen.push(kind)?;
+            }
+        }
+        chosen.sort_unstable();
+        self.chosen = chosen;
+        self.kinds = Kinds::new(self.alloc);
+        Ok(true)
+    }
+
+    // One kind's answer: `None` for a line that is none.
+    fn one(
+        &mut self,
+        kind: usize,
+        line: &str,
+        said: &mut String,
+    ) -> Result<Option<bool>, AllocError> {
+        if let Some(rest) = line.strip_prefix("times ") {
+            let Some((turns, call)) = rest.trim_start().split_once(' ') else {
+                return Ok(None);
+            };
+            return match turns.parse() {
+                Ok(turns) => times(self.alloc, &mut self.kinds, kind, turns, call, said),
+                Err(_) => Ok(None),
+            };
+        }
+        match parse(self.alloc, line)? {
+            Some(mut request) => Ok(Some(self.kinds.call(kind, &mut request, said)?)),
+            None => Ok(None),
+        }
+    }
+
+    // The call of a line on each of the kinds.
+    fn each(&mut self, line: &str) -> Result<String, AllocError> {
+        let mut answers = Vec::new(self.alloc);
+        for kind in 0..NAMES.len() {
+            if !self.chosen.as_slice().contains(&kind) {
+                continue;
+            }
+            let mut said = String::with_capacity(self.alloc, SAID)?;
+            match self.one(kind, line, &mut said)? {
+                Some(true) => answers.push((kind, said))?,
+                Some(false) => {}
+                None => return format!(in self.alloc; "bad line: {line}\n"),
+            }
+        }
+        lines(self.alloc, answers.as_slice())
+    }
+
+    /// What is printed for a line.
+    pub fn answer(&mut self, line: &str) -> Result<String, AllocError> {
+        if line.is_empty() || line.starts_with('#') {
+            return Ok(String::new(self.alloc));
+        }
+        if line == "help" {
+            return format!(in self.alloc; "{HELP}");
+        }
+        if let Some(names) = line.strip_prefix("kinds:") {
+            return match self.choose(names)? {
+                true => Ok(String::new(self.alloc)),
+                false => format!(in self.alloc; "bad line: {line}\n"),
+            };
+        }
+        self.each(line)
+    }
+}

@@ -1,0 +1,91 @@
+//! The bimaps of one kind, and each call on them.
+use crate::meter::Shown;
+use crate::request::{Memory, On, Request};
+use crate::side::{LeftIndex, RightIndex, Words};
+use crate::word::Word;
+use crate::{counted, items, look, marks, put, rooms, runs};
+use bimap::BijectiveMap;
+use bimap_undo::Undoable;
+use std::alloc::{AllocError, Global};
+use std::fmt::Debug;
+
+/// The bimap, another one beside it, and one with a record.
+#[derive(Drop)]
+pub struct Session<I: LeftIndex<J>, J: RightIndex<I>> {
+    pub alloc: Global,
+    pub bimap: Words<I, J>,
+    pub other: Words<I, J>,
+    pub record: Undoable<Words<I, J>, Word, Word>,
+}
+
+impl<I: LeftIndex<J>, J: RightIndex<I>> Session<I, J> {
+    /// Three empty ones.
+    pub fn new(alloc: Global) -> Session<I, J> {
+        Session {
+            alloc,
+            bimap: BijectiveMap::empty(alloc),
+            other: BijectiveMap::empty(alloc),
+            record: Undoable::new(alloc, BijectiveMap::empty(alloc)),
+        }
+    }
+
+    /// Takes a bimap that was made in the place of this one, and writes it, or why there is none.
+    pub fn begin<E: Debug + Drop>(
+        &mut self,
+        made: Result<Words<I, J>, E>,
+        said: &mut String,
+    ) -> Result<bool, AllocError> {
+        match made {
+            Ok(bimap) => {
+                self.bimap = bimap;
+                write!(said, "Ok(")?;
+                I::show(&self.bimap, said)?;
+                write!(said, ")")?;
+            }
+            Err(refused) => write!(said, "Err({refused:?})")?,
+        }
+        Ok(true)
+    }
+
+    /// Makes a call, and writes what it answered. It answers whether this kind has the call.
+    pub fn call(
+        &mut self,
+        request: &mut Request<'_>,
+        said: &mut String,
+    ) -> Result<bool, AllocError> {
+        match request.on {
+            On::Bimap => self.plain(request, said),
+            On::Record => marks::call(self, request, said),
+            On::Counted | On::Bounded => counted::call(&mut self.bimap, request, said),
+        }
+    }
+
+    fn plain(&mut self, request: &mut Request<'_>, said: &mut String) -> Result<bool, AllocError> {
+        Ok(look::call(&self.bimap, request, said)?
+            || put::call(&mut self.bimap, request, said)?
+            || self.of_pairs(request, said)?
+            || self.of_sides(request, said)?)
+    }
+
+    fn of_pairs(&mut self, request: &mut Request<'_>, said: &mut String) -> Result<bool, AllocError> {
+        Ok(rooms::call(self, request, said)?
+            || items::call(self, request, said)?
+            || runs::call(self.alloc, &mut self.bimap, request, said)?)
+    }
+
+    fn of_sides(&mut self, request: &Request<'_>, said: &mut String) -> Result<bool, AllocError> {
+        Ok(I::walk(&self.bimap, request, said)?
+            || J::walk(&self.bimap, request, said)?
+            || I::plain_end(&mut self.bimap, request, said)?
+            || J::plain_end(&mut self.bimap, request, said)?
+            || I::compare(&self.bimap, &self.other, request.call, said)?)
+    }
+
+    /// All that a refusal must leave as it was.
+    pub fn show(&self, said: &mut String) -> Result<(), AllocError> {
+        I::show(&self.bimap, said)?;
+        write!(said, " {} ", self.bimap.capacity())?;
+        I::show(self.record.held(), said)?;
+        write!(said, " {}", self.record.mark())
+    }
+}

@@ -1,0 +1,96 @@
+//! One call many times, each with another number in its words.
+use crate::kinds::Kinds;
+use crate::parse::parse;
+use std::alloc::{AllocError, Global};
+
+/// How many different answers are shown.
+const SHOWN: usize = 8;
+
+/// The answers of one kind, each with how often it came.
+#[derive(Drop)]
+struct Tally {
+    answers: Vec<(String, u64)>,
+    others: u64,
+}
+
+impl Tally {
+    fn new(alloc: Global) -> Tally {
+        Tally {
+            answers: Vec::new(alloc),
+            others: 0,
+        }
+    }
+
+    fn add(&mut self, answer: String) -> Result<(), AllocError> {
+        for (shown, count) in self.answers.iter_mut() {
+            if *shown == answer {
+                *count = count.saturating_add(1);
+                return Ok(());
+            }
+        }
+        if self.answers.len() < SHOWN {
+            self.answers.push((answer, 1))?;
+        } else {
+            self.others = self.others.saturating_add(1);
+        }
+        Ok(())
+    }
+
+    fn write(&self, said: &mut String) -> Result<(), AllocError> {
+        let mut between = "";
+        for (answer, count) in self.answers.iter() {
+            write!(said, "{between}{count} times {answer}")?;
+            between = " · ";
+        }
+        if self.others > 0 {
+            write!(said, "{between}{} times another", self.others)?;
+        }
+        Ok(())
+    }
+}
+
+// The call with the two numbers of a turn in its words, and the two as they stand there.
+fn with_numbers(
+    alloc: Global,
+    line: &str,
+    turn: u64,
+    turns: u64,
+) -> Result<(String, String, String), AllocError> {
+    let mixed = turn.saturating_mul(7919).checked_rem(turns).unwrap_or(0);
+    let (turn, mixed) = (format!(in alloc; "{turn:07}")?, format!(in alloc; "{mixed:07}")?);
+    let text = line.replace(alloc, '#', turn.as_str())?;
+    let text = text.replace(alloc, '%', mixed.as_str())?;
+    Ok((text, turn, mixed))
+}
+
+/// Makes the call of a line so many times on the kind of this number. It answers whether the kind has it, or `None` for a line
+/// that is none.
+pub fn times(
+    alloc: Global,
+    kinds: &mut Kinds,
+    kind: usize,
+    turns: u64,
+    line: &str,
+    said: &mut String,
+) -> Result<Option<bool>, AllocError> {
+    let mut tally = Tally::new(alloc);
+    for at in 0..turns {
+        let (text, turn, mixed) = with_numbers(alloc, line, at, turns)?;
+        let Some(mut request) = parse(alloc, text.as_str())? else {
+            return Ok(None);
+        };
+        said.clear();
+        if !kinds.call(kind, &mut request, said)? {
+            return Ok(Some(false));
+        }
+        let shown = if line.contains('%') {
+            said.replace(alloc, mixed.as_str(), "%")?
+        } else {
+            said.replace(alloc, turn.as_str(), "#")?
+        };
+        tally.add(shown)?;
+    }
+    said.clear();
+    tally.write(said)?;
+    Ok(Some(true))
+}
