@@ -35,7 +35,11 @@ fn counted<I: LeftIndex<J>, J: RightIndex<I>>(
             Ok(Some((1, 1)))
         }
         "get_by_left_or_insert" => {
-            write!(said, "{:?}", bimap.get_by_left_or_insert_metered(left, right, meter))?;
+            write!(
+                said,
+                "{:?}",
+                bimap.get_by_left_or_insert_metered(left, right, meter)
+            )?;
             Ok(Some((1, 1)))
         }
         _ => counted_end(bimap, request, meter, said),
@@ -54,7 +58,9 @@ fn counted_end<I: LeftIndex<J>, J: RightIndex<I>>(
     Ok(Some(match request.call {
         "left_rank" => (1, 0),
         "right_rank" => (0, 1),
-        "pop_first_by_left" | "pop_last_by_left" | "pop_first_by_right" | "pop_last_by_right" => (1, 1),
+        "pop_first_by_left" | "pop_last_by_left" | "pop_first_by_right" | "pop_last_by_right" => (
+            1, 1,
+        ),
         _ => (0, 0),
     }))
 }
@@ -72,7 +78,9 @@ pub fn call<I: LeftIndex<J>, J: RightIndex<I>>(
     };
     let made = meter.comparisons();
     let by_left = I::effort(length).saturating_mul(left);
-    let bound = J::effort(length).saturating_mul(right).saturating_add(by_left);
+    let bound = J::effort(length)
+        .saturating_mul(right)
+        .saturating_add(by_left);
     match request.on {
         On::Bounded if made <= bound => write!(said, ", within the bound")?,
         On::Bounded => write!(said, ", {made} comparisons, above the bound of {bound}")?,

@@ -8,8 +8,10 @@ use bimap_index::{CopiedIndex, EmptyIndex, HashIndex, PackedIndex};
 use std::alloc::AllocError;
 use std::hash::BuildHasher;
 
-impl<LS: BuildHasher + Clone + Default + Drop, J: CopiedIndex<Word> + EmptyIndex<Word> + PackedIndex<Word> + Drop> LeftIndex<J>
-    for HashIndex<LS> {
+impl<
+    LS: BuildHasher + Clone + Default + Drop,
+    J: CopiedIndex<Word> + EmptyIndex<Word> + PackedIndex<Word> + Drop,
+> LeftIndex<J> for HashIndex<LS> {
     fn show(bimap: &Words<HashIndex<LS>, J>, said: &mut String) -> Result<(), AllocError> {
         write!(said, "{bimap:?}")
     }

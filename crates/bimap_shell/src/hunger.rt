@@ -10,9 +10,13 @@ const SAID: usize = 1 << 16;
 
 // Whether memory was refused.
 fn is_refusal(said: &str) -> bool {
-    said.starts_with("Err(NoMemory") || said.starts_with("Err(NoRoom") || said.starts_with("Err(Memory")
-        || said.starts_with("Err(ExtendStopped") || said.starts_with("Err(RunRefused")
-        || said.starts_with("Err(UndoStopped") || said.contains("why: Memory")
+    said.starts_with("Err(NoMemory")
+        || said.starts_with("Err(NoRoom")
+        || said.starts_with("Err(Memory")
+        || said.starts_with("Err(ExtendStopped")
+        || said.starts_with("Err(RunRefused")
+        || said.starts_with("Err(UndoStopped")
+        || said.contains("why: Memory")
         || said.starts_with("NoRoom(")
 }
 

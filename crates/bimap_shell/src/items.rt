@@ -15,7 +15,11 @@ pub fn call<I: LeftIndex<J>, J: RightIndex<I>>(
     match request.call {
         "extend" => write!(said, "{:?}", session.bimap.extend(items))?,
         "extend_with" => {
-            write!(said, "{:?}", extend_with(&mut session.bimap, items, request.policy))?
+            write!(
+                said,
+                "{:?}",
+                extend_with(&mut session.bimap, items, request.policy)
+            )?
         }
         "from_iter" => {
             let answer = BijectiveMap::from_iter(session.alloc, items);

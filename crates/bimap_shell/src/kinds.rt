@@ -1,8 +1,7 @@
 //! The five kinds, and what each answers to a line.
-use crate::hunger;
-use crate::json;
 use crate::request::{On, Request};
 use crate::session::Session;
+use crate::{hunger, json};
 use bimap::{BiBTreeHashMap, BiBTreeMap, BiHashBTreeMap, BiHashMap, NoMemory};
 use bimap_calls::Zero;
 use bimap_index::HashIndex;
@@ -11,10 +10,17 @@ use std::alloc::{AllocError, Global};
 use std::hash::{BuildHasherDefault, FoldHasher};
 
 type Hashed = HashIndex<BuildHasherDefault<FoldHasher>>;
+
 type Crowded = HashIndex<Zero>;
 
 /// How a line and an answer name the kinds.
-pub const NAMES: [&str; 5] = ["ordered", "hashed", "ordered-hashed", "hashed-ordered", "crowded"];
+pub const NAMES: [&str; 5] = [
+    "ordered",
+    "hashed",
+    "ordered-hashed",
+    "hashed-ordered",
+    "crowded",
+];
 
 // Makes a bimap of the kind, or another call.
 macro_rules! answered {
@@ -69,27 +75,71 @@ impl Kinds {
     }
 
     // One kind a function: all in one take minutes to prove, and apart seconds.
-    fn on_ordered(&mut self, request: &mut Request<'_>, said: &mut String) -> Result<bool, AllocError> {
+    fn on_ordered(
+        &mut self,
+        request: &mut Request<'_>,
+        said: &mut String,
+    ) -> Result<bool, AllocError> {
         let (alloc, capacity) = (request.alloc, request.number);
-        answered!(self.ordered, request, said, BiBTreeMap::new(alloc), BiBTreeMap::with_capacity(alloc, capacity))
+        answered!(
+            self.ordered,
+            request,
+            said,
+            BiBTreeMap::new(alloc),
+            BiBTreeMap::with_capacity(alloc, capacity)
+        )
     }
 
-    fn on_hashed(&mut self, request: &mut Request<'_>, said: &mut String) -> Result<bool, AllocError> {
+    fn on_hashed(
+        &mut self,
+        request: &mut Request<'_>,
+        said: &mut String,
+    ) -> Result<bool, AllocError> {
         let (alloc, capacity) = (request.alloc, request.number);
-        answered!(self.hashed, request, said, BiHashMap::new(alloc), BiHashMap::with_capacity(alloc, capacity))
+        answered!(
+            self.hashed,
+            request,
+            said,
+            BiHashMap::new(alloc),
+            BiHashMap::with_capacity(alloc, capacity)
+        )
     }
 
-    fn on_ordered_left(&mut self, request: &mut Request<'_>, said: &mut String) -> Result<bool, AllocError> {
+    fn on_ordered_left(
+        &mut self,
+        request: &mut Request<'_>,
+        said: &mut String,
+    ) -> Result<bool, AllocError> {
         let (alloc, capacity) = (request.alloc, request.number);
-        answered!(self.ordered_left, request, said, BiBTreeHashMap::new(alloc), BiBTreeHashMap::with_capacity(alloc, capacity))
+        answered!(
+            self.ordered_left,
+            request,
+            said,
+            BiBTreeHashMap::new(alloc),
+            BiBTreeHashMap::with_capacity(alloc, capacity)
+        )
     }
 
-    fn on_ordered_right(&mut self, request: &mut Request<'_>, said: &mut String) -> Result<bool, AllocError> {
+    fn on_ordered_right(
+        &mut self,
+        request: &mut Request<'_>,
+        said: &mut String,
+    ) -> Result<bool, AllocError> {
         let (alloc, capacity) = (request.alloc, request.number);
-        answered!(self.ordered_right, request, said, BiHashBTreeMap::new(alloc), BiHashBTreeMap::with_capacity(alloc, capacity))
+        answered!(
+            self.ordered_right,
+            request,
+            said,
+            BiHashBTreeMap::new(alloc),
+            BiHashBTreeMap::with_capacity(alloc, capacity)
+        )
     }
 
-    fn on_crowded(&mut self, request: &mut Request<'_>, said: &mut String) -> Result<bool, AllocError> {
+    fn on_crowded(
+        &mut self,
+        request: &mut Request<'_>,
+        said: &mut String,
+    ) -> Result<bool, AllocError> {
         let (alloc, capacity) = (request.alloc, request.number);
         answered!(
             self.crowded,

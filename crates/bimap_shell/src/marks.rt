@@ -16,7 +16,11 @@ fn changed<I: LeftIndex<J>, J: RightIndex<I>>(
     let (left, right) = (request.first, request.second);
     match request.call {
         "insert" => write!(said, "{:?}", record.insert(left, right))?,
-        "insert_with" => write!(said, "{:?}", record.insert_with(left, right, request.policy))?,
+        "insert_with" => write!(
+            said,
+            "{:?}",
+            record.insert_with(left, right, request.policy)
+        )?,
         "insert_all" => {
             let items = request.pairs.iter().copied();
             write!(said, "{:?}", record.insert_all(items, request.policy))?;

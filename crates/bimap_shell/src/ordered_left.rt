@@ -7,7 +7,7 @@ use crate::request::Request;
 use crate::side::{LeftIndex, Words, twice_the_digits};
 use crate::word::Word;
 use bimap::btree::Count;
-use bimap_index::{CopiedIndex, PackedIndex, EmptyIndex};
+use bimap_index::{CopiedIndex, EmptyIndex, PackedIndex};
 use bimap_tree::Ordered;
 use std::alloc::AllocError;
 use std::hash::{FoldHasher, Hash, Hasher};
@@ -88,7 +88,11 @@ impl<J: CopiedIndex<Word> + EmptyIndex<Word> + PackedIndex<Word> + Drop> LeftInd
             "pop_first_by_left" => write!(said, "{:?}", bimap.pop_first_by_left_metered(meter))?,
             "pop_last_by_left" => write!(said, "{:?}", bimap.pop_last_by_left_metered(meter))?,
             "pair_at_left_rank" => {
-                write!(said, "{:?}", bimap.pair_at_left_rank_metered(request.number, meter))?
+                write!(
+                    said,
+                    "{:?}",
+                    bimap.pair_at_left_rank_metered(request.number, meter)
+                )?
             }
             "left_rank" => write!(said, "{}", bimap.left_rank_metered(&request.first, meter))?,
             _ => return Ok(false),

@@ -24,15 +24,28 @@ enum Words {
 
 fn words_of(name: &str) -> Option<Words> {
     match name {
-        "get_by_left" | "get_by_right" | "contains_left" | "contains_right" | "remove_by_left"
-        | "remove_by_right" | "retain" | "left_rank" | "right_rank" => Some(Words::Value),
-        "insert" | "insert_no_overwrite" | "get_by_left_or_insert" | "replace_left" | "replace_right" => {
-            Some(Words::Two)
-        }
+        "get_by_left"
+        | "get_by_right"
+        | "contains_left"
+        | "contains_right"
+        | "remove_by_left"
+        | "remove_by_right"
+        | "retain"
+        | "left_rank"
+        | "right_rank" => Some(Words::Value),
+        "insert"
+        | "insert_no_overwrite"
+        | "get_by_left_or_insert"
+        | "replace_left"
+        | "replace_right" => { Some(Words::Two) }
         "insert_with" => Some(Words::PolicyTwo),
         "extend" | "from_iter" | "undo_run" => Some(Words::Pairs),
         "extend_with" | "from_iter_with" | "insert_all" => Some(Words::PolicyPairs),
-        "with_capacity" | "reserve" | "shrink_to" | "pair_at_left_rank" | "pair_at_right_rank"
+        "with_capacity"
+        | "reserve"
+        | "shrink_to"
+        | "pair_at_left_rank"
+        | "pair_at_right_rank"
         | "back_to" => Some(Words::Number),
         "undo_insert" | "can_undo_insert" => Some(Words::Undo),
         "iter" | "into_iter" | "left_values" | "right_values" => Some(Words::Steps),
@@ -46,8 +59,20 @@ fn words_of(name: &str) -> Option<Words> {
 
 fn nothing_after(name: &str) -> bool {
     match name {
-        "new" | "show" | "len" | "is_empty" | "capacity" | "clear" | "shrink_to_fit" | "for_each" | "clone"
-        | "swap" | "eq" | "partial_cmp" | "cmp" | "hash" => true,
+        "new"
+        | "show"
+        | "len"
+        | "is_empty"
+        | "capacity"
+        | "clear"
+        | "shrink_to_fit"
+        | "for_each"
+        | "clone"
+        | "swap"
+        | "eq"
+        | "partial_cmp"
+        | "cmp"
+        | "hash" => true,
         "first_by_left" | "last_by_left" | "pop_first_by_left" | "pop_last_by_left" => true,
         "first_by_right" | "last_by_right" | "pop_first_by_right" | "pop_last_by_right" => true,
         "mark" | "held" | "into_inner" => true,
@@ -104,9 +129,7 @@ fn read_list(
             Some(steps) => request.steps = steps,
             None => return Ok(None),
         },
-        Words::Call | Words::Calls | Words::Json => {
-            for _word in words {}
-        }
+        Words::Call | Words::Calls | Words::Json => { for _word in words {} }
         _ => {}
     }
     Ok(Some(()))

@@ -48,7 +48,11 @@ impl<I: CopiedIndex<Word> + Drop> RightIndex<I> for Ordered {
             "pop_first_by_right" => write!(said, "{:?}", bimap.pop_first_by_right_metered(meter))?,
             "pop_last_by_right" => write!(said, "{:?}", bimap.pop_last_by_right_metered(meter))?,
             "pair_at_right_rank" => {
-                write!(said, "{:?}", bimap.pair_at_right_rank_metered(request.number, meter))?
+                write!(
+                    said,
+                    "{:?}",
+                    bimap.pair_at_right_rank_metered(request.number, meter)
+                )?
             }
             "right_rank" => write!(said, "{}", bimap.right_rank_metered(&request.first, meter))?,
             _ => return Ok(false),
@@ -83,14 +87,18 @@ impl<RS: BuildHasher + Clone + Default + Drop> RightIndex<Ordered> for HashIndex
         if request.call != "right_values" {
             return Ok(false);
         }
-        follow!(values_from_both, bimap.right_values(), request.steps.as_slice(), said)
+        follow!(
+            values_from_both,
+            bimap.right_values(),
+            request.steps.as_slice(),
+            said
+        )
     }
 }
 
-impl<
-    LS: BuildHasher + Clone + Default + Drop,
-    RS: BuildHasher + Clone + Default + Drop,
-> RightIndex<HashIndex<LS>> for HashIndex<RS> {
+impl<LS: BuildHasher + Clone + Default + Drop, RS: BuildHasher + Clone + Default + Drop> RightIndex<
+    HashIndex<LS>,
+> for HashIndex<RS> {
     fn walk(
         bimap: &Words<HashIndex<LS>, HashIndex<RS>>,
         request: &Request<'_>,
@@ -99,6 +107,11 @@ impl<
         if request.call != "right_values" {
             return Ok(false);
         }
-        follow!(values_ahead, bimap.right_values(), request.steps.as_slice(), said)
+        follow!(
+            values_ahead,
+            bimap.right_values(),
+            request.steps.as_slice(),
+            said
+        )
     }
 }

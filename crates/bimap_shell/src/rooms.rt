@@ -24,12 +24,10 @@ fn room<I: LeftIndex<J>, J: RightIndex<I>>(
 
 fn each<B: Bijection<Word, Word>>(bimap: &B, said: &mut String) {
     let mut between = "";
-    bimap.for_each(
-        |left: &Word, right: &Word| {
-            let _written = write!(said, "{between}({left:?}, {right:?})");
-            between = ", ";
-        },
-    );
+    bimap.for_each(|left: &Word, right: &Word| {
+        let _written = write!(said, "{between}({left:?}, {right:?})");
+        between = ", ";
+    });
 }
 
 fn copied<I: LeftIndex<J>, J: RightIndex<I>>(

@@ -1,8 +1,8 @@
 //! Lists of calls, and their undoing.
 use crate::request::Request;
-use bimap_calls::insert_all;
 use crate::word::Word;
 use bimap::{Bijection, RunRefused, perform, run, undo_run};
+use bimap_calls::insert_all;
 use std::alloc::{AllocError, Global};
 use std::mem;
 

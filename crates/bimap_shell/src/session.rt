@@ -61,24 +61,34 @@ impl<I: LeftIndex<J>, J: RightIndex<I>> Session<I, J> {
     }
 
     fn plain(&mut self, request: &mut Request<'_>, said: &mut String) -> Result<bool, AllocError> {
-        Ok(look::call(&self.bimap, request, said)?
-            || put::call(&mut self.bimap, request, said)?
-            || self.of_pairs(request, said)?
-            || self.of_sides(request, said)?)
+        Ok(
+            look::call(&self.bimap, request, said)?
+                || put::call(&mut self.bimap, request, said)?
+                || self.of_pairs(request, said)?
+                || self.of_sides(request, said)?,
+        )
     }
 
-    fn of_pairs(&mut self, request: &mut Request<'_>, said: &mut String) -> Result<bool, AllocError> {
-        Ok(rooms::call(self, request, said)?
-            || items::call(self, request, said)?
-            || runs::call(self.alloc, &mut self.bimap, request, said)?)
+    fn of_pairs(
+        &mut self,
+        request: &mut Request<'_>,
+        said: &mut String,
+    ) -> Result<bool, AllocError> {
+        Ok(
+            rooms::call(self, request, said)?
+                || items::call(self, request, said)?
+                || runs::call(self.alloc, &mut self.bimap, request, said)?,
+        )
     }
 
     fn of_sides(&mut self, request: &Request<'_>, said: &mut String) -> Result<bool, AllocError> {
-        Ok(I::walk(&self.bimap, request, said)?
-            || J::walk(&self.bimap, request, said)?
-            || I::plain_end(&mut self.bimap, request, said)?
-            || J::plain_end(&mut self.bimap, request, said)?
-            || I::compare(&self.bimap, &self.other, request.call, said)?)
+        Ok(
+            I::walk(&self.bimap, request, said)?
+                || J::walk(&self.bimap, request, said)?
+                || I::plain_end(&mut self.bimap, request, said)?
+                || J::plain_end(&mut self.bimap, request, said)?
+                || I::compare(&self.bimap, &self.other, request.call, said)?,
+        )
     }
 
     /// All that a refusal must leave as it was.

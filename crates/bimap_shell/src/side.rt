@@ -11,7 +11,9 @@ use std::alloc::AllocError;
 pub type Words<I, J> = BijectiveMap<Word, Word, I, J>;
 
 /// The index of lefts. Each call answers whether this kind has it, and writes what it said.
-pub trait LeftIndex<J: CopiedIndex<Word> + Drop>: EmptyIndex<Word> + CopiedIndex<Word> + PackedIndex<Word>
+pub trait LeftIndex<J: CopiedIndex<Word> + Drop>: EmptyIndex<Word>
+    + CopiedIndex<Word>
+    + PackedIndex<Word>
     + Drop {
     /// How many comparisons a search makes at most.
     fn effort(_length: usize) -> u64 {
@@ -65,7 +67,9 @@ pub trait LeftIndex<J: CopiedIndex<Word> + Drop>: EmptyIndex<Word> + CopiedIndex
 }
 
 /// The index of rights.
-pub trait RightIndex<I: CopiedIndex<Word> + Drop>: EmptyIndex<Word> + CopiedIndex<Word> + PackedIndex<Word>
+pub trait RightIndex<I: CopiedIndex<Word> + Drop>: EmptyIndex<Word>
+    + CopiedIndex<Word>
+    + PackedIndex<Word>
     + Drop {
     /// How many comparisons a search makes at most.
     fn effort(_length: usize) -> u64 {

@@ -57,7 +57,10 @@ fn with_numbers(
     turns: u64,
 ) -> Result<(String, String, String), AllocError> {
     let mixed = turn.saturating_mul(7919).checked_rem(turns).unwrap_or(0);
-    let (turn, mixed) = (format!(in alloc; "{turn:07}")?, format!(in alloc; "{mixed:07}")?);
+    let (turn, mixed) = (
+        format!(in alloc; "{turn:07}")?,
+        format!(in alloc; "{mixed:07}")?,
+    );
     let text = line.replace(alloc, '#', turn.as_str())?;
     let text = text.replace(alloc, '%', mixed.as_str())?;
     Ok((text, turn, mixed))

@@ -77,26 +77,74 @@ pub fn steps(
     Ok(Some(steps))
 }
 
-/// All the words that are left, as pairs.
-pub fn pairs(
+// The word in which the digits of a number stand for each `#`.
+fn numbered(alloc: Global, pattern: &str, number: usize) -> Result<Option<Word>, AllocError> {
+    let digits = format!(in alloc; "{number:07}")?;
+    let text = pattern.replace(alloc, '#', digits.as_str())?;
+    Ok(Word::read(text.as_str()))
+}
+
+// So many pairs of numbered words.
+fn numbered_pairs(
     alloc: Global,
+    count: &str,
+    words: &mut SplitWhitespace<'_>,
+) -> Result<Option<Vec<(Word, Word)>>, AllocError> {
+    let (Ok(count), Some(left), Some(right)) = (count.parse(), words.next(), words.next()) else {
+        return Ok(None);
+    };
+    let mut pairs = Vec::new(alloc);
+    for number in 0..count {
+        match (
+            numbered(alloc, left, number)?,
+            numbered(alloc, right, number)?,
+        ) {
+            (Some(left), Some(right)) => pairs.push((left, right))?,
+            _ => return Ok(None),
+        }
+    }
+    Ok(Some(pairs))
+}
+
+// The first word and all that are left, two for each pair.
+fn listed_pairs(
+    alloc: Global,
+    first: Option<&str>,
     words: &mut SplitWhitespace<'_>,
 ) -> Result<Option<Vec<(Word, Word)>>, AllocError> {
     let mut pairs = Vec::new(alloc);
+    let Some(first) = first else {
+        return Ok(Some(pairs));
+    };
+    let (Some(left), Some(right)) = (Word::read(first), value(words)) else {
+        return Ok(None);
+    };
+    pairs.push((left, right))?;
     let mut left = None;
     for word in words {
-        let Some(read) = Word::read(word) else {
-            return Ok(None);
-        };
-        match left {
-            None => left = Some(read),
-            Some(first) => {
+        match (Word::read(word), left) {
+            (None, _) => return Ok(None),
+            (Some(read), None) => left = Some(read),
+            (Some(read), Some(first)) => {
                 pairs.push((first, read))?;
                 left = None;
             }
         }
     }
     Ok(left.is_none().then_some(pairs))
+}
+
+/// All the words that are left, as pairs: each of two words, or `each N L R`, with a number for each `#`.
+pub fn pairs(
+    alloc: Global,
+    words: &mut SplitWhitespace<'_>,
+) -> Result<Option<Vec<(Word, Word)>>, AllocError> {
+    let first = words.next();
+    if first == Some("each") {
+        let count = words.next().unwrap_or("");
+        return numbered_pairs(alloc, count, words);
+    }
+    listed_pairs(alloc, first, words)
 }
 
 fn bound(word: &str) -> Option<Bound<Word>> {
@@ -126,7 +174,9 @@ pub fn range(word: &str) -> Option<(Bound<Word>, Bound<Word>)> {
 pub fn call(words: &mut SplitWhitespace<'_>) -> Option<Call<Word, Word, Word>> {
     match words.next()? {
         "insert" => pair(words).map(|(left, right)| Call::Insert(left, right)),
-        "insert_no_overwrite" => pair(words).map(|(left, right)| Call::InsertNoOverwrite(left, right)),
+        "insert_no_overwrite" => pair(words).map(|(left, right)| Call::InsertNoOverwrite(
+            left, right,
+        )),
         "insert_with" => {
             let policy = policy(words.next()?)?;
             pair(words).map(|(left, right)| Call::InsertWith(left, right, policy))
