@@ -1,84 +1,42 @@
 //! Calls with a meter, and their bounds.
+use crate::kind::{ByLeft, ByRight};
 use crate::meter::{Shown, at_zero};
 use crate::request::{On, Request};
-use crate::side::{LeftIndex, RightIndex, Words};
+use crate::word::Word;
 use bimap::btree::Count;
+use bimap_calls::CopyKind;
 use std::alloc::AllocError;
 
-// Makes the call, and answers how many searches by left and by right its bound counts.
-fn counted<I: LeftIndex<J>, J: RightIndex<I>>(
-    bimap: &mut Words<I, J>,
-    request: &Request<'_>,
-    meter: &mut Shown<Count>,
-    said: &mut String,
-) -> Result<Option<(u64, u64)>, AllocError> {
-    let (left, right) = (request.first, request.second);
-    match request.call {
-        "get_by_left" => {
-            write!(said, "{:?}", bimap.get_by_left_metered(&left, meter))?;
-            Ok(Some((1, 0)))
-        }
-        "get_by_right" => {
-            write!(said, "{:?}", bimap.get_by_right_metered(&left, meter))?;
-            Ok(Some((0, 1)))
-        }
-        "insert" => {
-            write!(said, "{:?}", bimap.insert_metered(left, right, meter))?;
-            Ok(Some((3, 5)))
-        }
-        "remove_by_left" => {
-            write!(said, "{:?}", bimap.remove_by_left_metered(&left, meter))?;
-            Ok(Some((1, 1)))
-        }
-        "remove_by_right" => {
-            write!(said, "{:?}", bimap.remove_by_right_metered(&left, meter))?;
-            Ok(Some((1, 1)))
-        }
-        "get_by_left_or_insert" => {
-            write!(
-                said,
-                "{:?}",
-                bimap.get_by_left_or_insert_metered(left, right, meter)
-            )?;
-            Ok(Some((1, 1)))
-        }
-        _ => counted_end(bimap, request, meter, said),
+// How many searches by left and by right the bound of a call counts.
+fn searches(call: &str) -> (u64, u64) {
+    match call {
+        "get_by_left" | "left_rank" => (1, 0),
+        "get_by_right" | "right_rank" => (0, 1),
+        "insert" => (3, 5),
+        "first_by_left" | "last_by_left" | "pair_at_left_rank" => (0, 0),
+        "first_by_right" | "last_by_right" | "pair_at_right_rank" => (0, 0),
+        _ => (1, 1),
     }
-}
-
-fn counted_end<I: LeftIndex<J>, J: RightIndex<I>>(
-    bimap: &mut Words<I, J>,
-    request: &Request<'_>,
-    meter: &mut Shown<Count>,
-    said: &mut String,
-) -> Result<Option<(u64, u64)>, AllocError> {
-    if !I::end(bimap, request, meter, said)? && !J::end(bimap, request, meter, said)? {
-        return Ok(None);
-    }
-    Ok(Some(match request.call {
-        "left_rank" => (1, 0),
-        "right_rank" => (0, 1),
-        "pop_first_by_left" | "pop_last_by_left" | "pop_first_by_right" | "pop_last_by_right" => (
-            1, 1,
-        ),
-        _ => (0, 0),
-    }))
 }
 
 /// Makes the call with a meter, and writes what it counted.
-pub fn call<I: LeftIndex<J>, J: RightIndex<I>>(
-    bimap: &mut Words<I, J>,
+pub fn call<B: CopyKind<Word, Word> + ByLeft + ByRight>(
+    bimap: &mut B,
     request: &Request<'_>,
     said: &mut String,
 ) -> Result<bool, AllocError> {
     let mut meter = at_zero();
     let length = bimap.len();
-    let Some((left, right)) = counted(bimap, request, &mut meter, said)? else {
+    let counted = bimap.counted(request, &mut meter, said)?
+        || bimap.counted_left_end(request, &mut meter, said)?
+        || bimap.counted_right_end(request, &mut meter, said)?;
+    if !counted {
         return Ok(false);
-    };
+    }
+    let (left, right) = searches(request.call);
     let made = meter.comparisons();
-    let by_left = I::effort(length).saturating_mul(left);
-    let bound = J::effort(length)
+    let by_left = B::left_effort(length).saturating_mul(left);
+    let bound = B::right_effort(length)
         .saturating_mul(right)
         .saturating_add(by_left);
     match request.on {

@@ -1,7 +1,9 @@
 //! Calls for which memory is refused.
+use crate::kind::{ByLeft, ByRight};
 use crate::request::{Memory, Request};
 use crate::session::Session;
-use crate::side::{LeftIndex, RightIndex};
+use crate::word::Word;
+use bimap_calls::CopyKind;
 use bimap_famine::Famine;
 use std::alloc::AllocError;
 
@@ -21,8 +23,8 @@ fn is_refusal(said: &str) -> bool {
 }
 
 // Makes the call again and again, each time with a little more memory, until it is not refused.
-fn eased<I: LeftIndex<J>, J: RightIndex<I>>(
-    session: &mut Session<I, J>,
+fn eased<B: CopyKind<Word, Word> + ByLeft + ByRight>(
+    session: &mut Session<B>,
     request: &mut Request<'_>,
     said: &mut String,
 ) -> Result<bool, AllocError> {
@@ -58,8 +60,8 @@ fn eased<I: LeftIndex<J>, J: RightIndex<I>>(
 }
 
 /// Makes a call with the memory that its line leaves.
-pub fn call<I: LeftIndex<J>, J: RightIndex<I>>(
-    session: &mut Session<I, J>,
+pub fn call<B: CopyKind<Word, Word> + ByLeft + ByRight>(
+    session: &mut Session<B>,
     request: &mut Request<'_>,
     said: &mut String,
 ) -> Result<bool, AllocError> {

@@ -1,19 +1,21 @@
 //! Many pairs at once.
+use crate::kind::{ByLeft, ByRight};
 use crate::request::Request;
 use crate::session::Session;
-use crate::side::{LeftIndex, RightIndex};
-use bimap::{BijectiveMap, extend_with, from_iter_with};
+use crate::word::Word;
+use bimap::{extend_with, from_iter_with};
+use bimap_calls::CopyKind;
 use std::alloc::AllocError;
 
 /// Makes the call, if it is one of these.
-pub fn call<I: LeftIndex<J>, J: RightIndex<I>>(
-    session: &mut Session<I, J>,
+pub fn call<B: CopyKind<Word, Word> + ByLeft + ByRight>(
+    session: &mut Session<B>,
     request: &Request<'_>,
     said: &mut String,
 ) -> Result<bool, AllocError> {
     let items = request.pairs.iter().copied();
     match request.call {
-        "extend" => write!(said, "{:?}", session.bimap.extend(items))?,
+        "extend" => write!(said, "{:?}", session.bimap.add(request.pairs.as_slice()))?,
         "extend_with" => {
             write!(
                 said,
@@ -22,11 +24,11 @@ pub fn call<I: LeftIndex<J>, J: RightIndex<I>>(
             )?
         }
         "from_iter" => {
-            let answer = BijectiveMap::from_iter(session.alloc, items);
+            let answer = B::built(session.alloc, request.pairs.as_slice());
             session.begin(answer, said)?;
         }
         "from_iter_with" => {
-            let empty = BijectiveMap::empty(session.alloc);
+            let empty = B::empty(session.alloc);
             let answer = from_iter_with(empty, items, request.policy);
             session.begin(answer, said)?;
         }

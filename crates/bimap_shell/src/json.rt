@@ -1,4 +1,6 @@
 //! JSON both ways, at each pair of types.
+ghost use Rattle.std.specs.Prelude.{◌≡◌, []};
+
 use crate::request::Request;
 use bimap::value::{JsonKey, JsonObject, JsonValue, read_into_with, reread};
 use bimap::{BiBTreeHashMap, BiBTreeMap, BiHashBTreeMap, BiHashMap};
@@ -7,61 +9,43 @@ use std::alloc::{AllocError, Global};
 use std::fmt::Debug;
 use std::hash::Hash;
 
-// Reads the text into a bimap, and writes it again.
-macro_rules! both_ways {
-    ($empty:expr, $alloc:ident, $request:ident, $said:ident) => {{
-        let Ok(value) = Value::from_str($alloc, $request.text) else {
-            write!($said, "no JSON")?;
-            return Ok(true);
-        };
-        match read_into_with($alloc, $empty, &value, $request.policy) {
-            Err(fault) => write!($said, "Err({fault:?})")?,
-            Ok(read) => {
-                write!($said, "Ok({read:?}) · ")?;
-                match read.to_value($alloc) {
-                    Ok(value) => write!($said, "{value} · ")?,
-                    Err(refused) => write!($said, "{refused:?} · ")?,
-                }
-                match reread($alloc, &read) {
-                    Ok(again) => write!($said, "{}", again == read)?,
-                    Err(fault) => write!($said, "{fault:?}")?,
-                }
-            }
+// The text that a bimap is written as, and whether that reads as an equal bimap.
+fn written<L: JsonKey + Drop, R: JsonValue + Drop, B: JsonObject<L, R> + PartialEq + Drop>(
+    alloc: Global,
+    bimap: &B,
+    said: &mut String,
+) -> Result<(), AllocError> {
+    match bimap.to_value(alloc) {
+        Ok(value) => write!(said, "{value} · ")?,
+        Err(refused) => write!(said, "{refused:?} · ")?,
+    }
+    match reread(alloc, bimap) {
+        Ok(again) => write!(said, "{}", again == *bimap),
+        Err(fault) => write!(said, "{fault:?}"),
+    }
+}
+
+// Reads the text into an empty bimap, and writes it again.
+fn both_ways<
+    L: JsonKey + Drop,
+    R: JsonValue + Drop,
+    B: JsonObject<L, R> + Debug + PartialEq + Drop,
+>(empty: B, request: &Request<'_>, said: &mut String) -> Result<bool, AllocError>
+    requires empty { (B.holding empty).pairs ≡ [] }
+{
+    let alloc = request.alloc;
+    let Ok(value) = Value::from_str(alloc, request.text) else {
+        write!(said, "no JSON")?;
+        return Ok(true);
+    };
+    match read_into_with(alloc, empty, &value, request.policy) {
+        Err(fault) => write!(said, "Err({fault:?})")?,
+        Ok(read) => {
+            write!(said, "Ok({read:?}) · ")?;
+            written(alloc, &read, said)?;
         }
-        Ok(true)
-    }};
-}
-
-fn ordered<L: JsonKey + Ord + Debug + Drop, R: JsonValue + Ord + Debug + Drop>(
-    alloc: Global,
-    request: &Request<'_>,
-    said: &mut String,
-) -> Result<bool, AllocError> {
-    both_ways!(BiBTreeMap::<L, R>::new(alloc), alloc, request, said)
-}
-
-fn hashed<L: JsonKey + Hash + Debug + Drop, R: JsonValue + Hash + Debug + Drop>(
-    alloc: Global,
-    request: &Request<'_>,
-    said: &mut String,
-) -> Result<bool, AllocError> {
-    both_ways!(BiHashMap::<L, R>::new(alloc), alloc, request, said)
-}
-
-fn ordered_left<L: JsonKey + Ord + Debug + Drop, R: JsonValue + Hash + Debug + Drop>(
-    alloc: Global,
-    request: &Request<'_>,
-    said: &mut String,
-) -> Result<bool, AllocError> {
-    both_ways!(BiBTreeHashMap::<L, R>::new(alloc), alloc, request, said)
-}
-
-fn ordered_right<L: JsonKey + Hash + Debug + Drop, R: JsonValue + Ord + Debug + Drop>(
-    alloc: Global,
-    request: &Request<'_>,
-    said: &mut String,
-) -> Result<bool, AllocError> {
-    both_ways!(BiHashBTreeMap::<L, R>::new(alloc), alloc, request, said)
+    }
+    Ok(true)
 }
 
 fn of_kind<L: JsonKey + Ord + Hash + Debug + Drop, R: JsonValue + Ord + Hash + Debug + Drop>(
@@ -71,10 +55,10 @@ fn of_kind<L: JsonKey + Ord + Hash + Debug + Drop, R: JsonValue + Ord + Hash + D
 ) -> Result<bool, AllocError> {
     let alloc = request.alloc;
     match kind {
-        0 => ordered::<L, R>(alloc, request, said),
-        1 => hashed::<L, R>(alloc, request, said),
-        2 => ordered_left::<L, R>(alloc, request, said),
-        3 => ordered_right::<L, R>(alloc, request, said),
+        0 => both_ways(BiBTreeMap::<L, R>::new(alloc), request, said),
+        1 => both_ways(BiHashMap::<L, R>::new(alloc), request, said),
+        2 => both_ways(BiBTreeHashMap::<L, R>::new(alloc), request, said),
+        3 => both_ways(BiHashBTreeMap::<L, R>::new(alloc), request, said),
         _ => Ok(false),
     }
 }

@@ -1,17 +1,11 @@
 //! The five kinds, and what each answers to a line.
 use crate::request::{On, Request};
 use crate::session::Session;
+use crate::word::Word;
 use crate::{hunger, json};
 use bimap::{BiBTreeHashMap, BiBTreeMap, BiHashBTreeMap, BiHashMap, NoMemory};
-use bimap_calls::Zero;
-use bimap_index::HashIndex;
-use bimap_tree::Ordered;
+use bimap_calls::{Crowded, Zero};
 use std::alloc::{AllocError, Global};
-use std::hash::{BuildHasherDefault, FoldHasher};
-
-type Hashed = HashIndex<BuildHasherDefault<FoldHasher>>;
-
-type Crowded = HashIndex<Zero>;
 
 /// How a line and an answer name the kinds.
 pub const NAMES: [&str; 5] = [
@@ -36,11 +30,11 @@ macro_rules! answered {
 /// A session of each kind.
 #[derive(Drop)]
 pub struct Kinds {
-    ordered: Session<Ordered, Ordered>,
-    hashed: Session<Hashed, Hashed>,
-    ordered_left: Session<Ordered, Hashed>,
-    ordered_right: Session<Hashed, Ordered>,
-    crowded: Session<Crowded, Crowded>,
+    ordered: Session<BiBTreeMap<Word, Word>>,
+    hashed: Session<BiHashMap<Word, Word>>,
+    ordered_left: Session<BiBTreeHashMap<Word, Word>>,
+    ordered_right: Session<BiHashBTreeMap<Word, Word>>,
+    crowded: Session<Crowded<Word, Word>>,
 }
 
 impl Kinds {

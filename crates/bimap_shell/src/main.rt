@@ -9,6 +9,7 @@ mod help;
 mod hunger;
 mod items;
 mod json;
+mod kind;
 mod kinds;
 mod look;
 mod marks;
@@ -22,7 +23,6 @@ mod rooms;
 mod runs;
 mod serve;
 mod session;
-mod side;
 mod times;
 mod values;
 mod word;
@@ -35,14 +35,10 @@ fn main(rt: HostRuntime) -> io::Result<()> {
     let mut shell = Shell::new(alloc)?;
     for line in rt.lines(alloc) {
         let line = line?;
-        let (echo, text) = match line.strip_prefix("> ") {
-            Some(text) => (true, text),
-            None => (false, line.as_str()),
-        };
-        if echo {
+        if line.starts_with("> ") {
             println!(rt; "{line}")?;
         }
-        let said = shell.answer(text.trim())?;
+        let said = shell.answer(line.as_str())?;
         print!(rt; "{said}")?;
     }
     Ok(())

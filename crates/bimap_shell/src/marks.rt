@@ -1,15 +1,15 @@
 //! The bimap with a record.
+use crate::kind::{ByLeft, ByRight};
 use crate::request::Request;
 use crate::session::Session;
-use crate::side::{LeftIndex, RightIndex, Words};
 use crate::word::Word;
-use bimap::BijectiveMap;
+use bimap_calls::CopyKind;
 use bimap_undo::Undoable;
 use std::alloc::AllocError;
 use std::mem;
 
-fn changed<I: LeftIndex<J>, J: RightIndex<I>>(
-    record: &mut Undoable<Words<I, J>, Word, Word>,
+fn changed<B: CopyKind<Word, Word> + ByLeft + ByRight>(
+    record: &mut Undoable<B, Word, Word>,
     request: &Request<'_>,
     said: &mut String,
 ) -> Result<bool, AllocError> {
@@ -39,23 +39,23 @@ fn changed<I: LeftIndex<J>, J: RightIndex<I>>(
 }
 
 /// Makes the call, if it is one of these.
-pub fn call<I: LeftIndex<J>, J: RightIndex<I>>(
-    session: &mut Session<I, J>,
+pub fn call<B: CopyKind<Word, Word> + ByLeft + ByRight>(
+    session: &mut Session<B>,
     request: &Request<'_>,
     said: &mut String,
 ) -> Result<bool, AllocError> {
     let alloc = session.alloc;
     match request.call {
-        "held" => I::show(session.record.held(), said)?,
+        "held" => session.record.held().show(said)?,
         "new" => {
-            let bimap = mem::replace(&mut session.bimap, BijectiveMap::empty(alloc));
+            let bimap = mem::replace(&mut session.bimap, B::empty(alloc));
             session.record = Undoable::new(alloc, bimap);
-            I::show(session.record.held(), said)?;
+            session.record.held().show(said)?;
         }
         "into_inner" => {
-            let empty = Undoable::new(alloc, BijectiveMap::empty(alloc));
+            let empty = Undoable::new(alloc, B::empty(alloc));
             session.bimap = mem::replace(&mut session.record, empty).into_inner();
-            I::show(&session.bimap, said)?;
+            session.bimap.show(said)?;
         }
         _ => return changed(&mut session.record, request, said),
     }

@@ -1,8 +1,9 @@
 //! The calls of one pair, on any bimap.
+use crate::kind::{ByLeft, ByRight};
 use crate::request::Request;
-use crate::side::{LeftIndex, RightIndex, Words};
 use crate::word::Word;
 use bimap::{Bijection, replace_left, replace_right};
+use bimap_calls::CopyKind;
 use std::alloc::AllocError;
 
 fn replaced<B: Bijection<Word, Word>>(
@@ -41,8 +42,8 @@ fn removed<B: Bijection<Word, Word>>(
 }
 
 /// Makes the call, if it is one of these.
-pub fn call<I: LeftIndex<J>, J: RightIndex<I>>(
-    bimap: &mut Words<I, J>,
+pub fn call<B: CopyKind<Word, Word> + ByLeft + ByRight>(
+    bimap: &mut B,
     request: &Request<'_>,
     said: &mut String,
 ) -> Result<bool, AllocError> {
@@ -51,9 +52,9 @@ pub fn call<I: LeftIndex<J>, J: RightIndex<I>>(
         "insert" => write!(said, "{:?}", bimap.insert(left, right))?,
         "insert_no_overwrite" => write!(said, "{:?}", bimap.insert_no_overwrite(left, right))?,
         "insert_with" => write!(said, "{:?}", bimap.insert_with(left, right, request.policy))?,
-        "get_by_left_or_insert" => write!(said, "{:?}", bimap.get_by_left_or_insert(left, right))?,
+        "get_by_left_or_insert" => bimap.intern(request, said)?,
         "retain" => {
-            I::retain(bimap, &left);
+            bimap.keep_from(&left);
             write!(said, "()")?;
         }
         _ => return Ok(removed(bimap, request, said)? || replaced(bimap, request, said)?),

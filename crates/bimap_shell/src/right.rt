@@ -2,31 +2,27 @@
 use crate::course::{pairs_from_both, values_ahead, values_from_both};
 use crate::follow;
 use crate::forward::forward;
+use crate::kind::{ByRight, Words, twice_the_digits};
 use crate::meter::Shown;
 use crate::request::Request;
-use crate::side::{RightIndex, Words, twice_the_digits};
 use crate::word::Word;
 use bimap::btree::Count;
-use bimap_index::{CopiedIndex, EmptyIndex, HashIndex, PackedIndex};
+use bimap_index::{CopiedIndex, HashIndex};
 use bimap_tree::Ordered;
 use std::alloc::AllocError;
 use std::hash::BuildHasher;
 
-impl<I: CopiedIndex<Word> + Drop> RightIndex<I> for Ordered {
-    fn effort(length: usize) -> u64 {
+impl<I: CopiedIndex<Word> + Drop> ByRight for Words<I, Ordered> {
+    fn right_effort(length: usize) -> u64 {
         twice_the_digits(length)
     }
 
-    fn walk(
-        bimap: &Words<I, Ordered>,
-        request: &Request<'_>,
-        said: &mut String,
-    ) -> Result<bool, AllocError> {
+    fn walk_right(&self, request: &Request<'_>, said: &mut String) -> Result<bool, AllocError> {
         let steps = request.steps.as_slice();
         match request.call {
-            "right_values" => follow!(values_from_both, bimap.right_values(), steps, said),
+            "right_values" => follow!(values_from_both, self.right_values(), steps, said),
             "right_range" => match forward(request.range) {
-                Some(range) => follow!(pairs_from_both, bimap.right_range(range), steps, said),
+                Some(range) => follow!(pairs_from_both, self.right_range(range), steps, said),
                 None => {
                     write!(said, "runs backwards")?;
                     Ok(true)
@@ -36,80 +32,67 @@ impl<I: CopiedIndex<Word> + Drop> RightIndex<I> for Ordered {
         }
     }
 
-    fn end(
-        bimap: &mut Words<I, Ordered>,
+    fn counted_right_end(
+        &mut self,
         request: &Request<'_>,
         meter: &mut Shown<Count>,
         said: &mut String,
     ) -> Result<bool, AllocError> {
         match request.call {
-            "first_by_right" => write!(said, "{:?}", bimap.first_by_right_metered(meter))?,
-            "last_by_right" => write!(said, "{:?}", bimap.last_by_right_metered(meter))?,
-            "pop_first_by_right" => write!(said, "{:?}", bimap.pop_first_by_right_metered(meter))?,
-            "pop_last_by_right" => write!(said, "{:?}", bimap.pop_last_by_right_metered(meter))?,
+            "first_by_right" => write!(said, "{:?}", self.first_by_right_metered(meter))?,
+            "last_by_right" => write!(said, "{:?}", self.last_by_right_metered(meter))?,
+            "pop_first_by_right" => write!(said, "{:?}", self.pop_first_by_right_metered(meter))?,
+            "pop_last_by_right" => write!(said, "{:?}", self.pop_last_by_right_metered(meter))?,
             "pair_at_right_rank" => {
                 write!(
                     said,
                     "{:?}",
-                    bimap.pair_at_right_rank_metered(request.number, meter)
+                    self.pair_at_right_rank_metered(request.number, meter)
                 )?
             }
-            "right_rank" => write!(said, "{}", bimap.right_rank_metered(&request.first, meter))?,
+            "right_rank" => write!(said, "{}", self.right_rank_metered(&request.first, meter))?,
             _ => return Ok(false),
         }
         Ok(true)
     }
 
-    fn plain_end(
-        bimap: &mut Words<I, Ordered>,
-        request: &Request<'_>,
-        said: &mut String,
-    ) -> Result<bool, AllocError> {
+    fn right_end(&mut self, request: &Request<'_>, said: &mut String) -> Result<bool, AllocError> {
         match request.call {
-            "first_by_right" => write!(said, "{:?}", bimap.first_by_right())?,
-            "last_by_right" => write!(said, "{:?}", bimap.last_by_right())?,
-            "pop_first_by_right" => write!(said, "{:?}", bimap.pop_first_by_right())?,
-            "pop_last_by_right" => write!(said, "{:?}", bimap.pop_last_by_right())?,
-            "pair_at_right_rank" => write!(said, "{:?}", bimap.pair_at_right_rank(request.number))?,
-            "right_rank" => write!(said, "{}", bimap.right_rank(&request.first))?,
+            "first_by_right" => write!(said, "{:?}", self.first_by_right())?,
+            "last_by_right" => write!(said, "{:?}", self.last_by_right())?,
+            "pop_first_by_right" => write!(said, "{:?}", self.pop_first_by_right())?,
+            "pop_last_by_right" => write!(said, "{:?}", self.pop_last_by_right())?,
+            "pair_at_right_rank" => write!(said, "{:?}", self.pair_at_right_rank(request.number))?,
+            "right_rank" => write!(said, "{}", self.right_rank(&request.first))?,
             _ => return Ok(false),
         }
         Ok(true)
     }
 }
 
-impl<RS: BuildHasher + Clone + Default + Drop> RightIndex<Ordered> for HashIndex<RS> {
-    fn walk(
-        bimap: &Words<Ordered, HashIndex<RS>>,
-        request: &Request<'_>,
-        said: &mut String,
-    ) -> Result<bool, AllocError> {
+impl<RS: BuildHasher + Clone + Drop> ByRight for Words<Ordered, HashIndex<RS>> {
+    fn walk_right(&self, request: &Request<'_>, said: &mut String) -> Result<bool, AllocError> {
         if request.call != "right_values" {
             return Ok(false);
         }
         follow!(
             values_from_both,
-            bimap.right_values(),
+            self.right_values(),
             request.steps.as_slice(),
             said
         )
     }
 }
 
-impl<LS: BuildHasher + Clone + Default + Drop, RS: BuildHasher + Clone + Default + Drop> RightIndex<
-    HashIndex<LS>,
-> for HashIndex<RS> {
-    fn walk(
-        bimap: &Words<HashIndex<LS>, HashIndex<RS>>,
-        request: &Request<'_>,
-        said: &mut String,
-    ) -> Result<bool, AllocError> {
+impl<LS: BuildHasher + Clone + Drop, RS: BuildHasher + Clone + Drop> ByRight
+    for Words<HashIndex<LS>, HashIndex<RS>> {
+    fn walk_right(&self, request: &Request<'_>, said: &mut String) -> Result<bool, AllocError> {
         if request.call != "right_values" {
             return Ok(false);
         }
         follow!(
             values_ahead,
-            bimap.right_values(),
+            self.right_values(),
             request.steps.as_slice(),
             said
         )

@@ -1,14 +1,15 @@
 //! Rooms, copies, and what is shown of the whole.
+use crate::kind::{ByLeft, ByRight};
 use crate::request::Request;
 use crate::session::Session;
-use crate::side::{LeftIndex, RightIndex};
 use crate::word::Word;
-use bimap::{Bijection, BijectiveMap};
+use bimap::Bijection;
+use bimap_calls::CopyKind;
 use std::alloc::AllocError;
 use std::mem;
 
-fn room<I: LeftIndex<J>, J: RightIndex<I>>(
-    session: &mut Session<I, J>,
+fn room<B: CopyKind<Word, Word> + ByLeft + ByRight>(
+    session: &mut Session<B>,
     request: &Request<'_>,
     said: &mut String,
 ) -> Result<bool, AllocError> {
@@ -30,15 +31,15 @@ fn each<B: Bijection<Word, Word>>(bimap: &B, said: &mut String) {
     });
 }
 
-fn copied<I: LeftIndex<J>, J: RightIndex<I>>(
-    session: &mut Session<I, J>,
+fn copied<B: CopyKind<Word, Word> + ByLeft + ByRight>(
+    session: &mut Session<B>,
     said: &mut String,
 ) -> Result<(), AllocError> {
-    match session.bimap.clone() {
+    match session.bimap.copied() {
         Ok(copy) => {
             session.other = copy;
             write!(said, "Ok(")?;
-            I::show(&session.other, said)?;
+            session.other.show(said)?;
             write!(said, ")")
         }
         Err(refused) => write!(said, "Err({refused:?})"),
@@ -46,13 +47,13 @@ fn copied<I: LeftIndex<J>, J: RightIndex<I>>(
 }
 
 /// Makes the call, if it is one of these.
-pub fn call<I: LeftIndex<J>, J: RightIndex<I>>(
-    session: &mut Session<I, J>,
+pub fn call<B: CopyKind<Word, Word> + ByLeft + ByRight>(
+    session: &mut Session<B>,
     request: &Request<'_>,
     said: &mut String,
 ) -> Result<bool, AllocError> {
     match request.call {
-        "show" => I::show(&session.bimap, said)?,
+        "show" => session.bimap.show(said)?,
         "for_each" => {
             write!(said, "[")?;
             each(&session.bimap, said);
@@ -60,8 +61,8 @@ pub fn call<I: LeftIndex<J>, J: RightIndex<I>>(
         }
         "clone" => copied(session, said)?,
         "into_iter" => {
-            return match session.bimap.clone() {
-                Ok(copy) => I::walk_owned(copy, request, said),
+            return match session.bimap.copied() {
+                Ok(copy) => copy.walk_owned(request, said),
                 Err(_) => Err(AllocError),
             };
         }

@@ -105,6 +105,7 @@ impl Shell {
 
     /// What is printed for a line.
     pub fn answer(&mut self, line: &str) -> Result<String, AllocError> {
+        let line = line.strip_prefix("> ").unwrap_or(line).trim();
         if line.is_empty() || line.starts_with('#') {
             return Ok(String::new(self.alloc));
         }

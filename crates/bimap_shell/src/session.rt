@@ -1,45 +1,45 @@
 //! The bimaps of one kind, and each call on them.
+use crate::kind::{ByLeft, ByRight};
 use crate::meter::Shown;
 use crate::request::{Memory, On, Request};
-use crate::side::{LeftIndex, RightIndex, Words};
 use crate::word::Word;
 use crate::{counted, items, look, marks, put, rooms, runs};
-use bimap::BijectiveMap;
+use bimap_calls::CopyKind;
 use bimap_undo::Undoable;
 use std::alloc::{AllocError, Global};
 use std::fmt::Debug;
 
 /// The bimap, another one beside it, and one with a record.
 #[derive(Drop)]
-pub struct Session<I: LeftIndex<J>, J: RightIndex<I>> {
+pub struct Session<B: CopyKind<Word, Word> + ByLeft + ByRight> {
     pub alloc: Global,
-    pub bimap: Words<I, J>,
-    pub other: Words<I, J>,
-    pub record: Undoable<Words<I, J>, Word, Word>,
+    pub bimap: B,
+    pub other: B,
+    pub record: Undoable<B, Word, Word>,
 }
 
-impl<I: LeftIndex<J>, J: RightIndex<I>> Session<I, J> {
+impl<B: CopyKind<Word, Word> + ByLeft + ByRight> Session<B> {
     /// Three empty ones.
-    pub fn new(alloc: Global) -> Session<I, J> {
+    pub fn new(alloc: Global) -> Session<B> {
         Session {
             alloc,
-            bimap: BijectiveMap::empty(alloc),
-            other: BijectiveMap::empty(alloc),
-            record: Undoable::new(alloc, BijectiveMap::empty(alloc)),
+            bimap: B::empty(alloc),
+            other: B::empty(alloc),
+            record: Undoable::new(alloc, B::empty(alloc)),
         }
     }
 
     /// Takes a bimap that was made in the place of this one, and writes it, or why there is none.
     pub fn begin<E: Debug + Drop>(
         &mut self,
-        made: Result<Words<I, J>, E>,
+        made: Result<B, E>,
         said: &mut String,
     ) -> Result<bool, AllocError> {
         match made {
             Ok(bimap) => {
                 self.bimap = bimap;
                 write!(said, "Ok(")?;
-                I::show(&self.bimap, said)?;
+                self.bimap.show(said)?;
                 write!(said, ")")?;
             }
             Err(refused) => write!(said, "Err({refused:?})")?,
@@ -83,19 +83,19 @@ impl<I: LeftIndex<J>, J: RightIndex<I>> Session<I, J> {
 
     fn of_sides(&mut self, request: &Request<'_>, said: &mut String) -> Result<bool, AllocError> {
         Ok(
-            I::walk(&self.bimap, request, said)?
-                || J::walk(&self.bimap, request, said)?
-                || I::plain_end(&mut self.bimap, request, said)?
-                || J::plain_end(&mut self.bimap, request, said)?
-                || I::compare(&self.bimap, &self.other, request.call, said)?,
+            self.bimap.walk_left(request, said)?
+                || self.bimap.walk_right(request, said)?
+                || self.bimap.left_end(request, said)?
+                || self.bimap.right_end(request, said)?
+                || self.bimap.compare(&self.other, request.call, said)?,
         )
     }
 
     /// All that a refusal must leave as it was.
     pub fn show(&self, said: &mut String) -> Result<(), AllocError> {
-        I::show(&self.bimap, said)?;
+        self.bimap.show(said)?;
         write!(said, " {} ", self.bimap.capacity())?;
-        I::show(self.record.held(), said)?;
+        self.record.held().show(said)?;
         write!(said, " {}", self.record.mark())
     }
 }

@@ -147,27 +147,30 @@ pub fn pairs(
     listed_pairs(alloc, first, words)
 }
 
-fn bound(word: &str) -> Option<Bound<Word>> {
+fn start(word: &str) -> Option<Bound<Word>> {
     if word.is_empty() {
         return Some(Bound::Unbounded);
     }
-    if let Some(word) = word.strip_prefix('=') {
-        return Word::read(word).map(Bound::Included);
+    match word.strip_prefix('>') {
+        Some(word) => Word::read(word).map(Bound::Excluded),
+        None => Word::read(word).map(Bound::Included),
     }
-    if let Some(word) = word.strip_prefix('>') {
-        return Word::read(word).map(Bound::Excluded);
+}
+
+fn end(word: &str) -> Option<Bound<Word>> {
+    if word.is_empty() {
+        return Some(Bound::Unbounded);
     }
-    Word::read(word).map(Bound::Excluded)
+    match word.strip_prefix('=') {
+        Some(word) => Word::read(word).map(Bound::Included),
+        None => Word::read(word).map(Bound::Excluded),
+    }
 }
 
 /// The two ends of a range, as Rust writes it; a start that is left out has a `>` before it.
 pub fn range(word: &str) -> Option<(Bound<Word>, Bound<Word>)> {
     let (low, high) = word.split_once("..")?;
-    let low = match bound(low)? {
-        Bound::Excluded(word) if !low.starts_with('>') => Bound::Included(word),
-        low => low,
-    };
-    Some((low, bound(high)?))
+    Some((start(low)?, end(high)?))
 }
 
 /// One of the calls of a run.
