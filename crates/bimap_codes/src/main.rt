@@ -1,36 +1,16 @@
-//! A table of protocol codes. The first line of input is the table, a JSON object of names with their codes. Each further
-//! line asks for the code of a name, for the name of a code, or assigns a code; last the table is written back.
+//! A table of protocol codes. The first line of input that gives one is it: a JSON object of names with their codes, or
+//! `table NAME CODE NAME CODE ..`; a later one takes its place. Each other line asks for the code of a name, for the name of
+//! a code or for all, or assigns codes; last the table is written back.
 #![tactic(auto)]
 
 mod codes;
+mod fault;
 mod line;
-#[cfg(test)]
-mod tests;
+mod table;
 
-use bimap::BiBTreeHashMap;
-use bimap::value::{JsonFault, Value};
-use codes::{read_codes, written};
-use line::reply_to;
-use std::alloc::Global;
+use line::{reply_to, shown};
 use std::io;
-
-type Codes = BiBTreeHashMap<String, u32>;
-
-// The table of a line, or why it is none.
-fn table_of(alloc: Global, line: &str) -> Result<Codes, &'static str> {
-    let Ok(object) = Value::from_str(alloc, line) else {
-        return Err("this is no JSON");
-    };
-    match read_codes(alloc, &object) {
-        Ok(codes) => Ok(codes),
-        Err(JsonFault::NotAnObject) => Err("this is no object"),
-        Err(JsonFault::BadKey(_)) => Err("a name is no text"),
-        Err(JsonFault::BadValue(_)) => Err("a code is no number from 0 to 4294967295"),
-        Err(JsonFault::LeftHeld(_)) => Err("a name stands twice"),
-        Err(JsonFault::RightHeld(_)) => Err("a code stands twice"),
-        Err(JsonFault::Memory) => Err("no memory"),
-    }
-}
+use table::{Codes, gives_table, table_of};
 
 fn main(rt: HostRuntime) -> io::Result<()> {
     let alloc = rt.alloc();
@@ -38,21 +18,19 @@ fn main(rt: HostRuntime) -> io::Result<()> {
     for line in rt.lines(alloc) {
         let line = line?;
         match &mut table {
-            Some(codes) => {
+            Some(codes) if !gives_table(line.as_str()) => {
                 let reply = reply_to(alloc, codes, line.as_str())?;
                 println!(rt; "{reply}")?;
             }
-            None => match table_of(alloc, line.as_str()) {
+            _ => match table_of(alloc, line.as_str()) {
                 Ok(codes) => table = Some(codes),
                 Err(fault) => println!(rt; "{fault}")?,
             },
         }
     }
     if let Some(codes) = table {
-        match written(alloc, &codes) {
-            Ok(object) => println!(rt; "{object}")?,
-            Err(_) => println!(rt; "no memory")?,
-        }
+        let object = shown(alloc, &codes)?;
+        println!(rt; "{object}")?;
     }
     Ok(())
 }

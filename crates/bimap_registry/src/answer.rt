@@ -1,9 +1,9 @@
 //! The answers to lines. It doesn't know how a registry keeps its members.
 use crate::line::{Request, parse_line};
 use crate::registry::{
-    Registry, id_of, members, name_of, register, register_all, rename, renumber,
+    Registry, give_back_room, id_of, members, name_of, register, register_all, rename, renumber,
 };
-use bimap::{NotInserted, NotInsertedWith, NotReplaced};
+use bimap::{ItemRefused, NoMemory, NotInserted, NotInsertedWith, NotReplaced};
 use std::fmt::Display;
 use std::io;
 
@@ -21,8 +21,18 @@ fn answer_register(
 ) -> io::Result<()> {
     match register(registry, id, owned(rt, name)?) {
         Ok(()) => println!(rt; "{id} is {name}"),
-        Err(NotInserted::Occupied(_, _)) => println!(rt; "{id} or {name} is taken"),
+        Err(NotInserted::Occupied(id, name)) => println!(rt; "{id} or {name} is taken"),
         Err(NotInserted::Memory(_, _)) => println!(rt; "no memory"),
+    }
+}
+
+// Prints which member of a batch was refused, counted from 0, and why.
+fn answer_refused(rt: &impl Print, refused: &ItemRefused<u32, String>) -> io::Result<()> {
+    print!(rt; "none is registered: member {}, ", refused.taken)?;
+    match &refused.why {
+        NotInsertedWith::LeftHeld(id, name) => println!(rt; "{id} {name}: {id} is taken"),
+        NotInsertedWith::RightHeld(id, name) => println!(rt; "{id} {name}: {name} is taken"),
+        NotInsertedWith::Memory(id, name) => println!(rt; "{id} {name}: no memory"),
     }
 }
 
@@ -35,13 +45,7 @@ fn answer_batch(
     let count = batch.len();
     match register_all(rt.alloc(), registry, batch) {
         Ok(()) => println!(rt; "{count} are registered"),
-        Err(refused) => match refused.why {
-            NotInsertedWith::LeftHeld(id, _) => println!(rt; "none is registered: {id} is taken"),
-            NotInsertedWith::RightHeld(_, name) => {
-                println!(rt; "none is registered: {name} is taken")
-            }
-            NotInsertedWith::Memory(_, _) => println!(rt; "none is registered: no memory"),
-        },
+        Err(refused) => answer_refused(rt, &refused),
     }
 }
 
@@ -56,6 +60,14 @@ fn answer_replaced<V: Display + Drop>(
         Ok(_) => println!(rt; "{from} is now {to}"),
         Err(NotReplaced::Missing(_)) => println!(rt; "{from} is not registered"),
         Err(NotReplaced::Held(_)) => println!(rt; "{to} is taken"),
+    }
+}
+
+// Gives spare places back, and prints the answer.
+fn answer_give_back(rt: &impl Print, registry: &mut Registry) -> io::Result<()> {
+    match give_back_room(registry) {
+        Ok(()) => println!(rt; "no place is spare"),
+        Err(NoMemory) => println!(rt; "no memory"),
     }
 }
 
@@ -95,6 +107,8 @@ pub fn answer(
             None => println!(rt; "{name} is free"),
         },
         Ok(Request::List) => answer_list(rt, registry),
+        Ok(Request::Room) => println!(rt; "{} have places", registry.capacity()),
+        Ok(Request::GiveBack) => answer_give_back(rt, registry),
         Err(bad) => println!(rt; "bad line: {bad}"),
     }
 }

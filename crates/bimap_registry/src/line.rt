@@ -19,6 +19,10 @@ pub enum Request<'a> {
     Id(&'a str),
     /// `list`: all of them.
     List,
+    /// `room`: how many there are places for.
+    Room,
+    /// `give-back`: the places that no member has are given back.
+    GiveBack,
 }
 
 /// Why a line asks for nothing.
@@ -97,9 +101,10 @@ pub fn parse_line(alloc: Global, line: &str) -> Result<Request<'_>, BadLine> {
         ("who", Some(id), None, None) => Ok(Request::Who(parse_number(id)?)),
         ("id", Some(name), None, None) => Ok(Request::Id(name)),
         ("list", None, None, None) => Ok(Request::List),
-        ("register" | "rename" | "renumber" | "who" | "id" | "list", _, _, _) => {
-            Err(BadLine::WrongWords)
-        }
+        ("room", None, None, None) => Ok(Request::Room),
+        ("give-back", None, None, None) => Ok(Request::GiveBack),
+        ("register" | "rename" | "renumber" | "who" | "id", _, _, _) => Err(BadLine::WrongWords),
+        ("list" | "room" | "give-back", _, _, _) => Err(BadLine::WrongWords),
         _ => Err(BadLine::NoRequest),
     }
 }

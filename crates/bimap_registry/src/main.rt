@@ -4,8 +4,6 @@
 mod answer;
 mod line;
 mod registry;
-#[cfg(test)]
-mod tests;
 
 use answer::answer;
 use bimap::BiBTreeMap;

@@ -1,5 +1,5 @@
 //! What a line asks of the ledger, and the reply to it.
-use crate::seats::{guest_on, leave, move_to, row, seat_of, take};
+use crate::seats::{first_taken, guest_on, last_taken, leave, move_to, row, seat_of, take};
 use bimap::{BiHashBTreeMap, NoRoom, NotInsertedWith, Overwritten};
 use std::alloc::{AllocError, Global};
 
@@ -30,7 +30,10 @@ fn moved(alloc: Global, seats: &mut Seats, guest: &str, seat: u32) -> Result<Str
     match move_to(seats, String::from_str(alloc, guest)?, seat) {
         Ok(lost) => seated(alloc, &lost),
         Err(NotInsertedWith::Memory(_, _)) => Err(AllocError),
-        Err(_) => String::from_str(alloc, "that seat is taken"),
+        Err(NotInsertedWith::LeftHeld(guest, _)) => format!(in alloc; "{guest} stays"),
+        Err(NotInsertedWith::RightHeld(guest, seat)) => {
+            format!(in alloc; "{guest} stays, {seat} is taken")
+        }
     }
 }
 
@@ -64,8 +67,16 @@ fn sitters(alloc: Global, seats: &Seats, first: u32, end: u32) -> Result<String,
     format!(in alloc; "{held}")
 }
 
-/// The reply to a line: `take GUEST SEAT`, `move GUEST SEAT`, `leave GUEST`, `seat GUEST`, `guest SEAT` or
-/// `row FIRST END`. Of another line it says so.
+// The guest and the seat at an end of the seats that are taken.
+fn end(alloc: Global, taken: Option<(&String, &u32)>) -> Result<String, AllocError> {
+    match taken {
+        Some((guest, seat)) => format!(in alloc; "{guest} on {seat}"),
+        None => String::from_str(alloc, "nobody"),
+    }
+}
+
+/// The reply to a line: `take GUEST SEAT`, `move GUEST SEAT`, `leave GUEST`, `seat GUEST`, `guest SEAT`, `row FIRST END`,
+/// `first` or `last`. Of another line it says so.
 pub fn reply_to(alloc: Global, seats: &mut Seats, line: &str) -> Result<String, AllocError> {
     let mut words = line.split(' ');
     let (verb, first) = (words.next(), words.next().unwrap_or(""));
@@ -75,6 +86,8 @@ pub fn reply_to(alloc: Global, seats: &mut Seats, line: &str) -> Result<String, 
         (Some("move"), _, Some(Ok(seat))) => moved(alloc, seats, first, seat),
         (Some("row"), Ok(first), Some(Ok(end))) => sitters(alloc, seats, first, end),
         (Some("guest"), Ok(seat), None) => sitter(alloc, seats, seat),
+        (Some("first"), _, None) if first.is_empty() => end(alloc, first_taken(seats)),
+        (Some("last"), _, None) if first.is_empty() => end(alloc, last_taken(seats)),
         (Some("leave"), _, None) => gone(alloc, seats, first),
         (Some("seat"), _, None) => place(alloc, seats, first),
         _ => String::from_str(alloc, "this asks nothing"),

@@ -3,8 +3,6 @@
 
 mod line;
 mod seats;
-#[cfg(test)]
-mod tests;
 
 use line::{Seats, reply_to};
 use std::io;

@@ -4,8 +4,6 @@
 mod answer;
 mod line;
 mod symbols;
-#[cfg(test)]
-mod tests;
 
 use answer::answer;
 use std::io::{self, ErrorKind};

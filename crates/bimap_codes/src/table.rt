@@ -1,0 +1,52 @@
+//! The table that a line of input gives.
+use crate::codes::{collect_codes, read_codes};
+use crate::fault::Fault;
+use bimap::BiBTreeHashMap;
+use bimap::value::Value;
+use std::alloc::Global;
+
+/// Names by their order, each with a code that is found by its hash.
+pub type Codes = BiBTreeHashMap<String, u32>;
+
+/// The names and codes that stand in turn between single spaces.
+pub fn parse_items(alloc: Global, text: &str) -> Result<Vec<(String, u32)>, Fault> {
+    let mut items = Vec::new(alloc);
+    let mut words = text.split(' ');
+    while let Some(name) = words.next() {
+        let word = words.next().ok_or(Fault::NoCode)?;
+        let Ok(code) = word.parse::<u32>() else {
+            return Err(Fault::NotCode);
+        };
+        let Ok(name) = String::from_str(alloc, name) else {
+            return Err(Fault::Memory);
+        };
+        if items.push((name, code)).is_err() {
+            return Err(Fault::Memory);
+        }
+    }
+    Ok(items)
+}
+
+// The table of a JSON object.
+fn table_of_json(alloc: Global, text: &str) -> Result<Codes, Fault> {
+    let Ok(object) = Value::from_str(alloc, text) else {
+        return Err(Fault::NotJson);
+    };
+    read_codes(alloc, &object).map_err(Fault::NotTable)
+}
+
+/// Whether a line gives a table, also where there is one.
+pub fn gives_table(line: &str) -> bool {
+    line.starts_with('{') || line.starts_with("table ")
+}
+
+/// The table of a line: `table NAME CODE NAME CODE ..`, or else a JSON object of names with their codes.
+pub fn table_of(alloc: Global, line: &str) -> Result<Codes, Fault> {
+    match line.strip_prefix("table ") {
+        Some(text) => {
+            let items = parse_items(alloc, text)?;
+            collect_codes(Codes::new(alloc), items).map_err(Fault::Refused)
+        }
+        None => table_of_json(alloc, line),
+    }
+}
