@@ -1,4 +1,4 @@
-//! Tests that run the callers of `bimap_user` over `BiBTreeMap` and `BiHashMap`, and the counted calls with a meter that can be read.
+//! Tests that run each caller of `bimap_user` once, with a meter that can be read.
 #![tactic(auto)]
 
 #[cfg(test)]

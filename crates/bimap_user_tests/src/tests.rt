@@ -1,7 +1,5 @@
-//! The callers, each over every bimap that it takes.
+//! The callers, each once at a bimap of its kind.
 mod ledger;
 mod looks;
 mod meter;
-mod metered;
-mod metered_ends;
 mod names;

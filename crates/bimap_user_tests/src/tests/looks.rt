@@ -1,11 +1,8 @@
-//! What both look-ups show after a run, over every bimap.
-
+//! What both look-ups show after a run. `run_and_look` runs in its sister for the hashed one.
 use super::meter::at_zero;
-use bimap::{BiBTreeMap, BiHashMap, Bijection, Call, Overwritten, Reply};
-use bimap_user::{Shown, run_and_look, run_and_look_hashed, run_and_look_ordered};
+use bimap::{BiBTreeMap, BiHashMap, Call, Overwritten, Reply};
+use bimap_user::{Shown, run_and_look_hashed, run_and_look_ordered};
 use std::alloc::{AllocError, Global};
-use std::process::Abort;
-use std::test::Fail;
 
 // Calls after which ('a', 3) and ('c', 2) stand.
 fn five_calls(alloc: Global) -> Result<Vec<Call<char, u32, u32>>, AllocError> {
@@ -41,44 +38,6 @@ const LOOKS: [(char, Option<u32>, u32, Option<char>); 3] = [
     ('b', None, 1, None),
     ('z', None, 0, None),
 ];
-
-fn looks<B: Bijection<char, u32>>(
-    rt: &impl Abort,
-    alloc: Global,
-    bimap: &mut B,
-) -> Result<(), Fail> {
-    for (left, of_left, right, of_right) in LOOKS {
-        bimap.clear();
-        let shown = run_and_look(
-            alloc,
-            bimap,
-            five_calls(alloc)?,
-            |least: &u32, _: &char, right: &u32| *right >= *least,
-            &left,
-            &right,
-        );
-        let shown = shown.ok().ok_or("no memory")?;
-        assert!(rt;
-            are(alloc, &shown, of_left.as_ref(), of_right.as_ref())?,
-            "{left} {right}"
-        );
-    }
-    Ok(())
-}
-
-#[test]
-fn each_bimap_shows_what_its_history_leaves(rt: HostRuntime) -> Result<(), Fail> {
-    looks(
-        &rt,
-        rt.alloc(),
-        &mut BiBTreeMap::<char, u32>::new(rt.alloc()),
-    )?;
-    looks(
-        &rt,
-        rt.alloc(),
-        &mut BiHashMap::<char, u32>::new(rt.alloc()),
-    )
-}
 
 #[test]
 fn the_hashed_one_shows_it(rt: HostRuntime) {

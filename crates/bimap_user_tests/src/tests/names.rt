@@ -1,5 +1,5 @@
-//! Names that are numbered as they come, over every bimap.
-use bimap::{BiBTreeMap, BiHashMap, Interning, NotInserted};
+//! Names that are numbered as they come, over any bimap.
+use bimap::{BiBTreeMap, Interning, NotInserted};
 use bimap_user::number_of;
 use std::process::Abort;
 
@@ -15,5 +15,4 @@ fn numbers_all<B: Interning<char, u32>>(rt: &impl Abort, names: &mut B) {
 #[test]
 fn names_are_numbered(rt: HostRuntime) {
     numbers_all(&rt, &mut BiBTreeMap::<char, u32>::new(rt.alloc()));
-    numbers_all(&rt, &mut BiHashMap::<char, u32>::new(rt.alloc()));
 }
