@@ -8,23 +8,26 @@ mod marks;
 mod recipes;
 mod sides;
 
-use bimap::{BiBTreeMap, BiHashMap, ExtendStopped};
-use std::alloc::Global;
+use bimap::BiBTreeMap;
+use std::process::Abort;
 
 type Seats = BiBTreeMap<char, u32>;
-
-type Hashed = BiHashMap<char, u32>;
-
-type Stopped = ExtendStopped<char, u32>;
 
 const PAIRS: [(char, u32); 3] = [('a', 3), ('b', 1), ('c', 2)];
 
 // The bimap that an example begins with.
-fn ordered(alloc: Global) -> Result<Seats, Stopped> {
-    BiBTreeMap::from_iter(alloc, PAIRS)
+fn ordered(rt: &(impl Abort + AllocGlobal)) -> Seats {
+    Seats::from_iter(rt.alloc(), PAIRS)
+        .ok()
+        .expect(rt, "no memory")
 }
 
-// The same with hashed sides.
-fn hashed(alloc: Global) -> Result<Hashed, Stopped> {
-    BiHashMap::from_iter(alloc, PAIRS)
+// Whether these pairs alone are held.
+fn holds(seats: &Seats, pairs: &[(char, u32)]) -> bool {
+    for (left, right) in pairs {
+        if seats.get_by_left(left) != Some(right) || seats.get_by_right(right) != Some(left) {
+            return false;
+        }
+    }
+    seats.len() == pairs.len()
 }

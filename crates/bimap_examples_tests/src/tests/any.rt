@@ -1,15 +1,13 @@
-//! Examples of what is there over any bimap.
-use super::ordered;
+//! Examples of what is there over any bimap. They are functions over any, so that a kind is named once.
+use super::{Seats, holds, ordered};
 use bimap::{
     BiBTreeMap, Bijection, Call, Interning, ItemRefused, NoMemory, NotInserted, NotInsertedWith,
     NotReplaced, OnHeld, Policy, Reply, extend_with, from_iter_with, perform, replace_left,
     replace_right,
 };
-use bimap_plain::Plain;
+use bimap_famine::Famine;
 use std::alloc::Global;
-use std::test::Fail;
-
-type Users = BiBTreeMap<&'static str, u32>;
+use std::process::Abort;
 
 fn sum_of<B: Bijection<char, u32>>(seats: &B) -> u32 {
     let mut sum = 0u32;
@@ -22,79 +20,31 @@ fn make_two_places<B: Bijection<char, u32>>(seats: &mut B) -> Result<(), NoMemor
     Ok(())
 }
 
-#[test]
-fn visits_and_makes_room(rt: HostRuntime) -> Result<(), Fail> {
-    let mut seats = ordered(rt.alloc())?;
-    assert!(&rt; sum_of(&seats) == 6);
-    assert!(&rt; make_two_places(&mut seats) == Ok(()));
-    assert!(&rt; (seats.len(), seats.capacity()) == (3, 5));
-    Ok(())
+// Whether these pairs alone are held.
+fn are_held<B: Bijection<char, u32>>(seats: &B, pairs: &[(char, u32)]) -> bool {
+    for (left, right) in pairs {
+        if seats.get_by_left(left) != Some(right) {
+            return false;
+        }
+    }
+    seats.len() == pairs.len()
 }
 
-fn number_of<B: Interning<&'static str, u32>>(
-    numbers: &mut B,
-    next: u32,
-) -> Result<u32, NotInserted<&'static str, u32>> {
-    let number = numbers.get_by_left_or_insert("ann", next)?;
-    Ok(number)
-}
-
-fn renamed(mut users: Users) -> Result<(&'static str, Users), NotReplaced<&'static str>> {
-    let old = replace_left(&mut users, &"ann", "anna")?;
-    Ok((old, users))
-}
-
-fn moved(mut seats: Users) -> Result<(u32, Users), NotReplaced<u32>> {
-    let old = replace_right(&mut seats, &12, 31)?;
-    Ok((old, seats))
-}
-
-#[test]
-fn interns_and_replaces(rt: HostRuntime) -> Result<(), Fail> {
-    let mut users: Users = BiBTreeMap::new(rt.alloc());
-    assert!(&rt; number_of(&mut users, 12) == Ok(12));
-    assert!(&rt; number_of(&mut users, 13) == Ok(12));
-    let (old, users) = moved(users)?;
-    assert!(&rt; old == 12 && users.get_by_left(&"ann") == Some(&31));
-    let (old, users) = renamed(users)?;
-    assert!(&rt; old == "ann" && users.get_by_right(&31) == Some(&"anna"));
-    Ok(())
-}
-
-#[test]
-fn puts_items_in_under_a_policy(rt: HostRuntime) -> Result<(), Fail> {
-    let alloc = rt.alloc();
-    let mut seats = BiBTreeMap::new(alloc);
+fn put_in<B: Bijection<char, u32> + Drop>(rt: &impl Abort, bimap: B) {
+    let mut seats = bimap;
     let once = Policy {
         left: OnHeld::Refuse,
         right: OnHeld::Refuse,
     };
     let refused = extend_with(&mut seats, [('a', 1), ('b', 2), ('c', 1), ('d', 4)], once);
-    assert!(&rt;
+    assert!(rt;
         refused
             == Err(ItemRefused {
                 taken: 2,
                 why: NotInsertedWith::RightHeld('c', 1)
             })
     );
-    assert!(&rt; seats == BiBTreeMap::from_iter(alloc, [('a', 1), ('b', 2)])?);
-    Ok(())
-}
-
-fn made(alloc: Global) -> Result<BiBTreeMap<char, u32>, ItemRefused<char, u32>> {
-    let once = Policy {
-        left: OnHeld::Refuse,
-        right: OnHeld::Refuse,
-    };
-    let seats = from_iter_with(BiBTreeMap::new(alloc), [('a', 1), ('b', 2)], once)?;
-    Ok(seats)
-}
-
-#[test]
-fn makes_of_items_under_a_policy(rt: HostRuntime) -> Result<(), Fail> {
-    let alloc = rt.alloc();
-    assert!(&rt; made(alloc) == Ok(BiBTreeMap::from_iter(alloc, [('a', 1), ('b', 2)])?));
-    Ok(())
+    assert!(rt; are_held(&seats, &[('a', 1), ('b', 2)]));
 }
 
 fn performed<B: Bijection<char, u32> + Drop>(bimap: B) -> Reply<char, u32> {
@@ -107,12 +57,80 @@ fn performed<B: Bijection<char, u32> + Drop>(bimap: B) -> Reply<char, u32> {
     reply
 }
 
+// What any bimap answers, one that holds the first pairs and two empty ones.
+fn answers<B: Bijection<char, u32> + Drop>(
+    rt: &(impl Abort + AllocGlobal),
+    three: B,
+    none: B,
+    empty: B,
+) {
+    let mut seats = three;
+    assert!(rt; sum_of(&seats) == 6);
+    assert!(rt; make_two_places(&mut seats) == Ok(()));
+    assert!(rt; (seats.len(), seats.capacity()) == (3, 5));
+    assert!(rt; performed(seats) == Reply::Occupied('a', 1));
+    put_in(rt, none);
+    let famine = Famine::begin(rt.alloc(), 4).expect(rt, "memory");
+    let refused = performed(empty);
+    drop(famine);
+    assert!(rt; refused == Reply::NoRoom('a', 1));
+}
+
 #[test]
-fn performs(rt: HostRuntime) -> Result<(), Fail> {
+fn over_any_bimap(rt: HostRuntime) {
     let alloc = rt.alloc();
-    let none: BiBTreeMap<char, u32> = BiBTreeMap::new(alloc);
-    assert!(&rt; performed(none) == Reply::Put);
-    assert!(&rt; performed(ordered(alloc)?) == Reply::Occupied('a', 1));
-    assert!(&rt; performed(Plain::with_room(alloc, 0)?) == Reply::NoRoom('a', 1));
-    Ok(())
+    answers(&rt, ordered(&rt), Seats::new(alloc), Seats::new(alloc));
+    assert!(&rt; performed(Seats::new(alloc)) == Reply::Put);
+}
+
+fn number_of<B: Interning<&'static str, u32>>(
+    numbers: &mut B,
+    next: u32,
+) -> Result<u32, NotInserted<&'static str, u32>> {
+    let number = numbers.get_by_left_or_insert("ann", next)?;
+    Ok(number)
+}
+
+fn renamed<B: Bijection<&'static str, u32> + Drop>(
+    bimap: B,
+) -> Result<(&'static str, B), NotReplaced<&'static str>> {
+    let mut users = bimap;
+    let old = replace_left(&mut users, &"ann", "anna")?;
+    Ok((old, users))
+}
+
+fn moved<B: Bijection<&'static str, u32> + Drop>(bimap: B) -> Result<(u32, B), NotReplaced<u32>> {
+    let mut seats = bimap;
+    let old = replace_right(&mut seats, &12, 31)?;
+    Ok((old, seats))
+}
+
+fn numbers_and_replaces<B: Interning<&'static str, u32> + Drop>(rt: &impl Abort, bimap: B) {
+    let mut users = bimap;
+    assert!(rt; number_of(&mut users, 12) == Ok(12));
+    assert!(rt; number_of(&mut users, 13) == Ok(12));
+    let (old, users) = moved(users).ok().expect(rt, "12 is held");
+    assert!(rt; old == 12 && users.get_by_left(&"ann") == Some(&31));
+    let (old, users) = renamed(users).ok().expect(rt, "ann is held");
+    assert!(rt; old == "ann" && users.get_by_right(&31) == Some(&"anna"));
+}
+
+#[test]
+fn interns_and_replaces(rt: HostRuntime) {
+    numbers_and_replaces(&rt, BiBTreeMap::<&'static str, u32>::new(rt.alloc()));
+}
+
+fn made(alloc: Global) -> Result<Seats, ItemRefused<char, u32>> {
+    let once = Policy {
+        left: OnHeld::Refuse,
+        right: OnHeld::Refuse,
+    };
+    let seats = from_iter_with(BiBTreeMap::new(alloc), [('a', 1), ('b', 2)], once)?;
+    Ok(seats)
+}
+
+#[test]
+fn makes_of_items_under_a_policy(rt: HostRuntime) {
+    let seats = made(rt.alloc()).ok().expect(&rt, "neither is taken");
+    assert!(&rt; holds(&seats, &[('a', 1), ('b', 2)]));
 }

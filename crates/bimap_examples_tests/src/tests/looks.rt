@@ -2,11 +2,10 @@
 use super::{Seats, ordered};
 use bimap::Overwritten;
 use std::process::Abort;
-use std::test::Fail;
 
 #[test]
-fn looks_up(rt: HostRuntime) -> Result<(), Fail> {
-    let seats = ordered(rt.alloc())?;
+fn looks_up(rt: HostRuntime) {
+    let seats = ordered(&rt);
     assert!(&rt; seats.len() == 3);
     assert!(&rt; seats.is_empty() == false);
     assert!(&rt; seats.capacity() == 4);
@@ -15,15 +14,13 @@ fn looks_up(rt: HostRuntime) -> Result<(), Fail> {
     assert!(&rt; seats.contains_left(&'d') == false);
     assert!(&rt; seats.contains_right(&2) == true);
     assert!(&rt; seats.can_undo_insert(&'c', &Overwritten::Left('c', 3)) == false);
-    Ok(())
 }
 
 #[test]
-fn finds_ends_and_ranks(rt: HostRuntime) -> Result<(), Fail> {
-    let seats = ordered(rt.alloc())?;
+fn finds_ends_and_ranks(rt: HostRuntime) {
+    let seats = ordered(&rt);
     by_left(&rt, &seats);
     by_right(&rt, &seats);
-    Ok(())
 }
 
 fn by_left(rt: &impl Abort, seats: &Seats) {
@@ -40,20 +37,21 @@ fn by_right(rt: &impl Abort, seats: &Seats) {
     assert!(rt; seats.right_rank(&3) == 2);
 }
 
-#[test]
-fn takes_the_ends_out_by_left(rt: HostRuntime) -> Result<(), Fail> {
-    let mut seats = ordered(rt.alloc())?;
+// Each takes an end out of a bimap of its own.
+fn first_out(rt: &impl Abort, seats: &mut Seats, other: &mut Seats) {
     assert!(rt; seats.pop_first_by_left() == Some(('a', 3)));
-    let mut seats = ordered(rt.alloc())?;
+    let seats = other;
+    assert!(rt; seats.pop_first_by_right() == Some(('b', 1)));
+}
+
+fn last_out(rt: &impl Abort, seats: &mut Seats, other: &mut Seats) {
     assert!(rt; seats.pop_last_by_left() == Some(('c', 2)));
-    Ok(())
+    let seats = other;
+    assert!(rt; seats.pop_last_by_right() == Some(('a', 3)));
 }
 
 #[test]
-fn takes_the_ends_out_by_right(rt: HostRuntime) -> Result<(), Fail> {
-    let mut seats = ordered(rt.alloc())?;
-    assert!(rt; seats.pop_first_by_right() == Some(('b', 1)));
-    let mut seats = ordered(rt.alloc())?;
-    assert!(rt; seats.pop_last_by_right() == Some(('a', 3)));
-    Ok(())
+fn takes_the_ends_out(rt: HostRuntime) {
+    first_out(&rt, &mut ordered(&rt), &mut ordered(&rt));
+    last_out(&rt, &mut ordered(&rt), &mut ordered(&rt));
 }

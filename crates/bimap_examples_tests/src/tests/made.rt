@@ -1,7 +1,9 @@
 //! Examples of making a bimap. Each has a test of its own: kinds that meet in one function take minutes to prove.
-use super::ordered;
-use bimap::{BiBTreeMap, BiHashMap, Overwritten};
+use super::{PAIRS, Seats, holds, ordered};
+use bimap::{BiBTreeMap, BiHashMap, NoMemory, Overwritten};
+use std::alloc::Global;
 use std::hash::RandomState;
+use std::process::Abort;
 use std::test::Fail;
 
 #[test]
@@ -18,12 +20,15 @@ fn makes_empty(rt: HostRuntime) {
     assert!(&rt; seats.len() == 0);
 }
 
-#[test]
-fn makes_with_places(rt: HostRuntime) -> Result<(), Fail> {
-    let alloc = rt.alloc();
+fn with_places(rt: &impl Abort, alloc: Global) -> Result<(), NoMemory> {
     let seats: BiBTreeMap<char, u32> = BiBTreeMap::with_capacity(alloc, 16)?;
-    assert!(&rt; seats.capacity() == 16);
+    assert!(rt; seats.capacity() == 16);
     Ok(())
+}
+
+#[test]
+fn makes_with_places(rt: HostRuntime) {
+    assert!(&rt; with_places(&rt, rt.alloc()) == Ok(()));
 }
 
 #[test]
@@ -33,15 +38,18 @@ fn makes_of_items(rt: HostRuntime) -> Result<(), Fail> {
         alloc,
         [('a', 3), ('b', 1), ('c', 2)],
     )?;
-    assert!(&rt; seats == ordered(alloc)?);
+    assert!(&rt; holds(&seats, &PAIRS));
+    Ok(())
+}
+
+fn copied(rt: &impl Abort, seats: Seats) -> Result<(), NoMemory> {
+    assert!(rt; seats.clone()? == seats);
     Ok(())
 }
 
 #[test]
-fn copies(rt: HostRuntime) -> Result<(), Fail> {
-    let seats = ordered(rt.alloc())?;
-    assert!(&rt; seats.clone()? == seats);
-    Ok(())
+fn copies(rt: HostRuntime) {
+    assert!(&rt; copied(&rt, ordered(&rt)) == Ok(()));
 }
 
 #[test]

@@ -1,7 +1,6 @@
 //! Examples of walks and ranges. Each is made in a function of its own, whose loan ends with it.
-use super::{Hashed, Seats, hashed, ordered};
+use super::{PAIRS, Seats, ordered};
 use bimap::BiBTreeHashMap;
-use std::test::Fail;
 
 fn first(seats: &Seats) -> Option<(&char, &u32)> {
     seats.iter().next()
@@ -27,42 +26,40 @@ fn first_from_right(seats: &Seats) -> Option<(&char, &u32)> {
     seats.right_range(2..).next()
 }
 
+fn walk_length(seats: &Seats) -> usize {
+    seats.iter().len()
+}
+
+fn left_count(seats: &Seats) -> usize {
+    seats.left_values().len()
+}
+
 fn right_of_first(seats: &BiBTreeHashMap<char, u32>) -> Option<&u32> {
     seats.right_values().next()
 }
 
-fn walk_length(seats: &Hashed) -> usize {
-    seats.iter().len()
-}
-
-fn left_count(seats: &Hashed) -> usize {
-    seats.left_values().len()
-}
-
-fn right_count(seats: &Hashed) -> usize {
+fn right_count(seats: &BiBTreeHashMap<char, u32>) -> usize {
     seats.right_values().len()
 }
 
 #[test]
-fn walks_in_order(rt: HostRuntime) -> Result<(), Fail> {
-    let seats = ordered(rt.alloc())?;
+fn walks_in_order(rt: HostRuntime) {
+    let seats = ordered(&rt);
     assert!(&rt; first(&seats) == Some((&'a', &3)));
     assert!(&rt; last(&seats) == Some((&'c', &2)));
+    assert!(&rt; walk_length(&seats) == 3);
     assert!(&rt; first_left(&seats) == Some(&'a'));
+    assert!(&rt; left_count(&seats) == 3);
     assert!(&rt; first_from_left(&seats) == Some((&'b', &1)));
     assert!(&rt; least_right(&seats) == Some(&1));
     assert!(&rt; first_from_right(&seats) == Some((&'c', &2)));
-    Ok(())
 }
 
 #[test]
-fn walks_where_a_side_is_hashed(rt: HostRuntime) -> Result<(), Fail> {
-    let alloc = rt.alloc();
-    let mixed = BiBTreeHashMap::from_iter(alloc, super::PAIRS)?;
+fn walks_hashed_rights(rt: HostRuntime) {
+    let mixed: BiBTreeHashMap<char, u32> = BiBTreeHashMap::from_iter(rt.alloc(), PAIRS)
+        .ok()
+        .expect(&rt, "no memory");
     assert!(&rt; right_of_first(&mixed) == Some(&3));
-    let seats = hashed(alloc)?;
-    assert!(&rt; walk_length(&seats) == 3);
-    assert!(&rt; left_count(&seats) == 3);
-    assert!(&rt; right_count(&seats) == 3);
-    Ok(())
+    assert!(&rt; right_count(&mixed) == 3);
 }
