@@ -1,4 +1,4 @@
-//! Tests of what only a bimap with an ordered side has, and no clause says.
+//! Tests over the ordered bimap, of what no transcript shows.
 #![tactic(auto)]
 
 #[cfg(test)]

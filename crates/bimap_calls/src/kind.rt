@@ -2,7 +2,7 @@
 ghost use Rattle.std.specs.Prelude.{◌≡◌, []};
 ghost use Rattle.bimap_base.specs.Capacity.{IsShrink};
 
-use bimap::{Bijection, BijectiveMap, ExtendStopped, NoMemory};
+use bimap::{Bijection, BijectiveMap, NoMemory};
 use bimap_index::{EmptyIndex, PackedIndex};
 use std::alloc::Global;
 
@@ -12,22 +12,9 @@ pub trait Kind<L: Eq + Drop, R: Eq + Drop>: Bijection<L, R> + Drop {
     fn empty(alloc: Global) -> Self
         ensures { (Self.holding result).pairs ≡ [] };
 
-    /// Makes the capacity so low, by its own call.
-    fn shrink_to(&mut self, least: usize) -> Result<(), NoMemory>
-        ensures { IsShrink (Self.holding self.old) least result (Self.holding self.new) };
-
     /// Makes the capacity the length, by its own call.
     fn shrink_to_fit(&mut self) -> Result<(), NoMemory>
         ensures { IsShrink (Self.holding self.old) 0 result (Self.holding self.new) };
-}
-
-/// A kind of bimap of values that are copied, which tests make of items.
-pub trait CopyKind<L: Copy + Eq + Drop, R: Copy + Eq + Drop>: Kind<L, R> {
-    /// The bimap of the items, by its own call.
-    fn built(alloc: Global, items: &[(L, R)]) -> Result<Self, ExtendStopped<L, R>>;
-
-    /// Adds the items, by its own call.
-    fn add(&mut self, items: &[(L, R)]) -> Result<(), ExtendStopped<L, R>>;
 }
 
 impl<
@@ -40,74 +27,17 @@ impl<
         BijectiveMap::empty(alloc)
     }
 
-    fn shrink_to(&mut self, least: usize) -> Result<(), NoMemory> {
-        self.shrink_to(least)
-    }
-
     fn shrink_to_fit(&mut self) -> Result<(), NoMemory> {
         self.shrink_to_fit()
     }
 }
 
-impl<
-    L: Copy + Eq + Drop,
-    R: Copy + Eq + Drop,
-    I: EmptyIndex<L> + PackedIndex<L> + Drop,
-    J: EmptyIndex<R> + PackedIndex<R> + Drop,
-> CopyKind<L, R> for BijectiveMap<L, R, I, J> {
-    fn built(alloc: Global, items: &[(L, R)]) -> Result<Self, ExtendStopped<L, R>> {
-        BijectiveMap::from_iter(alloc, items.iter().copied())
-    }
-
-    fn add(&mut self, items: &[(L, R)]) -> Result<(), ExtendStopped<L, R>> {
-        self.extend(items.iter().copied())
-    }
-}
-
-/// Calls a test over each kind of bimap of these values: `over_each_kind!(TEST, LEFT, RIGHT, RUNTIME)`, with a further `?` where it
-/// answers a `Result`.
-#[macro_export]
-macro_rules! over_each_kind {
-    ($test:ident, $left:ty, $right:ty, $rt:expr $(, $try:tt)?) => {{
-        $crate::over_four_kinds!($test, $left, $right, $rt $(, $try)?);
-        $test::<$crate::Crowded<$left, $right>>($rt, $rt.alloc()) $($try)?;
-    }};
-}
-
-/// The same without the crowded kind. A further kind is one further line here and in `with_each_kind`.
-#[macro_export]
-macro_rules! over_four_kinds {
-    ($test:ident, $left:ty, $right:ty, $rt:expr $(, $try:tt)?) => {{
-        $test::<bimap::BiBTreeMap<$left, $right>>($rt, $rt.alloc()) $($try)?;
-        $test::<bimap::BiHashMap<$left, $right>>($rt, $rt.alloc()) $($try)?;
-        $test::<bimap::BiBTreeHashMap<$left, $right>>($rt, $rt.alloc()) $($try)?;
-        $test::<bimap::BiHashBTreeMap<$left, $right>>($rt, $rt.alloc()) $($try)?;
-    }};
-}
-
-/// The same over the two mixed kinds alone, in which either index stands on either side.
+/// Calls a test over the two mixed kinds of bimap of these values, in which either index stands on either side:
+/// `over_mixed_kinds!(TEST, LEFT, RIGHT, RUNTIME)`, with a further `?` where it answers a `Result`.
 #[macro_export]
 macro_rules! over_mixed_kinds {
     ($test:ident, $left:ty, $right:ty, $rt:expr $(, $try:tt)?) => {{
         $test::<bimap::BiBTreeHashMap<$left, $right>>($rt, $rt.alloc()) $($try)?;
         $test::<bimap::BiHashBTreeMap<$left, $right>>($rt, $rt.alloc()) $($try)?;
-    }};
-}
-
-/// Makes a call with the empty bimap of each kind: `with_each_kind!(BIMAP: (LEFT, RIGHT) in ALLOCATOR => CALL)`, where the call
-/// hands on BIMAP.
-#[macro_export]
-macro_rules! with_each_kind {
-    ($bimap:ident: ($left:ty, $right:ty) in $alloc:expr => $call:expr) => {{
-        let $bimap = bimap::BiBTreeMap::<$left, $right>::new($alloc);
-        $call;
-        let $bimap = bimap::BiHashMap::<$left, $right>::new($alloc);
-        $call;
-        let $bimap = bimap::BiBTreeHashMap::<$left, $right>::new($alloc);
-        $call;
-        let $bimap = bimap::BiHashBTreeMap::<$left, $right>::new($alloc);
-        $call;
-        let $bimap = $crate::crowded::<$left, $right>($alloc);
-        $call;
     }};
 }

@@ -44,15 +44,6 @@ impl<L: Eq + Drop, R: Eq + Drop> Plain<L, R> {
         };
         Ok(Plain { pairs, fixed: true })
     }
-
-    /// Gives up spare places where it can, and adds none from now on.
-    pub fn fix(&mut self)
-        ensures pairs { self.new.pairs.items ≡ self.old.pairs.items }
-        ensures not_higher { vec_capacity self.new.pairs ≤ vec_capacity self.old.pairs }
-    {
-        self.pairs.shrink_to_fit();
-        self.fixed = true;
-    }
 }
 
 impl<L: Eq + Drop, R: Eq + Drop> Bijection<L, R> for Plain<L, R> {

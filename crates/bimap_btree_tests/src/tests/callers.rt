@@ -1,12 +1,18 @@
-//! What a caller writes with walks, with what it then knows.
-ghost use Rattle.std.specs.Prelude.{◌≡◌, IfOk, map, reverse};
+//! What a caller writes with walks and `==`, with what it then knows.
+ghost use Rattle.std.specs.Prelude.{◌≡◌, IfOk, map, nat_eq, reverse};
 ghost use Rattle.std.specs.Map.{keys_of, values_of};
+ghost use Rattle.bimap_base.specs.Same.{same};
 ghost use Rattle.bimap_kinds.specs.Held.{holding};
 ghost use Rattle.bimap_kinds.specs.Held.{by_right};
 
-use super::filled;
 use bimap::BiBTreeMap;
 use std::alloc::{AllocError, Global};
+
+fn are_equal(first: &BiBTreeMap<char, u32>, second: &BiBTreeMap<char, u32>) -> bool
+    ensures { result ≡ same nat_eq nat_eq (holding first.now).pairs (holding second.now).pairs }
+{
+    first == second
+}
 
 fn rights_by_loop(alloc: Global, bimap: &BiBTreeMap<char, u32>) -> Result<Vec<u32>, AllocError>
     ensures { IfOk result (λ v. v.items ≡ values_of (holding bimap.now).pairs) }
@@ -65,22 +71,26 @@ fn are<T: PartialEq + Drop>(list: Result<Vec<T>, AllocError>, items: &[T]) -> bo
 
 const PAIRS: [(char, u32); 3] = [('a', 3), ('b', 1), ('c', 2)];
 
+fn filled(alloc: Global) -> BiBTreeMap<char, u32> {
+    let mut bimap = BiBTreeMap::new(alloc);
+    for (left, right) in PAIRS {
+        let _ = bimap.insert(left, right);
+    }
+    bimap
+}
+
 #[test]
 fn callers_know_what_they_walked(rt: HostRuntime) {
-    let map: BiBTreeMap<char, u32> = filled(rt.alloc(), &PAIRS);
+    let map = filled(rt.alloc());
     assert!(&rt; are(rights_by_loop(rt.alloc(), &map), &[3, 1, 2]));
     assert!(&rt; are(rights_by_chain(rt.alloc(), &map), &[3, 1, 2]));
     assert!(&rt; are(sorted_rights(rt.alloc(), &map), &[1, 2, 3]));
     assert!(&rt; are(lefts_back(rt.alloc(), &map), &['c', 'b', 'a']));
+    assert!(&rt; are_equal(&map, &map));
 }
 
 #[test]
 fn callers_know_what_they_took(rt: HostRuntime) {
-    assert!(&rt; are(taken(rt.alloc(), filled(rt.alloc(), &PAIRS)), &PAIRS));
-    assert!(&rt;
-        are(
-            taken_by_loop(rt.alloc(), filled(rt.alloc(), &PAIRS)),
-            &PAIRS
-        )
-    );
+    assert!(&rt; are(taken(rt.alloc(), filled(rt.alloc())), &PAIRS));
+    assert!(&rt; are(taken_by_loop(rt.alloc(), filled(rt.alloc())), &PAIRS));
 }
