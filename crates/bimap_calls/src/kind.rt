@@ -1,8 +1,8 @@
-//! How tests make a bimap, and the list of the kinds.
+//! How a test makes a bimap of any kind.
 ghost use Rattle.std.specs.Prelude.{◌≡◌, []};
 ghost use Rattle.bimap_base.specs.Capacity.{IsShrink};
 
-use bimap::{Bijection, BijectiveMap, NoMemory};
+use bimap::{Bijection, BijectiveMap, ExtendStopped, NoMemory};
 use bimap_index::{EmptyIndex, PackedIndex};
 use std::alloc::Global;
 
@@ -12,9 +12,22 @@ pub trait Kind<L: Eq + Drop, R: Eq + Drop>: Bijection<L, R> + Drop {
     fn empty(alloc: Global) -> Self
         ensures { (Self.holding result).pairs ≡ [] };
 
+    /// Makes the capacity so low, by its own call.
+    fn shrink_to(&mut self, least: usize) -> Result<(), NoMemory>
+        ensures { IsShrink (Self.holding self.old) least result (Self.holding self.new) };
+
     /// Makes the capacity the length, by its own call.
     fn shrink_to_fit(&mut self) -> Result<(), NoMemory>
         ensures { IsShrink (Self.holding self.old) 0 result (Self.holding self.new) };
+}
+
+/// A kind of bimap of values that are copied, which tests make of items.
+pub trait CopyKind<L: Copy + Eq + Drop, R: Copy + Eq + Drop>: Kind<L, R> {
+    /// The bimap of the items, by its own call.
+    fn built(alloc: Global, items: &[(L, R)]) -> Result<Self, ExtendStopped<L, R>>;
+
+    /// Adds the items, by its own call.
+    fn add(&mut self, items: &[(L, R)]) -> Result<(), ExtendStopped<L, R>>;
 }
 
 impl<
@@ -27,8 +40,27 @@ impl<
         BijectiveMap::empty(alloc)
     }
 
+    fn shrink_to(&mut self, least: usize) -> Result<(), NoMemory> {
+        self.shrink_to(least)
+    }
+
     fn shrink_to_fit(&mut self) -> Result<(), NoMemory> {
         self.shrink_to_fit()
+    }
+}
+
+impl<
+    L: Copy + Eq + Drop,
+    R: Copy + Eq + Drop,
+    I: EmptyIndex<L> + PackedIndex<L> + Drop,
+    J: EmptyIndex<R> + PackedIndex<R> + Drop,
+> CopyKind<L, R> for BijectiveMap<L, R, I, J> {
+    fn built(alloc: Global, items: &[(L, R)]) -> Result<Self, ExtendStopped<L, R>> {
+        BijectiveMap::from_iter(alloc, items.iter().copied())
+    }
+
+    fn add(&mut self, items: &[(L, R)]) -> Result<(), ExtendStopped<L, R>> {
+        self.extend(items.iter().copied())
     }
 }
 

@@ -9,7 +9,7 @@ mod trails;
 mod zero;
 
 pub use counted::{Counted, counted_at};
-pub use kind::Kind;
+pub use kind::{CopyKind, Kind};
 pub use policies::{KEEP_LEFT, KEEP_RIGHT, ONCE, OVERWRITE};
 pub use shown::shows;
 pub use trails::insert_all;
