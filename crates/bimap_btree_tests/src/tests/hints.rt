@@ -35,12 +35,10 @@ const ITEMS: [(char, u32); 3] = [('a', 1), ('b', 2), ('c', 2)];
 // Each call stands in a function with no clause, so that no fact of it is carried on.
 fn extended(bimap: &mut BiBTreeMap<char, u32>, is_bounded: bool) -> bool {
     bimap
-        .extend(
-            Hinted {
-                items: &ITEMS,
-                is_bounded,
-            },
-        )
+        .extend(Hinted {
+            items: &ITEMS,
+            is_bounded,
+        })
         .is_ok()
 }
 
@@ -52,7 +50,7 @@ fn made(alloc: Global, is_bounded: bool) -> Option<BiBTreeMap<char, u32>> {
             is_bounded,
         },
     )
-        .ok()
+    .ok()
 }
 
 #[test]
