@@ -1,4 +1,9 @@
-//! The calls of `crates/bimap_bench` over the Rust crate `bimap`: the same keys, the same order, the same lines.
+//! The Rust crate `bimap` beside this repository's. `peer PAIRS` makes the calls of `crates/bimap_bench` over it: the same keys,
+//! the same order, the same lines. `peer shell` answers the lines of standard input as `crates/bimap_shell` does.
+mod kind;
+mod shell;
+mod word;
+
 use bimap::{BiBTreeMap, BiHashMap, Overwritten};
 use std::time::Instant;
 
@@ -53,8 +58,13 @@ macro_rules! measure {
     }};
 }
 
-fn main() {
-    let pairs = std::env::args().nth(1).and_then(|word| word.parse().ok()).unwrap_or(1000);
+fn main() -> std::io::Result<()> {
+    let word = std::env::args().nth(1);
+    if word.as_deref() == Some("shell") {
+        return shell::serve();
+    }
+    let pairs = word.and_then(|word| word.parse().ok()).unwrap_or(1000);
     measure!(BiBTreeMap, pairs);
     measure!(BiHashMap, pairs);
+    Ok(())
 }

@@ -1,0 +1,90 @@
+//! The words of a line as values.
+use std::cmp::Ordering;
+use std::fmt;
+use std::hash::{Hash, Hasher};
+use std::ops::Bound::{self, Excluded, Included, Unbounded};
+
+/// A word with a note. Equality, order and hash are of the word alone.
+#[derive(Clone)]
+pub struct Word {
+    text: String,
+    note: u32,
+}
+
+impl Word {
+    /// The word that a text spells, with its note: `ann`, `ann'2`.
+    pub fn read(text: &str) -> Option<Word> {
+        let (text, note) = match text.split_once('\'') {
+            Some((text, note)) => (text, note.parse().ok()?),
+            None => (text, 0),
+        };
+        let well = (1..=16).contains(&text.len()) && !text.contains(['.', ';', '>']);
+        well.then(|| Word { text: text.to_string(), note })
+    }
+
+    pub fn read_all(words: &[&str]) -> Option<Vec<Word>> {
+        words.iter().map(|word| Word::read(word)).collect()
+    }
+
+    /// The words as pairs, if there is no half of one.
+    pub fn read_pairs(words: &[&str]) -> Option<Vec<(Word, Word)>> {
+        let pair = |two: &[&str]| Some((Word::read(two[0])?, Word::read(two.get(1)?)?));
+        words.chunks(2).map(pair).collect()
+    }
+
+    /// The ends of a range, if it runs forward: the crate panics at others.
+    pub fn read_range(word: &str) -> Option<(Bound<Word>, Bound<Word>)> {
+        let (low, high) = word.split_once("..")?;
+        let low = match low.strip_prefix('>') {
+            Some(low) => Excluded(Word::read(low)?),
+            None if low.is_empty() => Unbounded,
+            None => Included(Word::read(low)?),
+        };
+        let high = match high.strip_prefix('=') {
+            Some(high) => Included(Word::read(high)?),
+            None if high.is_empty() => Unbounded,
+            None => Excluded(Word::read(high)?),
+        };
+        let forward = match (&low, &high) {
+            (Unbounded, _) | (_, Unbounded) => true,
+            (Excluded(low), Excluded(high)) => low < high,
+            (Included(low) | Excluded(low), Included(high) | Excluded(high)) => low <= high,
+        };
+        forward.then_some((low, high))
+    }
+}
+
+impl PartialEq for Word {
+    fn eq(&self, other: &Word) -> bool {
+        self.text == other.text
+    }
+}
+
+impl Eq for Word {}
+
+impl PartialOrd for Word {
+    fn partial_cmp(&self, other: &Word) -> Option<Ordering> {
+        Some(self.cmp(other))
+    }
+}
+
+impl Ord for Word {
+    fn cmp(&self, other: &Word) -> Ordering {
+        self.text.cmp(&other.text)
+    }
+}
+
+impl Hash for Word {
+    fn hash<H: Hasher>(&self, state: &mut H) {
+        self.text.hash(state);
+    }
+}
+
+impl fmt::Debug for Word {
+    fn fmt(&self, f: &mut fmt::Formatter) -> fmt::Result {
+        match self.note {
+            0 => write!(f, "{}", self.text),
+            note => write!(f, "{}'{note}", self.text),
+        }
+    }
+}
