@@ -12,9 +12,9 @@ pub enum Said {
     Text(String),
     /// The kind lacks the call, and says nothing.
     Lacks,
-    /// The answer depends on how keys were hashed in this run.
-    ByChance,
-    /// The call is none that is known here.
+    /// The call is made, and its answer is open: it depends on how keys were hashed in this run.
+    Open,
+    /// The call is not made: the crate has none of this name, or it isn't known what is held.
     Unknown,
 }
 
@@ -37,7 +37,7 @@ macro_rules! kind {
     ($kind:ident, $ordered:expr, $walk:ident, $compare:ident) => {
         impl Kind for $kind {
             fn in_order(&self, text: String) -> Said {
-                if $ordered || self.len() < 2 { Said::Text(text) } else { Said::ByChance }
+                if $ordered || self.len() < 2 { Said::Text(text) } else { Said::Open }
             }
 
             fn call(&mut self, call: &str, words: &[Word]) -> Said {
@@ -63,12 +63,8 @@ macro_rules! kind {
                         "()".to_string()
                     }
                     ("retain", [least]) => {
-                        let (before, mut asked) = (self.clone(), Vec::new());
-                        self.retain(|left, right| {
-                            asked.push((left.clone(), right.clone()));
-                            right >= least
-                        });
-                        return before.in_order(format!("{asked:?}"));
+                        self.retain(|_, right| right >= least);
+                        "()".to_string()
                     }
                     _ => return Said::Unknown,
                 })
@@ -150,5 +146,5 @@ fn walk_ordered(bimap: &Ordered, call: &str, words: &[&str]) -> Said {
 }
 
 fn walk_hashed(_bimap: &Hashed, call: &str, words: &[&str]) -> Said {
-    if call.ends_with("range") || words.contains(&"back") { Said::Lacks } else { Said::ByChance }
+    if call.ends_with("range") || words.contains(&"back") { Said::Lacks } else { Said::Open }
 }

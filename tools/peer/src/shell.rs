@@ -34,11 +34,12 @@ impl<B: Kind> Held<B> {
         let said = match words.as_slice() {
             [] => return Said::Unknown,
             ["times", ..] => return self.times(line),
-            ["new"] => {
+            ["new"] => self.begin(B::default()),
+            // (the room is not asked for: of the crate's kinds one has none)
+            ["with_capacity", room] if room.parse::<u16>().is_ok() => {
                 self.bimap = Some(B::default());
-                Said::Text("{}".to_string())
+                Said::Open
             }
-            ["with_capacity", room] if room.parse::<u16>().is_ok() => self.begin(B::default()),
             ["from_iter", words @ ..] => match Word::read_pairs(words) {
                 Some(pairs) => self.begin(pairs.into_iter().collect()),
                 None => Said::Unknown,
@@ -101,7 +102,8 @@ impl<B: Kind> Held<B> {
         for at in 0..turns {
             let (turn, mixed) = (format!("{at:07}"), format!("{:07}", at.saturating_mul(7919) % turns));
             match self.answer(&call.replace('#', &turn).replace('%', &mixed)) {
-                Said::Text(said) => tally(&mut answers, said.replace(&turn, "#").replace(&mixed, "%")),
+                Said::Text(said) if call.contains('%') => tally(&mut answers, said.replace(&mixed, "%")),
+                Said::Text(said) => tally(&mut answers, said.replace(&turn, "#")),
                 other => unsaid = Some(other),
             }
         }
@@ -158,7 +160,7 @@ fn text(said: Said) -> Option<String> {
     match said {
         Said::Text(said) => Some(said),
         Said::Lacks => None,
-        Said::ByChance | Said::Unknown => Some("-".to_string()),
+        Said::Open | Said::Unknown => Some("-".to_string()),
     }
 }
 
