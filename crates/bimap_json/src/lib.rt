@@ -1,4 +1,4 @@
-//! A side of one's own in JSON, and the tests of bimaps in JSON.
+//! A side of one's own in JSON, and tests of it under builders of one's own.
 #![tactic(auto)]
 
 mod seat;

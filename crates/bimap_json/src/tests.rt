@@ -1,6 +1,3 @@
-//! Bimaps in JSON, over each bimap.
-mod json;
-mod json_hashed;
-mod json_left_held;
-mod json_types;
-mod json_under;
+//! Sides and builders of one's own in JSON. What a line can say of JSON stands in a transcript.
+mod left_held;
+mod seats;

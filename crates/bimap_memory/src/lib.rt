@@ -1,4 +1,4 @@
-//! Tests that refuse memory, for each call that asks for any. They know the bimaps by their public calls alone.
+//! Tests that refuse memory to what no transcript can show: values that take memory of their own, and the layers below.
 #![tactic(auto)]
 
 #[cfg(test)]

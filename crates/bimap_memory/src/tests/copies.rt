@@ -1,13 +1,11 @@
-//! Each request of a copy refused.
-use bimap::{Bijection, BijectiveMap, NoMemory};
-use bimap_calls::{shows, with_each_kind};
+//! A copy of texts, of which the clone of each asks for memory too.
+use bimap::{BiBTreeHashMap, Bijection, NoMemory};
+use bimap_calls::shows;
 use bimap_famine::Famine;
-use bimap_index::CopiedIndex;
 use std::alloc::{AllocError, Global};
-use std::process::Abort;
-use std::test::Fail;
 
-// Five pairs of texts, of which the clone of each asks for memory.
+type Texts = BiBTreeHashMap<String, String>;
+
 fn texts(alloc: Global) -> Result<Vec<(String, String)>, AllocError> {
     let mut pairs = Vec::new(alloc);
     for (left, right) in [
@@ -23,11 +21,11 @@ fn texts(alloc: Global) -> Result<Vec<(String, String)>, AllocError> {
     Ok(pairs)
 }
 
-// Copies a bimap of texts under a famine that eases, and answers how often that was refused, or `None` where a copy or
-// what it was made of shows other pairs.
-fn refusals_of_texts<I: CopiedIndex<String> + Drop, J: CopiedIndex<String> + Drop>(
+// Copies a bimap under a famine that eases, and answers how often that was refused, or `None` where a copy or what it was
+// made of shows other pairs.
+fn refusals(
     alloc: Global,
-    bimap: &BijectiveMap<String, String, I, J>,
+    bimap: &Texts,
     pairs: &[(String, String)],
 ) -> Result<Option<u64>, AllocError> {
     let mut famine = Famine::begin(alloc, 400)?;
@@ -48,24 +46,20 @@ fn refusals_of_texts<I: CopiedIndex<String> + Drop, J: CopiedIndex<String> + Dro
     Ok(None)
 }
 
-fn texts_refused<I: CopiedIndex<String> + Drop, J: CopiedIndex<String> + Drop>(
-    rt: &impl Abort,
-    alloc: Global,
-    mut bimap: BijectiveMap<String, String, I, J>,
-) -> Result<(), Fail> {
+fn refused(alloc: Global) -> Result<Option<u64>, AllocError> {
+    let mut bimap = Texts::new(alloc);
     for (left, right) in texts(alloc)? {
-        bimap.insert(left, right).ok().ok_or("no memory")?;
+        if bimap.insert(left, right).is_err() {
+            return Ok(None);
+        }
     }
     let pairs = texts(alloc)?;
-    let met = refusals_of_texts(alloc, &bimap, pairs.as_slice())?;
-    // The ten texts, and more than one of cells and places.
-    assert!(rt; met.is_some_and(|met| met >= 13), "{met:?}");
-    Ok(())
+    refusals(alloc, &bimap, pairs.as_slice())
 }
 
 #[test]
-fn a_refused_copy_makes_nothing(rt: HostRuntime) -> Result<(), Fail> {
-    let alloc = rt.alloc();
-    with_each_kind!(bimap: (String, String) in alloc => texts_refused(&rt, alloc, bimap)?);
-    Ok(())
+fn a_refused_copy_makes_nothing(rt: HostRuntime) {
+    let met = refused(rt.alloc()).expect(&rt, "memory");
+    // The ten texts, and more than one of cells and places.
+    assert!(rt; met.is_some_and(|met| met >= 13), "{met:?}");
 }
