@@ -1,0 +1,87 @@
+//! Lists of insertions that are undone where no place is free.
+ghost use Rattle.std.specs.Prelude.{List};
+ghost use Rattle.bimap.specs.Trail.{Leads};
+
+use bimap::{BiBTreeMap, Bijection, Overwritten, undo_run};
+use bimap_calls::{CopyKind, insert_all, shows};
+use bimap_famine::Famine;
+use std::alloc::Global;
+use std::test::Fail;
+
+/// Insertions, the entries that are left where the undoing of two pairs finds no place, and the pairs that are then held.
+struct Row<'a, L, R> {
+    insertions: &'a [(L, R)],
+    rest: &'a [(L, Overwritten<L, R>)],
+    held: &'a [(L, R)],
+}
+
+/// What is held before the insertions.
+const PAIRS: [(char, u32); 4] = [('a', 1), ('b', 2), ('c', 3), ('d', 4)];
+
+const OVER_A: (char, Overwritten<char, u32>) = ('a', Overwritten::Both(('a', 1), ('b', 2)));
+
+const ROWS: [Row<'static, char, u32>; 2] = [
+    Row {
+        insertions: &[('a', 2), ('c', 4), ('e', 5)],
+        rest: &[OVER_A],
+        held: &[('a', 2), ('c', 3), ('d', 4)],
+    },
+    Row {
+        insertions: &[('e', 5), ('a', 2), ('e', 6)],
+        rest: &[('e', Overwritten::Neither), OVER_A],
+        held: &[('a', 2), ('c', 3), ('d', 4), ('e', 5)],
+    },
+];
+
+// Undoes the insertions under a famine that eases, and answers how often they stopped, or `None` where one left something
+// else than the row says.
+fn refusals<L: Copy + Eq + Drop, R: Copy + Eq + Drop, B: Bijection<L, R> + Drop>(
+    alloc: Global,
+    bimap: &mut B,
+    entries: Vec<(L, Overwritten<L, R>)>,
+    pairs: &[(L, R)],
+    row: &Row<'_, L, R>,
+) -> Result<Option<u64>, Fail>
+    requires leads { (first : List (L × R)) × Leads L.eq R.eq first entries.items (B.holding bimap.old).pairs }
+{
+    let mut entries = entries;
+    let mut famine = Famine::begin(alloc, 60)?;
+    for refusals in 0..60u64 {
+        match undo_run(bimap, entries) {
+            Ok(()) => return Ok(shows(bimap, pairs).then_some(refusals)),
+            Err(stopped) => {
+                if stopped.rest.as_slice() != row.rest || !shows(bimap, row.held) {
+                    return Ok(None);
+                }
+                entries = stopped.rest;
+            }
+        }
+        famine.ease()?;
+    }
+    Ok(None)
+}
+
+// The undoing of two pairs wants three growths.
+fn is_refused_in_turn(met: Option<u64>) -> bool {
+    met.is_some_and(|met| met >= 3)
+}
+
+fn is_right<B: CopyKind<char, u32>>(alloc: Global, row: &Row<'_, char, u32>) -> Result<bool, Fail> {
+    let mut bimap = B::empty(alloc);
+    bimap.add(&PAIRS).ok().ok_or("no memory")?;
+    let entries = insert_all(alloc, &mut bimap, row.insertions)?;
+    bimap.shrink_to_fit()?;
+    if bimap.capacity() != bimap.len() {
+        return Ok(false);
+    }
+    let met = refusals(alloc, &mut bimap, entries, &PAIRS, row)?;
+    Ok(is_refused_in_turn(met))
+}
+
+#[test]
+fn a_list_stops_where_no_place_is_free(rt: HostRuntime) -> Result<(), Fail> {
+    for row in ROWS.iter() {
+        assert!(rt; is_right::<BiBTreeMap<char, u32>>(rt.alloc(), row)?);
+    }
+    Ok(())
+}
