@@ -6,7 +6,7 @@ use std::alloc::AllocError;
 
 // Goes by the steps up to the first copy, and answers how many they are: `None` where the walk has no such step.
 macro_rules! go {
-    ($walk:ident, $steps:ident, $said:ident, $back:expr) => {{
+    ($walk:ident, $steps:ident, $said:ident, $back:expr, $hint:expr) => {{
         let mut done = 0usize;
         for step in $steps {
             if *step == Step::Copy {
@@ -19,16 +19,20 @@ macro_rules! go {
                 Step::Front => write!($said, "{:?}", $walk.next())?,
                 Step::Back => $back,
                 Step::Len => write!($said, "{}", $walk.len())?,
-                Step::Hint => write!($said, "{:?}", $walk.size_hint())?,
+                Step::Hint => $hint,
                 _ => {
-                    let mut between = "[";
+                    write!($said, "[")?;
+                    let mut first = true;
                     for _ in 0..$walk.len() {
                         if let Some(item) = $walk.next() {
-                            write!($said, "{between}{item:?}")?;
-                            between = ", ";
+                            if !first {
+                                write!($said, ", ")?;
+                            }
+                            write!($said, "{item:?}")?;
+                            first = false;
                         }
                     }
-                    write!($said, "{}]", if between == "[" { "[" } else { "" })?;
+                    write!($said, "]")?;
                 }
             }
             done = done.saturating_add(1);
@@ -43,7 +47,7 @@ pub fn pairs_ahead<C: Course>(
     steps: &[Step],
     said: &mut String,
 ) -> Result<Option<usize>, AllocError> {
-    go!(walk, steps, said, return Ok(None))
+    go!(walk, steps, said, return Ok(None), return Ok(None))
 }
 
 /// The pairs, from both ends.
@@ -52,7 +56,13 @@ pub fn pairs_from_both<C: CourseBack>(
     steps: &[Step],
     said: &mut String,
 ) -> Result<Option<usize>, AllocError> {
-    go!(walk, steps, said, write!(said, "{:?}", walk.next_back())?)
+    go!(
+        walk,
+        steps,
+        said,
+        write!(said, "{:?}", walk.next_back())?,
+        write!(said, "{:?}", walk.size_hint())?
+    )
 }
 
 /// The values of one side, from the front alone.
@@ -61,7 +71,7 @@ pub fn values_ahead<C: Course, P: Part<Word, Word, Value = Word>>(
     steps: &[Step],
     said: &mut String,
 ) -> Result<Option<usize>, AllocError> {
-    go!(walk, steps, said, return Ok(None))
+    go!(walk, steps, said, return Ok(None), return Ok(None))
 }
 
 /// The values of one side, from both ends.
@@ -70,7 +80,13 @@ pub fn values_from_both<C: CourseBack, P: Part<Word, Word, Value = Word>>(
     steps: &[Step],
     said: &mut String,
 ) -> Result<Option<usize>, AllocError> {
-    go!(walk, steps, said, write!(said, "{:?}", walk.next_back())?)
+    go!(
+        walk,
+        steps,
+        said,
+        write!(said, "{:?}", walk.next_back())?,
+        return Ok(None)
+    )
 }
 
 /// The pairs by value, from the front alone.
@@ -79,7 +95,7 @@ pub fn owned_ahead<C: Course>(
     steps: &[Step],
     said: &mut String,
 ) -> Result<Option<usize>, AllocError> {
-    go!(walk, steps, said, return Ok(None))
+    go!(walk, steps, said, return Ok(None), return Ok(None))
 }
 
 /// The pairs by value, from both ends.
@@ -88,20 +104,29 @@ pub fn owned_from_both<C: CourseBack>(
     steps: &[Step],
     said: &mut String,
 ) -> Result<Option<usize>, AllocError> {
-    go!(walk, steps, said, write!(said, "{:?}", walk.next_back())?)
+    go!(
+        walk,
+        steps,
+        said,
+        write!(said, "{:?}", walk.next_back())?,
+        return Ok(None)
+    )
 }
 
-/// Goes by the steps, of which those after a copy are the copy's.
+/// Goes by the steps: those after a copy are the copy's.
 #[macro_export]
 macro_rules! follow {
     ($way:path, $walk:expr, $steps:expr, $said:expr) => {{
-        let mut walk = $walk;
-        let Some(done) = $way(&mut walk, $steps, $said)? else {
-            return Ok(false);
-        };
-        if let Some(rest) = $steps.get(done.saturating_add(1)..) {
-            let mut copy = walk.clone()?;
-            return Ok($way(&mut copy, rest, $said)?.is_some());
+        let (mut walk, mut steps) = ($walk, $steps);
+        for _ in 0..$steps.len() {
+            let Some(done) = $way(&mut walk, steps, $said)? else {
+                return Ok(false);
+            };
+            let Some(rest) = steps.get(done.saturating_add(1)..) else {
+                break;
+            };
+            walk = walk.clone()?;
+            steps = rest;
         }
         Ok(true)
     }};

@@ -1,69 +1,108 @@
 //! JSON both ways, at each pair of types.
-ghost use Rattle.std.specs.Prelude.{◌≡◌, []};
-
 use crate::request::Request;
-use bimap::value::{JsonKey, JsonObject, JsonValue, read_into_with, reread};
-use bimap::{BiBTreeHashMap, BiBTreeMap, BiHashBTreeMap, BiHashMap};
+use bimap::value::{JsonFault, JsonKey, JsonObject, JsonValue, read_into_with, reread};
+use bimap::{BiBTreeHashMap, BiBTreeMap, BiHashBTreeMap, BiHashMap, NoMemory};
 use serde_json::Value;
-use std::alloc::{AllocError, Global};
-use std::fmt::Debug;
+use std::alloc::AllocError;
 use std::hash::Hash;
 
-// The text that a bimap is written as, and whether that reads as an equal bimap.
-fn written<L: JsonKey + Drop, R: JsonValue + Drop, B: JsonObject<L, R> + PartialEq + Drop>(
-    alloc: Global,
-    bimap: &B,
-    said: &mut String,
-) -> Result<(), AllocError> {
-    match bimap.to_value(alloc) {
-        Ok(value) => write!(said, "{value} · ")?,
-        Err(refused) => write!(said, "{refused:?} · ")?,
-    }
-    match reread(alloc, bimap) {
-        Ok(again) => write!(said, "{}", again == *bimap),
-        Err(fault) => write!(said, "{fault:?}"),
-    }
+fn write_fault(fault: JsonFault, said: &mut String) -> Result<bool, AllocError> {
+    write!(said, "Err({fault:?})")?;
+    Ok(true)
 }
 
-// Reads the text into an empty bimap, and writes it again.
-fn both_ways<
-    L: JsonKey + Drop,
-    R: JsonValue + Drop,
-    B: JsonObject<L, R> + Debug + PartialEq + Drop,
->(empty: B, request: &Request<'_>, said: &mut String) -> Result<bool, AllocError>
-    requires empty { (B.holding empty).pairs ≡ [] }
-{
-    let alloc = request.alloc;
-    let Ok(value) = Value::from_str(alloc, request.text) else {
-        write!(said, "no JSON")?;
-        return Ok(true);
-    };
-    match read_into_with(alloc, empty, &value, request.policy) {
-        Err(fault) => write!(said, "Err({fault:?})")?,
-        Ok(read) => {
-            write!(said, "Ok({read:?}) · ")?;
-            written(alloc, &read, said)?;
-        }
+// The text of a bimap, and whether that reads as an equal bimap.
+fn write_text(
+    text: Result<Value, NoMemory>,
+    equal: Result<bool, JsonFault>,
+    said: &mut String,
+) -> Result<bool, AllocError> {
+    match text {
+        Ok(value) => write!(said, "Ok({value})")?,
+        Err(refused) => write!(said, "{refused:?}")?,
+    }
+    match equal {
+        Ok(equal) => write!(said, " · {equal}")?,
+        Err(fault) => write!(said, " · {fault:?}")?,
     }
     Ok(true)
 }
 
-fn of_kind<L: JsonKey + Ord + Hash + Debug + Drop, R: JsonValue + Ord + Hash + Debug + Drop>(
+// Reads the value into an empty bimap, and writes it again.
+macro_rules! both_ways {
+    ($empty:expr, $value:ident, $request:ident, $said:ident) => {{
+        let alloc = $request.alloc;
+        match read_into_with(alloc, $empty, $value, $request.policy) {
+            Err(fault) => write_fault(fault, $said),
+            Ok(read) => {
+                let equal = reread(alloc, &read).map(|again| again == read);
+                write_text(read.to_value(alloc), equal, $said)
+            }
+        }
+    }};
+}
+
+fn ordered<L: JsonKey + Ord + Drop, R: JsonValue + Ord + Drop>(
+    value: &Value,
+    request: &Request<'_>,
+    said: &mut String,
+) -> Result<bool, AllocError> {
+    both_ways!(BiBTreeMap::<L, R>::new(request.alloc), value, request, said)
+}
+
+fn hashed<L: JsonKey + Hash + Drop, R: JsonValue + Hash + Drop>(
+    value: &Value,
+    request: &Request<'_>,
+    said: &mut String,
+) -> Result<bool, AllocError> {
+    both_ways!(BiHashMap::<L, R>::new(request.alloc), value, request, said)
+}
+
+fn ordered_left<L: JsonKey + Ord + Drop, R: JsonValue + Hash + Drop>(
+    value: &Value,
+    request: &Request<'_>,
+    said: &mut String,
+) -> Result<bool, AllocError> {
+    both_ways!(
+        BiBTreeHashMap::<L, R>::new(request.alloc),
+        value,
+        request,
+        said
+    )
+}
+
+fn ordered_right<L: JsonKey + Hash + Drop, R: JsonValue + Ord + Drop>(
+    value: &Value,
+    request: &Request<'_>,
+    said: &mut String,
+) -> Result<bool, AllocError> {
+    both_ways!(
+        BiHashBTreeMap::<L, R>::new(request.alloc),
+        value,
+        request,
+        said
+    )
+}
+
+fn of_kind<L: JsonKey + Ord + Hash + Drop, R: JsonValue + Ord + Hash + Drop>(
     kind: usize,
     request: &Request<'_>,
     said: &mut String,
 ) -> Result<bool, AllocError> {
-    let alloc = request.alloc;
+    let Ok(value) = Value::from_str(request.alloc, request.text) else {
+        write!(said, "no JSON")?;
+        return Ok(true);
+    };
     match kind {
-        0 => both_ways(BiBTreeMap::<L, R>::new(alloc), request, said),
-        1 => both_ways(BiHashMap::<L, R>::new(alloc), request, said),
-        2 => both_ways(BiBTreeHashMap::<L, R>::new(alloc), request, said),
-        3 => both_ways(BiHashBTreeMap::<L, R>::new(alloc), request, said),
+        0 => ordered::<L, R>(&value, request, said),
+        1 => hashed::<L, R>(&value, request, said),
+        2 => ordered_left::<L, R>(&value, request, said),
+        3 => ordered_right::<L, R>(&value, request, said),
         _ => Ok(false),
     }
 }
 
-fn of_left<L: JsonKey + Ord + Hash + Debug + Drop>(
+fn of_left<L: JsonKey + Ord + Hash + Drop>(
     kind: usize,
     request: &Request<'_>,
     said: &mut String,

@@ -66,6 +66,29 @@ fn with_numbers(
     Ok((text, turn, mixed))
 }
 
+// One turn: what was answered, with the number's sign for its digits.
+fn turn(
+    alloc: Global,
+    kinds: &mut Kinds,
+    kind: usize,
+    numbers: (u64, u64),
+    line: &str,
+    said: &mut String,
+) -> Result<Option<bool>, AllocError> {
+    let (text, turn, mixed) = with_numbers(alloc, line, numbers.0, numbers.1)?;
+    let Some(mut request) = parse(alloc, text.as_str())? else {
+        return Ok(None);
+    };
+    said.clear();
+    let has = kinds.call(kind, &mut request, said)?;
+    *said = if line.contains('%') {
+        said.replace(alloc, mixed.as_str(), "%")?
+    } else {
+        said.replace(alloc, turn.as_str(), "#")?
+    };
+    Ok(Some(has))
+}
+
 /// Makes the call of a line so many times on the kind of this number. It answers whether the kind has it, or `None` for a line
 /// that is none.
 pub fn times(
@@ -78,20 +101,10 @@ pub fn times(
 ) -> Result<Option<bool>, AllocError> {
     let mut tally = Tally::new(alloc);
     for at in 0..turns {
-        let (text, turn, mixed) = with_numbers(alloc, line, at, turns)?;
-        let Some(mut request) = parse(alloc, text.as_str())? else {
-            return Ok(None);
-        };
-        said.clear();
-        if !kinds.call(kind, &mut request, said)? {
-            return Ok(Some(false));
+        match turn(alloc, kinds, kind, (at, turns), line, said)? {
+            Some(true) => tally.add(said.clone()?)?,
+            other => return Ok(other),
         }
-        let shown = if line.contains('%') {
-            said.replace(alloc, mixed.as_str(), "%")?
-        } else {
-            said.replace(alloc, turn.as_str(), "#")?
-        };
-        tally.add(shown)?;
     }
     said.clear();
     tally.write(said)?;
