@@ -6,7 +6,7 @@ use std::alloc::AllocError;
 
 // Goes by the steps up to the first copy, and answers how many they are: `None` where the walk has no such step.
 macro_rules! go {
-    ($walk:ident, $steps:ident, $said:ident, $back:expr, $hint:expr) => {{
+    ($walk:ident, $steps:ident, $said:ident, $back:expr) => {{
         let mut done = 0usize;
         for step in $steps {
             if *step == Step::Copy {
@@ -19,7 +19,6 @@ macro_rules! go {
                 Step::Front => write!($said, "{:?}", $walk.next())?,
                 Step::Back => $back,
                 Step::Len => write!($said, "{}", $walk.len())?,
-                Step::Hint => $hint,
                 _ => {
                     write!($said, "[")?;
                     let mut first = true;
@@ -47,7 +46,7 @@ pub fn pairs_ahead<C: Course>(
     steps: &[Step],
     said: &mut String,
 ) -> Result<Option<usize>, AllocError> {
-    go!(walk, steps, said, return Ok(None), return Ok(None))
+    go!(walk, steps, said, return Ok(None))
 }
 
 /// The pairs, from both ends.
@@ -56,13 +55,7 @@ pub fn pairs_from_both<C: CourseBack>(
     steps: &[Step],
     said: &mut String,
 ) -> Result<Option<usize>, AllocError> {
-    go!(
-        walk,
-        steps,
-        said,
-        write!(said, "{:?}", walk.next_back())?,
-        write!(said, "{:?}", walk.size_hint())?
-    )
+    go!(walk, steps, said, write!(said, "{:?}", walk.next_back())?)
 }
 
 /// The values of one side, from the front alone.
@@ -71,7 +64,7 @@ pub fn values_ahead<C: Course, P: Part<Word, Word, Value = Word>>(
     steps: &[Step],
     said: &mut String,
 ) -> Result<Option<usize>, AllocError> {
-    go!(walk, steps, said, return Ok(None), return Ok(None))
+    go!(walk, steps, said, return Ok(None))
 }
 
 /// The values of one side, from both ends.
@@ -80,13 +73,7 @@ pub fn values_from_both<C: CourseBack, P: Part<Word, Word, Value = Word>>(
     steps: &[Step],
     said: &mut String,
 ) -> Result<Option<usize>, AllocError> {
-    go!(
-        walk,
-        steps,
-        said,
-        write!(said, "{:?}", walk.next_back())?,
-        return Ok(None)
-    )
+    go!(walk, steps, said, write!(said, "{:?}", walk.next_back())?)
 }
 
 /// The pairs by value, from the front alone.
@@ -95,7 +82,7 @@ pub fn owned_ahead<C: Course>(
     steps: &[Step],
     said: &mut String,
 ) -> Result<Option<usize>, AllocError> {
-    go!(walk, steps, said, return Ok(None), return Ok(None))
+    go!(walk, steps, said, return Ok(None))
 }
 
 /// The pairs by value, from both ends.
@@ -104,13 +91,7 @@ pub fn owned_from_both<C: CourseBack>(
     steps: &[Step],
     said: &mut String,
 ) -> Result<Option<usize>, AllocError> {
-    go!(
-        walk,
-        steps,
-        said,
-        write!(said, "{:?}", walk.next_back())?,
-        return Ok(None)
-    )
+    go!(walk, steps, said, write!(said, "{:?}", walk.next_back())?)
 }
 
 /// Goes by the steps: those after a copy are the copy's.

@@ -10,7 +10,7 @@ Values L and R are words of up to 16 bytes, with a note where one is wanted: ann
 and nothing compares them. N is a number, POLICY two letters, left then right: o overwrites, r refuses.
 PAIRS: L R L R .., or `each N L R`: N pairs, each # in the words its number of seven digits
 ANSWER: Neither, Left L R, Right L R, Pair L R, Both L R L R
-STEPS: front back len hint copy rest   RANGE: .. b.. b..d b..=d ..d ..=d, and >b.. without its start
+STEPS: front back len copy rest   RANGE: .. b.. b..d b..=d ..d ..=d, and >b.. without its start
 
   kinds: NAME ..                              the kinds from here on, each anew; none: all
   new · with_capacity N · from_iter PAIRS · from_iter_with POLICY PAIRS

@@ -10,7 +10,6 @@ pub enum Step {
     Front,
     Back,
     Len,
-    Hint,
     Copy,
     Rest,
 }

@@ -52,7 +52,6 @@ fn step(word: &str) -> Option<Step> {
         "front" => Some(Step::Front),
         "back" => Some(Step::Back),
         "len" => Some(Step::Len),
-        "hint" => Some(Step::Hint),
         "copy" => Some(Step::Copy),
         "rest" => Some(Step::Rest),
         _ => None,
