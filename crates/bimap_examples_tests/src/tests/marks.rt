@@ -1,8 +1,10 @@
 //! Examples of marks.
 use super::{Seats, holds};
-use bimap::{BiBTreeMap, Bijection, ItemRefused, NoRoom, NotInsertedWith, OnHeld, Policy};
+use bimap::{BiBTreeMap, ItemRefused, NoRoom, NotInsertedWith, OnHeld, Policy};
 use bimap_undo::Undoable;
 use std::test::Fail;
+
+type Recorded = Undoable<Seats, char, u32>;
 
 type Refusal = Result<(), ItemRefused<char, u32>>;
 
@@ -19,9 +21,7 @@ fn goes_back_to_a_mark(rt: HostRuntime) -> Result<(), Fail> {
     Ok(())
 }
 
-fn inserted<B: Bijection<char, u32> + Drop>(
-    seats: &mut Undoable<B, char, u32>,
-) -> Result<bool, NotInsertedWith<char, u32>> {
+fn inserted(seats: &mut Recorded) -> Result<bool, NotInsertedWith<char, u32>> {
     let keep = Policy {
         left: OnHeld::Refuse,
         right: OnHeld::Refuse,
@@ -30,9 +30,7 @@ fn inserted<B: Bijection<char, u32> + Drop>(
     seats.insert_with('b', 1, keep)
 }
 
-fn all_inserted<B: Bijection<char, u32> + Drop>(
-    seats: &mut Undoable<B, char, u32>,
-) -> Result<Refusal, NoRoom<char, u32>> {
+fn all_inserted(seats: &mut Recorded) -> Result<Refusal, NoRoom<char, u32>> {
     let keep = Policy {
         left: OnHeld::Refuse,
         right: OnHeld::Refuse,
