@@ -1,4 +1,4 @@
-//! Tests of what no clause says, over each kind of bimap: many pairs, drops, and values of odd types.
+//! Tests over kinds of bimap of what no clause says and no transcript shows: drops, odd values, builders, loops, hashes.
 #![tactic(auto)]
 
 #[cfg(test)]

@@ -1,11 +1,8 @@
 //! Each value that a bimap was given is dropped once, and not before it is let go.
 use super::counted::{Counted, Ledger};
-use bimap::{Bijection, BijectiveMap};
-use bimap_calls::{Kind, Taken, over_each_kind};
-use bimap_index::{EmptyIndex, HashIndex};
-use bimap_tree::Ordered;
+use bimap::{BiBTreeHashMap, Bijection};
+use bimap_calls::{Kind, Taken, over_mixed_kinds};
 use std::alloc::{AllocError, Global};
-use std::hash::{BuildHasherDefault, FoldHasher};
 use std::process::Abort;
 use std::test::Fail;
 
@@ -33,151 +30,108 @@ fn fill<B: Bijection<Counted, Counted>>(
     Ok(())
 }
 
-fn struck<B: Bijection<Counted, Counted> + Drop>(
+// Strikes a left, a right, a pair and two pairs, is refused a pair, and removes one from either side.
+fn let_go<B: Bijection<Counted, Counted>>(
     rt: &impl Abort,
-    alloc: Global,
-    mut bimap: B,
-) -> Result<(), Fail> {
-    let mut ledger = Ledger::new(alloc);
-    fill(&mut bimap, &mut ledger, 8)?;
+    bimap: &mut B,
+    ledger: &mut Ledger,
+) -> Result<(), AllocError> {
+    fill(bimap, ledger, 8)?;
     assert_eq!(rt; ledger.dropped(), Some(0));
-    // A left, a right, a pair, and two pairs.
     for (left, right, dropped) in [(0, 10, 2), (11, 1, 4), (2, 2, 6), (3, 4, 10)] {
-        put(&mut bimap, &mut ledger, left, right)?;
+        put(bimap, ledger, left, right)?;
         assert_eq!(rt; ledger.dropped(), Some(dropped), "{left} {right}");
     }
-    assert_eq!(rt; bimap.len(), 7);
-    drop(bimap);
-    assert!(rt; ledger.is_balanced());
-    Ok(())
-}
-
-fn handed_back<B: Bijection<Counted, Counted> + Drop>(
-    rt: &impl Abort,
-    alloc: Global,
-    mut bimap: B,
-) -> Result<(), Fail> {
-    let mut ledger = Ledger::new(alloc);
-    fill(&mut bimap, &mut ledger, 8)?;
-    let (left, right) = ledger.pair(0, 9)?;
+    let (left, right) = ledger.pair(5, 90)?;
     drop(bimap.insert_no_overwrite(left, right));
-    assert_eq!(rt; ledger.dropped(), Some(2));
-    let key = ledger.value(3)?;
+    assert_eq!(rt; ledger.dropped(), Some(12));
+    let key = ledger.value(6)?;
     drop(bimap.remove_by_left(&key));
-    assert_eq!(rt; ledger.dropped(), Some(4));
-    drop(bimap.remove_by_right(&key));
-    assert_eq!(rt; ledger.dropped(), Some(4));
-    drop(key);
-    let key = ledger.value(4)?;
     drop(bimap.remove_by_right(&key));
     drop(key);
-    assert_eq!(rt; ledger.dropped(), Some(8));
-    drop(bimap);
-    assert!(rt; ledger.is_balanced());
+    let key = ledger.value(7)?;
+    drop(bimap.remove_by_right(&key));
+    drop(key);
+    assert_eq!(rt; (bimap.len(), ledger.dropped()), (5, Some(18)));
     Ok(())
 }
 
-// Takes back an insertion that struck two pairs: they are held again, and the inserted pair is let go.
-fn undone<B: Bijection<Counted, Counted> + Drop>(
+// Takes back an insertion that strikes two pairs: they are held again, and the inserted pair is let go.
+fn undone<B: Bijection<Counted, Counted>>(
     rt: &impl Abort,
-    alloc: Global,
-    mut bimap: B,
+    bimap: &mut B,
+    ledger: &mut Ledger,
 ) -> Result<(), Fail> {
-    let mut ledger = Ledger::new(alloc);
-    fill(&mut bimap, &mut ledger, 4)?;
-    let (left, right) = ledger.pair(0, 1)?;
+    let (left, right) = ledger.pair(0, 5)?;
     let answer = bimap.insert(left, right).ok().ok_or("no memory")?;
-    assert_eq!(rt; ledger.dropped(), Some(0));
+    assert_eq!(rt; ledger.dropped(), Some(18));
     let key = ledger.value(0)?;
     if !bimap.can_undo_insert(&key, &answer) {
         return Err("it may not be undone".into());
     }
     drop(bimap.undo_insert(&key, answer));
-    assert_eq!(rt; (bimap.len(), ledger.dropped()), (4, Some(2)));
     drop(key);
-    drop(bimap);
-    assert!(rt; ledger.is_balanced());
+    assert_eq!(rt; (bimap.len(), ledger.dropped()), (5, Some(21)));
     Ok(())
 }
 
-// Keeps 8 of 20 pairs.
-fn retain_some<B: Bijection<Counted, Counted>>(
+// Keeps some of the pairs, packs them, clears them away and goes on.
+fn cleared<B: Kind<Counted, Counted>>(
     rt: &impl Abort,
     bimap: &mut B,
     ledger: &mut Ledger,
-) -> Result<(), AllocError> {
-    fill(bimap, ledger, 20)?;
-    let least = ledger.value(12)?;
+) -> Result<(), Fail> {
+    let least = ledger.value(3)?;
     bimap.retain(|left: &Counted, _: &Counted| *left >= least);
     drop(least);
-    assert_eq!(rt; (bimap.len(), ledger.dropped()), (8, Some(25)));
-    Ok(())
-}
-
-// Clears what is left of them.
-fn clear_all<B: Bijection<Counted, Counted> + Drop>(
-    rt: &impl Abort,
-    mut bimap: B,
-    mut ledger: Ledger,
-) -> Result<(), Fail> {
+    assert_eq!(rt; (bimap.len(), ledger.dropped()), (3, Some(26)));
+    bimap.shrink_to_fit()?;
+    assert_eq!(rt; (bimap.len(), ledger.dropped()), (3, Some(26)));
     bimap.clear();
     assert!(rt; ledger.is_balanced());
-    put(&mut bimap, &mut ledger, 1, 2)?;
-    assert_eq!(rt; ledger.dropped(), Some(41));
-    drop(bimap);
-    assert!(rt; ledger.is_balanced());
+    put(bimap, ledger, 1, 2)?;
+    assert_eq!(rt; ledger.dropped(), Some(32));
     Ok(())
 }
 
-fn retained_and_cleared<B: Bijection<Counted, Counted> + Drop>(
-    rt: &impl Abort,
-    alloc: Global,
-    mut bimap: B,
-) -> Result<(), Fail> {
-    let mut ledger = Ledger::new(alloc);
-    retain_some(rt, &mut bimap, &mut ledger)?;
-    clear_all(rt, bimap, ledger)
-}
-
-fn shrunk_and_cleared<B: Kind<Counted, Counted>>(
-    rt: &impl Abort,
-    alloc: Global,
-    mut bimap: B,
-) -> Result<(), Fail> {
-    let mut ledger = Ledger::new(alloc);
-    retain_some(rt, &mut bimap, &mut ledger)?;
-    bimap.shrink_to_fit()?;
-    assert_eq!(rt; (bimap.len(), ledger.dropped()), (8, Some(25)));
-    clear_all(rt, bimap, ledger)
-}
-
-// An owning walk that is given up drops the rest.
+// An owning walk that is given up after so many steps drops the rest, also where places in the midst are free.
 fn given_up<B: Kind<Counted, Counted> + Taken<Counted, Counted>>(
     rt: &impl Abort,
     alloc: Global,
     mut bimap: B,
     steps: usize,
-    given: usize,
 ) -> Result<(), Fail> {
     let mut ledger = Ledger::new(alloc);
     fill(&mut bimap, &mut ledger, 44)?;
-    // Some places in the midst are free.
     for name in 20..24 {
         let key = ledger.value(name)?;
         drop(bimap.remove_by_left(&key));
     }
-    assert_eq!(rt; bimap.give_up(alloc, steps), given);
+    assert_eq!(rt; bimap.give_up(alloc, steps), steps.min(40));
     assert!(rt; ledger.is_balanced(), "{steps}");
     Ok(())
 }
 
-// The same of one by an ordered left that was gone from both ends.
-fn given_up_at_both_ends<J: EmptyIndex<Counted> + Drop>(
+fn all<B: Kind<Counted, Counted> + Taken<Counted, Counted>>(
     rt: &impl Abort,
     alloc: Global,
-    steps: usize,
 ) -> Result<(), Fail> {
-    let mut bimap: BijectiveMap<Counted, Counted, Ordered, J> = BijectiveMap::empty(alloc);
+    let mut ledger = Ledger::new(alloc);
+    let mut bimap = B::empty(alloc);
+    let_go(rt, &mut bimap, &mut ledger)?;
+    undone(rt, &mut bimap, &mut ledger)?;
+    cleared(rt, &mut bimap, &mut ledger)?;
+    drop(bimap);
+    assert!(rt; ledger.is_balanced());
+    for steps in [0, 1, 20, 40, 50] {
+        given_up(rt, alloc, B::empty(alloc), steps)?;
+    }
+    Ok(())
+}
+
+// An owning walk by an ordered left, gone from both ends.
+fn given_up_at_both_ends(rt: &impl Abort, alloc: Global, steps: usize) -> Result<(), Fail> {
+    let mut bimap: BiBTreeHashMap<Counted, Counted> = BiBTreeHashMap::new(alloc);
     let mut ledger = Ledger::new(alloc);
     fill(&mut bimap, &mut ledger, 40)?;
     let mut walk = bimap.into_iter();
@@ -191,27 +145,11 @@ fn given_up_at_both_ends<J: EmptyIndex<Counted> + Drop>(
     Ok(())
 }
 
-fn all<B: Kind<Counted, Counted> + Taken<Counted, Counted>>(
-    rt: &impl Abort,
-    alloc: Global,
-) -> Result<(), Fail> {
-    struck(rt, alloc, B::empty(alloc))?;
-    handed_back(rt, alloc, B::empty(alloc))?;
-    undone(rt, alloc, B::empty(alloc))?;
-    retained_and_cleared(rt, alloc, B::empty(alloc))?;
-    shrunk_and_cleared(rt, alloc, B::empty(alloc))?;
-    for (steps, given) in [(0, 0), (1, 1), (20, 20), (39, 39), (40, 40), (50, 40)] {
-        given_up(rt, alloc, B::empty(alloc), steps, given)?;
-    }
-    Ok(())
-}
-
 #[test]
 fn each_value_is_dropped_once(rt: HostRuntime) -> Result<(), Fail> {
-    over_each_kind!(all, Counted, Counted, &rt, ?);
+    over_mixed_kinds!(all, Counted, Counted, &rt, ?);
     for steps in [1, 8, 9, 20] {
-        given_up_at_both_ends::<Ordered>(&rt, rt.alloc(), steps)?;
-        given_up_at_both_ends::<HashIndex<BuildHasherDefault<FoldHasher>>>(&rt, rt.alloc(), steps)?;
+        given_up_at_both_ends(&rt, rt.alloc(), steps)?;
     }
     Ok(())
 }

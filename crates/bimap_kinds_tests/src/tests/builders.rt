@@ -1,0 +1,65 @@
+//! Builders of one's own: what is held is the same under any, and each bimap goes on with those that it was handed.
+use bimap::{BiHashMap, Bijection, Overwritten};
+use bimap_calls::{Walked, shows};
+use std::hash::RandomState;
+use std::process::Abort;
+use std::test::Fail;
+
+type Random = BiHashMap<u32, u32, RandomState, RandomState>;
+
+// The same pairs, from either end.
+fn put_up<B: Bijection<u32, u32>>(bimap: &mut B) {
+    for at in 0..40u32 {
+        drop(bimap.insert(at, at ^ 1));
+    }
+}
+
+fn put_down<B: Bijection<u32, u32>>(bimap: &mut B) {
+    for at in (0..40u32).rev() {
+        drop(bimap.insert(at, at ^ 1));
+    }
+}
+
+// Whether two bimaps are equal, and whether they are not, whichever is asked.
+fn are_equal<B: Walked<u32, u32>>(first: &B, second: &B) -> bool {
+    first.equals(second) && second.equals(first)
+}
+
+fn are_unlike<B: Walked<u32, u32>>(first: &B, second: &B) -> bool {
+    !first.equals(second) && !second.equals(first)
+}
+
+// Two that are empty are equal just while they hold the same pairs, and so is a copy of one.
+fn are_equal_by_pairs<B: Walked<u32, u32>>(rt: &impl Abort, first: &mut B, second: &mut B) {
+    put_up(first);
+    put_down(second);
+    assert!(rt; first.len() == 40 && are_equal(first, second));
+    let copy = second.copied().ok().expect(rt, "no memory");
+    drop(second.insert(7, 99));
+    assert!(rt; are_unlike(first, second) && are_equal(first, &copy));
+    drop(second.insert(7, 6));
+    assert!(rt; are_equal(first, second));
+    drop(second.remove_by_right(&0));
+    assert!(rt; are_unlike(first, second));
+}
+
+// Keeps two pairs in two places, and undoes an insertion that struck two more.
+fn shrinks_and_undoes(map: &mut Random) -> bool {
+    map.retain(|left: &u32, _: &u32| *left == 4 || *left == 9);
+    let fits = map.shrink_to_fit() == Ok(()) && map.capacity() == 2;
+    let both = Overwritten::Both((10, 30), (11, 31));
+    fits && map.can_undo_insert(&4, &both) && map.undo_insert(&4, both) == Ok((4, 5))
+}
+
+#[test]
+fn what_is_held_is_the_same_under_any_builder(rt: HostRuntime) -> Result<(), Fail> {
+    let alloc = rt.alloc();
+    let (left, right) = (RandomState::new(&rt)?, RandomState::new(&rt)?);
+    let mut first: Random = BiHashMap::with_hashers(alloc, left, right);
+    let (left, right) = (RandomState::new(&rt)?, RandomState::new(&rt)?);
+    let mut second: Random = BiHashMap::with_hashers(alloc, left, right);
+    are_equal_by_pairs(&rt, &mut first, &mut second);
+    assert!(rt; shrinks_and_undoes(&mut first));
+    assert!(rt; shows(&first, &[(9, 8), (10, 30), (11, 31)]));
+    Ok(())
+}

@@ -1,3 +1,0 @@
-//! What no clause says of the store and of the index.
-mod index;
-mod store;
