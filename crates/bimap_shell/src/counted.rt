@@ -1,10 +1,10 @@
 //! Calls with a meter, and their bounds.
 use crate::kind::{ByLeft, ByRight};
-use crate::meter::{Shown, at_zero};
+use crate::kinds::{has_ordered_left, has_ordered_right};
+use crate::meter::at_zero;
 use crate::request::{On, Request};
 use crate::word::Word;
-use bimap::btree::Count;
-use bimap_calls::CopyKind;
+use bimap::Bijection;
 use std::alloc::AllocError;
 
 // How many searches by left and by right the bound of a call counts.
@@ -19,26 +19,37 @@ fn searches(call: &str) -> (u64, u64) {
     }
 }
 
+// How many comparisons a search makes at most: twice as many as the length has binary digits, and none by hash.
+fn effort(length: usize, is_ordered: bool) -> u64 {
+    let digits = if is_ordered {
+        usize::BITS.saturating_sub(length.leading_zeros())
+    } else {
+        0
+    };
+    u64::from(digits).saturating_mul(2)
+}
+
+fn bound(request: &Request<'_>, length: usize) -> u64 {
+    let (left, right) = searches(request.call);
+    let by_left = effort(length, has_ordered_left(request.kind)).saturating_mul(left);
+    let by_right = effort(length, has_ordered_right(request.kind)).saturating_mul(right);
+    by_left.saturating_add(by_right)
+}
+
 /// Makes the call with a meter, and writes what it counted.
-pub fn call<B: CopyKind<Word, Word> + ByLeft + ByRight>(
+pub fn call<B: Bijection<Word, Word> + ByLeft + ByRight>(
     bimap: &mut B,
     request: &Request<'_>,
     said: &mut String,
 ) -> Result<bool, AllocError> {
     let mut meter = at_zero();
-    let length = bimap.len();
-    let counted = bimap.counted(request, &mut meter, said)?
-        || bimap.counted_left_end(request, &mut meter, said)?
-        || bimap.counted_right_end(request, &mut meter, said)?;
-    if !counted {
+    let bound = bound(request, bimap.len());
+    if !bimap.count_by_left(request, &mut meter, said)?
+        && !bimap.count_by_right(request, &mut meter, said)?
+    {
         return Ok(false);
     }
-    let (left, right) = searches(request.call);
     let made = meter.comparisons();
-    let by_left = B::left_effort(length).saturating_mul(left);
-    let bound = B::right_effort(length)
-        .saturating_mul(right)
-        .saturating_add(by_left);
     match request.on {
         On::Bounded if made <= bound => write!(said, ", within the bound")?,
         On::Bounded => write!(said, ", {made} comparisons, above the bound of {bound}")?,

@@ -1,15 +1,36 @@
 //! What a hashed left gives.
 use crate::course::{owned_ahead, pairs_ahead, values_ahead};
 use crate::follow;
-use crate::kind::{ByLeft, Words, counted};
+use crate::kind::{ByLeft, Words, copy_to, counted, intern};
 use crate::meter::Shown;
 use crate::request::Request;
 use crate::word::Word;
-use bimap::NoMemory;
 use bimap::btree::Count;
 use bimap_index::{CopiedIndex, HashIndex};
 use std::alloc::AllocError;
 use std::hash::BuildHasher;
+
+fn walk<LS: BuildHasher + Clone + Drop, J: CopiedIndex<Word> + Drop>(
+    bimap: &Words<HashIndex<LS>, J>,
+    request: &Request<'_>,
+    said: &mut String,
+) -> Result<bool, AllocError> {
+    let steps = request.steps.as_slice();
+    match request.call {
+        "iter" => follow!(pairs_ahead, bimap.iter(), steps, said),
+        "left_values" => follow!(values_ahead, bimap.left_values(), steps, said),
+        _ => Ok(false),
+    }
+}
+
+fn walk_owned<LS: BuildHasher + Clone + Drop, J: CopiedIndex<Word> + Drop>(
+    bimap: Words<HashIndex<LS>, J>,
+    request: &Request<'_>,
+    said: &mut String,
+) -> Result<bool, AllocError> {
+    let mut walk = bimap.into_iter();
+    Ok(owned_ahead(&mut walk, request.steps.as_slice(), said)?.is_some())
+}
 
 impl<LS: BuildHasher + Clone + Drop, J: CopiedIndex<Word> + Drop> ByLeft
     for Words<HashIndex<LS>, J> {
@@ -17,50 +38,43 @@ impl<LS: BuildHasher + Clone + Drop, J: CopiedIndex<Word> + Drop> ByLeft
         write!(said, "{self:?}")
     }
 
-    fn compare(&self, other: &Self, call: &str, said: &mut String) -> Result<bool, AllocError> {
-        if call != "eq" {
-            return Ok(false);
+    fn call_by_left(
+        &mut self,
+        other: &mut Self,
+        request: &Request<'_>,
+        said: &mut String,
+    ) -> Result<bool, AllocError> {
+        match request.call {
+            "retain" => {
+                let least = request.first;
+                self.retain(|_left: &Word, right: &Word| *right >= least);
+                write!(said, "()")?;
+                Ok(true)
+            }
+            "clone" => {
+                if copy_to(self, other, said)? {
+                    write!(said, "Ok({other:?})")?;
+                }
+                Ok(true)
+            }
+            "into_iter" => match self.clone() {
+                Ok(copy) => walk_owned(copy, request, said),
+                Err(_) => Err(AllocError),
+            },
+            "eq" => {
+                write!(said, "{}", self == other)?;
+                Ok(true)
+            }
+            _ => Ok(walk(self, request, said)? || intern(self, request, said)?),
         }
-        write!(said, "{:?}", self == other)?;
-        Ok(true)
     }
 
-    fn copied(&self) -> Result<Self, NoMemory> {
-        self.clone()
-    }
-
-    fn intern(&mut self, request: &Request<'_>, said: &mut String) -> Result<(), AllocError> {
-        write!(
-            said,
-            "{:?}",
-            self.get_by_left_or_insert(request.first, request.second)
-        )
-    }
-
-    fn counted(
+    fn count_by_left(
         &mut self,
         request: &Request<'_>,
         meter: &mut Shown<Count>,
         said: &mut String,
     ) -> Result<bool, AllocError> {
         counted(self, request, meter, said)
-    }
-
-    fn keep_from(&mut self, least: &Word) {
-        self.retain(|_left: &Word, right: &Word| *right >= *least);
-    }
-
-    fn walk_left(&self, request: &Request<'_>, said: &mut String) -> Result<bool, AllocError> {
-        let steps = request.steps.as_slice();
-        match request.call {
-            "iter" => follow!(pairs_ahead, self.iter(), steps, said),
-            "left_values" => follow!(values_ahead, self.left_values(), steps, said),
-            _ => Ok(false),
-        }
-    }
-
-    fn walk_owned(self, request: &Request<'_>, said: &mut String) -> Result<bool, AllocError> {
-        let mut walk = self.into_iter();
-        Ok(owned_ahead(&mut walk, request.steps.as_slice(), said)?.is_some())
     }
 }

@@ -3,6 +3,7 @@ use crate::kind::{ByLeft, ByRight};
 use crate::request::{Memory, Request};
 use crate::session::Session;
 use crate::word::Word;
+use bimap::NoMemory;
 use bimap_calls::CopyKind;
 use bimap_famine::Famine;
 use std::alloc::AllocError;
@@ -59,12 +60,16 @@ fn eased<B: CopyKind<Word, Word> + ByLeft + ByRight>(
     Ok(true)
 }
 
-/// Makes a call with the memory that its line leaves.
+/// Makes a call with the memory that its line leaves, or takes the bimap that was made.
 pub fn call<B: CopyKind<Word, Word> + ByLeft + ByRight>(
     session: &mut Session<B>,
+    made: Option<Result<B, NoMemory>>,
     request: &mut Request<'_>,
     said: &mut String,
 ) -> Result<bool, AllocError> {
+    if let Some(made) = made {
+        return session.begin(made, said);
+    }
     match request.memory {
         Memory::Plenty => session.call(request, said),
         Memory::Easing => eased(session, request, said),

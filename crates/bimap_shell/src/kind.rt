@@ -2,52 +2,26 @@
 use crate::meter::Shown;
 use crate::request::Request;
 use crate::word::Word;
+use bimap::BijectiveMap;
 use bimap::btree::Count;
-use bimap::{BijectiveMap, NoMemory};
-use bimap_index::Index;
+use bimap_index::{CopiedIndex, Index};
 use std::alloc::AllocError;
 
-/// What a bimap has by the index of its lefts.
+/// What a bimap has by the index of its lefts. Each call answers whether there is one on this kind, and writes what it said.
 pub trait ByLeft: Sized {
-    /// How many comparisons a search by left makes at most.
-    fn left_effort(_length: usize) -> u64 {
-        0
-    }
-
     /// The bimap by `Debug`.
     fn show(&self, said: &mut String) -> Result<(), AllocError>;
 
-    fn compare(&self, other: &Self, call: &str, said: &mut String) -> Result<bool, AllocError>;
-
-    /// Keeps the pairs whose right is at least this one.
-    fn keep_from(&mut self, least: &Word);
-
-    fn copied(&self) -> Result<Self, NoMemory>;
-
-    fn intern(&mut self, request: &Request<'_>, said: &mut String) -> Result<(), AllocError>;
-
-    fn walk_left(&self, request: &Request<'_>, said: &mut String) -> Result<bool, AllocError>;
-
-    /// Walks a bimap that it takes.
-    fn walk_owned(self, request: &Request<'_>, said: &mut String) -> Result<bool, AllocError>;
-
-    /// An end or a rank.
-    fn left_end(&mut self, _request: &Request<'_>, _said: &mut String) -> Result<bool, AllocError> {
-        Ok(false)
-    }
-
-    /// An end or a rank, counted.
-    fn counted_left_end(
+    /// A walk, an end, a rank, or a comparison with the other bimap, whose place a clone takes.
+    fn call_by_left(
         &mut self,
-        _request: &Request<'_>,
-        _meter: &mut Shown<Count>,
-        _said: &mut String,
-    ) -> Result<bool, AllocError> {
-        Ok(false)
-    }
+        other: &mut Self,
+        request: &Request<'_>,
+        said: &mut String,
+    ) -> Result<bool, AllocError>;
 
-    /// A counted call that every kind has.
-    fn counted(
+    /// A call with a meter.
+    fn count_by_left(
         &mut self,
         request: &Request<'_>,
         meter: &mut Shown<Count>,
@@ -57,39 +31,55 @@ pub trait ByLeft: Sized {
 
 /// What a bimap has by the index of its rights.
 pub trait ByRight {
-    /// How many comparisons a search by right makes at most.
-    fn right_effort(_length: usize) -> u64 {
-        0
-    }
-
-    fn walk_right(&self, request: &Request<'_>, said: &mut String) -> Result<bool, AllocError>;
-
-    /// An end or a rank.
-    fn right_end(
+    /// A walk, an end or a rank.
+    fn call_by_right(
         &mut self,
-        _request: &Request<'_>,
-        _said: &mut String,
-    ) -> Result<bool, AllocError> {
-        Ok(false)
-    }
+        request: &Request<'_>,
+        said: &mut String,
+    ) -> Result<bool, AllocError>;
 
-    /// An end or a rank, counted.
-    fn counted_right_end(
+    /// An end or a rank, with a meter.
+    fn count_by_right(
         &mut self,
-        _request: &Request<'_>,
-        _meter: &mut Shown<Count>,
-        _said: &mut String,
-    ) -> Result<bool, AllocError> {
-        Ok(false)
-    }
+        request: &Request<'_>,
+        meter: &mut Shown<Count>,
+        said: &mut String,
+    ) -> Result<bool, AllocError>;
 }
 
 /// A bimap of words.
 pub type Words<I, J> = BijectiveMap<Word, Word, I, J>;
 
-/// Twice as many as the length has binary digits.
-pub fn twice_the_digits(length: usize) -> u64 {
-    u64::from(usize::BITS.saturating_sub(length.leading_zeros())).saturating_mul(2)
+/// Puts a copy in the place of the other bimap, and answers whether there is one.
+pub fn copy_to<I: CopiedIndex<Word> + Drop, J: CopiedIndex<Word> + Drop>(
+    bimap: &Words<I, J>,
+    other: &mut Words<I, J>,
+    said: &mut String,
+) -> Result<bool, AllocError> {
+    match bimap.clone() {
+        Ok(copy) => {
+            *other = copy;
+            Ok(true)
+        }
+        Err(refused) => {
+            write!(said, "Err({refused:?})")?;
+            Ok(false)
+        }
+    }
+}
+
+/// Interning, which is no call of every bimap.
+pub fn intern<I: Index<Word>, J: Index<Word>>(
+    bimap: &mut Words<I, J>,
+    request: &Request<'_>,
+    said: &mut String,
+) -> Result<bool, AllocError> {
+    if request.call != "get_by_left_or_insert" {
+        return Ok(false);
+    }
+    let answer = bimap.get_by_left_or_insert(request.first, request.second);
+    write!(said, "{answer:?}")?;
+    Ok(true)
 }
 
 /// The counted calls that every kind has.

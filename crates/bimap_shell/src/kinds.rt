@@ -3,7 +3,7 @@ use crate::request::{On, Request};
 use crate::session::Session;
 use crate::word::Word;
 use crate::{hunger, json};
-use bimap::{BiBTreeHashMap, BiBTreeMap, BiHashBTreeMap, BiHashMap, NoMemory};
+use bimap::{BiBTreeHashMap, BiBTreeMap, BiHashBTreeMap, BiHashMap};
 use bimap_calls::{Crowded, Zero};
 use std::alloc::{AllocError, Global};
 
@@ -16,13 +16,23 @@ pub const NAMES: [&str; 5] = [
     "crowded",
 ];
 
-// Makes a bimap of the kind, or another call.
-macro_rules! answered {
-    ($session:expr, $request:ident, $said:ident, $new:expr, $with_capacity:expr) => {
+/// Whether a kind has its lefts in order.
+pub fn has_ordered_left(kind: usize) -> bool {
+    kind == 0 || kind == 2
+}
+
+/// Whether a kind has its rights in order.
+pub fn has_ordered_right(kind: usize) -> bool {
+    kind == 0 || kind == 3
+}
+
+// The bimap that a call makes, where it makes one.
+macro_rules! made {
+    ($request:ident, $new:expr, $with_capacity:expr) => {
         match $request.call {
-            "new" if $request.on == On::Bimap => $session.begin::<NoMemory>(Ok($new), $said),
-            "with_capacity" => $session.begin($with_capacity, $said),
-            _ => hunger::call(&mut $session, $request, $said),
+            "new" if $request.on == On::Bimap => Some(Ok($new)),
+            "with_capacity" => Some($with_capacity),
+            _ => None,
         }
     };
 }
@@ -56,6 +66,7 @@ impl Kinds {
         request: &mut Request<'_>,
         said: &mut String,
     ) -> Result<bool, AllocError> {
+        request.kind = kind;
         if request.call == "json" {
             return json::call(kind, request, said);
         }
@@ -75,13 +86,12 @@ impl Kinds {
         said: &mut String,
     ) -> Result<bool, AllocError> {
         let (alloc, capacity) = (request.alloc, request.number);
-        answered!(
-            self.ordered,
+        let made = made!(
             request,
-            said,
             BiBTreeMap::new(alloc),
             BiBTreeMap::with_capacity(alloc, capacity)
-        )
+        );
+        hunger::call(&mut self.ordered, made, request, said)
     }
 
     fn on_hashed(
@@ -90,13 +100,12 @@ impl Kinds {
         said: &mut String,
     ) -> Result<bool, AllocError> {
         let (alloc, capacity) = (request.alloc, request.number);
-        answered!(
-            self.hashed,
+        let made = made!(
             request,
-            said,
             BiHashMap::new(alloc),
             BiHashMap::with_capacity(alloc, capacity)
-        )
+        );
+        hunger::call(&mut self.hashed, made, request, said)
     }
 
     fn on_ordered_left(
@@ -105,13 +114,12 @@ impl Kinds {
         said: &mut String,
     ) -> Result<bool, AllocError> {
         let (alloc, capacity) = (request.alloc, request.number);
-        answered!(
-            self.ordered_left,
+        let made = made!(
             request,
-            said,
             BiBTreeHashMap::new(alloc),
             BiBTreeHashMap::with_capacity(alloc, capacity)
-        )
+        );
+        hunger::call(&mut self.ordered_left, made, request, said)
     }
 
     fn on_ordered_right(
@@ -120,13 +128,12 @@ impl Kinds {
         said: &mut String,
     ) -> Result<bool, AllocError> {
         let (alloc, capacity) = (request.alloc, request.number);
-        answered!(
-            self.ordered_right,
+        let made = made!(
             request,
-            said,
             BiHashBTreeMap::new(alloc),
             BiHashBTreeMap::with_capacity(alloc, capacity)
-        )
+        );
+        hunger::call(&mut self.ordered_right, made, request, said)
     }
 
     fn on_crowded(
@@ -135,12 +142,11 @@ impl Kinds {
         said: &mut String,
     ) -> Result<bool, AllocError> {
         let (alloc, capacity) = (request.alloc, request.number);
-        answered!(
-            self.crowded,
+        let made = made!(
             request,
-            said,
             BiHashMap::with_hashers(alloc, Zero, Zero),
             BiHashMap::with_capacity_and_hashers(alloc, capacity, Zero, Zero)
-        )
+        );
+        hunger::call(&mut self.crowded, made, request, said)
     }
 }

@@ -1,9 +1,7 @@
 //! The calls of one pair, on any bimap.
-use crate::kind::{ByLeft, ByRight};
 use crate::request::Request;
 use crate::word::Word;
 use bimap::{Bijection, replace_left, replace_right};
-use bimap_calls::CopyKind;
 use std::alloc::AllocError;
 
 fn replaced<B: Bijection<Word, Word>>(
@@ -42,7 +40,7 @@ fn removed<B: Bijection<Word, Word>>(
 }
 
 /// Makes the call, if it is one of these.
-pub fn call<B: CopyKind<Word, Word> + ByLeft + ByRight>(
+pub fn call<B: Bijection<Word, Word>>(
     bimap: &mut B,
     request: &Request<'_>,
     said: &mut String,
@@ -52,11 +50,6 @@ pub fn call<B: CopyKind<Word, Word> + ByLeft + ByRight>(
         "insert" => write!(said, "{:?}", bimap.insert(left, right))?,
         "insert_no_overwrite" => write!(said, "{:?}", bimap.insert_no_overwrite(left, right))?,
         "insert_with" => write!(said, "{:?}", bimap.insert_with(left, right, request.policy))?,
-        "get_by_left_or_insert" => bimap.intern(request, said)?,
-        "retain" => {
-            bimap.keep_from(&left);
-            write!(said, "()")?;
-        }
         _ => return Ok(removed(bimap, request, said)? || replaced(bimap, request, said)?),
     }
     Ok(true)

@@ -24,26 +24,12 @@ fn room<B: CopyKind<Word, Word> + ByLeft + ByRight>(
 }
 
 fn each<B: Bijection<Word, Word>>(bimap: &B, said: &mut String) {
-    let mut between = "";
+    let mut between = false;
     bimap.for_each(|left: &Word, right: &Word| {
-        let _written = write!(said, "{between}({left:?}, {right:?})");
-        between = ", ";
+        let comma = if between { ", " } else { "" };
+        let _written = write!(said, "{comma}({left:?}, {right:?})");
+        between = true;
     });
-}
-
-fn copied<B: CopyKind<Word, Word> + ByLeft + ByRight>(
-    session: &mut Session<B>,
-    said: &mut String,
-) -> Result<(), AllocError> {
-    match session.bimap.copied() {
-        Ok(copy) => {
-            session.other = copy;
-            write!(said, "Ok(")?;
-            session.other.show(said)?;
-            write!(said, ")")
-        }
-        Err(refused) => write!(said, "Err({refused:?})"),
-    }
 }
 
 /// Makes the call, if it is one of these.
@@ -58,13 +44,6 @@ pub fn call<B: CopyKind<Word, Word> + ByLeft + ByRight>(
             write!(said, "[")?;
             each(&session.bimap, said);
             write!(said, "]")?;
-        }
-        "clone" => copied(session, said)?,
-        "into_iter" => {
-            return match session.bimap.copied() {
-                Ok(copy) => copy.walk_owned(request, said),
-                Err(_) => Err(AllocError),
-            };
         }
         "swap" => {
             mem::swap(&mut session.bimap, &mut session.other);

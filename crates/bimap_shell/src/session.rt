@@ -83,11 +83,8 @@ impl<B: CopyKind<Word, Word> + ByLeft + ByRight> Session<B> {
 
     fn of_sides(&mut self, request: &Request<'_>, said: &mut String) -> Result<bool, AllocError> {
         Ok(
-            self.bimap.walk_left(request, said)?
-                || self.bimap.walk_right(request, said)?
-                || self.bimap.left_end(request, said)?
-                || self.bimap.right_end(request, said)?
-                || self.bimap.compare(&self.other, request.call, said)?,
+            self.bimap.call_by_left(&mut self.other, request, said)?
+                || self.bimap.call_by_right(request, said)?,
         )
     }
 
