@@ -1,6 +1,6 @@
 //! Builders of one's own: what is held is the same under any, and each bimap goes on with those that it was handed.
 use bimap::{BiHashMap, Bijection, Overwritten};
-use bimap_calls::{Walked, shows};
+use bimap_calls::shows;
 use std::hash::RandomState;
 use std::process::Abort;
 use std::test::Fail;
@@ -21,20 +21,26 @@ fn put_down<B: Bijection<u32, u32>>(bimap: &mut B) {
 }
 
 // Whether two bimaps are equal, and whether they are not, whichever is asked.
-fn are_equal<B: Walked<u32, u32>>(first: &B, second: &B) -> bool {
-    first.equals(second) && second.equals(first)
+fn are_equal<B: PartialEq>(first: &B, second: &B) -> bool {
+    *first == *second && *second == *first
 }
 
-fn are_unlike<B: Walked<u32, u32>>(first: &B, second: &B) -> bool {
-    !first.equals(second) && !second.equals(first)
+fn are_unlike<B: PartialEq>(first: &B, second: &B) -> bool {
+    *first != *second && *second != *first
 }
 
-// Two that are empty are equal just while they hold the same pairs, and so is a copy of one.
-fn are_equal_by_pairs<B: Walked<u32, u32>>(rt: &impl Abort, first: &mut B, second: &mut B) {
-    put_up(first);
-    put_down(second);
+fn copied(bimap: &Random) -> Option<Random> {
+    bimap.clone().ok()
+}
+
+// Two that hold the same pairs are equal just while they do, and so is a copy of the second.
+fn are_equal_by_pairs<B: Bijection<u32, u32> + PartialEq + Drop>(
+    rt: &impl Abort,
+    first: &mut B,
+    second: &mut B,
+    copy: B,
+) {
     assert!(rt; first.len() == 40 && are_equal(first, second));
-    let copy = second.copied().ok().expect(rt, "no memory");
     drop(second.insert(7, 99));
     assert!(rt; are_unlike(first, second) && are_equal(first, &copy));
     drop(second.insert(7, 6));
@@ -58,7 +64,10 @@ fn what_is_held_is_the_same_under_any_builder(rt: HostRuntime) -> Result<(), Fai
     let mut first: Random = BiHashMap::with_hashers(alloc, left, right);
     let (left, right) = (RandomState::new(&rt)?, RandomState::new(&rt)?);
     let mut second: Random = BiHashMap::with_hashers(alloc, left, right);
-    are_equal_by_pairs(&rt, &mut first, &mut second);
+    put_up(&mut first);
+    put_down(&mut second);
+    let copy = copied(&second).expect(&rt, "no memory");
+    are_equal_by_pairs(&rt, &mut first, &mut second, copy);
     assert!(rt; shrinks_and_undoes(&mut first));
     assert!(rt; shows(&first, &[(9, 8), (10, 30), (11, 31)]));
     Ok(())

@@ -1,7 +1,7 @@
 //! Each value that a bimap was given is dropped once, and not before it is let go.
 use super::counted::{Counted, Ledger};
-use bimap::{BiBTreeHashMap, Bijection};
-use bimap_calls::{Kind, Taken, over_mixed_kinds};
+use bimap::{BiBTreeHashMap, BiHashBTreeMap, Bijection};
+use bimap_calls::{Kind, over_mixed_kinds};
 use std::alloc::{AllocError, Global};
 use std::process::Abort;
 use std::test::Fail;
@@ -94,28 +94,56 @@ fn cleared<B: Kind<Counted, Counted>>(
     Ok(())
 }
 
-// An owning walk that is given up after so many steps drops the rest, also where places in the midst are free.
-fn given_up<B: Kind<Counted, Counted> + Taken<Counted, Counted>>(
-    rt: &impl Abort,
-    alloc: Global,
-    mut bimap: B,
-    steps: usize,
-) -> Result<(), Fail> {
-    let mut ledger = Ledger::new(alloc);
-    fill(&mut bimap, &mut ledger, 44)?;
+// Forty pairs, with free places in the midst.
+fn fill_with_gaps<B: Bijection<Counted, Counted>>(
+    bimap: &mut B,
+    ledger: &mut Ledger,
+) -> Result<(), AllocError> {
+    fill(bimap, ledger, 44)?;
     for name in 20..24 {
         let key = ledger.value(name)?;
         drop(bimap.remove_by_left(&key));
     }
-    assert_eq!(rt; bimap.give_up(alloc, steps), steps.min(40));
+    Ok(())
+}
+
+// How many pairs so many steps of an owning walk give, which is then given up.
+macro_rules! given_up {
+    ($bimap:expr, $steps:expr) => {{
+        let mut walk = $bimap.into_iter();
+        let mut given = 0usize;
+        for _ in 0..$steps {
+            if walk.next().is_some() {
+                given = given.saturating_add(1);
+            }
+        }
+        given
+    }};
+}
+
+fn given_up_by_place(bimap: BiHashBTreeMap<Counted, Counted>, steps: usize) -> usize {
+    given_up!(bimap, steps)
+}
+
+fn given_up_in_order(bimap: BiBTreeHashMap<Counted, Counted>, steps: usize) -> usize {
+    given_up!(bimap, steps)
+}
+
+// An owning walk that is given up after so many steps drops the rest.
+fn the_rest_is_dropped(rt: &impl Abort, alloc: Global, steps: usize) -> Result<(), Fail> {
+    let mut ledger = Ledger::new(alloc);
+    let mut bimap = BiHashBTreeMap::new(alloc);
+    fill_with_gaps(&mut bimap, &mut ledger)?;
+    assert_eq!(rt; given_up_by_place(bimap, steps), steps.min(40));
+    assert!(rt; ledger.is_balanced(), "{steps}");
+    let mut bimap = BiBTreeHashMap::new(alloc);
+    fill_with_gaps(&mut bimap, &mut ledger)?;
+    assert_eq!(rt; given_up_in_order(bimap, steps), steps.min(40));
     assert!(rt; ledger.is_balanced(), "{steps}");
     Ok(())
 }
 
-fn all<B: Kind<Counted, Counted> + Taken<Counted, Counted>>(
-    rt: &impl Abort,
-    alloc: Global,
-) -> Result<(), Fail> {
+fn all<B: Kind<Counted, Counted>>(rt: &impl Abort, alloc: Global) -> Result<(), Fail> {
     let mut ledger = Ledger::new(alloc);
     let mut bimap = B::empty(alloc);
     let_go(rt, &mut bimap, &mut ledger)?;
@@ -123,9 +151,6 @@ fn all<B: Kind<Counted, Counted> + Taken<Counted, Counted>>(
     cleared(rt, &mut bimap, &mut ledger)?;
     drop(bimap);
     assert!(rt; ledger.is_balanced());
-    for steps in [0, 1, 20, 40, 50] {
-        given_up(rt, alloc, B::empty(alloc), steps)?;
-    }
     Ok(())
 }
 
@@ -148,6 +173,9 @@ fn given_up_at_both_ends(rt: &impl Abort, alloc: Global, steps: usize) -> Result
 #[test]
 fn each_value_is_dropped_once(rt: HostRuntime) -> Result<(), Fail> {
     over_mixed_kinds!(all, Counted, Counted, &rt, ?);
+    for steps in [0, 1, 20, 40, 50] {
+        the_rest_is_dropped(&rt, rt.alloc(), steps)?;
+    }
     for steps in [1, 8, 9, 20] {
         given_up_at_both_ends(&rt, rt.alloc(), steps)?;
     }
