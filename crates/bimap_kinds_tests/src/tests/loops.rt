@@ -1,4 +1,4 @@
-//! A bimap of a hashed left in a `for`.
+//! A bimap of a hashed left in a `for`, and the hint of its walk.
 use bimap::{BiHashMap, Overwritten};
 use std::process::Abort;
 
@@ -28,6 +28,7 @@ fn loops_give_each_pair_once(rt: HostRuntime) {
     for (left, right) in [('a', 1), ('b', 20), ('c', 300)] {
         assert!(&rt; map.insert(left, right) == Ok(Overwritten::Neither));
     }
+    assert!(&rt; map.iter().size_hint() == (3, Some(3)));
     assert_eq!(&rt; given(&map), 3);
     assert_eq!(&rt; taken(map), 321);
 }
