@@ -26,7 +26,8 @@ pub fn has_ordered_right(kind: usize) -> bool {
     kind == 0 || kind == 3
 }
 
-// The bimap that a call makes, where it makes one.
+// The bimap that a call makes, where it makes one. Each kind has a type of its own, so that what stands above it is proved
+// without its contracts: all in one struct took the prover more than seven minutes.
 macro_rules! made {
     ($request:ident, $new:expr, $with_capacity:expr) => {
         match $request.call {
@@ -37,25 +38,145 @@ macro_rules! made {
     };
 }
 
+/// Both sides in order.
+#[derive(Drop)]
+struct Ordered {
+    session: Session<BiBTreeMap<Word, Word>>,
+}
+
+impl Ordered {
+    fn new(alloc: Global) -> Ordered {
+        Ordered {
+            session: Session::new(alloc),
+        }
+    }
+
+    fn call(&mut self, request: &mut Request<'_>, said: &mut String) -> Result<bool, AllocError> {
+        let (alloc, capacity) = (request.alloc, request.number);
+        let made = made!(
+            request,
+            BiBTreeMap::new(alloc),
+            BiBTreeMap::with_capacity(alloc, capacity)
+        );
+        hunger::call(&mut self.session, made, request, said)
+    }
+}
+
+/// Both sides by hash.
+#[derive(Drop)]
+struct Hashed {
+    session: Session<BiHashMap<Word, Word>>,
+}
+
+impl Hashed {
+    fn new(alloc: Global) -> Hashed {
+        Hashed {
+            session: Session::new(alloc),
+        }
+    }
+
+    fn call(&mut self, request: &mut Request<'_>, said: &mut String) -> Result<bool, AllocError> {
+        let (alloc, capacity) = (request.alloc, request.number);
+        let made = made!(
+            request,
+            BiHashMap::new(alloc),
+            BiHashMap::with_capacity(alloc, capacity)
+        );
+        hunger::call(&mut self.session, made, request, said)
+    }
+}
+
+/// Lefts in order, rights by hash.
+#[derive(Drop)]
+struct OrderedLeft {
+    session: Session<BiBTreeHashMap<Word, Word>>,
+}
+
+impl OrderedLeft {
+    fn new(alloc: Global) -> OrderedLeft {
+        OrderedLeft {
+            session: Session::new(alloc),
+        }
+    }
+
+    fn call(&mut self, request: &mut Request<'_>, said: &mut String) -> Result<bool, AllocError> {
+        let (alloc, capacity) = (request.alloc, request.number);
+        let made = made!(
+            request,
+            BiBTreeHashMap::new(alloc),
+            BiBTreeHashMap::with_capacity(alloc, capacity)
+        );
+        hunger::call(&mut self.session, made, request, said)
+    }
+}
+
+/// Lefts by hash, rights in order.
+#[derive(Drop)]
+struct OrderedRight {
+    session: Session<BiHashBTreeMap<Word, Word>>,
+}
+
+impl OrderedRight {
+    fn new(alloc: Global) -> OrderedRight {
+        OrderedRight {
+            session: Session::new(alloc),
+        }
+    }
+
+    fn call(&mut self, request: &mut Request<'_>, said: &mut String) -> Result<bool, AllocError> {
+        let (alloc, capacity) = (request.alloc, request.number);
+        let made = made!(
+            request,
+            BiHashBTreeMap::new(alloc),
+            BiHashBTreeMap::with_capacity(alloc, capacity)
+        );
+        hunger::call(&mut self.session, made, request, said)
+    }
+}
+
+/// Both sides by hash, and all keys have one number.
+#[derive(Drop)]
+struct OneNumber {
+    session: Session<Crowded<Word, Word>>,
+}
+
+impl OneNumber {
+    fn new(alloc: Global) -> OneNumber {
+        OneNumber {
+            session: Session::new(alloc),
+        }
+    }
+
+    fn call(&mut self, request: &mut Request<'_>, said: &mut String) -> Result<bool, AllocError> {
+        let (alloc, capacity) = (request.alloc, request.number);
+        let made = made!(
+            request,
+            BiHashMap::with_hashers(alloc, Zero, Zero),
+            BiHashMap::with_capacity_and_hashers(alloc, capacity, Zero, Zero)
+        );
+        hunger::call(&mut self.session, made, request, said)
+    }
+}
+
 /// A session of each kind.
 #[derive(Drop)]
 pub struct Kinds {
-    ordered: Session<BiBTreeMap<Word, Word>>,
-    hashed: Session<BiHashMap<Word, Word>>,
-    ordered_left: Session<BiBTreeHashMap<Word, Word>>,
-    ordered_right: Session<BiHashBTreeMap<Word, Word>>,
-    crowded: Session<Crowded<Word, Word>>,
+    ordered: Ordered,
+    hashed: Hashed,
+    ordered_left: OrderedLeft,
+    ordered_right: OrderedRight,
+    crowded: OneNumber,
 }
 
 impl Kinds {
     /// All empty.
     pub fn new(alloc: Global) -> Kinds {
         Kinds {
-            ordered: Session::new(alloc),
-            hashed: Session::new(alloc),
-            ordered_left: Session::new(alloc),
-            ordered_right: Session::new(alloc),
-            crowded: Session::new(alloc),
+            ordered: Ordered::new(alloc),
+            hashed: Hashed::new(alloc),
+            ordered_left: OrderedLeft::new(alloc),
+            ordered_right: OrderedRight::new(alloc),
+            crowded: OneNumber::new(alloc),
         }
     }
 
@@ -71,82 +192,11 @@ impl Kinds {
             return json::call(kind, request, said);
         }
         match kind {
-            0 => self.on_ordered(request, said),
-            1 => self.on_hashed(request, said),
-            2 => self.on_ordered_left(request, said),
-            3 => self.on_ordered_right(request, said),
-            _ => self.on_crowded(request, said),
+            0 => self.ordered.call(request, said),
+            1 => self.hashed.call(request, said),
+            2 => self.ordered_left.call(request, said),
+            3 => self.ordered_right.call(request, said),
+            _ => self.crowded.call(request, said),
         }
-    }
-
-    // One kind a function: all in one take minutes to prove, and apart seconds.
-    fn on_ordered(
-        &mut self,
-        request: &mut Request<'_>,
-        said: &mut String,
-    ) -> Result<bool, AllocError> {
-        let (alloc, capacity) = (request.alloc, request.number);
-        let made = made!(
-            request,
-            BiBTreeMap::new(alloc),
-            BiBTreeMap::with_capacity(alloc, capacity)
-        );
-        hunger::call(&mut self.ordered, made, request, said)
-    }
-
-    fn on_hashed(
-        &mut self,
-        request: &mut Request<'_>,
-        said: &mut String,
-    ) -> Result<bool, AllocError> {
-        let (alloc, capacity) = (request.alloc, request.number);
-        let made = made!(
-            request,
-            BiHashMap::new(alloc),
-            BiHashMap::with_capacity(alloc, capacity)
-        );
-        hunger::call(&mut self.hashed, made, request, said)
-    }
-
-    fn on_ordered_left(
-        &mut self,
-        request: &mut Request<'_>,
-        said: &mut String,
-    ) -> Result<bool, AllocError> {
-        let (alloc, capacity) = (request.alloc, request.number);
-        let made = made!(
-            request,
-            BiBTreeHashMap::new(alloc),
-            BiBTreeHashMap::with_capacity(alloc, capacity)
-        );
-        hunger::call(&mut self.ordered_left, made, request, said)
-    }
-
-    fn on_ordered_right(
-        &mut self,
-        request: &mut Request<'_>,
-        said: &mut String,
-    ) -> Result<bool, AllocError> {
-        let (alloc, capacity) = (request.alloc, request.number);
-        let made = made!(
-            request,
-            BiHashBTreeMap::new(alloc),
-            BiHashBTreeMap::with_capacity(alloc, capacity)
-        );
-        hunger::call(&mut self.ordered_right, made, request, said)
-    }
-
-    fn on_crowded(
-        &mut self,
-        request: &mut Request<'_>,
-        said: &mut String,
-    ) -> Result<bool, AllocError> {
-        let (alloc, capacity) = (request.alloc, request.number);
-        let made = made!(
-            request,
-            BiHashMap::with_hashers(alloc, Zero, Zero),
-            BiHashMap::with_capacity_and_hashers(alloc, capacity, Zero, Zero)
-        );
-        hunger::call(&mut self.crowded, made, request, said)
     }
 }
