@@ -46,10 +46,8 @@ fn stands(texts: &Texts, held: Held, mark: usize) -> bool {
 
 // What was held when so many rows were made.
 fn held_at(mark: usize) -> Held {
-    match mark.checked_sub(1) {
-        Some(last) => ROWS.get(last).map_or([].as_slice(), |row| row.2),
-        None => &[],
-    }
+    ROWS.get(mark.wrapping_sub(1))
+        .map_or([].as_slice(), |row| row.2)
 }
 
 // Whether the insertion of a text is refused for its copy, which hands the very text back.
