@@ -1,5 +1,4 @@
-//! What no run of the built program shows: readers that fail in mid-stream, flushes that are counted or fail, and each
-//! request for memory refused in turn.
+//! What no run of the program shows: reads that fail in mid-stream, flushes counted, each request for memory refused.
 use crate::serve::{Ending, serve};
 use bimap_famine::Famine;
 use std::alloc::{AllocError, Global};
@@ -8,14 +7,17 @@ use std::test::Fail;
 
 /// Gives its chunks, one a read, and then fails. An empty one is the end of the input.
 #[derive(Drop)]
-struct Chunks(&'static [&'static [u8]]);
+struct Chunks {
+    chunks: &'static [&'static [u8]],
+    at: usize,
+}
 
 impl Read for Chunks {
     fn read(&mut self, buf: &mut [u8]) -> io::Result<usize> {
-        let Some((chunk, later)) = self.0.split_first() else {
+        let Some(chunk) = self.chunks.get(self.at) else {
             return Err(Error::from(ErrorKind::Other));
         };
-        self.0 = later;
+        self.at = self.at.saturating_add(1);
         let mut bytes: &[u8] = chunk;
         bytes.read(buf)
     }
@@ -57,7 +59,7 @@ const ENDINGS: [(&'static [&'static [u8]], &str, Ending); 7] = [
 fn each_ending_flushes_once(rt: HostRuntime) -> Result<(), Fail> {
     for (chunks, written, ending) in ENDINGS {
         for (fails, want) in [(false, ending), (true, Ending::OutputFailed)] {
-            let mut input = BufReader::new(rt.alloc(), Chunks(chunks))?;
+            let mut input = BufReader::new(rt.alloc(), Chunks { chunks, at: 0 })?;
             let mut output = Output {
                 bytes: Vec::new(rt.alloc()),
                 flushes: 0,
