@@ -1,9 +1,8 @@
 //! Calls with a meter, and their bounds.
-use crate::kind::{ByLeft, ByRight};
+use crate::kind::ShellKind;
 use crate::kinds::{has_ordered_left, has_ordered_right};
 use crate::meter::at_zero;
 use crate::request::{On, Request};
-use crate::word::Word;
 use bimap::Bijection;
 use std::alloc::AllocError;
 
@@ -37,16 +36,14 @@ fn bound(request: &Request<'_>, length: usize) -> u64 {
 }
 
 /// Makes the call with a meter, and writes what it counted.
-pub fn call<B: Bijection<Word, Word> + ByLeft + ByRight>(
+pub fn call<B: ShellKind>(
     bimap: &mut B,
     request: &Request<'_>,
     said: &mut String,
 ) -> Result<bool, AllocError> {
     let mut meter = at_zero();
     let bound = bound(request, bimap.len());
-    if !bimap.count_by_left(request, &mut meter, said)?
-        && !bimap.count_by_right(request, &mut meter, said)?
-    {
+    if !bimap.count(request, &mut meter, said)? {
         return Ok(false);
     }
     let made = meter.comparisons();

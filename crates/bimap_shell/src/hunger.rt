@@ -1,10 +1,8 @@
 //! Calls for which memory is refused.
-use crate::kind::{ByLeft, ByRight};
+use crate::kind::ShellKind;
 use crate::request::{Memory, Request};
 use crate::session::Session;
-use crate::word::Word;
 use bimap::NoMemory;
-use bimap_calls::CopyKind;
 use bimap_famine::Famine;
 use std::alloc::AllocError;
 
@@ -24,7 +22,7 @@ fn is_refusal(said: &str) -> bool {
 }
 
 // Makes the call again and again, each time with a little more memory, until it is not refused.
-fn eased<B: CopyKind<Word, Word> + ByLeft + ByRight>(
+fn eased<B: ShellKind>(
     session: &mut Session<B>,
     request: &mut Request<'_>,
     said: &mut String,
@@ -61,7 +59,7 @@ fn eased<B: CopyKind<Word, Word> + ByLeft + ByRight>(
 }
 
 /// Makes a call with the memory that its line leaves, or takes the bimap that was made.
-pub fn call<B: CopyKind<Word, Word> + ByLeft + ByRight>(
+pub fn call<B: ShellKind>(
     session: &mut Session<B>,
     made: Option<Result<B, NoMemory>>,
     request: &mut Request<'_>,

@@ -4,16 +4,17 @@ use crate::request::Request;
 use crate::word::Word;
 use bimap::BijectiveMap;
 use bimap::btree::Count;
+use bimap_calls::CopyKind;
 use bimap_index::{CopiedIndex, Index};
 use std::alloc::AllocError;
 
-/// What a bimap has by the index of its lefts. Each call answers whether there is one on this kind, and writes what it said.
-pub trait ByLeft: Sized {
+/// A kind that the shell asks. Each call answers whether there is one on this kind, and writes what it said.
+pub trait ShellKind: CopyKind<Word, Word> {
     /// The bimap by `Debug`.
     fn show(&self, said: &mut String) -> Result<(), AllocError>;
 
     /// A walk, an end, a rank, or a comparison with the other bimap, whose place a clone takes.
-    fn call_by_left(
+    fn call(
         &mut self,
         other: &mut Self,
         request: &Request<'_>,
@@ -21,25 +22,7 @@ pub trait ByLeft: Sized {
     ) -> Result<bool, AllocError>;
 
     /// A call with a meter.
-    fn count_by_left(
-        &mut self,
-        request: &Request<'_>,
-        meter: &mut Shown<Count>,
-        said: &mut String,
-    ) -> Result<bool, AllocError>;
-}
-
-/// What a bimap has by the index of its rights.
-pub trait ByRight {
-    /// A walk, an end or a rank.
-    fn call_by_right(
-        &mut self,
-        request: &Request<'_>,
-        said: &mut String,
-    ) -> Result<bool, AllocError>;
-
-    /// An end or a rank, with a meter.
-    fn count_by_right(
+    fn count(
         &mut self,
         request: &Request<'_>,
         meter: &mut Shown<Count>,

@@ -1,6 +1,7 @@
 //! A shell for trying a bimap: each line of standard input is a call, which is made on each kind of bimap. `help` lists them.
 #![tactic(auto)]
 
+mod asked;
 mod counted;
 mod course;
 mod forward;

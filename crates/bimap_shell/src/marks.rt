@@ -1,14 +1,13 @@
 //! The bimap with a record.
-use crate::kind::{ByLeft, ByRight};
+use crate::kind::ShellKind;
 use crate::request::Request;
 use crate::session::Session;
 use crate::word::Word;
-use bimap_calls::CopyKind;
 use bimap_undo::Undoable;
 use std::alloc::AllocError;
 use std::mem;
 
-fn changed<B: CopyKind<Word, Word> + ByLeft + ByRight>(
+fn changed<B: ShellKind>(
     record: &mut Undoable<B, Word, Word>,
     request: &Request<'_>,
     said: &mut String,
@@ -39,7 +38,7 @@ fn changed<B: CopyKind<Word, Word> + ByLeft + ByRight>(
 }
 
 /// Makes the call, if it is one of these.
-pub fn call<B: CopyKind<Word, Word> + ByLeft + ByRight>(
+pub fn call<B: ShellKind>(
     session: &mut Session<B>,
     request: &Request<'_>,
     said: &mut String,

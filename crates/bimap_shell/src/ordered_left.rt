@@ -2,7 +2,7 @@
 use crate::course::{owned_from_both, pairs_from_both, values_from_both};
 use crate::follow;
 use crate::forward::forward;
-use crate::kind::{ByLeft, Words, copy_to, counted, intern};
+use crate::kind::{Words, copy_to, intern};
 use crate::meter::Shown;
 use crate::request::Request;
 use crate::word::Word;
@@ -80,64 +80,60 @@ fn end<J: CopiedIndex<Word> + Drop>(
     Ok(true)
 }
 
-impl<J: CopiedIndex<Word> + Drop> ByLeft for Words<Ordered, J> {
-    fn show(&self, said: &mut String) -> Result<(), AllocError> {
-        write!(said, "{self:?}")
-    }
-
-    fn call_by_left(
-        &mut self,
-        other: &mut Self,
-        request: &Request<'_>,
-        said: &mut String,
-    ) -> Result<bool, AllocError> {
-        match request.call {
-            "retain" => {
-                let least = request.first;
-                self.retain(|_left: &Word, right: &Word| *right >= least);
-                write!(said, "()")?;
-                Ok(true)
-            }
-            "clone" => {
-                if copy_to(self, other, said)? {
-                    write!(said, "Ok({other:?})")?;
-                }
-                Ok(true)
-            }
-            "into_iter" => match self.clone() {
-                Ok(copy) => walk_owned(copy, request, said),
-                Err(_) => Err(AllocError),
-            },
-            call => Ok(
-                walk(self, request, said)?
-                    || end(self, request, said)?
-                    || compare(self, other, call, said)?
-                    || intern(self, request, said)?,
-            ),
+/// A walk, an end, a rank, or a comparison with the other bimap, whose place a clone takes.
+pub fn call<J: CopiedIndex<Word> + Drop>(
+    bimap: &mut Words<Ordered, J>,
+    other: &mut Words<Ordered, J>,
+    request: &Request<'_>,
+    said: &mut String,
+) -> Result<bool, AllocError> {
+    match request.call {
+        "retain" => {
+            let least = request.first;
+            bimap.retain(|_left: &Word, right: &Word| *right >= least);
+            write!(said, "()")?;
+            Ok(true)
         }
-    }
-
-    fn count_by_left(
-        &mut self,
-        request: &Request<'_>,
-        meter: &mut Shown<Count>,
-        said: &mut String,
-    ) -> Result<bool, AllocError> {
-        match request.call {
-            "first_by_left" => write!(said, "{:?}", self.first_by_left_metered(meter))?,
-            "last_by_left" => write!(said, "{:?}", self.last_by_left_metered(meter))?,
-            "pop_first_by_left" => write!(said, "{:?}", self.pop_first_by_left_metered(meter))?,
-            "pop_last_by_left" => write!(said, "{:?}", self.pop_last_by_left_metered(meter))?,
-            "pair_at_left_rank" => {
-                write!(
-                    said,
-                    "{:?}",
-                    self.pair_at_left_rank_metered(request.number, meter)
-                )?
+        "clone" => {
+            if copy_to(bimap, other, said)? {
+                write!(said, "Ok({other:?})")?;
             }
-            "left_rank" => write!(said, "{}", self.left_rank_metered(&request.first, meter))?,
-            _ => return counted(self, request, meter, said),
+            Ok(true)
         }
-        Ok(true)
+        "into_iter" => match bimap.clone() {
+            Ok(copy) => walk_owned(copy, request, said),
+            Err(_) => Err(AllocError),
+        },
+        call => Ok(
+            walk(bimap, request, said)?
+                || end(bimap, request, said)?
+                || compare(bimap, other, call, said)?
+                || intern(bimap, request, said)?,
+        ),
     }
+}
+
+/// An end or a rank, with a meter.
+pub fn count<J: CopiedIndex<Word> + Drop>(
+    bimap: &mut Words<Ordered, J>,
+    request: &Request<'_>,
+    meter: &mut Shown<Count>,
+    said: &mut String,
+) -> Result<bool, AllocError> {
+    match request.call {
+        "first_by_left" => write!(said, "{:?}", bimap.first_by_left_metered(meter))?,
+        "last_by_left" => write!(said, "{:?}", bimap.last_by_left_metered(meter))?,
+        "pop_first_by_left" => write!(said, "{:?}", bimap.pop_first_by_left_metered(meter))?,
+        "pop_last_by_left" => write!(said, "{:?}", bimap.pop_last_by_left_metered(meter))?,
+        "pair_at_left_rank" => {
+            write!(
+                said,
+                "{:?}",
+                bimap.pair_at_left_rank_metered(request.number, meter)
+            )?
+        }
+        "left_rank" => write!(said, "{}", bimap.left_rank_metered(&request.first, meter))?,
+        _ => return Ok(false),
+    }
+    Ok(true)
 }

@@ -2,7 +2,7 @@
 use crate::course::{pairs_from_both, values_ahead, values_from_both};
 use crate::follow;
 use crate::forward::forward;
-use crate::kind::{ByRight, Words};
+use crate::kind::Words;
 use crate::meter::Shown;
 use crate::request::Request;
 use crate::word::Word;
@@ -48,91 +48,70 @@ fn end<I: CopiedIndex<Word> + Drop>(
     Ok(true)
 }
 
-impl<I: CopiedIndex<Word> + Drop> ByRight for Words<I, Ordered> {
-    fn call_by_right(
-        &mut self,
-        request: &Request<'_>,
-        said: &mut String,
-    ) -> Result<bool, AllocError> {
-        Ok(walk(self, request, said)? || end(self, request, said)?)
-    }
-
-    fn count_by_right(
-        &mut self,
-        request: &Request<'_>,
-        meter: &mut Shown<Count>,
-        said: &mut String,
-    ) -> Result<bool, AllocError> {
-        match request.call {
-            "first_by_right" => write!(said, "{:?}", self.first_by_right_metered(meter))?,
-            "last_by_right" => write!(said, "{:?}", self.last_by_right_metered(meter))?,
-            "pop_first_by_right" => write!(said, "{:?}", self.pop_first_by_right_metered(meter))?,
-            "pop_last_by_right" => write!(said, "{:?}", self.pop_last_by_right_metered(meter))?,
-            "pair_at_right_rank" => {
-                write!(
-                    said,
-                    "{:?}",
-                    self.pair_at_right_rank_metered(request.number, meter)
-                )?
-            }
-            "right_rank" => write!(said, "{}", self.right_rank_metered(&request.first, meter))?,
-            _ => return Ok(false),
-        }
-        Ok(true)
-    }
+/// A walk, an end or a rank, of an ordered right.
+pub fn call<I: CopiedIndex<Word> + Drop>(
+    bimap: &mut Words<I, Ordered>,
+    request: &Request<'_>,
+    said: &mut String,
+) -> Result<bool, AllocError> {
+    Ok(walk(bimap, request, said)? || end(bimap, request, said)?)
 }
 
-impl<RS: BuildHasher + Clone + Drop> ByRight for Words<Ordered, HashIndex<RS>> {
-    fn call_by_right(
-        &mut self,
-        request: &Request<'_>,
-        said: &mut String,
-    ) -> Result<bool, AllocError> {
-        if request.call != "right_values" {
-            return Ok(false);
+/// An end or a rank, with a meter.
+pub fn count<I: CopiedIndex<Word> + Drop>(
+    bimap: &mut Words<I, Ordered>,
+    request: &Request<'_>,
+    meter: &mut Shown<Count>,
+    said: &mut String,
+) -> Result<bool, AllocError> {
+    match request.call {
+        "first_by_right" => write!(said, "{:?}", bimap.first_by_right_metered(meter))?,
+        "last_by_right" => write!(said, "{:?}", bimap.last_by_right_metered(meter))?,
+        "pop_first_by_right" => write!(said, "{:?}", bimap.pop_first_by_right_metered(meter))?,
+        "pop_last_by_right" => write!(said, "{:?}", bimap.pop_last_by_right_metered(meter))?,
+        "pair_at_right_rank" => {
+            write!(
+                said,
+                "{:?}",
+                bimap.pair_at_right_rank_metered(request.number, meter)
+            )?
         }
-        follow!(
-            values_from_both,
-            self.right_values(),
-            request.steps.as_slice(),
-            said
-        )
+        "right_rank" => write!(said, "{}", bimap.right_rank_metered(&request.first, meter))?,
+        _ => return Ok(false),
     }
-
-    fn count_by_right(
-        &mut self,
-        _request: &Request<'_>,
-        _meter: &mut Shown<Count>,
-        _said: &mut String,
-    ) -> Result<bool, AllocError> {
-        Ok(false)
-    }
+    Ok(true)
 }
 
-impl<LS: BuildHasher + Clone + Drop, RS: BuildHasher + Clone + Drop> ByRight
-    for Words<HashIndex<LS>, HashIndex<RS>> {
-    fn call_by_right(
-        &mut self,
-        request: &Request<'_>,
-        said: &mut String,
-    ) -> Result<bool, AllocError> {
-        if request.call != "right_values" {
-            return Ok(false);
-        }
-        follow!(
-            values_ahead,
-            self.right_values(),
-            request.steps.as_slice(),
-            said
-        )
+/// The values of a hashed right, in the order of the lefts.
+pub fn values_in_order<RS: BuildHasher + Clone + Drop>(
+    bimap: &Words<Ordered, HashIndex<RS>>,
+    request: &Request<'_>,
+    said: &mut String,
+) -> Result<bool, AllocError> {
+    if request.call != "right_values" {
+        return Ok(false);
     }
+    follow!(
+        values_from_both,
+        bimap.right_values(),
+        request.steps.as_slice(),
+        said
+    )
+}
 
-    fn count_by_right(
-        &mut self,
-        _request: &Request<'_>,
-        _meter: &mut Shown<Count>,
-        _said: &mut String,
-    ) -> Result<bool, AllocError> {
-        Ok(false)
+/// The same by place.
+pub fn values_by_place<LS: BuildHasher + Clone + Drop, RS: BuildHasher + Clone + Drop>(
+    bimap: &Words<HashIndex<LS>, HashIndex<RS>>,
+    request: &Request<'_>,
+    said: &mut String,
+) -> Result<bool, AllocError> {
+    if request.call != "right_values" {
+        return Ok(false);
     }
+    follow!(
+        values_ahead,
+        bimap.right_values(),
+        request.steps.as_slice(),
+        said
+    )
 }

@@ -1,14 +1,13 @@
 //! Rooms, copies, and what is shown of the whole.
-use crate::kind::{ByLeft, ByRight};
+use crate::kind::ShellKind;
 use crate::request::Request;
 use crate::session::Session;
 use crate::word::Word;
 use bimap::Bijection;
-use bimap_calls::CopyKind;
 use std::alloc::AllocError;
 use std::mem;
 
-fn room<B: CopyKind<Word, Word> + ByLeft + ByRight>(
+fn room<B: ShellKind>(
     session: &mut Session<B>,
     request: &Request<'_>,
     said: &mut String,
@@ -33,7 +32,7 @@ fn each<B: Bijection<Word, Word>>(bimap: &B, said: &mut String) {
 }
 
 /// Makes the call, if it is one of these.
-pub fn call<B: CopyKind<Word, Word> + ByLeft + ByRight>(
+pub fn call<B: ShellKind>(
     session: &mut Session<B>,
     request: &Request<'_>,
     said: &mut String,

@@ -1,24 +1,23 @@
 //! The bimaps of one kind, and each call on them.
-use crate::kind::{ByLeft, ByRight};
+use crate::kind::ShellKind;
 use crate::meter::Shown;
 use crate::request::{Memory, On, Request};
 use crate::word::Word;
 use crate::{counted, items, look, marks, put, rooms, runs};
-use bimap_calls::CopyKind;
 use bimap_undo::Undoable;
 use std::alloc::{AllocError, Global};
 use std::fmt::Debug;
 
 /// The bimap, another one beside it, and one with a record.
 #[derive(Drop)]
-pub struct Session<B: CopyKind<Word, Word> + ByLeft + ByRight> {
+pub struct Session<B: ShellKind> {
     pub alloc: Global,
     pub bimap: B,
     pub other: B,
     pub record: Undoable<B, Word, Word>,
 }
 
-impl<B: CopyKind<Word, Word> + ByLeft + ByRight> Session<B> {
+impl<B: ShellKind> Session<B> {
     /// Three empty ones.
     pub fn new(alloc: Global) -> Session<B> {
         Session {
@@ -65,7 +64,7 @@ impl<B: CopyKind<Word, Word> + ByLeft + ByRight> Session<B> {
             look::call(&self.bimap, request, said)?
                 || put::call(&mut self.bimap, request, said)?
                 || self.of_pairs(request, said)?
-                || self.of_sides(request, said)?,
+                || self.bimap.call(&mut self.other, request, said)?,
         )
     }
 
@@ -78,13 +77,6 @@ impl<B: CopyKind<Word, Word> + ByLeft + ByRight> Session<B> {
             rooms::call(self, request, said)?
                 || items::call(self, request, said)?
                 || runs::call(self.alloc, &mut self.bimap, request, said)?,
-        )
-    }
-
-    fn of_sides(&mut self, request: &Request<'_>, said: &mut String) -> Result<bool, AllocError> {
-        Ok(
-            self.bimap.call_by_left(&mut self.other, request, said)?
-                || self.bimap.call_by_right(request, said)?,
         )
     }
 
