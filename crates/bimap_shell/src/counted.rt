@@ -3,7 +3,9 @@ use crate::kind::ShellKind;
 use crate::kinds::{has_ordered_left, has_ordered_right};
 use crate::meter::at_zero;
 use crate::request::{On, Request};
+use crate::word::Word;
 use bimap::Bijection;
+use bimap_calls::CopyKind;
 use std::alloc::AllocError;
 
 // How many searches by left and by right the bound of a call counts.
@@ -36,7 +38,7 @@ fn bound(request: &Request<'_>, length: usize) -> u64 {
 }
 
 /// Makes the call with a meter, and writes what it counted.
-pub fn call<B: ShellKind>(
+pub fn call<B: CopyKind<Word, Word> + ShellKind>(
     bimap: &mut B,
     request: &Request<'_>,
     said: &mut String,

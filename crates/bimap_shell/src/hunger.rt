@@ -2,7 +2,9 @@
 use crate::kind::ShellKind;
 use crate::request::{Memory, Request};
 use crate::session::Session;
+use crate::word::Word;
 use bimap::NoMemory;
+use bimap_calls::CopyKind;
 use bimap_famine::Famine;
 use std::alloc::AllocError;
 
@@ -22,7 +24,7 @@ fn is_refusal(said: &str) -> bool {
 }
 
 // Makes the call again and again, each time with a little more memory, until it is not refused.
-fn eased<B: ShellKind>(
+fn eased<B: CopyKind<Word, Word> + ShellKind>(
     session: &mut Session<B>,
     request: &mut Request<'_>,
     said: &mut String,
@@ -59,7 +61,7 @@ fn eased<B: ShellKind>(
 }
 
 /// Makes a call with the memory that its line leaves, or takes the bimap that was made.
-pub fn call<B: ShellKind>(
+pub fn call<B: CopyKind<Word, Word> + ShellKind>(
     session: &mut Session<B>,
     made: Option<Result<B, NoMemory>>,
     request: &mut Request<'_>,

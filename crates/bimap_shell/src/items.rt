@@ -2,11 +2,13 @@
 use crate::kind::ShellKind;
 use crate::request::Request;
 use crate::session::Session;
+use crate::word::Word;
 use bimap::{extend_with, from_iter_with};
+use bimap_calls::CopyKind;
 use std::alloc::AllocError;
 
 /// Makes the call, if it is one of these.
-pub fn call<B: ShellKind>(
+pub fn call<B: CopyKind<Word, Word> + ShellKind>(
     session: &mut Session<B>,
     request: &Request<'_>,
     said: &mut String,

@@ -4,12 +4,11 @@ use crate::request::Request;
 use crate::word::Word;
 use bimap::BijectiveMap;
 use bimap::btree::Count;
-use bimap_calls::CopyKind;
 use bimap_index::{CopiedIndex, Index};
 use std::alloc::AllocError;
 
 /// A kind that the shell asks. Each call answers whether there is one on this kind, and writes what it said.
-pub trait ShellKind: CopyKind<Word, Word> {
+pub trait ShellKind: Sized {
     /// The bimap by `Debug`.
     fn show(&self, said: &mut String) -> Result<(), AllocError>;
 

@@ -3,11 +3,12 @@ use crate::kind::ShellKind;
 use crate::request::Request;
 use crate::session::Session;
 use crate::word::Word;
+use bimap_calls::CopyKind;
 use bimap_undo::Undoable;
 use std::alloc::AllocError;
 use std::mem;
 
-fn changed<B: ShellKind>(
+fn changed<B: CopyKind<Word, Word> + ShellKind>(
     record: &mut Undoable<B, Word, Word>,
     request: &Request<'_>,
     said: &mut String,
@@ -38,7 +39,7 @@ fn changed<B: ShellKind>(
 }
 
 /// Makes the call, if it is one of these.
-pub fn call<B: ShellKind>(
+pub fn call<B: CopyKind<Word, Word> + ShellKind>(
     session: &mut Session<B>,
     request: &Request<'_>,
     said: &mut String,

@@ -4,10 +4,11 @@ use crate::request::Request;
 use crate::session::Session;
 use crate::word::Word;
 use bimap::Bijection;
+use bimap_calls::CopyKind;
 use std::alloc::AllocError;
 use std::mem;
 
-fn room<B: ShellKind>(
+fn room<B: CopyKind<Word, Word> + ShellKind>(
     session: &mut Session<B>,
     request: &Request<'_>,
     said: &mut String,
@@ -32,7 +33,7 @@ fn each<B: Bijection<Word, Word>>(bimap: &B, said: &mut String) {
 }
 
 /// Makes the call, if it is one of these.
-pub fn call<B: ShellKind>(
+pub fn call<B: CopyKind<Word, Word> + ShellKind>(
     session: &mut Session<B>,
     request: &Request<'_>,
     said: &mut String,

@@ -4,20 +4,21 @@ use crate::meter::Shown;
 use crate::request::{Memory, On, Request};
 use crate::word::Word;
 use crate::{counted, items, look, marks, put, rooms, runs};
+use bimap_calls::CopyKind;
 use bimap_undo::Undoable;
 use std::alloc::{AllocError, Global};
 use std::fmt::Debug;
 
 /// The bimap, another one beside it, and one with a record.
 #[derive(Drop)]
-pub struct Session<B: ShellKind> {
+pub struct Session<B: CopyKind<Word, Word> + ShellKind> {
     pub alloc: Global,
     pub bimap: B,
     pub other: B,
     pub record: Undoable<B, Word, Word>,
 }
 
-impl<B: ShellKind> Session<B> {
+impl<B: CopyKind<Word, Word> + ShellKind> Session<B> {
     /// Three empty ones.
     pub fn new(alloc: Global) -> Session<B> {
         Session {
@@ -64,7 +65,7 @@ impl<B: ShellKind> Session<B> {
             look::call(&self.bimap, request, said)?
                 || put::call(&mut self.bimap, request, said)?
                 || self.of_pairs(request, said)?
-                || self.bimap.call(&mut self.other, request, said)?,
+                || self.of_sides(request, said)?,
         )
     }
 
@@ -78,6 +79,10 @@ impl<B: ShellKind> Session<B> {
                 || items::call(self, request, said)?
                 || runs::call(self.alloc, &mut self.bimap, request, said)?,
         )
+    }
+
+    fn of_sides(&mut self, request: &Request<'_>, said: &mut String) -> Result<bool, AllocError> {
+        self.bimap.call(&mut self.other, request, said)
     }
 
     /// All that a refusal must leave as it was.
