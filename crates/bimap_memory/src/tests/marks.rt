@@ -44,10 +44,14 @@ fn stands(texts: &Texts, held: Held, mark: usize) -> bool {
     texts.held().len() == held.len() && texts.mark() == mark
 }
 
-// What was held when so many rows were made.
-fn held_at(mark: usize) -> Held {
-    ROWS.get(mark.wrapping_sub(1))
-        .map_or([].as_slice(), |row| row.2)
+// Whether what is held and recorded is what so many rows left.
+fn stands_at(texts: &Texts, mark: usize) -> bool {
+    for (at, row) in ROWS.iter().enumerate() {
+        if at.saturating_add(1) == mark {
+            return stands(texts, row.2, mark);
+        }
+    }
+    texts.held().len() == 0 && texts.mark() == mark
 }
 
 // Whether the insertion of a text is refused for its copy, which hands the very text back.
@@ -62,12 +66,12 @@ fn is_refused(alloc: Global, texts: &mut Texts, left: String, right: i32) -> Res
 }
 
 fn inserts_each(rt: &impl Abort, alloc: Global, texts: &mut Texts) -> Result<(), Fail> {
-    for (at, &(name, right, held)) in ROWS.iter().enumerate() {
-        let left = is_refused(alloc, texts, String::from_str(alloc, name)?, right)?;
-        assert_eq!(rt; left.as_str(), name);
-        assert!(rt; stands(texts, held_at(at), at), "{name}");
-        assert!(rt; texts.insert(left, right).is_ok());
-        assert!(rt; stands(texts, held, at + 1), "{name}");
+    for (at, row) in ROWS.iter().enumerate() {
+        let left = is_refused(alloc, texts, String::from_str(alloc, row.0)?, row.1)?;
+        assert_eq!(rt; left.as_str(), row.0);
+        assert!(rt; stands_at(texts, at), "{}", row.0);
+        assert!(rt; texts.insert(left, row.1).is_ok());
+        assert!(rt; stands_at(texts, at.saturating_add(1)), "{}", row.0);
     }
     Ok(())
 }
@@ -78,7 +82,7 @@ fn goes_back_by_each(texts: &mut Texts) -> bool {
             return false;
         }
         texts.back_to(mark);
-        if !stands(texts, held_at(mark), mark) {
+        if !stands_at(texts, mark) {
             return false;
         }
     }
