@@ -13,6 +13,7 @@ ANSWER: Neither, Left L R, Right L R, Pair L R, Both L R L R
 STEPS: front back len copy rest   RANGE: .. b.. b..d b..=d ..d ..=d, and >b.. without its start
 
   kinds: NAME ..                              the kinds from here on, each anew; none: all
+  anew                                        all begins empty
   new · with_capacity N · from_iter PAIRS · from_iter_with POLICY PAIRS
   show · len · is_empty · capacity · for_each
   get_by_left L · get_by_right R · contains_left L · contains_right R

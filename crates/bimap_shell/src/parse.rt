@@ -59,7 +59,8 @@ fn words_of(name: &str) -> Option<Words> {
 
 fn nothing_after(name: &str) -> bool {
     match name {
-        "new"
+        "anew"
+        | "new"
         | "show"
         | "len"
         | "is_empty"

@@ -39,6 +39,10 @@ pub fn call<B: CopyKind<Word, Word> + ShellKind>(
     said: &mut String,
 ) -> Result<bool, AllocError> {
     match request.call {
+        "anew" => {
+            *session = Session::new(session.alloc);
+            write!(said, "()")?;
+        }
         "show" => session.bimap.show(said)?,
         "for_each" => {
             write!(said, "[")?;

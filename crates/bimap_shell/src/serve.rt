@@ -32,35 +32,44 @@ fn lines(alloc: Global, answers: &[(usize, String)]) -> Result<String, AllocErro
     Ok(text)
 }
 
+// The numbers of the kinds that are named, or of all; `None` where a name is none.
+fn chosen_of(alloc: Global, names: &str) -> Result<Option<Vec<usize>>, AllocError> {
+    let mut chosen = Vec::new(alloc);
+    for name in names.split_whitespace() {
+        match NAMES.iter().position(|known| *known == name) {
+            Some(kind) => chosen.push(kind)?,
+            None => return Ok(None),
+        }
+    }
+    if chosen.is_empty() {
+        for kind in 0..NAMES.len() {
+            chosen.push(kind)?;
+        }
+    }
+    Ok(Some(chosen))
+}
+
 impl Shell {
     /// All kinds, each empty.
     pub fn new(alloc: Global) -> Result<Shell, AllocError> {
-        let mut shell = Shell {
+        let chosen = chosen_of(alloc, "")?.unwrap_or(Vec::new(alloc));
+        Ok(Shell {
             alloc,
             kinds: Kinds::new(alloc),
-            chosen: Vec::new(alloc),
-        };
-        shell.choose("")?;
-        Ok(shell)
+            chosen,
+        })
     }
 
     // Begins anew with the kinds that are named, or with all; false where a name is none.
     fn choose(&mut self, names: &str) -> Result<bool, AllocError> {
-        let mut chosen = Vec::new(self.alloc);
-        for name in names.split_whitespace() {
-            match NAMES.iter().position(|known| *known == name) {
-                Some(kind) => chosen.push(kind)?,
-                None => return Ok(false),
-            }
-        }
-        if chosen.is_empty() {
-            for kind in 0..NAMES.len() {
-                chosen.push(kind)?;
-            }
-        }
-        chosen.sort_unstable();
+        let Some(chosen) = chosen_of(self.alloc, names)? else {
+            return Ok(false);
+        };
         self.chosen = chosen;
-        self.kinds = Kinds::new(self.alloc);
+        let mut said = String::new(self.alloc);
+        for kind in 0..NAMES.len() {
+            self.one(kind, "anew", &mut said)?;
+        }
         Ok(true)
     }
 
