@@ -20,30 +20,32 @@ fn put_down<B: Bijection<u32, u32>>(bimap: &mut B) {
     }
 }
 
-// Whether two bimaps are equal, and whether they are not, whichever is asked.
-fn are_equal<B: PartialEq>(first: &B, second: &B) -> bool {
-    *first == *second && *second == *first
+fn put<B: Bijection<u32, u32>>(bimap: &mut B, left: u32, right: u32) {
+    drop(bimap.insert(left, right));
 }
 
-fn are_unlike<B: PartialEq>(first: &B, second: &B) -> bool {
-    *first != *second && *second != *first
+// Whether two bimaps are equal, and whether they are not, whichever is asked.
+fn are_equal(first: &Random, second: &Random) -> bool {
+    first == second && second == first
+}
+
+fn are_unlike(first: &Random, second: &Random) -> bool {
+    first != second && second != first
 }
 
 fn copied(bimap: &Random) -> Option<Random> {
     bimap.clone().ok()
 }
 
-// Two that hold the same pairs are equal just while they do, and so is a copy of the second.
-fn are_equal_by_pairs<B: Bijection<u32, u32> + PartialEq + Drop>(
-    rt: &impl Abort,
-    first: &mut B,
-    second: &mut B,
-    copy: B,
-) {
+// Two that are empty are equal just while they hold the same pairs, and so is a copy of one.
+fn are_equal_by_pairs(rt: &impl Abort, first: &mut Random, second: &mut Random) {
+    put_up(first);
+    put_down(second);
     assert!(rt; first.len() == 40 && are_equal(first, second));
-    drop(second.insert(7, 99));
+    let copy = copied(second).expect(rt, "no memory");
+    put(second, 7, 99);
     assert!(rt; are_unlike(first, second) && are_equal(first, &copy));
-    drop(second.insert(7, 6));
+    put(second, 7, 6);
     assert!(rt; are_equal(first, second));
     drop(second.remove_by_right(&0));
     assert!(rt; are_unlike(first, second));
@@ -64,10 +66,7 @@ fn what_is_held_is_the_same_under_any_builder(rt: HostRuntime) -> Result<(), Fai
     let mut first: Random = BiHashMap::with_hashers(alloc, left, right);
     let (left, right) = (RandomState::new(&rt)?, RandomState::new(&rt)?);
     let mut second: Random = BiHashMap::with_hashers(alloc, left, right);
-    put_up(&mut first);
-    put_down(&mut second);
-    let copy = copied(&second).expect(&rt, "no memory");
-    are_equal_by_pairs(&rt, &mut first, &mut second, copy);
+    are_equal_by_pairs(&rt, &mut first, &mut second);
     assert!(rt; shrinks_and_undoes(&mut first));
     assert!(rt; shows(&first, &[(9, 8), (10, 30), (11, 31)]));
     Ok(())
