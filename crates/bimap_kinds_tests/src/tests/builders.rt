@@ -1,11 +1,14 @@
 //! Builders of one's own: what is held is the same under any, and each bimap goes on with those that it was handed.
 use bimap::{BiHashMap, Bijection, Overwritten};
 use bimap_calls::shows;
-use std::hash::RandomState;
+use std::hash::{BuildHasher, RandomState};
 use std::process::Abort;
 use std::test::Fail;
 
-type Random = BiHashMap<u32, u32, RandomState, RandomState>;
+/// A bimap of numbers, whatever its builders are. (`==` where they are named is not covered.)
+type Numbers<LS, RS> = BiHashMap<u32, u32, LS, RS>;
+
+type Random = Numbers<RandomState, RandomState>;
 
 // The same pairs, from either end.
 fn put_up<B: Bijection<u32, u32>>(bimap: &mut B) {
@@ -25,11 +28,17 @@ fn put<B: Bijection<u32, u32>>(bimap: &mut B, left: u32, right: u32) {
 }
 
 // Whether two bimaps are equal, and whether they are not, whichever is asked.
-fn are_equal(first: &Random, second: &Random) -> bool {
+fn are_equal<LS: BuildHasher, RS: BuildHasher>(
+    first: &Numbers<LS, RS>,
+    second: &Numbers<LS, RS>,
+) -> bool {
     first == second && second == first
 }
 
-fn are_unlike(first: &Random, second: &Random) -> bool {
+fn are_unlike<LS: BuildHasher, RS: BuildHasher>(
+    first: &Numbers<LS, RS>,
+    second: &Numbers<LS, RS>,
+) -> bool {
     first != second && second != first
 }
 
