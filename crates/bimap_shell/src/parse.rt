@@ -102,8 +102,11 @@ fn read_few(request: &mut Request<'_>, kind: Words, words: &mut SplitWhitespace<
     Some(())
 }
 
-// Reads the calls of a run, which semicolons part.
+// Reads the calls of a run, which semicolons part. There may be none.
 fn read_calls(request: &mut Request<'_>, rest: &str) -> Result<Option<()>, AllocError> {
+    if rest.trim().is_empty() {
+        return Ok(Some(()));
+    }
     for text in rest.split(';') {
         let mut words = text.split_whitespace();
         match call(&mut words) {
