@@ -37,7 +37,7 @@ fn table_of_json(alloc: Global, text: &str) -> Result<Codes, Fault> {
 
 /// Whether a line gives a table, also where there is one.
 pub fn gives_table(line: &str) -> bool {
-    line.starts_with('{') || line.starts_with("table ")
+    line.strip_prefix("{").is_some() || line.strip_prefix("table ").is_some()
 }
 
 /// The table of a line: `table NAME CODE NAME CODE ..`, or else a JSON object of names with their codes.
