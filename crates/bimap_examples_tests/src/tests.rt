@@ -8,29 +8,18 @@ mod marks;
 mod recipes;
 mod sides;
 
-use bimap::{BiBTreeMap, BijectiveMap};
-use bimap_index::EmptyIndex;
+use bimap::BiBTreeMap;
 use std::process::Abort;
-
-// A bimap over any two indexes.
-type Of<I, J> = BijectiveMap<char, u32, I, J>;
 
 type Seats = BiBTreeMap<char, u32>;
 
 const PAIRS: [(char, u32); 3] = [('a', 3), ('b', 1), ('c', 2)];
 
 // The bimap that an example begins with.
-fn fresh<I: EmptyIndex<char> + Drop, J: EmptyIndex<u32> + Drop>(
-    rt: &(impl Abort + AllocGlobal),
-) -> Of<I, J> {
-    BijectiveMap::from_iter(rt.alloc(), PAIRS)
+fn ordered(rt: &(impl Abort + AllocGlobal)) -> Seats {
+    Seats::from_iter(rt.alloc(), PAIRS)
         .ok()
         .expect(rt, "no memory")
-}
-
-// The same with two ordered sides.
-fn ordered(rt: &(impl Abort + AllocGlobal)) -> Seats {
-    fresh(rt)
 }
 
 // Whether these pairs alone are held.

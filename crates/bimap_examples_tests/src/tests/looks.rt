@@ -1,29 +1,48 @@
-//! Examples of look-ups, ends and ranks, each function over any index where the call is.
-use super::{Of, ordered};
+//! Examples of look-ups, ends and ranks.
+use super::{Seats, ordered};
 use bimap::Overwritten;
-use bimap_index::Index;
-use bimap_tree::Ordered;
 use std::process::Abort;
 
-fn looks_up<I: Index<char>, J: Index<u32>>(rt: &impl Abort, seats: &Of<I, J>) {
+fn lengths(rt: &impl Abort, seats: &Seats) {
     assert!(rt; seats.len() == 3);
     assert!(rt; seats.is_empty() == false);
     assert!(rt; seats.capacity() == 4);
+}
+
+fn values(rt: &impl Abort, seats: &Seats) {
     assert!(rt; seats.get_by_left(&'a') == Some(&3));
     assert!(rt; seats.get_by_right(&1) == Some(&'b'));
     assert!(rt; seats.contains_left(&'d') == false);
     assert!(rt; seats.contains_right(&2) == true);
+}
+
+fn undoings(rt: &impl Abort, seats: &Seats) {
     assert!(rt; seats.can_undo_insert(&'c', &Overwritten::Left('c', 3)) == false);
 }
 
-fn by_left<J: Index<u32>>(rt: &impl Abort, seats: &Of<Ordered, J>) {
+#[test]
+fn looks_up(rt: HostRuntime) {
+    let seats = ordered(&rt);
+    lengths(&rt, &seats);
+    values(&rt, &seats);
+    undoings(&rt, &seats);
+}
+
+#[test]
+fn finds_ends_and_ranks(rt: HostRuntime) {
+    let seats = ordered(&rt);
+    by_left(&rt, &seats);
+    by_right(&rt, &seats);
+}
+
+fn by_left(rt: &impl Abort, seats: &Seats) {
     assert!(rt; seats.first_by_left() == Some((&'a', &3)));
     assert!(rt; seats.last_by_left() == Some((&'c', &2)));
     assert!(rt; seats.pair_at_left_rank(1) == Some((&'b', &1)));
     assert!(rt; seats.left_rank(&'c') == 2);
 }
 
-fn by_right<I: Index<char>>(rt: &impl Abort, seats: &Of<I, Ordered>) {
+fn by_right(rt: &impl Abort, seats: &Seats) {
     assert!(rt; seats.first_by_right() == Some((&'b', &1)));
     assert!(rt; seats.last_by_right() == Some((&'a', &3)));
     assert!(rt; seats.pair_at_right_rank(1) == Some((&'c', &2)));
@@ -31,32 +50,20 @@ fn by_right<I: Index<char>>(rt: &impl Abort, seats: &Of<I, Ordered>) {
 }
 
 // Each takes an end out of a bimap of its own.
-fn left_ends_out<J: Index<u32>>(
-    rt: &impl Abort,
-    seats: &mut Of<Ordered, J>,
-    other: &mut Of<Ordered, J>,
-) {
+fn first_out(rt: &impl Abort, seats: &mut Seats, other: &mut Seats) {
     assert!(rt; seats.pop_first_by_left() == Some(('a', 3)));
     let seats = other;
-    assert!(rt; seats.pop_last_by_left() == Some(('c', 2)));
+    assert!(rt; seats.pop_first_by_right() == Some(('b', 1)));
 }
 
-fn right_ends_out<I: Index<char>>(
-    rt: &impl Abort,
-    seats: &mut Of<I, Ordered>,
-    other: &mut Of<I, Ordered>,
-) {
-    assert!(rt; seats.pop_first_by_right() == Some(('b', 1)));
+fn last_out(rt: &impl Abort, seats: &mut Seats, other: &mut Seats) {
+    assert!(rt; seats.pop_last_by_left() == Some(('c', 2)));
     let seats = other;
     assert!(rt; seats.pop_last_by_right() == Some(('a', 3)));
 }
 
 #[test]
-fn looks_at_values_ends_and_ranks(rt: HostRuntime) {
-    let seats = ordered(&rt);
-    looks_up(&rt, &seats);
-    by_left(&rt, &seats);
-    by_right(&rt, &seats);
-    left_ends_out(&rt, &mut ordered(&rt), &mut ordered(&rt));
-    right_ends_out(&rt, &mut ordered(&rt), &mut ordered(&rt));
+fn takes_the_ends_out(rt: HostRuntime) {
+    first_out(&rt, &mut ordered(&rt), &mut ordered(&rt));
+    last_out(&rt, &mut ordered(&rt), &mut ordered(&rt));
 }

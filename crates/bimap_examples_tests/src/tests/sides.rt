@@ -1,38 +1,36 @@
 //! Examples of walks and ranges. Each is made in a function of its own, whose loan ends with it.
-use super::{Of, PAIRS, ordered};
+use super::{PAIRS, Seats, ordered};
 use bimap::BiBTreeHashMap;
-use bimap_index::Index;
-use bimap_tree::Ordered;
 
-fn first<J: Index<u32>>(seats: &Of<Ordered, J>) -> Option<(&char, &u32)> {
+fn first(seats: &Seats) -> Option<(&char, &u32)> {
     seats.iter().next()
 }
 
-fn last<J: Index<u32>>(seats: &Of<Ordered, J>) -> Option<(&char, &u32)> {
+fn last(seats: &Seats) -> Option<(&char, &u32)> {
     seats.iter().next_back()
 }
 
-fn first_left<J: Index<u32>>(seats: &Of<Ordered, J>) -> Option<&char> {
+fn first_left(seats: &Seats) -> Option<&char> {
     seats.left_values().next()
 }
 
-fn first_from_left<J: Index<u32>>(seats: &Of<Ordered, J>) -> Option<(&char, &u32)> {
+fn first_from_left(seats: &Seats) -> Option<(&char, &u32)> {
     seats.left_range('b'..).next()
 }
 
-fn least_right<I: Index<char>>(seats: &Of<I, Ordered>) -> Option<&u32> {
+fn least_right(seats: &Seats) -> Option<&u32> {
     seats.right_values().next()
 }
 
-fn first_from_right<I: Index<char>>(seats: &Of<I, Ordered>) -> Option<(&char, &u32)> {
+fn first_from_right(seats: &Seats) -> Option<(&char, &u32)> {
     seats.right_range(2..).next()
 }
 
-fn walk_length<J: Index<u32>>(seats: &Of<Ordered, J>) -> usize {
+fn walk_length(seats: &Seats) -> usize {
     seats.iter().len()
 }
 
-fn left_count<J: Index<u32>>(seats: &Of<Ordered, J>) -> usize {
+fn left_count(seats: &Seats) -> usize {
     seats.left_values().len()
 }
 
