@@ -1,43 +1,24 @@
 //! Examples of marks.
 use super::{Seats, holds};
-use bimap::{BiBTreeMap, ItemRefused, NoMemory, NoRoom, NotInsertedWith, OnHeld, Policy};
+use bimap::{BiBTreeMap, ItemRefused, NoRoom, NotInsertedWith, OnHeld, Policy};
 use bimap_undo::Undoable;
-use std::alloc::Global;
+use std::test::Fail;
 
 type Recorded = Undoable<Seats, char, u32>;
 
 type Refusal = Result<(), ItemRefused<char, u32>>;
 
-/// There was no memory.
-#[derive(Drop)]
-struct Stopped;
-
-impl From<NoRoom<char, u32>> for Stopped {
-    fn from(_: NoRoom<char, u32>) -> Stopped {
-        Stopped
-    }
-}
-
-impl From<NoMemory> for Stopped {
-    fn from(_: NoMemory) -> Stopped {
-        Stopped
-    }
-}
-
-fn gone_back(alloc: Global) -> Result<Recorded, Stopped> {
+#[test]
+fn goes_back_to_a_mark(rt: HostRuntime) -> Result<(), Fail> {
+    let alloc = rt.alloc();
     let mut seats = Undoable::new(alloc, BiBTreeMap::new(alloc));
     seats.insert('a', 1)?;
     let mark = seats.mark();
     seats.insert('a', 2)?;
     seats.remove_by_left(&'a')?;
     seats.back_to(mark);
-    Ok(seats)
-}
-
-#[test]
-fn goes_back_to_a_mark(rt: HostRuntime) {
-    let seats = gone_back(rt.alloc()).ok().expect(&rt, "no memory");
     assert!(&rt; holds(seats.held(), &[('a', 1)]));
+    Ok(())
 }
 
 fn inserted(seats: &mut Recorded) -> Result<bool, NotInsertedWith<char, u32>> {
