@@ -13,3 +13,6 @@ returns-clause-answer g c =
 
 pub returns-in_err-place-clause-answer : goal.returns-in_err-place-clause-answer
 returns-in_err-place-clause-answer g c = rw c.from_residual.ensures record { found = tt; none = left_lacking g.L.PartialEq.eq _ _ _ (found_at (λ p. p.0) g.L.PartialEq.eq c.args.self.now.pairs c.args.left.now c.find.result (rw c.new.ensures at c.find.ensures.found)) c.in_err-place.was }
+
+pub returns-clause-comparisons : goal.returns-clause-comparisons
+returns-clause-comparisons g c = c.find.ensures.comparisons

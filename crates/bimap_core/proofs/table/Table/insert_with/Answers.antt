@@ -1,4 +1,4 @@
-use Rattle.std.proofs.Common.{◌∙◌, ap, sym, refl, Some}
+use Rattle.std.proofs.Common.{◌∙◌, ap, sym, refl, Some, arith}
 use Rattle.bimap_core.proofs.Places.{left_lacking, apart_at_places}
 use Rattle.bimap_core.proofs.Inserted.{may, must, on_err, left_held, right_held, room_kept, refused_memory, put_new, put_left, put_right, put_pair, put_both}
 use Rattle.bimap_core.proofs.table.Table.insert_with.Goals as goal
@@ -73,3 +73,6 @@ returns-then-keeps-2-clause-places g c = refl
 
 pub finish_left-by_left-requires : goal.finish_left-by_left-requires
 finish_left-by_left-requires g c = record { under_way = search }
+
+pub returns-then-keeps-clause-comparisons : goal.returns-then-keeps-clause-comparisons
+returns-then-keeps-clause-comparisons g c = omega (arith, c.descend-to_left.ensures.comparisons, c.finish_left-by_left.ensures.comparisons)

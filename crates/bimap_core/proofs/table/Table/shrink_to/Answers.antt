@@ -6,7 +6,7 @@ pub pack-requires : goal.pack-requires
 pack-requires g c = record { room = omega (arith, c.max-to.ensures, c.len.ensures, length-pairs_in c.args.self.now.pairs) }
 
 pub returns-clause-comparisons : goal.returns-clause-comparisons
-returns-clause-comparisons g c = search
+returns-clause-comparisons g c = c.pack.ensures.comparisons
 
 pub returns-clause-answer : goal.returns-clause-answer
 returns-clause-answer g c = search rules
