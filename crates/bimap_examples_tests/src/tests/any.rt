@@ -1,13 +1,15 @@
 //! Examples of what is there over any bimap. They are functions over any, so that a kind is named once.
-use super::{Seats, holds, ordered};
+use super::{PAIRS, Seats, holds, ordered};
 use bimap::{
     BiBTreeMap, Bijection, Call, Interning, ItemRefused, NoMemory, NotInserted, NotInsertedWith,
-    NotReplaced, OnHeld, Policy, Reply, extend_with, from_iter_with, perform, replace_left,
-    replace_right,
+    NotReplaced, OnHeld, Overwritten, Policy, Reply, extend_with, from_iter_with, perform,
+    replace_left, replace_right, run, undo_run,
 };
+use bimap_calls::insert_all;
 use bimap_famine::Famine;
 use std::alloc::Global;
 use std::process::Abort;
+use std::test::Fail;
 
 fn sum_of<B: Bijection<char, u32>>(seats: &B) -> u32 {
     let mut sum = 0u32;
@@ -57,30 +59,92 @@ fn performed<B: Bijection<char, u32> + Drop>(bimap: B) -> Reply<char, u32> {
     reply
 }
 
-// What any bimap answers, one that holds the first pairs and two empty ones.
+fn ran<B: Bijection<char, u32> + Drop>(
+    alloc: Global,
+    bimap: B,
+) -> Result<(Vec<Reply<char, u32>>, B), Fail> {
+    let mut seats = bimap;
+    let calls = vec![in alloc;
+        Call::Insert('d', 4),
+        Call::Retain(2),
+        Call::ContainsLeft('b'),
+    ]?;
+    let replies = run(
+        alloc,
+        &mut seats,
+        calls,
+        |least: &u32, _: &char, seat: &u32| *seat >= *least,
+    )?;
+    Ok((replies, seats))
+}
+
+fn undone<B: Bijection<char, u32> + Drop>(
+    rt: &impl Abort,
+    alloc: Global,
+    three: B,
+) -> Result<B, Fail> {
+    let mut seats = three;
+    let entries = insert_all(alloc, &mut seats, &[('a', 1)])?;
+    assert!(rt; entries.as_slice() == [('a', Overwritten::Both(('a', 3), ('b', 1)))].as_slice());
+    undo_run(&mut seats, entries)?;
+    Ok(seats)
+}
+
+// Lists of insertions and of calls, on a bimap that holds the first pairs. It is handed back with 'd' in the place of 'b'.
+fn lists<B: Bijection<char, u32> + Drop>(
+    rt: &impl Abort,
+    alloc: Global,
+    three: B,
+) -> Result<B, Fail> {
+    let seats = undone(rt, alloc, three)?;
+    assert!(rt; are_held(&seats, &PAIRS));
+    let (replies, seats) = ran(alloc, seats)?;
+    assert!(rt;
+        replies.as_slice()
+            == [
+                Reply::Inserted(Overwritten::Neither),
+                Reply::Done,
+                Reply::Holds(false)
+            ]
+            .as_slice()
+    );
+    assert!(rt; are_held(&seats, &[('a', 3), ('c', 2), ('d', 4)]));
+    Ok(seats)
+}
+
+// What any bimap answers, one that holds the first pairs and three empty ones.
 fn answers<B: Bijection<char, u32> + Drop>(
     rt: &(impl Abort + AllocGlobal),
     three: B,
     none: B,
     empty: B,
-) {
+    other: B,
+) -> Result<(), Fail> {
     let mut seats = three;
     assert!(rt; sum_of(&seats) == 6);
     assert!(rt; make_two_places(&mut seats) == Ok(()));
     assert!(rt; (seats.len(), seats.capacity()) == (3, 5));
+    let seats = lists(rt, rt.alloc(), seats)?;
     assert!(rt; performed(seats) == Reply::Occupied('a', 1));
+    assert!(rt; performed(other) == Reply::Put);
     put_in(rt, none);
     let famine = Famine::begin(rt.alloc(), 4).expect(rt, "memory");
     let refused = performed(empty);
     drop(famine);
     assert!(rt; refused == Reply::NoRoom('a', 1));
+    Ok(())
 }
 
 #[test]
-fn over_any_bimap(rt: HostRuntime) {
+fn over_any_bimap(rt: HostRuntime) -> Result<(), Fail> {
     let alloc = rt.alloc();
-    answers(&rt, ordered(&rt), Seats::new(alloc), Seats::new(alloc));
-    assert!(&rt; performed(Seats::new(alloc)) == Reply::Put);
+    answers(
+        &rt,
+        ordered(&rt),
+        Seats::new(alloc),
+        Seats::new(alloc),
+        Seats::new(alloc),
+    )
 }
 
 fn number_of<B: Interning<&'static str, u32>>(

@@ -1,7 +1,7 @@
 //! Examples of JSON.
-use super::{Seats, holds};
-use bimap::value::{JsonFault, Value, read_into_with};
-use bimap::{BiBTreeMap, OnHeld, Policy};
+use super::{Seats, holds, ordered};
+use bimap::value::{JsonFault, JsonObject, Value, read_into_with, reread};
+use bimap::{BiBTreeMap, NoMemory, OnHeld, Policy};
 use std::alloc::Global;
 use std::test::Fail;
 
@@ -14,21 +14,41 @@ fn read_once(alloc: Global, value: &Value) -> Result<Seats, JsonFault> {
     Ok(seats)
 }
 
-#[test]
-fn reads_no_seat_twice(rt: HostRuntime) -> Result<(), Fail> {
-    let alloc = rt.alloc();
-    let value = Value::from_str(alloc, r#"{"A": 1, "B": 2, "C": 1}"#)?;
-    assert!(&rt; read_once(alloc, &value) == Err(JsonFault::RightHeld(2)));
-    Ok(())
+fn read_all(alloc: Global, value: &Value) -> Result<Seats, JsonFault> {
+    let seats: BiBTreeMap<char, u32> = BiBTreeMap::from_value(alloc, &value)?;
+    Ok(seats)
 }
 
 #[test]
-fn reads_each_seat_once(rt: HostRuntime) -> Result<(), Fail> {
+fn reads_seats(rt: HostRuntime) -> Result<(), Fail> {
     let alloc = rt.alloc();
-    let value = Value::from_str(alloc, r#"{"A": 1, "B": 2}"#)?;
-    let seats = read_once(alloc, &value)
+    let twice = Value::from_str(alloc, r#"{"A": 1, "B": 2, "C": 1}"#)?;
+    let once = Value::from_str(alloc, r#"{"A": 1, "B": 2}"#)?;
+    assert!(&rt; read_once(alloc, &twice) == Err(JsonFault::RightHeld(2)));
+    let later = read_all(alloc, &twice).ok().expect(&rt, "each entry reads");
+    assert!(&rt; holds(&later, &[('B', 2), ('C', 1)]));
+    let seats = read_once(alloc, &once)
         .ok()
         .expect(&rt, "no seat stands twice");
     assert!(&rt; holds(&seats, &[('A', 1), ('B', 2)]));
     Ok(())
+}
+
+fn written(alloc: Global, seats: &Seats) -> Result<Value, NoMemory> {
+    let value = seats.to_value(alloc)?;
+    Ok(value)
+}
+
+fn reads_back(alloc: Global, seats: Seats) -> Result<bool, JsonFault> {
+    let copy = reread(alloc, &seats)?;
+    Ok(copy == seats)
+}
+
+#[test]
+fn writes_seats_and_reads_them_back(rt: HostRuntime) {
+    let alloc = rt.alloc();
+    let value = written(alloc, &ordered(&rt)).expect(&rt, "memory");
+    let text = value.to_string(alloc).expect(&rt, "memory");
+    assert!(&rt; text.as_str() == r#"{"a":3,"b":1,"c":2}"#);
+    assert!(&rt; reads_back(alloc, ordered(&rt)) == Ok(true));
 }

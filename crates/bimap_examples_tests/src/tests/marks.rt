@@ -2,6 +2,7 @@
 use super::{Seats, holds};
 use bimap::{BiBTreeMap, ItemRefused, NoRoom, NotInsertedWith, OnHeld, Policy};
 use bimap_undo::Undoable;
+use std::process::Abort;
 use std::test::Fail;
 
 type Recorded = Undoable<Seats, char, u32>;
@@ -17,8 +18,17 @@ fn goes_back_to_a_mark(rt: HostRuntime) -> Result<(), Fail> {
     seats.insert('a', 2)?;
     seats.remove_by_left(&'a')?;
     seats.back_to(mark);
+    assert!(&rt; seats.held().get_by_left(&'a') == Some(&1));
     assert!(&rt; holds(seats.held(), &[('a', 1)]));
     Ok(())
+}
+
+fn records_changes(rt: &impl Abort, seats: &mut Recorded) {
+    assert!(rt; seats.insert('a', 1) == Ok(false));
+    assert!(rt; seats.insert('a', 2) == Ok(true));
+    assert!(rt; seats.remove_by_left(&'a') == Ok(true));
+    assert!(rt; seats.remove_by_right(&2) == Ok(false));
+    assert!(rt; seats.mark() == 3);
 }
 
 fn inserted(seats: &mut Recorded) -> Result<bool, NotInsertedWith<char, u32>> {
@@ -41,7 +51,9 @@ fn all_inserted(seats: &mut Recorded) -> Result<Refusal, NoRoom<char, u32>> {
 }
 
 #[test]
-fn records_no_refusal(rt: HostRuntime) {
+fn records_changes_and_no_refusal(rt: HostRuntime) {
+    let mut seats = Undoable::new(rt.alloc(), Seats::new(rt.alloc()));
+    records_changes(&rt, &mut seats);
     let mut seats = Undoable::new(rt.alloc(), Seats::new(rt.alloc()));
     assert!(&rt; inserted(&mut seats) == Err(NotInsertedWith::RightHeld('b', 1)));
     assert!(&rt; seats.mark() == 1);
