@@ -12,31 +12,33 @@ use crate::overwritten::Overwritten;
 use crate::policy::{OnHeld, Policy};
 use crate::refusal::{NoMemory, NoRoom, NotInserted, NotInsertedWith, UndoStopped};
 
-/// A set of pairs in which each left has one right and each right has one left.
+/// A bimap of any kind: a set of pairs in which each left has one right, and each right one left.
 ///
-/// Its meaning is the pairs held and the room, which is the number of places for pairs. No call lowers the room, and
-/// want of memory is answered only where a place is wanted and none is free.
+/// Contracts see its pairs and its capacity, which is the number of places for pairs. No call lowers the capacity. An
+/// `Err` leaves both as they were and hands back what was given; it is for memory only where fewer places are free than
+/// the call needs. What a call costs, each bimap says for itself: see `BijectiveMap`.
 pub trait Bijection<L: Eq + Drop, R: Eq + Drop> {
-    /// The pairs held, each once, and the room.
+    /// The pairs, each once, and the capacity.
     ghost holding: { Self → Holding L R };
 
-    /// The number of pairs.
+    /// Returns the number of pairs.
     fn len(&self) -> usize
         ensures { result ≡ length (holding self.now).pairs };
 
-    /// The number of places for pairs. Each kind of bimap here answers in constant time.
+    /// Returns the number of places for pairs.
     fn capacity(&self) -> usize
         ensures { result ≡ (holding self.now).room };
 
-    /// The partner of a left, or `None` where it is not held.
+    /// Returns the right of a left, or `None` if the bimap doesn't contain the left.
     fn get_by_left(&self, left: &L) -> Option<&R>
         ensures { IsFoundByLeft L.eq (holding self.now) left.now result };
 
-    /// The partner of a right, or `None` where it is not held.
+    /// Returns the left of a right, or `None` if the bimap doesn't contain the right.
     fn get_by_right(&self, right: &R) -> Option<&L>
         ensures { IsFoundByRight R.eq (holding self.now) right.now result };
 
-    /// Inserts a pair where the policy lets it overwrite what it shares a value with. A refusal changes nothing.
+    /// Inserts a pair where the policy lets it overwrite what it shares a value with, and returns the pairs that it
+    /// overwrote.
     fn insert_with(
         &mut self,
         left: L,
@@ -45,16 +47,15 @@ pub trait Bijection<L: Eq + Drop, R: Eq + Drop> {
     ) -> Result<Overwritten<L, R>, NotInsertedWith<L, R>>
         ensures { IsInsertionUnder L.eq R.eq (holding self.old) (left, right) policy result (holding self.new) };
 
-    /// Takes out the pair of a left, or answers `None` where it is not held.
+    /// Removes the pair of a left and returns it, or `None` if the bimap doesn't contain the left.
     fn remove_by_left(&mut self, left: &L) -> Option<(L, R)>
         ensures { IsRemovalByLeft L.eq (holding self.old) left.now result (holding self.new) };
 
-    /// Takes out the pair of a right, or answers `None` where it is not held.
+    /// Removes the pair of a right and returns it, or `None` if the bimap doesn't contain the right.
     fn remove_by_right(&mut self, right: &R) -> Option<(L, R)>
         ensures { IsRemovalByRight R.eq (holding self.old) right.now result (holding self.new) };
 
-    /// Calls the closure once on each pair, in an open order. Each kind of bimap here takes no memory for it, and time in
-    /// proportion to the capacity.
+    /// Calls the closure once on each pair, in no set order.
     ///
     ///     // the sum of the seats
     ///     let mut sum = 0u32;
@@ -63,26 +64,26 @@ pub trait Bijection<L: Eq + Drop, R: Eq + Drop> {
         requires may { MayVisit F.FnMut f (holding self.now).pairs }
         ensures { IsVisited F.FnMut f (holding self.now).pairs };
 
-    /// Calls the closure once on each pair, in an open order, and takes out those on which it answers false.
+    /// Keeps the pairs on which the closure returns true, asked once each in no set order, also of a bimap whose own
+    /// `retain` asks by ascending left.
     fn retain<F: FnMut(&L, &R) -> bool>(&mut self, f: F)
         requires may { MayTest F.FnMut f (holding self.old).pairs }
         ensures { IsRetention F.FnMut (holding self.old) f (holding self.new) };
 
-    /// Drops all pairs. The room stays.
+    /// Removes all pairs and keeps the capacity.
     fn clear(&mut self)
         ensures pairs { (holding self.new).pairs ≡ [] }
         ensures room { (holding self.new).room ≡ (holding self.old).room };
 
-    /// Makes the room at least the length plus `more`, exactly. Where it is so already, no memory is taken. A refusal
-    /// changes nothing. Each kind of bimap here takes time in proportion to the new room.
+    /// Grows the capacity to exactly the length plus `more`, unless it is that or more.
     ///
     ///     // after this, two insertions can't be refused
     ///     seats.reserve(2)?;
     fn reserve(&mut self, more: usize) -> Result<(), NoMemory>
         ensures { IsReservation (holding self.old) more result (holding self.new) };
 
-    /// Takes out the pair of a left and answers it, and holds the pairs of the answer instead. Only where the answer is
-    /// `Both` and no place is free does it take memory.
+    /// Undoes an insertion: removes the pair of a left and returns it, and puts the pairs of the answer back. It may be
+    /// called where `can_undo_insert` returns true, and only `Both` needs a free place.
     fn undo_insert(
         &mut self,
         left: &L,
@@ -91,28 +92,28 @@ pub trait Bijection<L: Eq + Drop, R: Eq + Drop> {
         requires undoable { IsUndoable L.eq R.eq (Contains (holding self.old).pairs) left.now answer }
         ensures { IsUndoing L.eq R.eq (holding self.old) left.now answer result (holding self.new) };
 
-    /// Whether no pair is held.
+    /// Returns whether the bimap contains no pairs.
     final fn is_empty(&self) -> bool
         ensures { IsTrue result ↔ ((holding self.now).pairs ≡ []) }
     {
         self.len() == 0
     }
 
-    /// Whether the left is held.
+    /// Returns whether the bimap contains the left.
     final fn contains_left(&self, left: &L) -> bool
         ensures { IsTrue result ↔ HasLeft L.eq (Contains (holding self.now).pairs) left.now }
     {
         self.get_by_left(left).is_some()
     }
 
-    /// Whether the right is held.
+    /// Returns whether the bimap contains the right.
     final fn contains_right(&self, right: &R) -> bool
         ensures { IsTrue result ↔ HasRight R.eq (Contains (holding self.now).pairs) right.now }
     {
         self.get_by_right(right).is_some()
     }
 
-    /// Inserts a pair, and answers the pairs that it strikes out. Where it strikes any, it takes no memory.
+    /// Inserts a pair and returns the pairs that it overwrote. It needs a free place only where it overwrites none.
     final fn insert(&mut self, left: L, right: R) -> Result<Overwritten<L, R>, NoRoom<L, R>>
         ensures { IsInsertion L.eq R.eq (holding self.old) (left, right) result (holding self.new) }
     {
@@ -127,7 +128,7 @@ pub trait Bijection<L: Eq + Drop, R: Eq + Drop> {
         }
     }
 
-    /// Inserts a pair of which neither value is held. A refusal changes nothing.
+    /// Inserts a pair if the bimap contains neither of its values.
     final fn insert_no_overwrite(&mut self, left: L, right: R) -> Result<(), NotInserted<L, R>>
         ensures { IsInsertionWithoutOverwriting L.eq R.eq (holding self.old) (left, right) result (holding self.new) }
     {
@@ -143,7 +144,8 @@ pub trait Bijection<L: Eq + Drop, R: Eq + Drop> {
         }
     }
 
-    /// Whether the insertion that gave this answer for this left may be undone.
+    /// Returns whether `undo_insert` may be called with these: a pair has the left, and the pairs of the answer share
+    /// no value with any other, nor with each other.
     final fn can_undo_insert(&self, left: &L, answer: &Overwritten<L, R>) -> bool
         ensures { IsTrue result ↔ IsUndoable L.eq R.eq (Contains (holding self.now).pairs) left.now answer.now }
     {
@@ -163,21 +165,21 @@ pub trait Bijection<L: Eq + Drop, R: Eq + Drop> {
         }
     }
 
-    /// Whether a pair shares a value with no pair but that of `left`.
+    /// Returns whether a pair shares a value with none but that of `left`.
     final fn fits_beside(&self, left: &L, l: &L, r: &R) -> bool
         ensures { IsTrue result ↔ Fits L.eq R.eq (Contains (holding self.now).pairs) left.now (l.now, r.now) }
     {
         self.fits_left(left, l) && self.fits_right(left, r)
     }
 
-    /// Whether no pair but that of `left` has the left `l`.
+    /// Returns whether no pair but that of `left` has the left `l`.
     final fn fits_left(&self, left: &L, l: &L) -> bool
         ensures { IsTrue result ↔ FitsLeft L.eq (Contains (holding self.now).pairs) left.now l.now }
     {
         *l == *left || !self.contains_left(l)
     }
 
-    /// Whether no pair but that of `left` has the right `r`.
+    /// Returns whether no pair but that of `left` has the right `r`.
     final fn fits_right(&self, left: &L, r: &R) -> bool
         ensures { IsTrue result ↔ FitsRight L.eq R.eq (Contains (holding self.now).pairs) left.now r.now }
     {
@@ -187,10 +189,10 @@ pub trait Bijection<L: Eq + Drop, R: Eq + Drop> {
         }
     }
 
-    /// No two of the pairs held share a value.
+    /// No two of the pairs share a value.
     ghost apart: { (bimap : Self) → IsApart L.eq R.eq (holding bimap).pairs };
 
-    /// There is a place for each pair held.
+    /// There is a place for each pair.
     ghost fits: { (bimap : Self) → length (holding bimap).pairs ≤ (holding bimap).room };
 }
 

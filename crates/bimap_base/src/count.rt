@@ -38,7 +38,7 @@ pub struct Count {
 }
 
 impl Count {
-    /// Both numbers are 0.
+    /// Returns a meter of which both numbers are 0.
     pub fn new() -> Self
         ensures compared { result.compared.number ≡ 0 }
         ensures touched { result.touched.number ≡ 0 }

@@ -1,4 +1,4 @@
-//! Many pairs put into any bimap. It doesn't know how a bimap keeps them.
+//! Many pairs inserted into any bimap. It doesn't know how a bimap keeps them.
 ghost use Rattle.std.specs.Prelude.{◌≡◌, ◌≤◌, [], length, List, Contains, OnOk, IfOk, IfErr};
 ghost use Rattle.std.specs.Iterator.{IsFiniteIterable};
 ghost use Rattle.bimap_base.specs.Extension.{IsExtension, IsExtensionStopped, IsExtensionUnder, IsExtensionStoppedUnder, IsRefusedNext, IsRefusedNextUnder};
@@ -8,9 +8,10 @@ use crate::policy::{OnHeld, Policy};
 use crate::refusal::{ExtendStopped, ItemRefused, NotInsertedWith};
 use std::mem;
 
-/// Inserts each item in order. A later one may strike earlier ones.
+/// Inserts each item in order, which overwrites what it shares a value with.
 ///
-/// Nothing is reserved by a size hint. Where an item finds no memory, those before it stay, and no more are asked for.
+/// Each costs an `insert`, and nothing is reserved ahead. An `Err` hands back the item that was out of memory: those
+/// before it stay, and no more are asked for.
 pub fn extend<L: Eq + Drop, R: Eq + Drop, B: Bijection<L, R>, I: IntoIterator<Item = (L, R)>>(
     bimap: &mut B,
     items: I,
@@ -33,17 +34,16 @@ pub fn extend<L: Eq + Drop, R: Eq + Drop, B: Bijection<L, R>, I: IntoIterator<It
     }
 }
 
-/// Inserts each item in order where the policy lets it overwrite what it shares a value with. The first item that is
-/// refused ends it.
+/// Inserts each item in order, where the policy lets it overwrite what it shares a value with, up to the first that is
+/// refused.
 ///
-/// Costs one `insert_with` an item. Nothing is reserved by a size hint: an item takes memory only where it strikes
-/// nothing and no place is free. An `Err` hands the refused item back with its number and the reason, the items before
-/// it stay, and no more are asked for.
+/// Each costs an `insert_with`, and nothing is reserved ahead. An `Err` hands back the refused item: those before it
+/// stay, and no more are asked for.
 ///
 ///     // each left and each right once: the item 2 has the right of the item 0
 ///     let once = Policy { left: OnHeld::Refuse, right: OnHeld::Refuse };
 ///     let refused = extend_with(&mut seats, [('a', 1), ('b', 2), ('c', 1), ('d', 4)], once);
-///     // Err(ItemRefused { taken: 2, why: NotInsertedWith::RightHeld('c', 1) }), and ('a', 1), ('b', 2) are held
+///     // Err(ItemRefused { taken: 2, why: NotInsertedWith::RightHeld('c', 1) }); ('a', 1) and ('b', 2) are in
 pub fn extend_with<L: Eq + Drop, R: Eq + Drop, B: Bijection<L, R>, I: IntoIterator<Item = (L, R)>>(
     bimap: &mut B,
     items: I,
@@ -68,7 +68,7 @@ pub fn extend_with<L: Eq + Drop, R: Eq + Drop, B: Bijection<L, R>, I: IntoIterat
     Ok(())
 }
 
-/// Inserts each item in order into an empty bimap, and answers it. A refusal drops it.
+/// Inserts each item in order into an empty bimap, as [`extend`] does, and returns it. An `Err` drops it.
 pub fn from_iter<
     L: Eq + Drop,
     R: Eq + Drop,
@@ -87,11 +87,7 @@ pub fn from_iter<
     }
 }
 
-/// Inserts each item in order into an empty bimap where the policy lets it overwrite what it shares a value with, and
-/// answers the bimap. The first item that is refused ends it, and drops the bimap.
-///
-/// Costs one `insert_with` an item, and takes memory as [`extend_with`] does. An `Err` hands the refused item back with
-/// its number and the reason.
+/// Inserts each item in order into an empty bimap, as [`extend_with`] does, and returns it. An `Err` drops it.
 ///
 ///     // each left and each right once
 ///     let once = Policy { left: OnHeld::Refuse, right: OnHeld::Refuse };

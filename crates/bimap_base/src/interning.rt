@@ -1,4 +1,4 @@
-//! The partner of a left, which is put in where there is none, in any bimap. It doesn't know how a bimap keeps its pairs.
+//! The right of a left, inserted if there is none, in any bimap. It doesn't know how a bimap keeps its pairs.
 ghost use Rattle.bimap_base.specs.Holding.{IsInterning};
 
 use crate::bijection::Bijection;
@@ -6,12 +6,10 @@ use crate::refusal::NotInserted;
 
 /// A bimap whose rights are copied, as numbers are.
 pub trait Interning<L: Eq + Drop, R: Copy + Eq + Drop>: Bijection<L, R> {
-    /// The right held for an equal left, where nothing changes and the given pair is dropped; else the pair is put in,
-    /// and its right answered.
+    /// Returns the right of an equal left; if there is none, inserts the pair and returns its right.
     ///
-    /// As it stands here, it costs a look-up by left and, where none is held, an insertion. It takes memory only where
-    /// the pair is put in and as many are held as there is room for. An `Err` hands the pair back, and nothing has
-    /// changed: another pair has the right, or there was no memory.
+    /// As it stands here, it costs a look-up, and an insertion where it inserts, which alone needs a free place. An
+    /// `Err` hands the pair back: another pair has the right, or it was out of memory.
     ///
     ///     // the number of a name: the one that it has, or else the next
     ///     let number = numbers.get_by_left_or_insert("ann", next)?;

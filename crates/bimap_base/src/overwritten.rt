@@ -1,24 +1,24 @@
-//! What an insertion strikes.
+//! What an insertion overwrites.
 ghost use Rattle.std.specs.Prelude.{◌≡◌};
 ghost use Rattle.bimap_base.specs.Answer.{overwrites};
 
-/// The pairs that an insertion struck out, with their old values.
+/// The pairs that an insertion overwrote, with their old values.
 #[derive(Clone, Copy, Debug, Drop, Eq, Hash, PartialEq)]
 pub enum Overwritten<L, R> {
-    /// Neither value was held.
+    /// The bimap contained neither value.
     Neither,
-    /// The left was held, and the right was not.
+    /// It contained the left, and not the right.
     Left(L, R),
-    /// The right was held, and the left was not.
+    /// It contained the right, and not the left.
     Right(L, R),
-    /// Both were held, in one pair.
+    /// It contained both, in one pair.
     Pair(L, R),
-    /// Both were held, in two pairs: first the one with the equal left.
+    /// It contained both, in two pairs: first the one with the equal left.
     Both((L, R), (L, R)),
 }
 
 impl<L, R> Overwritten<L, R> {
-    /// Whether a pair was struck out.
+    /// Returns whether a pair was overwritten.
     pub fn did_overwrite(&self) -> bool
         ensures { result ≡ overwrites self.now }
     {

@@ -1,16 +1,16 @@
-//! Which held values an insertion may overwrite.
+//! Which values an insertion may overwrite.
 ghost use Rattle.std.specs.Prelude.{◌≡◌, ◌↔◌, IsTrue};
 
-/// What an insertion does where a value is held.
+/// What an insertion does where the bimap contains a value.
 #[derive(Clone, Copy, Debug, Eq, PartialEq)]
 pub enum OnHeld {
-    /// The held pair is struck out.
+    /// It overwrites the pair that has the value.
     Overwrite,
-    /// The insertion is refused.
+    /// It is refused.
     Refuse,
 }
 
-/// What an insertion does where its left is held, and where its right is.
+/// What an insertion does where the bimap contains its left, and where it contains its right.
 #[derive(Clone, Copy, Debug, Eq, PartialEq)]
 pub struct Policy {
     pub left: OnHeld,
@@ -18,7 +18,7 @@ pub struct Policy {
 }
 
 impl OnHeld {
-    /// Whether a held value is kept.
+    /// Returns whether this is `Refuse`.
     pub fn refuses(self) -> bool
         ensures { IsTrue result ↔ (self ≡ OnHeld.Refuse) }
     {

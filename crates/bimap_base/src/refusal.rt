@@ -2,7 +2,7 @@
 use crate::overwritten::Overwritten;
 use std::alloc::AllocError;
 
-/// There was no memory, and nothing has changed.
+/// Out of memory, and nothing has changed.
 #[derive(Clone, Copy, Debug, Eq, PartialEq)]
 pub struct NoMemory;
 
@@ -12,61 +12,61 @@ impl From<AllocError> for NoMemory {
     }
 }
 
-/// There was no memory for a pair that would strike nothing. Nothing has changed, and the pair is handed back.
+/// Out of memory for a pair that would overwrite nothing. The pair is handed back, and nothing has changed.
 #[derive(Debug, Drop, Eq, PartialEq)]
 pub struct NoRoom<L, R> {
     pub left: L,
     pub right: R,
 }
 
-/// Why `insert_no_overwrite` put nothing in. Nothing has changed, and the pair is handed back.
+/// Why `insert_no_overwrite` refused a pair. The pair is handed back, and nothing has changed.
 #[derive(Debug, Drop, Eq, PartialEq)]
 pub enum NotInserted<L, R> {
-    /// One of the values is held, or both are.
+    /// The bimap contains one of the values, or both.
     Occupied(L, R),
-    /// Neither value is held, and there was no memory for the pair.
+    /// It contains neither, and was out of memory.
     Memory(L, R),
 }
 
-/// Why `insert_with` put nothing in. Nothing has changed, and the pair is handed back.
+/// Why `insert_with` refused a pair. The pair is handed back, and nothing has changed.
 #[derive(Debug, Drop, Eq, PartialEq)]
 pub enum NotInsertedWith<L, R> {
-    /// The left is held, and the policy keeps it. It is asked first.
+    /// The bimap contains the left, and the policy keeps it. It is asked before the right.
     LeftHeld(L, R),
-    /// The right is held, and the policy keeps it.
+    /// It contains the right, and the policy keeps it.
     RightHeld(L, R),
-    /// Neither value is held, and there was no memory for the pair.
+    /// It contains neither, and was out of memory.
     Memory(L, R),
 }
 
-/// There was no memory for an item that would strike nothing. The items before it were taken, and it is handed back.
+/// Out of memory for an item that would overwrite nothing. It is handed back, and those before it were inserted.
 #[derive(Debug, Drop, Eq, PartialEq)]
 pub struct ExtendStopped<L, R> {
-    /// How many items were taken. It stays at the greatest `usize` once it is there.
+    /// How many items were inserted, or `usize::MAX` if more were.
     pub taken: usize,
     pub left: L,
     pub right: R,
 }
 
-/// Why a value was not replaced by another. Nothing has changed, and the other value is handed back.
+/// Why a value was not replaced. The new value is handed back, and nothing has changed.
 #[derive(Debug, Drop, Eq, PartialEq)]
 pub enum NotReplaced<V> {
-    /// The value to replace is not held. It is asked first.
+    /// The bimap doesn't contain the old value. It is asked first.
     Missing(V),
-    /// Another pair has the other value.
+    /// Another pair has the new value.
     Held(V),
 }
 
-/// An item was refused by the policy, or found no memory. The items before it were taken.
+/// An item that the policy refused, or that was out of memory. The call says what became of those before it.
 #[derive(Debug, Drop, Eq, PartialEq)]
 pub struct ItemRefused<L, R> {
-    /// How many items were taken, which is the item's number, from 0. It stays at the greatest `usize` once it is there.
+    /// The item's number, from 0, or `usize::MAX` if that is less.
     pub taken: usize,
-    /// The reason, with the item handed back.
+    /// The reason, which hands the item back.
     pub why: NotInsertedWith<L, R>,
 }
 
-/// There was no memory to undo an insertion that struck two pairs. Nothing has changed, and the answer is handed back.
+/// Out of memory for putting two pairs back. The answer is handed back, and nothing has changed.
 #[derive(Debug, Drop, Eq, PartialEq)]
 pub struct UndoStopped<L, R> {
     pub answer: Overwritten<L, R>,

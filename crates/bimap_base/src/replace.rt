@@ -1,4 +1,4 @@
-//! Another value in the place of a held one, in any bimap. It doesn't know how a bimap keeps its pairs.
+//! One value of a pair replaced, in any bimap. It doesn't know how a bimap keeps its pairs.
 ghost use Rattle.bimap_base.specs.Exchange.{IsReplacementOfLeft, IsReplacementOfRight};
 
 use crate::bijection::Bijection;
@@ -23,11 +23,10 @@ macro_rules! replaced {
     }};
 }
 
-/// Puts the pair of the left `from` under the left `to`, and answers the old left. A new left that equals the old one
-/// takes its place too.
+/// Replaces the left of a pair and returns the old one, also where the new one equals it.
 ///
-/// Costs two look-ups, a removal and an insertion. It takes no memory, and the room stays. An `Err` hands the new left
-/// back, and nothing has changed: the old one isn't held, or another pair has the new one.
+/// It costs two look-ups, a removal and an insertion, and is never out of memory; the capacity stays. An `Err` hands
+/// the new left back: the bimap doesn't contain the old one, or another pair has the new one.
 ///
 ///     // a user gets another name, and keeps the number
 ///     let old = replace_left(&mut users, &"ann", "anna")?;
@@ -41,11 +40,7 @@ pub fn replace_left<L: Eq + Drop, R: Eq + Drop, B: Bijection<L, R>>(
     replaced!(bimap, from => to; contains_left, remove_by_left; left, right => left, to, right)
 }
 
-/// Puts the pair of the right `from` under the right `to`, and answers the old right. A new right that equals the old
-/// one takes its place too.
-///
-/// Costs two look-ups, a removal and an insertion. It takes no memory, and the room stays. An `Err` hands the new right
-/// back, and nothing has changed: the old one isn't held, or another pair has the new one.
+/// Replaces the right of a pair and returns the old one, as [`replace_left`] does a left.
 ///
 ///     // a user moves to another seat
 ///     let old = replace_right(&mut seats, &12, 31)?;
