@@ -1,4 +1,4 @@
-//! Many pairs put in at once. It doesn't know how one is.
+//! Many pairs inserted at once. It doesn't know how one is.
 ghost use Rattle.std.specs.Prelude.{List, Contains, [], OnOk, IfOk, IfErr};
 ghost use Rattle.std.specs.Iterator.{IsFiniteIterable};
 ghost use Rattle.bimap_base.specs.Extension.{IsExtension, IsExtensionStopped, IsRefusedNext};
@@ -11,10 +11,10 @@ use std::alloc::Global;
 impl<L: Eq + Drop, R: Eq + Drop, I: Index<L>, J: Index<R>> BijectiveMap<L, R, I, J> {
     ghost use Rattle.bimap_kinds.specs.Held.{holding};
 
-    /// Inserts each item in order. A later one may strike earlier ones.
+    /// Inserts each item in order, which overwrites what it shares a value with.
     ///
-    /// Nothing is reserved by a size hint. An `Err` hands the refused item back: those before it stay, and no more are
-    /// asked for. Time is that of an insertion for each item.
+    /// Each costs an insertion, and nothing is reserved ahead. An `Err` hands back the item that was out of memory:
+    /// those before it stay, and no more are asked for.
     ///
     ///     seats.extend([('d', 4), ('e', 1)]); // Ok(())
     ///     seats.len(); // 4
@@ -38,10 +38,7 @@ impl<L: Eq + Drop, R: Eq + Drop, I: EmptyIndex<L> + Drop, J: EmptyIndex<R> + Dro
 > {
     ghost use Rattle.bimap_kinds.specs.Held.{holding};
 
-    /// A bimap of the items, each inserted in order. A later one may strike earlier ones.
-    ///
-    /// Nothing is reserved by a size hint. An `Err` hands the refused item back, and there is no bimap. Time is that of
-    /// `extend`.
+    /// Creates a bimap of the items, inserted in order as [`extend`](Self::extend) does. An `Err` leaves no bimap.
     ///
     ///     let seats: BiBTreeMap<char, u32> = BiBTreeMap::from_iter(alloc, [('a', 3), ('b', 1), ('c', 2)])?;
     pub fn from_iter<A: IntoIterator<Item = (L, R)>>(

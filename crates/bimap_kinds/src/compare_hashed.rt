@@ -8,8 +8,8 @@ use crate::map::BijectiveMap;
 use bimap_index::{HashIndex, Index};
 use std::hash::{BuildHasher, Hash};
 
-/// Two bimaps are equal where they hold as many pairs, and each pair of one has a pair in the other that is equal on
-/// both sides. The builders need not be equal. One look-up for each pair, and no memory.
+/// Two bimaps are equal if they have the same length and each pair of one equals a pair of the other on both sides,
+/// whatever the builders. It takes a look-up for each pair.
 impl<L: Eq + Hash, R: Eq, LS: BuildHasher, J: Index<R>> PartialEq
     for BijectiveMap<L, R, HashIndex<LS>, J> {
     ghost eq = { λ a b. same L.eq R.eq (holding a).pairs (holding b).pairs };

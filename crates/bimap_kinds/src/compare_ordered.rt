@@ -16,8 +16,8 @@ use bimap_walk::by_rank::Iter;
 use std::cmp::Ordering;
 use std::hash::{Hash, Hasher};
 
-/// Two bimaps are equal where they hold as many pairs, and each pair of one has a pair in the other that is equal on
-/// both sides. Time is linear in the length.
+/// Two bimaps are equal if they have the same length and each pair of one equals a pair of the other on both sides. It
+/// takes time proportional to the length.
 impl<L: Ord + Drop, R: Eq + Drop, J: Index<R>> PartialEq for BijectiveMap<L, R, Ordered, J> {
     ghost eq = { λ a b. same L.eq R.eq (holding a).pairs (holding b).pairs };
 
@@ -45,8 +45,8 @@ impl<L: Ord + Drop, R: Ord + Drop, J: Index<R>> PartialOrd for BijectiveMap<L, R
     }
 }
 
-/// The pairs by ascending left are compared in turn, each by its left and then by its right. Where one bimap's pairs
-/// are the beginning of the other's, it is the lesser. Time is linear in the length.
+/// Compares the pairs by ascending left in turn, each by its left and then by its right. Where one bimap's pairs begin
+/// the other's, it is the lesser. It takes time proportional to the length.
 impl<L: Ord + Drop, R: Ord + Drop, J: Index<R>> Ord for BijectiveMap<L, R, Ordered, J> {
     ghost cmp = { λ a b. lexicographic L.cmp R.cmp (holding a).pairs (holding b).pairs };
 

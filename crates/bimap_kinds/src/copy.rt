@@ -14,11 +14,10 @@ impl<
 > BijectiveMap<L, R, I, J> {
     ghost use Rattle.bimap_kinds.specs.Held.{holding};
 
-    /// A bimap of the clones of the pairs, which equals this one, with clones of the builders of hashed sides. Each clone of
-    /// a value has to equal it.
+    /// Returns a bimap of the clones of the pairs, equal to this one and with its capacity or more.
     ///
-    /// Memory for the whole capacity is taken at once, beside what the clones take. Where some is refused, there is no
-    /// copy. Time is that of an insertion for each pair.
+    /// Each clone of a value has to equal it, and hashed sides get clones of the builders. It takes memory for the
+    /// whole capacity, beside that of the clones, and the time of an insertion for each pair.
     ///
     ///     seats.clone()? == seats; // true
     pub fn clone(&self) -> Result<Self, NoMemory>

@@ -1,4 +1,4 @@
-//! The text of a bimap. It knows walks, and no place.
+//! The text of a bimap. It knows iterators, and no place.
 ghost use Rattle.std.specs.Iterator.{IsFinite};
 
 use crate::map::BijectiveMap;
@@ -7,7 +7,7 @@ use bimap_tree::Ordered;
 use std::fmt;
 use std::hash::{BuildHasher, Hash};
 
-/// The pairs by ascending left, as `{'a' <> 1, 'b' <> 2}`.
+/// Writes the pairs by ascending left, as `{'a' <> 1, 'b' <> 2}`.
 impl<L: Ord + fmt::Debug + Drop, R: Eq + fmt::Debug + Drop, J: Index<R>> fmt::Debug
     for BijectiveMap<L, R, Ordered, J> {
     fn fmt<W: fmt::Write>(&self, f: &mut fmt::Formatter<W>) -> fmt::Result {
@@ -15,7 +15,7 @@ impl<L: Ord + fmt::Debug + Drop, R: Eq + fmt::Debug + Drop, J: Index<R>> fmt::De
     }
 }
 
-/// The pairs in an open order, as `{'a' <> 1, 'b' <> 2}`.
+/// Writes the pairs in no set order, as `{'a' <> 1, 'b' <> 2}`.
 impl<
     L: Eq + Hash + fmt::Debug + Drop,
     R: Eq + fmt::Debug + Drop,

@@ -1,4 +1,4 @@
-//! The ends of an ordered side, and the pairs by their rank on it. Nothing here takes memory.
+//! The ends of an ordered side, and the pairs by their rank on it, in logarithmic time. No capacity changes.
 ghost use Rattle.std.specs.Prelude.{◌≡◌, suc, ◌+◌, ◌-◌, ◌*◌, ◌≤◌, ◌++◌, length, take, drop, slice_get, option_map, count_by, IfSome};
 ghost use Rattle.std.specs.Ordering.{is_lt};
 ghost use Rattle.std.specs.Map.Iter.{TakesFirst, TakesLast, deref_pair};
@@ -15,7 +15,7 @@ use std::ops::Bound;
 impl<L: Ord, R: Eq, J: Index<R>> BijectiveMap<L, R, Ordered, J> {
     ghost use Rattle.bimap_kinds.specs.Held.{holding};
 
-    /// The pair with the least left, or `None` where no pair is held, in time logarithmic in the length. It takes no memory.
+    /// Returns the pair with the least left, or `None` if there are no pairs.
     ///
     ///     seats.first_by_left(); // Some((&'a', &3))
     pub fn first_by_left(&self) -> Option<(&L, &R)>
@@ -24,7 +24,7 @@ impl<L: Ord, R: Eq, J: Index<R>> BijectiveMap<L, R, Ordered, J> {
         self.first_by_left_metered(&mut Count::new())
     }
 
-    /// The pair with the greatest left, or `None` where no pair is held, in time logarithmic in the length. It takes no memory.
+    /// Returns the pair with the greatest left, or `None` if there are no pairs.
     ///
     ///     seats.last_by_left(); // Some((&'c', &2))
     pub fn last_by_left(&self) -> Option<(&L, &R)>
@@ -33,8 +33,7 @@ impl<L: Ord, R: Eq, J: Index<R>> BijectiveMap<L, R, Ordered, J> {
         self.last_by_left_metered(&mut Count::new())
     }
 
-    /// The pair with exactly so many lefts below its own, or `None` from the length on, in time logarithmic in the length.
-    /// It takes no memory.
+    /// Returns the pair with exactly `rank` lefts below its own, or `None` from the length on.
     ///
     ///     seats.pair_at_left_rank(1); // Some((&'b', &1))
     pub fn pair_at_left_rank(&self, rank: usize) -> Option<(&L, &R)>
@@ -43,8 +42,7 @@ impl<L: Ord, R: Eq, J: Index<R>> BijectiveMap<L, R, Ordered, J> {
         self.pair_at_left_rank_metered(rank, &mut Count::new())
     }
 
-    /// How many lefts are below this one, which need not be held: the rank of its pair, where it is. In time logarithmic in
-    /// the length, and without memory.
+    /// Returns how many lefts are below this one, which the bimap need not contain.
     ///
     ///     seats.left_rank(&'c'); // 2
     pub fn left_rank(&self, left: &L) -> usize
@@ -53,8 +51,7 @@ impl<L: Ord, R: Eq, J: Index<R>> BijectiveMap<L, R, Ordered, J> {
         self.left_rank_metered(left, &mut Count::new())
     }
 
-    /// Takes out the pair with the least left, or answers `None` where no pair is held, in the time of a removal. It takes no
-    /// memory, and the room stays.
+    /// Removes the pair with the least left and returns it, or `None` if there are no pairs.
     ///
     ///     seats.pop_first_by_left(); // Some(('a', 3))
     pub fn pop_first_by_left(&mut self) -> Option<(L, R)>
@@ -64,8 +61,7 @@ impl<L: Ord, R: Eq, J: Index<R>> BijectiveMap<L, R, Ordered, J> {
         self.pop_first_by_left_metered(&mut Count::new())
     }
 
-    /// Takes out the pair with the greatest left, or answers `None` where no pair is held, in the time of a removal. It takes no
-    /// memory, and the room stays.
+    /// Removes the pair with the greatest left and returns it, or `None` if there are no pairs.
     ///
     ///     seats.pop_last_by_left(); // Some(('c', 2))
     pub fn pop_last_by_left(&mut self) -> Option<(L, R)>
@@ -75,7 +71,7 @@ impl<L: Ord, R: Eq, J: Index<R>> BijectiveMap<L, R, Ordered, J> {
         self.pop_last_by_left_metered(&mut Count::new())
     }
 
-    /// The same as `first_by_left`, counted. It compares nothing.
+    /// [`first_by_left`](Self::first_by_left), counted. It compares nothing.
     pub fn first_by_left_metered<M: Meter>(&self, meter: &mut M) -> Option<(&L, &R)>
         ensures pair { option_map deref_pair result ≡ slice_get (holding self.now).pairs 0 }
         ensures comparisons { M.comparisons meter.new ≡ M.comparisons meter.old }
@@ -84,7 +80,7 @@ impl<L: Ord, R: Eq, J: Index<R>> BijectiveMap<L, R, Ordered, J> {
         self.pair_at_left_rank_metered(0, meter)
     }
 
-    /// The same as `last_by_left`, counted. It compares nothing.
+    /// [`last_by_left`](Self::last_by_left), counted. It compares nothing.
     pub fn last_by_left_metered<M: Meter>(&self, meter: &mut M) -> Option<(&L, &R)>
         ensures pair { option_map deref_pair result ≡ slice_get (holding self.now).pairs (length (holding self.now).pairs - 1) }
         ensures comparisons { M.comparisons meter.new ≡ M.comparisons meter.old }
@@ -93,7 +89,7 @@ impl<L: Ord, R: Eq, J: Index<R>> BijectiveMap<L, R, Ordered, J> {
         self.pair_at_left_rank_metered(self.len().saturating_sub(1), meter)
     }
 
-    /// The same as `pair_at_left_rank`, counted. It compares nothing.
+    /// [`pair_at_left_rank`](Self::pair_at_left_rank), counted. It compares nothing.
     pub fn pair_at_left_rank_metered<M: Meter>(
         &self,
         rank: usize,
@@ -106,7 +102,7 @@ impl<L: Ord, R: Eq, J: Index<R>> BijectiveMap<L, R, Ordered, J> {
         pair_at_rank(&self.table.pairs, &self.table.left, rank, meter)
     }
 
-    /// The same as `left_rank`, counted.
+    /// [`left_rank`](Self::left_rank), counted.
     pub fn left_rank_metered<M: Meter>(&self, left: &L, meter: &mut M) -> usize
         ensures rank { result ≡ count_by (λ p. is_lt (L.cmp p.0 left.now)) (holding self.now).pairs }
         ensures comparisons { M.comparisons meter.new ≤ M.comparisons meter.old + most_height (length (holding self.now).pairs) }
@@ -118,7 +114,7 @@ impl<L: Ord, R: Eq, J: Index<R>> BijectiveMap<L, R, Ordered, J> {
             .rank_from(&lefts, Bound::Included(left), meter)
     }
 
-    /// The same as `pop_first_by_left`, counted.
+    /// [`pop_first_by_left`](Self::pop_first_by_left), counted.
     pub fn pop_first_by_left_metered<M: Meter>(&mut self, meter: &mut M) -> Option<(L, R)>
         ensures taken { TakesFirst (λ p. p) (holding self.old).pairs result (holding self.new).pairs }
         ensures room { (holding self.new).room ≡ (holding self.old).room }
@@ -128,7 +124,7 @@ impl<L: Ord, R: Eq, J: Index<R>> BijectiveMap<L, R, Ordered, J> {
         self.take_at_left_rank(0, meter)
     }
 
-    /// The same as `pop_last_by_left`, counted.
+    /// [`pop_last_by_left`](Self::pop_last_by_left), counted.
     pub fn pop_last_by_left_metered<M: Meter>(&mut self, meter: &mut M) -> Option<(L, R)>
         ensures taken { TakesLast (λ p. p) (holding self.old).pairs result (holding self.new).pairs }
         ensures room { (holding self.new).room ≡ (holding self.old).room }
@@ -155,7 +151,7 @@ impl<L: Eq, R: Ord, I: Index<L>> BijectiveMap<L, R, I, Ordered> {
     ghost use Rattle.bimap_kinds.specs.Held.{holding, by_right};
     ghost use Rattle.bimap_kinds.specs.Sorted.{IsByRight};
 
-    /// The pair with the least right, or `None` where no pair is held, in time logarithmic in the length. It takes no memory.
+    /// Returns the pair with the least right, or `None` if there are no pairs.
     ///
     ///     seats.first_by_right(); // Some((&'b', &1))
     pub fn first_by_right(&self) -> Option<(&L, &R)>
@@ -165,7 +161,7 @@ impl<L: Eq, R: Ord, I: Index<L>> BijectiveMap<L, R, I, Ordered> {
         self.first_by_right_metered(&mut Count::new())
     }
 
-    /// The pair with the greatest right, or `None` where no pair is held, in time logarithmic in the length. It takes no memory.
+    /// Returns the pair with the greatest right, or `None` if there are no pairs.
     ///
     ///     seats.last_by_right(); // Some((&'a', &3))
     pub fn last_by_right(&self) -> Option<(&L, &R)>
@@ -175,8 +171,7 @@ impl<L: Eq, R: Ord, I: Index<L>> BijectiveMap<L, R, I, Ordered> {
         self.last_by_right_metered(&mut Count::new())
     }
 
-    /// The pair with exactly so many rights below its own, or `None` from the length on, in time logarithmic in the length.
-    /// It takes no memory.
+    /// Returns the pair with exactly `rank` rights below its own, or `None` from the length on.
     ///
     ///     seats.pair_at_right_rank(1); // Some((&'c', &2))
     pub fn pair_at_right_rank(&self, rank: usize) -> Option<(&L, &R)>
@@ -186,8 +181,7 @@ impl<L: Eq, R: Ord, I: Index<L>> BijectiveMap<L, R, I, Ordered> {
         self.pair_at_right_rank_metered(rank, &mut Count::new())
     }
 
-    /// How many rights are below this one, which need not be held: the rank of its pair, where it is. In time logarithmic in
-    /// the length, and without memory.
+    /// Returns how many rights are below this one, which the bimap need not contain.
     ///
     ///     seats.right_rank(&3); // 2
     pub fn right_rank(&self, right: &R) -> usize
@@ -197,8 +191,7 @@ impl<L: Eq, R: Ord, I: Index<L>> BijectiveMap<L, R, I, Ordered> {
         self.right_rank_metered(right, &mut Count::new())
     }
 
-    /// Takes out the pair with the least right, or answers `None` where no pair is held, in the time of a removal. It takes no
-    /// memory, and the room stays.
+    /// Removes the pair with the least right and returns it, or `None` if there are no pairs.
     ///
     ///     seats.pop_first_by_right(); // Some(('b', 1))
     pub fn pop_first_by_right(&mut self) -> Option<(L, R)>
@@ -210,8 +203,7 @@ impl<L: Eq, R: Ord, I: Index<L>> BijectiveMap<L, R, I, Ordered> {
         self.pop_first_by_right_metered(&mut Count::new())
     }
 
-    /// Takes out the pair with the greatest right, or answers `None` where no pair is held, in the time of a removal. It takes no
-    /// memory, and the room stays.
+    /// Removes the pair with the greatest right and returns it, or `None` if there are no pairs.
     ///
     ///     seats.pop_last_by_right(); // Some(('a', 3))
     pub fn pop_last_by_right(&mut self) -> Option<(L, R)>
@@ -223,7 +215,7 @@ impl<L: Eq, R: Ord, I: Index<L>> BijectiveMap<L, R, I, Ordered> {
         self.pop_last_by_right_metered(&mut Count::new())
     }
 
-    /// The same as `first_by_right`, counted. It compares nothing.
+    /// [`first_by_right`](Self::first_by_right), counted. It compares nothing.
     pub fn first_by_right_metered<M: Meter>(&self, meter: &mut M) -> Option<(&L, &R)>
         ensures pair { option_map deref_pair result ≡ slice_get (by_right self.now) 0 }
         ensures sorted { IsByRight R.cmp (holding self.now).pairs (by_right self.now) }
@@ -233,7 +225,7 @@ impl<L: Eq, R: Ord, I: Index<L>> BijectiveMap<L, R, I, Ordered> {
         self.pair_at_right_rank_metered(0, meter)
     }
 
-    /// The same as `last_by_right`, counted. It compares nothing.
+    /// [`last_by_right`](Self::last_by_right), counted. It compares nothing.
     pub fn last_by_right_metered<M: Meter>(&self, meter: &mut M) -> Option<(&L, &R)>
         ensures pair { option_map deref_pair result ≡ slice_get (by_right self.now) (length (by_right self.now) - 1) }
         ensures sorted { IsByRight R.cmp (holding self.now).pairs (by_right self.now) }
@@ -243,7 +235,7 @@ impl<L: Eq, R: Ord, I: Index<L>> BijectiveMap<L, R, I, Ordered> {
         self.pair_at_right_rank_metered(self.len().saturating_sub(1), meter)
     }
 
-    /// The same as `pair_at_right_rank`, counted. It compares nothing.
+    /// [`pair_at_right_rank`](Self::pair_at_right_rank), counted. It compares nothing.
     pub fn pair_at_right_rank_metered<M: Meter>(
         &self,
         rank: usize,
@@ -257,7 +249,7 @@ impl<L: Eq, R: Ord, I: Index<L>> BijectiveMap<L, R, I, Ordered> {
         pair_at_rank(&self.table.pairs, &self.table.right, rank, meter)
     }
 
-    /// The same as `right_rank`, counted.
+    /// [`right_rank`](Self::right_rank), counted.
     pub fn right_rank_metered<M: Meter>(&self, right: &R, meter: &mut M) -> usize
         ensures rank { result ≡ count_by (λ p. is_lt (R.cmp p.1 right.now)) (by_right self.now) }
         ensures sorted { IsByRight R.cmp (holding self.now).pairs (by_right self.now) }
@@ -270,7 +262,7 @@ impl<L: Eq, R: Ord, I: Index<L>> BijectiveMap<L, R, I, Ordered> {
             .rank_from(&rights, Bound::Included(right), meter)
     }
 
-    /// The same as `pop_first_by_right`, counted.
+    /// [`pop_first_by_right`](Self::pop_first_by_right), counted.
     pub fn pop_first_by_right_metered<M: Meter>(&mut self, meter: &mut M) -> Option<(L, R)>
         ensures taken { TakesFirst (λ p. p) (by_right self.old) result (by_right self.new) }
         ensures sorted { IsByRight R.cmp (holding self.old).pairs (by_right self.old) }
@@ -282,7 +274,7 @@ impl<L: Eq, R: Ord, I: Index<L>> BijectiveMap<L, R, I, Ordered> {
         self.take_at_right_rank(0, meter)
     }
 
-    /// The same as `pop_last_by_right`, counted.
+    /// [`pop_last_by_right`](Self::pop_last_by_right), counted.
     pub fn pop_last_by_right_metered<M: Meter>(&mut self, meter: &mut M) -> Option<(L, R)>
         ensures taken { TakesLast (λ p. p) (by_right self.old) result (by_right self.new) }
         ensures sorted { IsByRight R.cmp (holding self.old).pairs (by_right self.old) }

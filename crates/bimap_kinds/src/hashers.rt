@@ -12,7 +12,7 @@ use std::hash::{BuildHasher, Hash};
 impl<L: Eq + Hash, R: Eq + Hash, LS: BuildHasher, RS: BuildHasher> BiHashMap<L, R, LS, RS> {
     ghost use Rattle.bimap_kinds.specs.Held.{holding};
 
-    /// The empty bimap, without places, and with these builders. It takes no memory, and constant time.
+    /// Creates an empty bimap without places, with these builders.
     ///
     ///     let (left, right) = (RandomState::new(&rt)?, RandomState::new(&rt)?);
     ///     let mut seats = BiHashMap::with_hashers(alloc, left, right);
@@ -26,8 +26,7 @@ impl<L: Eq + Hash, R: Eq + Hash, LS: BuildHasher, RS: BuildHasher> BiHashMap<L, 
         BijectiveMap::over(alloc, left, right)
     }
 
-    /// The empty bimap of exactly this capacity, and with these builders, in time in proportion to it. At 0 it takes no
-    /// memory. A refusal makes nothing.
+    /// Creates an empty bimap with exactly this capacity and these builders, as `with_capacity` does.
     ///
     ///     let (left, right) = (RandomState::new(&rt)?, RandomState::new(&rt)?);
     ///     let seats: BiHashMap<char, u32, RandomState, RandomState> = BiHashMap::with_capacity_and_hashers(alloc, 16, left, right)?;
@@ -52,10 +51,7 @@ impl<L: Eq + Hash, R: Eq + Hash, LS: BuildHasher, RS: BuildHasher> BiHashMap<L, 
         Ok(bimap)
     }
 
-    /// A bimap of the items with these builders, each item inserted in order. A later one may strike earlier ones.
-    ///
-    /// Nothing is reserved by a size hint. An `Err` hands the refused item back, and there is no bimap. Time is that of
-    /// `extend`.
+    /// Creates a bimap of the items with these builders, as `from_iter` does.
     ///
     ///     let (left, right) = (RandomState::new(&rt)?, RandomState::new(&rt)?);
     ///     let seats = BiHashMap::from_iter_with_hashers(alloc, left, right, [('a', 3), ('b', 1)])?;

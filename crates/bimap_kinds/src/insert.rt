@@ -11,10 +11,8 @@ use bimap_index::Index;
 impl<L: Eq + Drop, R: Eq + Drop, I: Index<L>, J: Index<R>> BijectiveMap<L, R, I, J> {
     ghost use Rattle.bimap_kinds.specs.Held.{holding};
 
-    /// Inserts a pair, and answers the pairs that it strikes out, by one search a side.
-    ///
-    /// It takes memory only where it strikes none and as many pairs are held as there is room for: the room doubles then.
-    /// An `Err` hands the pair back, and nothing has changed.
+    /// Inserts a pair and returns the pairs that it overwrote. It is out of memory only where it would overwrite none,
+    /// and no place is free.
     ///
     ///     seats.insert('a', 1); // Ok(Overwritten::Both(('a', 3), ('b', 1)))
     pub fn insert(&mut self, left: L, right: R) -> Result<Overwritten<L, R>, NoRoom<L, R>>
@@ -23,10 +21,7 @@ impl<L: Eq + Drop, R: Eq + Drop, I: Index<L>, J: Index<R>> BijectiveMap<L, R, I,
         Bijection::insert(self, left, right)
     }
 
-    /// Inserts a pair of which neither value is held, by one search a side.
-    ///
-    /// It takes memory only where as many pairs are held as there is room for. An `Err` hands the pair back, and nothing
-    /// has changed.
+    /// Inserts a pair if the bimap contains neither of its values.
     ///
     ///     seats.insert_no_overwrite('d', 3); // Err(NotInserted::Occupied('d', 3))
     pub fn insert_no_overwrite(&mut self, left: L, right: R) -> Result<(), NotInserted<L, R>>
@@ -35,10 +30,8 @@ impl<L: Eq + Drop, R: Eq + Drop, I: Index<L>, J: Index<R>> BijectiveMap<L, R, I,
         Bijection::insert_no_overwrite(self, left, right)
     }
 
-    /// Inserts a pair where the policy lets it overwrite what it shares a value with, by one search a side.
-    ///
-    /// It takes memory only where it strikes none and as many pairs are held as there is room for. An `Err` hands the pair
-    /// back, and nothing has changed.
+    /// Inserts a pair where the policy lets it overwrite what it shares a value with, and returns the pairs that it
+    /// overwrote.
     ///
     ///     let keep_right = Policy { left: OnHeld::Overwrite, right: OnHeld::Refuse };
     ///     seats.insert_with('d', 3, keep_right); // Err(NotInsertedWith::RightHeld('d', 3))
@@ -53,7 +46,7 @@ impl<L: Eq + Drop, R: Eq + Drop, I: Index<L>, J: Index<R>> BijectiveMap<L, R, I,
         self.insert_under(left, right, policy, &mut Count::new())
     }
 
-    /// The same as `insert`, counted.
+    /// [`insert`](Self::insert), counted.
     pub fn insert_metered<M: Meter>(
         &mut self,
         left: L,
@@ -94,11 +87,10 @@ impl<L: Eq + Drop, R: Eq + Drop, I: Index<L>, J: Index<R>> BijectiveMap<L, R, I,
 impl<L: Eq + Drop, R: Copy + Eq + Drop, I: Index<L>, J: Index<R>> BijectiveMap<L, R, I, J> {
     ghost use Rattle.bimap_kinds.specs.Held.{holding};
 
-    /// The right held for an equal left, where nothing changes and the given pair is dropped; else the pair is put in, and
-    /// its right answered. It costs one search by left, and one by right where no equal left is held.
+    /// Returns the right of an equal left; if there is none, inserts the pair and returns its right.
     ///
-    /// It takes memory only where no equal left is held and as many pairs are held as there is room for. An `Err` hands the
-    /// pair back, and nothing has changed: another pair has the right, or there was no memory.
+    /// It searches the right only to insert, and an `Err` says that another pair has the right, or that it was out of
+    /// memory.
     ///
     ///     seats.get_by_left_or_insert('a', 4); // Ok(3)
     ///     seats.get_by_left_or_insert('d', 4); // Ok(4)
@@ -109,7 +101,7 @@ impl<L: Eq + Drop, R: Copy + Eq + Drop, I: Index<L>, J: Index<R>> BijectiveMap<L
         self.get_by_left_or_insert_metered(left, right, &mut Count::new())
     }
 
-    /// The same as `get_by_left_or_insert`, counted.
+    /// [`get_by_left_or_insert`](Self::get_by_left_or_insert), counted.
     pub fn get_by_left_or_insert_metered<M: Meter>(
         &mut self,
         left: L,

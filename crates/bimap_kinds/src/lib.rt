@@ -1,7 +1,7 @@
 //! Bimaps of any two kinds of index: ordered or hashed on either side.
 //!
-//! The examples of calls begin with a bimap `seats` that holds 'a' with 3, 'b' with 1 and 'c' with 2, inserted in turn. What
-//! a line answers stands behind it.
+//! The examples of calls begin with a bimap `seats` of 'a' with 3, 'b' with 1 and 'c' with 2, inserted in turn. What a
+//! line returns stands behind it.
 #![tactic(auto)]
 
 mod bijection;

@@ -1,4 +1,4 @@
-//! What is held: lengths and look-ups. Nothing here changes a pair, and nothing takes memory.
+//! What a bimap contains: lengths and look-ups.
 ghost use Rattle.std.specs.Prelude.{◌≡◌, ◌↔◌, ◌+◌, ◌≤◌, [], length, Contains, IsTrue};
 ghost use Rattle.bimap_base.specs.Holding.{IsFoundByLeft, IsFoundByRight};
 ghost use Rattle.bimap_base.specs.Sets.{HasLeft, HasRight};
@@ -10,7 +10,7 @@ use bimap_index::Index;
 impl<L: Eq, R: Eq, I: Index<L>, J: Index<R>> BijectiveMap<L, R, I, J> {
     ghost use Rattle.bimap_kinds.specs.Held.{holding};
 
-    /// The number of pairs, in constant time.
+    /// Returns the number of pairs.
     ///
     ///     seats.len(); // 3
     pub fn len(&self) -> usize
@@ -19,7 +19,7 @@ impl<L: Eq, R: Eq, I: Index<L>, J: Index<R>> BijectiveMap<L, R, I, J> {
         self.table.len()
     }
 
-    /// Whether no pair is held, in constant time.
+    /// Returns whether the bimap contains no pairs.
     ///
     ///     seats.is_empty(); // false
     pub fn is_empty(&self) -> bool
@@ -28,7 +28,7 @@ impl<L: Eq, R: Eq, I: Index<L>, J: Index<R>> BijectiveMap<L, R, I, J> {
         self.len() == 0
     }
 
-    /// The number of places for pairs, in constant time.
+    /// Returns the number of places for pairs.
     ///
     ///     seats.capacity(); // 4
     pub fn capacity(&self) -> usize
@@ -37,10 +37,7 @@ impl<L: Eq, R: Eq, I: Index<L>, J: Index<R>> BijectiveMap<L, R, I, J> {
         self.table.room()
     }
 
-    /// The partner of a left, or `None` where it is not held, by one search.
-    ///
-    /// A search takes time logarithmic in the length on an ordered side; on a hashed one expected constant time where the
-    /// hashes spread, at worst the length.
+    /// Returns the right of a left, or `None` if the bimap doesn't contain the left.
     ///
     ///     seats.get_by_left(&'a'); // Some(&3)
     pub fn get_by_left(&self, left: &L) -> Option<&R>
@@ -49,7 +46,7 @@ impl<L: Eq, R: Eq, I: Index<L>, J: Index<R>> BijectiveMap<L, R, I, J> {
         self.get_by_left_metered(left, &mut Count::new())
     }
 
-    /// The partner of a right, or `None` where it is not held, by one search.
+    /// Returns the left of a right, or `None` if the bimap doesn't contain the right.
     ///
     ///     seats.get_by_right(&1); // Some(&'b')
     pub fn get_by_right(&self, right: &R) -> Option<&L>
@@ -58,7 +55,7 @@ impl<L: Eq, R: Eq, I: Index<L>, J: Index<R>> BijectiveMap<L, R, I, J> {
         self.get_by_right_metered(right, &mut Count::new())
     }
 
-    /// The same as `get_by_left`, counted.
+    /// [`get_by_left`](Self::get_by_left), counted.
     pub fn get_by_left_metered<M: Meter>(&self, left: &L, meter: &mut M) -> Option<&R>
         ensures answer { IsFoundByLeft L.eq (holding self.now) left.now result }
         ensures comparisons { M.comparisons meter.new ≤ M.comparisons meter.old + I.effort (length (holding self.now).pairs) }
@@ -67,7 +64,7 @@ impl<L: Eq, R: Eq, I: Index<L>, J: Index<R>> BijectiveMap<L, R, I, J> {
         self.table.get_by_left(left, meter)
     }
 
-    /// The same as `get_by_right`, counted.
+    /// [`get_by_right`](Self::get_by_right), counted.
     pub fn get_by_right_metered<M: Meter>(&self, right: &R, meter: &mut M) -> Option<&L>
         ensures answer { IsFoundByRight R.eq (holding self.now) right.now result }
         ensures comparisons { M.comparisons meter.new ≤ M.comparisons meter.old + J.effort (length (holding self.now).pairs) }
@@ -80,7 +77,7 @@ impl<L: Eq, R: Eq, I: Index<L>, J: Index<R>> BijectiveMap<L, R, I, J> {
 impl<L: Eq + Drop, R: Eq + Drop, I: Index<L>, J: Index<R>> BijectiveMap<L, R, I, J> {
     ghost use Rattle.bimap_kinds.specs.Held.{holding};
 
-    /// Whether the left is held, by one search.
+    /// Returns whether the bimap contains the left.
     ///
     ///     seats.contains_left(&'d'); // false
     pub fn contains_left(&self, left: &L) -> bool
@@ -89,7 +86,7 @@ impl<L: Eq + Drop, R: Eq + Drop, I: Index<L>, J: Index<R>> BijectiveMap<L, R, I,
         Bijection::contains_left(self, left)
     }
 
-    /// Whether the right is held, by one search.
+    /// Returns whether the bimap contains the right.
     ///
     ///     seats.contains_right(&2); // true
     pub fn contains_right(&self, right: &R) -> bool

@@ -1,4 +1,4 @@
-//! Empty bimaps of each kind.
+//! Empty bimaps.
 ghost use Rattle.std.specs.Prelude.{◌≡◌, [], None, IfOk, IsOk};
 
 use crate::map::BijectiveMap;
@@ -26,7 +26,7 @@ impl<L: Eq, R: Eq, I: Index<L>, J: Index<R>> BijectiveMap<L, R, I, J> {
 impl<L: Eq, R: Eq, I: EmptyIndex<L>, J: EmptyIndex<R>> BijectiveMap<L, R, I, J> {
     ghost use Rattle.bimap_kinds.specs.Held.{holding};
 
-    /// The empty bimap without places, also of a kind that names builders of its own. It takes no memory, and constant time.
+    /// Creates an empty bimap without places, also of a kind that names builders of its own.
     ///
     ///     let seats: BiHashMap<char, u32> = BiHashMap::empty(alloc);
     ///     seats.len(); // 0
@@ -41,7 +41,7 @@ impl<L: Eq, R: Eq, I: EmptyIndex<L>, J: EmptyIndex<R>> BijectiveMap<L, R, I, J> 
 impl<L: Eq, R: Eq, I: DefaultIndex<L>, J: DefaultIndex<R>> BijectiveMap<L, R, I, J> {
     ghost use Rattle.bimap_kinds.specs.Held.{holding};
 
-    /// The empty bimap, without places. It takes no memory, and constant time.
+    /// Creates an empty bimap without places.
     ///
     ///     let seats: BiBTreeMap<char, u32> = BiBTreeMap::new(alloc);
     ///     seats.capacity(); // 0
@@ -52,8 +52,7 @@ impl<L: Eq, R: Eq, I: DefaultIndex<L>, J: DefaultIndex<R>> BijectiveMap<L, R, I,
         Self::empty(alloc)
     }
 
-    /// The empty bimap of exactly this capacity, in time and with memory in proportion to it. At 0 it takes no memory. A
-    /// refusal makes nothing.
+    /// Creates an empty bimap with exactly this capacity. It takes memory and time for that, at 0 no memory.
     ///
     ///     let seats: BiBTreeMap<char, u32> = BiBTreeMap::with_capacity(alloc, 16)?;
     ///     seats.capacity(); // 16

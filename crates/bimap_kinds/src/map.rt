@@ -1,4 +1,4 @@
-//! A bimap over any two indexes, and the facts that callers have of the pairs held.
+//! A bimap over any two indexes, and what callers know of its pairs.
 ghost use Rattle.std.specs.Prelude.{◌≡◌, ◌≤◌, length};
 ghost use Rattle.std.specs.List.{AllPairs};
 ghost use Rattle.std.specs.declared.cmp.Ordering.TheVariants.{Less};
@@ -11,31 +11,45 @@ use bimap_index::{HashIndex, Index};
 use bimap_tree::Ordered;
 use std::hash::{BuildHasherDefault, FoldHasher};
 
-/// Pairs, each found by its left and by its right through an index of either side. No two of them share a value.
+/// A bimap: pairs of a left and a right, each found by either value, no two of which share one.
+///
+/// A pair has a place, which is a slot of one vector, and an index of each side lists the places, in order or by hash.
+/// The capacity is the number of places. Of every call holds:
+///
+/// - *Cost.* A search takes O(log n) on an ordered side, and on a hashed one expected O(1) where the hashes spread, at
+///   worst O(n), in the length n. A look-up makes one search, a removal one a side, an insertion one a side and a few
+///   more where it overwrites. An end or a rank of an ordered side takes O(log n). A method of its own that makes no
+///   search and states no cost takes constant time.
+/// - *Memory.* A call asks for memory only where its docs say so. An insertion does where it overwrites nothing and no
+///   place is free: the capacity then doubles, to 4 at least.
+/// - *`Err`.* It leaves the bimap as it was, but for [`extend`](Self::extend), and hands back what was given.
+/// - *Meters.* A call `.._metered` is the one without the ending, and counts its comparisons and touches of nodes.
+///
+/// Contracts bound these counts. They say nothing of time, nor of how far an insertion grows the capacity.
 #[derive(Drop)]
 pub struct BijectiveMap<L: Eq, R: Eq, I: Index<L>, J: Index<R>> {
     pub(crate) table: Table<L, R, I, J>,
-    /// No two of the pairs held share a value.
+    /// No two of the pairs share a value.
     pub ghost apart: { IsApart L.eq R.eq (pairs_at table.pairs (I.places table.left)) } by { Prim.hlevel props },
-    /// The pairs held ascend by left, where the left is ordered.
+    /// The pairs ascend by left, where the left is ordered.
     pub ghost ascending: { AllPairs (λ p q. I.walk_order table.left p.0 q.0 ≡ Less) (pairs_at table.pairs (I.places table.left)) } by { Prim.hlevel props },
-    /// There is a place for each pair held.
+    /// There is a place for each pair.
     pub ghost fits: { length (pairs_at table.pairs (I.places table.left)) ≤ length table.pairs },
     // Each index lists as many places as pairs are held, so what a table says of its indexes is said of the length.
     ghost lefts: { length (I.places table.left) ≡ length (pairs_at table.pairs (I.places table.left)) },
     ghost rights: { length (J.places table.right) ≡ length (pairs_at table.pairs (I.places table.left)) },
 }
 
-/// The bimap of two ordered sides: its pairs ascend by left, and walks and ranges go in order by either side.
+/// A bimap with both sides ordered: iterators and ranges go in order by either.
 pub type BiBTreeMap<L, R> = BijectiveMap<L, R, Ordered, Ordered>;
 
-/// The bimap of two hashed sides, for where no order is wanted.
+/// A bimap with both sides hashed, for where no order is wanted.
 ///
 /// The default builders have a fixed seed: hand in a `RandomState` for a side whose values strangers choose.
 pub type BiHashMap<L, R, LS = BuildHasherDefault<FoldHasher>, RS = BuildHasherDefault<FoldHasher>> =
     BijectiveMap<L, R, HashIndex<LS>, HashIndex<RS>>;
 
-/// The bimap of an ordered left and a hashed right: walks and ranges by ascending left, rights found by hash.
+/// A bimap with an ordered left and a hashed right.
 pub type BiBTreeHashMap<L, R, RS = BuildHasherDefault<FoldHasher>> = BijectiveMap<
     L,
     R,
@@ -43,7 +57,7 @@ pub type BiBTreeHashMap<L, R, RS = BuildHasherDefault<FoldHasher>> = BijectiveMa
     HashIndex<RS>,
 >;
 
-/// The bimap of a hashed left and an ordered right: lefts found by hash, walks and ranges by ascending right.
+/// A bimap with a hashed left and an ordered right.
 pub type BiHashBTreeMap<L, R, LS = BuildHasherDefault<FoldHasher>> = BijectiveMap<
     L,
     R,

@@ -1,4 +1,4 @@
-//! Removals. None takes memory, and the room stays.
+//! Removals. The capacity stays.
 ghost use Rattle.std.specs.Prelude.{◌≡◌, ◌+◌, ◌*◌, ◌≤◌, [], length};
 ghost use Rattle.bimap_base.specs.Holding.{IsRemovalByLeft, IsRemovalByRight};
 
@@ -9,7 +9,7 @@ use bimap_index::Index;
 impl<L: Eq, R: Eq, I: Index<L>, J: Index<R>> BijectiveMap<L, R, I, J> {
     ghost use Rattle.bimap_kinds.specs.Held.{holding};
 
-    /// Takes out the pair of a left, or answers `None` where it is not held, by one search a side.
+    /// Removes the pair of a left and returns it, or `None` if the bimap doesn't contain the left.
     ///
     ///     seats.remove_by_left(&'a'); // Some(('a', 3))
     pub fn remove_by_left(&mut self, left: &L) -> Option<(L, R)>
@@ -18,7 +18,7 @@ impl<L: Eq, R: Eq, I: Index<L>, J: Index<R>> BijectiveMap<L, R, I, J> {
         self.remove_by_left_metered(left, &mut Count::new())
     }
 
-    /// Takes out the pair of a right, or answers `None` where it is not held, by one search a side.
+    /// Removes the pair of a right and returns it, or `None` if the bimap doesn't contain the right.
     ///
     ///     seats.remove_by_right(&4); // None
     pub fn remove_by_right(&mut self, right: &R) -> Option<(L, R)>
@@ -27,7 +27,7 @@ impl<L: Eq, R: Eq, I: Index<L>, J: Index<R>> BijectiveMap<L, R, I, J> {
         self.remove_by_right_metered(right, &mut Count::new())
     }
 
-    /// Drops all pairs, in time in proportion to the capacity. The room stays.
+    /// Removes all pairs and keeps the capacity, in time proportional to it.
     ///
     ///     seats.clear();
     ///     (seats.len(), seats.capacity()); // (0, 4)
@@ -41,7 +41,7 @@ impl<L: Eq, R: Eq, I: Index<L>, J: Index<R>> BijectiveMap<L, R, I, J> {
         self.table.clear();
     }
 
-    /// The same as `remove_by_left`, counted.
+    /// [`remove_by_left`](Self::remove_by_left), counted.
     pub fn remove_by_left_metered<M: Meter>(&mut self, left: &L, meter: &mut M) -> Option<(L, R)>
         ensures answer { IsRemovalByLeft L.eq (holding self.old) left.now result (holding self.new) }
         ensures comparisons { M.comparisons meter.new ≤ M.comparisons meter.old + I.effort (length (holding self.old).pairs) + J.effort (length (holding self.old).pairs) }
@@ -50,7 +50,7 @@ impl<L: Eq, R: Eq, I: Index<L>, J: Index<R>> BijectiveMap<L, R, I, J> {
         self.table.remove_by_left(left, meter)
     }
 
-    /// The same as `remove_by_right`, counted.
+    /// [`remove_by_right`](Self::remove_by_right), counted.
     pub fn remove_by_right_metered<M: Meter>(&mut self, right: &R, meter: &mut M) -> Option<(L, R)>
         ensures answer { IsRemovalByRight R.eq (holding self.old) right.now result (holding self.new) }
         ensures comparisons { M.comparisons meter.new ≤ M.comparisons meter.old + I.effort (length (holding self.old).pairs) + J.effort (length (holding self.old).pairs) }

@@ -16,10 +16,9 @@ impl<L: Eq + Hash + Drop, R: Eq + Drop, LS: BuildHasher, J: Index<R>> BijectiveM
 > {
     ghost use Rattle.bimap_kinds.specs.Held.{holding};
 
-    /// Calls the closure once on each pair, in the order of the places, and takes out those on which it answers false.
+    /// Keeps the pairs on which the closure returns true, asked once each in no set order.
     ///
-    /// It takes no memory, and the room stays. Time is in proportion to the capacity, and that of a removal more for each
-    /// pair that is taken out.
+    /// It takes time proportional to the capacity, which stays, and a removal for each pair that goes.
     ///
     ///     seats.retain(|_: &char, seat: &u32| *seat >= 2);
     ///     seats.len(); // 2
@@ -34,10 +33,11 @@ impl<L: Eq + Hash + Drop, R: Eq + Drop, LS: BuildHasher, J: Index<R>> BijectiveM
 impl<L: Ord + Drop, R: Eq + Drop, J: Index<R>> BijectiveMap<L, R, Ordered, J> {
     ghost use Rattle.bimap_kinds.specs.Held.{holding};
 
-    /// Calls the closure once on each pair, by ascending left, and takes out those on which it answers false.
+    /// Keeps the pairs on which the closure returns true, asked once each by ascending left, where `Bijection::retain`
+    /// asks in no set order.
     ///
-    /// It takes no memory, and the room stays. Time is that of a walk, which descends once for dozens of pairs, and for each
-    /// pair that is taken out that of a removal and a descent more.
+    /// It takes the time of [`iter`](Self::iter), and a removal and a descent for each pair that goes. The capacity
+    /// stays.
     ///
     ///     seats.retain(|_: &char, seat: &u32| *seat >= 2);
     ///     seats.len(); // 2

@@ -1,4 +1,4 @@
-//! The room of a bimap, made exact to the place.
+//! The capacity of a bimap, made exact to the place.
 ghost use Rattle.bimap_base.specs.Capacity.{IsReservation, IsShrink};
 
 use crate::map::BijectiveMap;
@@ -8,9 +8,10 @@ use bimap_index::{Index, PackedIndex};
 impl<L: Eq, R: Eq, I: Index<L>, J: Index<R>> BijectiveMap<L, R, I, J> {
     ghost use Rattle.bimap_kinds.specs.Held.{holding};
 
-    /// Makes the capacity at least the length plus `more`, exactly, and takes memory for it. Where it is so already, nothing
-    /// changes and none is taken. A refusal changes nothing, but an index may keep the cells that it got. Time is in
-    /// proportion to the new capacity.
+    /// Grows the capacity to exactly the length plus `more`, unless it is that or more.
+    ///
+    /// Where it grows, it takes memory and time for the new capacity. After an `Err` an index may keep the memory that
+    /// it got.
     ///
     ///     seats.reserve(5); // Ok(())
     ///     seats.capacity(); // 8
@@ -24,10 +25,10 @@ impl<L: Eq, R: Eq, I: Index<L>, J: Index<R>> BijectiveMap<L, R, I, J> {
 impl<L: Eq + Drop, R: Eq + Drop, I: PackedIndex<L>, J: PackedIndex<R>> BijectiveMap<L, R, I, J> {
     ghost use Rattle.bimap_kinds.specs.Held.{holding};
 
-    /// Makes the capacity `least`, exactly, or the length where that is more, and takes memory for the new one. It never
-    /// adds to it: where it would, nothing changes and no memory is taken. A refusal changes nothing. Time is in proportion
-    /// to the old capacity, and for each ordered side the length times its logarithm more, as the places are linked anew
-    /// there, with a search for each.
+    /// Shrinks the capacity to exactly `least`, or to the length if that is more. It never grows.
+    ///
+    /// Where it shrinks, it takes memory for the new capacity and time for the old one, and O(n log n) for each ordered
+    /// side.
     ///
     ///     seats.shrink_to(0); // Ok(())
     ///     seats.capacity(); // 3
@@ -37,8 +38,7 @@ impl<L: Eq + Drop, R: Eq + Drop, I: PackedIndex<L>, J: PackedIndex<R>> Bijective
         self.table.shrink_to(least, &mut Count::new())
     }
 
-    /// Makes the capacity the length, exactly, and takes memory for the new one. Where it is so already, none is taken. A
-    /// refusal changes nothing. Time is that of `shrink_to`.
+    /// Shrinks the capacity to exactly the length, as [`shrink_to`](Self::shrink_to) does.
     ///
     ///     seats.shrink_to_fit(); // Ok(())
     ///     seats.capacity(); // 3

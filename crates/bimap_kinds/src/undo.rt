@@ -1,4 +1,4 @@
-//! Taking insertions back, and whether that may be done.
+//! Insertions undone, and whether one may be.
 ghost use Rattle.std.specs.Prelude.{◌↔◌, Contains, IsTrue};
 ghost use Rattle.bimap_base.specs.Holding.{IsUndoing};
 ghost use Rattle.bimap_base.specs.Undoing.{IsUndoable};
@@ -10,10 +10,10 @@ use bimap_index::Index;
 impl<L: Eq + Drop, R: Eq + Drop, I: Index<L>, J: Index<R>> BijectiveMap<L, R, I, J> {
     ghost use Rattle.bimap_kinds.specs.Held.{holding};
 
-    /// Takes out the pair of a left and answers it, and holds the pairs of the answer instead, in the time of an insertion.
+    /// Undoes an insertion: removes the pair of a left and returns it, and puts the pairs of the answer back.
     ///
-    /// Only where the answer is `Both` and as many pairs are held as there is room for does it take memory. An `Err`
-    /// hands the answer back, and nothing has changed.
+    /// It may be called where [`can_undo_insert`](Self::can_undo_insert) returns true, and costs an insertion. It takes
+    /// memory only to put `Both` back where no place is free.
     ///
     ///     seats.undo_insert(&'c', Overwritten::Neither); // Ok(('c', 2))
     pub fn undo_insert(
@@ -27,8 +27,8 @@ impl<L: Eq + Drop, R: Eq + Drop, I: Index<L>, J: Index<R>> BijectiveMap<L, R, I,
         self.table.undo_insert(left, answer, &mut Count::new())
     }
 
-    /// Whether the insertion that gave this answer for this left may be undone, by three searches a side at most, and
-    /// without memory.
+    /// Returns whether [`undo_insert`](Self::undo_insert) may be called with these: a pair has the left, and the pairs
+    /// of the answer share no value with any other, nor with each other. It costs three searches a side at most.
     ///
     ///     seats.can_undo_insert(&'c', &Overwritten::Left('c', 3)); // false
     pub fn can_undo_insert(&self, left: &L, answer: &Overwritten<L, R>) -> bool

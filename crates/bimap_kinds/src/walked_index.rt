@@ -10,11 +10,11 @@ use bimap_walk::along::Iter;
 use bimap_walk::{ByPlace, Course, by_place, by_rank};
 use std::hash::{BuildHasher, Hash};
 
-/// An index that leads a walk through the pairs of a store.
+/// An index that leads an iterator through the pairs of a store.
 pub trait WalkedIndex<K: Eq>: Index<K> {
     type Way: Course;
 
-    /// A walk over all pairs of a store, of which the index lists a side. It takes no memory.
+    /// Returns an iterator over all pairs of a store, of which the index lists a side.
     fn walk<'a, S: Side<K>, L, R>(
         &'a self,
         side: S,

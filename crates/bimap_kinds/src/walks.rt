@@ -1,4 +1,4 @@
-//! Walks, by the index of a side. They know no rank, and no hash.
+//! Iterators, by the index of a side. They know no rank, and no hash.
 ghost use Rattle.std.specs.Prelude.{◌≡◌};
 ghost use Rattle.std.specs.BTreeMap.Range.{IsLeBy, IsLtBy, range_contains};
 ghost use Rattle.std.specs.List.{filter};
@@ -19,9 +19,10 @@ use std::hash::{BuildHasher, Hash};
 use std::ops::RangeBounds;
 
 impl<L: Eq, R: Eq, I: WalkedIndex<L>, J: Index<R>> BijectiveMap<L, R, I, J> {
-    /// The pairs, and no memory is taken. Where the left is ordered, they come by ascending left, also from the back, and a
-    /// step takes one descent at most. Where it is hashed, their order is open, and a whole walk takes time in proportion
-    /// to the capacity.
+    /// Returns an iterator over the pairs: by ascending left and from both ends if the left is ordered, else in no set
+    /// order.
+    ///
+    /// In order a step takes one descent at most; in no set order all steps take time proportional to the capacity.
     ///
     ///     seats.iter().len(); // 3
     ///     seats.iter().next(); // Some((&'a', &3))
@@ -35,7 +36,7 @@ impl<L: Eq, R: Eq, I: WalkedIndex<L>, J: Index<R>> BijectiveMap<L, R, I, J> {
         table.left.walk(LeftSide::new(&table.pairs), &table.pairs)
     }
 
-    /// The lefts, in the order and at the cost of `iter`.
+    /// Returns an iterator over the lefts, in the order and at the cost of [`iter`](Self::iter).
     ///
     ///     seats.left_values().len(); // 3
     ///     seats.left_values().next(); // Some(&'a')
@@ -49,7 +50,7 @@ impl<L: Eq, R: Eq, I: WalkedIndex<L>, J: Index<R>> BijectiveMap<L, R, I, J> {
 }
 
 impl<L: Eq, R: Eq + Hash, I: WalkedIndex<L>, RS: BuildHasher> BijectiveMap<L, R, I, HashIndex<RS>> {
-    /// The rights, in the order and at the cost of `iter`.
+    /// Returns an iterator over the rights, in the order and at the cost of [`iter`](Self::iter).
     ///
     ///     seats.right_values().len(); // 3
     ///     seats.right_values().next(); // Some(&3)
@@ -64,7 +65,9 @@ impl<L: Eq, R: Eq + Hash, I: WalkedIndex<L>, RS: BuildHasher> BijectiveMap<L, R,
 }
 
 impl<L: Ord, R: Eq, J: Index<R>> BijectiveMap<L, R, Ordered, J> {
-    /// The pairs whose left lies in a range, by ascending left. It takes two searches by left, and no memory.
+    /// Returns an iterator over the pairs whose left lies in a range, by ascending left and from both ends.
+    ///
+    /// It makes two searches. Bounds at which `BTreeMap::range` panics are excluded by the condition `forward`.
     ///
     ///     seats.left_range('b'..).next(); // Some((&'b', &1))
     pub fn left_range<A: RangeBounds<L>>(&self, range: A) -> LeftRange<'_, L, R>
@@ -87,7 +90,7 @@ impl<L: Ord, R: Eq, J: Index<R>> BijectiveMap<L, R, Ordered, J> {
 }
 
 impl<L: Eq, R: Ord, I: Index<L>> BijectiveMap<L, R, I, Ordered> {
-    /// The rights, ascending. A step takes one descent at most, and no memory.
+    /// Returns an iterator over the rights, ascending and from both ends. A step takes one descent at most.
     ///
     ///     seats.right_values().next(); // Some(&1)
     pub fn right_values(&self) -> by_rank::RightValues<'_, L, R>
@@ -101,7 +104,7 @@ impl<L: Eq, R: Ord, I: Index<L>> BijectiveMap<L, R, I, Ordered> {
         Values::new(table.right.walk(rights, &table.pairs))
     }
 
-    /// The pairs whose right lies in a range, by ascending right. It takes two searches by right, and no memory.
+    /// Returns an iterator over the pairs whose right lies in a range, by ascending right, else as `left_range`.
     ///
     ///     seats.right_range(2..).next(); // Some((&'c', &2))
     pub fn right_range<A: RangeBounds<R>>(&self, range: A) -> RightRange<'_, L, R>
