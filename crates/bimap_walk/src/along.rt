@@ -1,17 +1,17 @@
-//! What the walks along a course are called.
+//! The names of the iterators along a course.
 use crate::owned::Owned;
 use crate::part::{LeftPart, RightPart};
 use crate::values::Values;
 use crate::walked::Walked;
 
-/// The pairs along a course, each as `(&L, &R)`.
+/// An iterator over the pairs along a course, each as `(&L, &R)`.
 pub type Iter<'a, L, R, C> = Walked<'a, L, R, C>;
 
-/// The lefts of the pairs along a course.
+/// An iterator over the lefts along a course.
 pub type LeftValues<'a, L, R, C> = Values<'a, L, R, C, LeftPart>;
 
-/// The rights of the pairs along a course.
+/// An iterator over the rights along a course.
 pub type RightValues<'a, L, R, C> = Values<'a, L, R, C, RightPart>;
 
-/// The pairs along a course, by value. Dropping it drops those that are left.
+/// An owning iterator over the pairs along a course.
 pub type IntoIter<L, R, C> = Owned<L, R, C>;

@@ -1,4 +1,4 @@
-//! Walks in the order of an index: what each is called, and ranges.
+//! Iterators and ranges in the order of an index.
 ghost use Rattle.std.specs.Prelude.{◌≡◌, ◌≤◌, ◌+◌, ◌*◌, ℕ, length, option_map};
 ghost use Rattle.std.specs.BTreeMap.Range.{range_contains};
 ghost use Rattle.std.specs.List.{All, filter};
@@ -17,25 +17,25 @@ use bimap_base::{Keys, Meter, Pairs};
 use bimap_tree::{Ordered, Span};
 use std::ops::RangeBounds;
 
-/// The pairs in the order of an index, each as `(&L, &R)`.
+/// An iterator over the pairs in the order of an index, each as `(&L, &R)`. A step takes one descent at most.
 pub type Iter<'a, L, R> = along::Iter<'a, L, R, Ordered>;
 
-/// The lefts of the pairs in the order of an index.
+/// An iterator over the lefts in the order of an index.
 pub type LeftValues<'a, L, R> = along::LeftValues<'a, L, R, Ordered>;
 
-/// The rights of the pairs in the order of an index.
+/// An iterator over the rights in the order of an index.
 pub type RightValues<'a, L, R> = along::RightValues<'a, L, R, Ordered>;
 
-/// The pairs whose left lies in a range, in the order of an index.
+/// An iterator over the pairs whose left lies in a range, in the order of an index.
 pub type LeftRange<'a, L, R> = Iter<'a, L, R>;
 
-/// The pairs whose right lies in a range, in the order of an index.
+/// An iterator over the pairs whose right lies in a range, in the order of an index.
 pub type RightRange<'a, L, R> = Iter<'a, L, R>;
 
-/// The pairs by value, in the order of an index. Dropping it drops those that are left.
+/// An owning iterator over the pairs in the order of an index.
 pub type IntoIter<L, R> = along::IntoIter<L, R, Ordered>;
 
-/// The pairs at the listed places, in the order of the index. A step takes one descent at most, and no memory.
+/// Returns an iterator over the pairs at the listed places, in the order of the index.
 pub fn iter<'a, L, R>(pairs: &'a Pairs<L, R>, index: &'a Ordered) -> Iter<'a, L, R>
     requires live { All (IsLive pairs.now) index.now.places }
     ensures { result ≡ pairs_at pairs.now index.now.places }
@@ -43,9 +43,9 @@ pub fn iter<'a, L, R>(pairs: &'a Pairs<L, R>, index: &'a Ordered) -> Iter<'a, L,
     Walked::new(pairs, index, Window::whole(index))
 }
 
-/// The pairs of which one part lies in a range, in the order of the index that goes by it.
+/// Returns an iterator over the pairs of which one part lies in a range, in the order of the index that goes by it.
 ///
-/// It takes two searches, then one descent a step at most, and no memory. A range that ends before it starts has no pair.
+/// It makes two searches. A range that ends before it starts has no pair.
 pub fn range<'a, L, R, P: Part<L, R>, K: Keys<Key = P::Value>, A: RangeBounds<P::Value>, M: Meter>(
     pairs: &'a Pairs<L, R>,
     index: &'a Ordered,
@@ -67,7 +67,7 @@ pub fn range<'a, L, R, P: Part<L, R>, K: Keys<Key = P::Value>, A: RangeBounds<P:
     Walked::new(pairs, index, window)
 }
 
-/// The pairs by value, in the order of the index. No memory is taken.
+/// Returns an owning iterator over the pairs, in the order of the index.
 pub fn into_iter<L: Drop, R: Drop>(pairs: Pairs<L, R>, index: Ordered) -> IntoIter<L, R>
     requires live { All (IsLive pairs) index.places }
     ensures rest { result ≡ pairs_at pairs index.places }

@@ -1,7 +1,8 @@
-//! Walks over the pairs of a store: by the ranks of an ordered index from both ends, or by place. They know no bimap.
+//! Iterators over the pairs of a store: by the ranks of an ordered index from both ends, or by place. They know no
+//! bimap.
 //!
-//! A `Course` leads from place to place, and a walk goes along it as an iterator. `along` names the walks along any course,
-//! `by_rank` and `by_place` those along each of the two. No walk takes memory.
+//! A `Course` leads from place to place, and an iterator goes along it. `along` names the iterators along any course,
+//! `by_rank` and `by_place` those along each of the two. Each has an exact `len`, and none takes memory.
 #![tactic(auto)]
 
 pub mod along;

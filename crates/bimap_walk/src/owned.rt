@@ -8,7 +8,7 @@ use crate::course::{Course, CourseBack};
 use bimap_base::Pairs;
 use std::marker::Model;
 
-/// The pairs of a store along a course, by value. Dropping it drops those that are left.
+/// An owning iterator over the pairs along a course. Dropping it drops those that are left.
 #[derive(Drop)]
 pub struct Owned<L, R, C: Course> {
     pairs: Pairs<L, R>,
@@ -27,7 +27,7 @@ impl<L, R, C: Course> Model for Owned<L, R, C> {
 }
 
 impl<L, R, C: Course> Owned<L, R, C> {
-    /// The pairs ahead of a cursor.
+    /// Returns an iterator over the pairs ahead of a cursor.
     pub fn new(pairs: Pairs<L, R>, course: C, cursor: C::Cursor) -> Self
         requires stands { C.stands (L × R) course cursor pairs }
         ensures { result ≡ C.ahead (L × R) course cursor pairs }
@@ -39,7 +39,7 @@ impl<L, R, C: Course> Owned<L, R, C> {
         }
     }
 
-    /// How many pairs are left, in constant time.
+    /// Returns how many pairs are left, in constant time.
     pub fn len(&self) -> usize
         ensures { result ≡ length self.now }
     {

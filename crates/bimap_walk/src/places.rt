@@ -6,7 +6,7 @@ ghost use Rattle.bimap_base.specs.Slots.{IsLive};
 use crate::course::Course;
 use bimap_base::Pairs;
 
-/// The places of a store in their order. A whole walk takes time in proportion to their number.
+/// The places of a store in their order.
 #[derive(Clone, Copy)]
 pub struct ByPlace;
 

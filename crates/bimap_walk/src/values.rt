@@ -1,4 +1,4 @@
-//! The lefts or the rights of a walk. It knows no place.
+//! The lefts or the rights of an iterator. It knows no place.
 ghost use Rattle.std.specs.Prelude.{◌≡◌, length, map, Some, IfSome, ⊤};
 ghost use Rattle.std.specs.Iterator.{at_most, UpTo};
 ghost use Rattle.std.specs.Iterator.SizeHint.{IsWithinCount};
@@ -10,7 +10,7 @@ use crate::walked::Walked;
 use std::alloc::AllocError;
 use std::marker::{Model, PhantomData};
 
-/// One part of each pair along a course.
+/// An iterator over one part of each pair along a course.
 #[derive(Drop)]
 pub struct Values<'a, L, R, C: Course, P: Part<L, R>> {
     pairs: Walked<'a, L, R, C>,
@@ -26,7 +26,7 @@ impl<'a, L, R, C: Course, P: Part<L, R>> Model for Values<'a, L, R, C, P> {
 }
 
 impl<'a, L, R, C: Course, P: Part<L, R>> Values<'a, L, R, C, P> {
-    /// This part of the pairs that a walk has left.
+    /// Returns an iterator over this part of the pairs that an iterator has left.
     pub fn new(pairs: Walked<'a, L, R, C>) -> Self
         ensures { result ≡ map P.of pairs.entry }
     {
@@ -36,7 +36,7 @@ impl<'a, L, R, C: Course, P: Part<L, R>> Values<'a, L, R, C, P> {
         }
     }
 
-    /// How many values are left, in constant time.
+    /// Returns how many values are left, in constant time.
     pub fn len(&self) -> usize
         ensures { result ≡ length self.now }
     {

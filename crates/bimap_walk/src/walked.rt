@@ -9,7 +9,7 @@ use bimap_base::Pairs;
 use std::alloc::AllocError;
 use std::marker::Model;
 
-/// The pairs of a store along a course, each as `(&L, &R)`.
+/// An iterator over the pairs of a store along a course, each as `(&L, &R)`.
 #[derive(Drop)]
 pub struct Walked<'a, L, R, C: Course> {
     pairs: &'a Pairs<L, R>,
@@ -28,7 +28,7 @@ impl<'a, L, R, C: Course> Model for Walked<'a, L, R, C> {
 }
 
 impl<'a, L, R, C: Course> Walked<'a, L, R, C> {
-    /// The pairs ahead of a cursor.
+    /// Returns an iterator over the pairs ahead of a cursor.
     pub fn new(pairs: &'a Pairs<L, R>, course: &'a C, cursor: C::Cursor) -> Self
         requires stands { C.stands (L × R) course.now cursor pairs.now }
         ensures { result ≡ C.ahead (L × R) course.now cursor pairs.now }
@@ -40,7 +40,7 @@ impl<'a, L, R, C: Course> Walked<'a, L, R, C> {
         }
     }
 
-    /// How many pairs are left, in constant time.
+    /// Returns how many pairs are left, in constant time.
     pub fn len(&self) -> usize
         ensures { result ≡ length self.now }
     {
