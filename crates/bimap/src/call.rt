@@ -1,53 +1,53 @@
 //! The calls of a run and their replies. It doesn't know how they are performed.
 use bimap_base::{Overwritten, Policy};
 
-/// A call on a bimap, with a key `K` for each test of pairs.
+/// A call on a bimap. A `Retain` has a key `K` for the test of pairs.
 #[derive(Debug, Drop, Eq, PartialEq)]
 pub enum Call<L, R, K> {
-    /// `insert`. It replies `Inserted` or `NoRoom`.
+    /// `insert`, which replies `Inserted` or `NoRoom`.
     Insert(L, R),
-    /// `insert_no_overwrite`. It replies `Put`, `Occupied` or `NoRoom`.
+    /// `insert_no_overwrite`, which replies `Put`, `Occupied` or `NoRoom`.
     InsertNoOverwrite(L, R),
-    /// `insert_with`. It replies `Inserted`, `LeftHeld`, `RightHeld` or `NoRoom`.
+    /// `insert_with`, which replies `Inserted`, `LeftHeld`, `RightHeld` or `NoRoom`.
     InsertWith(L, R, Policy),
-    /// `remove_by_left`. It replies `Removed`.
+    /// `remove_by_left`, which replies `Removed`.
     RemoveByLeft(L),
-    /// `remove_by_right`. It replies `Removed`.
+    /// `remove_by_right`, which replies `Removed`.
     RemoveByRight(R),
-    /// `contains_left`. It replies `Holds`.
+    /// `contains_left`, which replies `Holds`.
     ContainsLeft(L),
-    /// `contains_right`. It replies `Holds`.
+    /// `contains_right`, which replies `Holds`.
     ContainsRight(R),
-    /// `retain` of the pairs on which the test answers true with this key. It replies `Done`.
+    /// `retain` of the pairs on which the test returns true with this key. It replies `Done`.
     Retain(K),
-    /// `clear`. It replies `Done`.
+    /// `clear`, which replies `Done`.
     Clear,
 }
 
-/// What a call answered.
+/// What a call returned.
 #[derive(Debug, Drop, Eq, PartialEq)]
 pub enum Reply<L, R> {
-    /// The pair was inserted, and these pairs were struck out.
+    /// The pair was inserted, and overwrote these.
     Inserted(Overwritten<L, R>),
-    /// Neither value was held, and there was no memory for the pair, which is handed back.
+    /// The bimap contains neither value, and was out of memory. The pair is handed back.
     NoRoom(L, R),
-    /// Neither value was held, and the pair was inserted.
+    /// The pair was inserted, and overwrote none.
     Put,
-    /// One of the values is held, or both are. The pair is handed back.
+    /// The bimap contains one of the values, or both. The pair is handed back.
     Occupied(L, R),
-    /// The left is held, and the policy keeps it. The pair is handed back.
+    /// It contains the left, and the policy keeps it. The pair is handed back.
     LeftHeld(L, R),
-    /// The right is held, and the policy keeps it. The pair is handed back.
+    /// It contains the right, and the policy keeps it. The pair is handed back.
     RightHeld(L, R),
-    /// The pair that was taken out, if there was one.
+    /// The pair that was removed, if there was one.
     Removed(Option<(L, R)>),
-    /// Whether the value is held.
+    /// Whether the bimap contains the value.
     Holds(bool),
-    /// The call has no answer.
+    /// The call returns nothing.
     Done,
 }
 
-/// There was no memory for the replies. Nothing was called, and the calls are handed back.
+/// Out of memory for the replies. Nothing was called, and the calls are handed back.
 #[derive(Debug, Drop, Eq, PartialEq)]
 pub struct RunRefused<L, R, K> {
     pub calls: Vec<Call<L, R, K>>,

@@ -18,5 +18,5 @@ pub use call::{Call, Reply, RunRefused};
 pub use runs::{perform, run};
 pub use undone::{UndoRunStopped, undo_run};
 
-/// The bimap for where no order is wanted.
+/// A bimap for where no order is wanted.
 pub type BiMap<L, R> = BiHashMap<L, R>;

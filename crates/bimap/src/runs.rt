@@ -9,11 +9,10 @@ use crate::call::{Call, Reply, RunRefused};
 use bimap_base::{Bijection, NoRoom, NotInserted, NotInsertedWith};
 use std::alloc::Global;
 
-/// Performs one call, and answers its reply.
+/// Performs one call and returns its reply.
 ///
-/// Costs what the call of the bimap costs, and takes memory only where that does: for a reply there is none to take.
-/// `NoRoom` is answered only where no place is free; it, and each other refusal, leaves what is held as it was. The
-/// test must have one answer for the key of a `Retain` and each pair held: it answers whether the pair is kept.
+/// It costs what the call costs. A refusal leaves the pairs as they were, and `NoRoom` comes only where no place is
+/// free. The test says which pairs a `Retain` keeps: for its key and each pair it must have one answer.
 ///
 ///     let reply = perform(&mut seats, Call::InsertNoOverwrite('a', 1), &|_: &u32, _: &char, _: &u32| true);
 ///     // Reply::Put, or Reply::Occupied('a', 1), or Reply::NoRoom('a', 1)
@@ -65,10 +64,15 @@ pub fn perform<L: Eq + Drop, R: Eq + Drop, K: Drop, B: Bijection<L, R>, F: Fn(&K
     }
 }
 
-/// Performs the calls in order, and answers one reply for each.
+/// Performs the calls in order, as [`perform`] does, and returns a reply for each.
 ///
-/// Memory for all replies is taken before the first call. A `NoRoom` doesn't end the run. The test must have no state:
-/// it answers whether `Retain` keeps a pair. A refusal changes nothing.
+/// It takes memory for all replies first. An `Err` hands the calls back, and nothing was called; a `NoRoom` doesn't end
+/// the run.
+///
+///     // the key of a `Retain` is the least seat to keep
+///     let calls = vec![in alloc; Call::Insert('d', 4), Call::Retain(2), Call::ContainsLeft('b')]?;
+///     let replies = run(alloc, &mut seats, calls, |least: &u32, _: &char, seat: &u32| *seat >= *least)?;
+///     // Reply::Inserted(Overwritten::Neither), Reply::Done, Reply::Holds(false)
 pub fn run<L: Eq + Drop, R: Eq + Drop, K: Drop, B: Bijection<L, R>, F: Fn(&K, &L, &R) -> bool>(
     alloc: Global,
     bimap: &mut B,

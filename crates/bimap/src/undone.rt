@@ -5,16 +5,20 @@ ghost use Rattle.bimap.specs.Trail.{Leads, LeadsWithin, IsStopped};
 
 use bimap_base::{Bijection, Overwritten};
 
-/// There was no memory to undo an insertion that struck two pairs. The entries that are not undone are handed back in
-/// order, that one last.
+/// Out of memory for putting two pairs back. The entries that are not undone are handed back in order, that one last.
 #[derive(Debug, Drop, Eq, PartialEq)]
 pub struct UndoRunStopped<L, R> {
     pub rest: Vec<(L, Overwritten<L, R>)>,
 }
 
-/// Undoes insertions from the last to the first. An entry is a left with what its insertion answered.
+/// Undoes insertions that led to what the bimap contains, the last one first. An entry is a left with what its
+/// insertion returned.
 ///
-/// It takes memory only where an answer is `Both` and no place is free.
+/// Each costs an `undo_insert`, and is out of memory only for `Both` where no place is free.
+///
+///     // `entries` of the insertion of 'a' with 1: [('a', Overwritten::Both(('a', 3), ('b', 1)))]
+///     undo_run(&mut seats, entries)?;
+///     // ('a', 3) and ('b', 1) are back
 pub fn undo_run<L: Eq + Drop, R: Eq + Drop, B: Bijection<L, R>>(
     bimap: &mut B,
     mut entries: Vec<(L, Overwritten<L, R>)>,

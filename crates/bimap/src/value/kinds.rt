@@ -13,10 +13,7 @@ use serde_json::Value;
 use std::alloc::Global;
 use std::hash::{BuildHasher, Hash};
 
-/// The object of the pairs held, whatever the builders. Each of its entries reads as a pair equal on both sides to the
-/// one it was written of.
-///
-/// Takes memory for each pair. A refusal makes nothing.
+/// Returns the object of the pairs, as [`JsonObject::to_value`] does, whatever the builders.
 pub fn hash_to_value<
     L: JsonKey + Hash + Drop,
     R: JsonValue + Hash + Drop,
@@ -29,10 +26,7 @@ pub fn hash_to_value<
     write_walk(alloc, bimap.iter())
 }
 
-/// The bimap of an object's entries with these builders, inserted in ascending byte order of their keys. A later one may
-/// strike earlier ones: of several entries with equal rights the one with the greatest key stays.
-///
-/// Takes memory for each entry. A fault makes nothing.
+/// Creates the bimap of an object's entries, as [`JsonObject::from_value`] does, with these builders.
 pub fn from_value_with_hashers<
     L: JsonKey + Hash + Drop,
     R: JsonValue + Hash + Drop,
@@ -50,7 +44,8 @@ pub fn from_value_with_hashers<
     read_into(alloc, empty, value)
 }
 
-/// Writes a bimap as an object and reads it back with these builders: an equal bimap, or want of memory.
+/// Writes a bimap as an object, reads it back with these builders and returns an equal bimap. An `Err` means out of
+/// memory.
 pub fn reread_with_hashers<
     L: JsonKey + Hash + Drop,
     R: JsonValue + Hash + Drop,

@@ -76,14 +76,14 @@ impl<N: WholeNumber> JsonValue for N {
     }
 }
 
-/// Whether a number has no other spelling: no plus, no needless zero, and no zero after a minus.
+// Whether a number has no other spelling: no plus, no needless zero, and no zero after a minus.
 fn is_plain(text: &[u8]) -> bool
     ensures { IsTrue result ↔ IsPlain text.now }
 {
     !matches!(text, [b'+', ..] | [b'0', _, ..] | [b'-', b'0', ..])
 }
 
-/// What `parse` answers for a text that is plain.
+// What `parse` returns for a text that is plain.
 fn parse_plain<N: FromStr<Err = ParseIntError>>(text: &str) -> Option<N>
     ensures { ParsesPlain N.from_str_gives text.now result }
 {

@@ -12,43 +12,47 @@ use serde_json::{Map, Value};
 use std::alloc::Global;
 use std::mem;
 
-/// Why no bimap was read. Entries are counted from 0, in ascending byte order of their keys.
+/// Why no bimap was read. An entry is named by its number, from 0, in ascending byte order of the keys; those before it
+/// were inserted.
 #[derive(Clone, Copy, Debug, Eq, PartialEq)]
 pub enum JsonFault {
     /// The value is not an object.
     NotAnObject,
-    /// The entries before this one read, and its key does not.
+    /// The key reads as no left.
     BadKey(usize),
-    /// The entries before this one read, its key does too, and its value does not.
+    /// The key reads as a left, and the value as no right.
     BadValue(usize),
-    /// The entries before this one were taken, and its left is held, which the policy keeps. It is asked before the right.
+    /// The bimap contains the left by then, and the policy keeps it. It is asked before the right.
     LeftHeld(usize),
-    /// The entries before this one were taken, and its right is held, which the policy keeps.
+    /// It contains the right, and the policy keeps it.
     RightHeld(usize),
-    /// Memory was wanting before any fault was met.
+    /// Out of memory, before any fault was met.
     Memory,
 }
 
-/// A bimap in JSON: an object with an entry for each pair, its key the left and its value the right.
+/// A bimap as a JSON object, with an entry for each pair: its key is the left, and its value the right. Writing and
+/// reading take memory for each pair, and an `Err` leaves nothing.
 pub trait JsonObject<L: JsonKey + Drop, R: JsonValue + Drop>: Bijection<L, R> + Sized {
-    /// The object of the pairs held. Each of its entries reads as a pair equal on both sides to the one it was written of.
+    /// Returns the object of the pairs. Each of its entries reads as a pair that equals the one it was written of on
+    /// both sides.
     ///
-    /// Takes memory for each pair. A refusal makes nothing.
+    ///     let value = seats.to_value(alloc)?;
+    ///     // {"a":3,"b":1,"c":2}
     fn to_value(&self, alloc: Global) -> Result<Value, NoMemory>
         ensures object { IfOk result (λ v. IsObjectOf (IsEntryOf L.writes_key R.writes (Contains (Self.holding self.now).pairs)) (view v)) }
         ensures reads_back { OnOk result (EachReadsBack L.writes_key R.writes L.reads_key R.reads L.eq R.eq (Self.holding self.now).pairs) };
 
-    /// The bimap of an object's entries, inserted in ascending byte order of their keys. A later one may strike earlier
-    /// ones: of several entries with equal rights the one with the greatest key stays.
+    /// Creates the bimap of an object's entries, inserted in ascending byte order of their keys. A later one overwrites
+    /// those that it shares a value with.
     ///
-    /// Costs one reading and one insertion an entry, and takes memory for them. A fault makes nothing.
+    ///     // of {"A": 1, "B": 2, "C": 1}
+    ///     let seats: BiBTreeMap<char, u32> = BiBTreeMap::from_value(alloc, &value)?;
+    ///     // ('B', 2) and ('C', 1)
     fn from_value(alloc: Global, value: &Value) -> Result<Self, JsonFault>
         ensures { ReadsObject L.reads_key R.reads L.eq R.eq Self.holding (view value.now) result };
 }
 
-/// The object of the pairs that a walk gives. Of pairs with one key text the last is in it.
-///
-/// Takes memory for each pair.
+/// Returns the object of the pairs that an iterator gives. Of pairs with one key text it has the last.
 pub fn write_walk<'a, L: JsonKey + 'a, R: JsonValue + 'a, I: IntoIterator<Item = (&'a L, &'a R)>>(
     alloc: Global,
     walk: I,
@@ -70,9 +74,8 @@ pub fn write_walk<'a, L: JsonKey + 'a, R: JsonValue + 'a, I: IntoIterator<Item =
     Ok(Value::Object(map))
 }
 
-/// Inserts an object's entries into an empty bimap in ascending byte order of their keys, and answers it.
-///
-/// Costs one reading and one insertion an entry, and takes memory for them. A fault drops the bimap.
+/// Inserts an object's entries into an empty bimap and returns it, as [`JsonObject::from_value`] does. An `Err` drops
+/// it.
 pub fn read_into<L: JsonKey + Drop, R: JsonValue + Drop, B: Bijection<L, R> + Drop>(
     alloc: Global,
     empty: B,
@@ -89,12 +92,10 @@ pub fn read_into<L: JsonKey + Drop, R: JsonValue + Drop, B: Bijection<L, R> + Dr
 }
 
 /// Inserts an object's entries into an empty bimap in ascending byte order of their keys, where the policy lets each
-/// overwrite what it shares a value with, and answers it. The first entry that doesn't read, or that the policy keeps
-/// out, is named.
+/// overwrite what it shares a value with, and returns it. An `Err` names the first entry that doesn't read or is
+/// refused, and drops the bimap.
 ///
-/// Costs one reading and one `insert_with` an entry, and takes memory for them. A fault drops the bimap.
-///
-///     // no seat twice: {"A": 1, "B": 2, "C": 1} answers Err(JsonFault::RightHeld(2))
+///     // no seat twice: {"A": 1, "B": 2, "C": 1} gives Err(JsonFault::RightHeld(2))
 ///     let once = Policy { left: OnHeld::Refuse, right: OnHeld::Refuse };
 ///     let seats = read_into_with(alloc, BiBTreeMap::new(alloc), &value, once)?;
 pub fn read_into_with<L: JsonKey + Drop, R: JsonValue + Drop, B: Bijection<L, R> + Drop>(
@@ -134,7 +135,10 @@ pub fn read_into_with<L: JsonKey + Drop, R: JsonValue + Drop, B: Bijection<L, R>
     Ok(bimap)
 }
 
-/// Writes a bimap as an object and reads it back: an equal bimap, or want of memory.
+/// Writes a bimap as an object, reads it back and returns an equal bimap. An `Err` means out of memory.
+///
+///     let copy = reread(alloc, &seats)?;
+///     // copy equals seats
 pub fn reread<L: JsonKey + Drop, R: JsonValue + Drop, B: JsonObject<L, R> + Drop>(
     alloc: Global,
     bimap: &B,

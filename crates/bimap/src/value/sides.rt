@@ -13,16 +13,17 @@ use std::alloc::Global;
 pub enum ReadFault {
     /// The text or JSON value reads as nothing.
     Bad,
-    /// Memory was wanting.
+    /// Out of memory.
     Memory,
 }
 
 /// A left in JSON: the key of an entry.
 ///
-/// What is written of a value reads as an equal value, and as no other. So lefts that are not equal have different keys.
+/// What is written of a value reads as an equal value, and as no other. So lefts that are not equal have different
+/// keys.
 ///
-/// A type of one's own says what it is written as (`writes_key`) and what a text reads as (`reads_key`), and mostly asks a
-/// type that has the interface. Here a seat is written as its number:
+/// A type of one's own says what it is written as (`writes_key`) and what a text reads as (`reads_key`), and mostly
+/// asks a type that has the trait. Here a seat is written as its number:
 ///
 /// ```
 /// ghost use Rattle.bimap.specs.JsonTexts.{IsUnsignedText};
@@ -58,20 +59,17 @@ pub trait JsonKey: Eq + Sized {
     /// The text reads as the value.
     ghost reads_key: { List ℕ → Self → Type 0 };
 
-    /// The key text of a value.
+    /// Returns the key text of a value.
     fn to_key(&self, alloc: Global) -> Result<String, NoMemory>
         ensures text { IfOk result (λ s. string_bytes s ≡ writes_key self.now) }
         ensures reads_back { OnOk result (ReadsBack Self.eq (reads_key (writes_key self.now)) self.now) };
 
-    /// The value that a key text reads as, or `Bad` exactly where it reads as none.
+    /// Returns the value that a key text reads as, or `Bad` exactly where it reads as none.
     fn from_key(alloc: Global, text: &str) -> Result<Self, ReadFault>
         ensures { Reads (reads_key text.now) result };
 }
 
-/// A right in JSON: the value of an entry.
-///
-/// What is written of a value reads as an equal value, and as no other. A type of one's own implements it as it does
-/// `JsonKey`.
+/// A right in JSON: the value of an entry, for which holds what does for a [`JsonKey`].
 pub trait JsonValue: Eq + Sized {
     /// What a value is written as.
     ghost writes: { Self → Data };
@@ -79,12 +77,12 @@ pub trait JsonValue: Eq + Sized {
     /// The JSON value reads as the value.
     ghost reads: { Data → Self → Type 0 };
 
-    /// The JSON value of a value.
+    /// Returns the JSON value of a value.
     fn to_json(&self, alloc: Global) -> Result<Value, NoMemory>
         ensures json { IfOk result (λ v. view v ≡ writes self.now) }
         ensures reads_back { OnOk result (ReadsBack Self.eq (reads (writes self.now)) self.now) };
 
-    /// The value that a JSON value reads as, or `Bad` exactly where it reads as none.
+    /// Returns the value that a JSON value reads as, or `Bad` exactly where it reads as none.
     fn from_json(alloc: Global, value: &Value) -> Result<Self, ReadFault>
         ensures { Reads (reads (view value.now)) result };
 }
