@@ -1,18 +1,18 @@
-//! Copies of lefts, of which the record of an insertion holds one.
+//! Copies of lefts, of which the record of an insertion has one.
 ghost use Rattle.std.specs.Prelude.{◌≡◌, true, Ok, IfOk};
 
 use bimap::NoMemory;
 use std::alloc::Global;
 
-/// A left that can be copied, where there is memory for the copy.
+/// A left that can be copied.
 pub trait CopyLeft: Eq + Sized {
-    /// A value equal to this one.
+    /// Returns a value equal to this one. A `String` takes memory for the text; a `char` or a number takes none, and is
+    /// never refused.
     fn copy_left(&self, alloc: Global) -> Result<Self, NoMemory>
         ensures { IfOk result (λ copy. Self.eq copy self.now ≡ true) };
 }
 
 impl CopyLeft for char {
-    /// Takes no memory, and is never refused.
     fn copy_left(&self, _alloc: Global) -> Result<char, NoMemory>
         ensures { result ≡ Ok self.now }
     {
@@ -22,14 +22,12 @@ impl CopyLeft for char {
 }
 
 impl CopyLeft for String {
-    /// Takes memory for the text.
     fn copy_left(&self, _alloc: Global) -> Result<String, NoMemory> {
         Ok(self.clone()?)
     }
 }
 
 impl CopyLeft for u8 {
-    /// Takes no memory, and is never refused.
     fn copy_left(&self, _alloc: Global) -> Result<u8, NoMemory>
         ensures { result ≡ Ok self.now }
     {
@@ -39,7 +37,6 @@ impl CopyLeft for u8 {
 }
 
 impl CopyLeft for u32 {
-    /// Takes no memory, and is never refused.
     fn copy_left(&self, _alloc: Global) -> Result<u32, NoMemory>
         ensures { result ≡ Ok self.now }
     {
@@ -49,7 +46,6 @@ impl CopyLeft for u32 {
 }
 
 impl CopyLeft for u64 {
-    /// Takes no memory, and is never refused.
     fn copy_left(&self, _alloc: Global) -> Result<u64, NoMemory>
         ensures { result ≡ Ok self.now }
     {
@@ -59,7 +55,6 @@ impl CopyLeft for u64 {
 }
 
 impl CopyLeft for i32 {
-    /// Takes no memory, and is never refused.
     fn copy_left(&self, _alloc: Global) -> Result<i32, NoMemory>
         ensures { result ≡ Ok self.now }
     {
@@ -69,7 +64,6 @@ impl CopyLeft for i32 {
 }
 
 impl CopyLeft for i64 {
-    /// Takes no memory, and is never refused.
     fn copy_left(&self, _alloc: Global) -> Result<i64, NoMemory>
         ensures { result ≡ Ok self.now }
     {

@@ -16,7 +16,7 @@ pub enum Operation<L, R> {
     BackTo(usize),
 }
 
-/// Performs one operation. A mark above the number recorded changes nothing.
+// Performs one operation. A mark above the number recorded changes nothing.
 fn perform<B: Bijection<L, R> + Drop, L: CopyLeft + Drop, R: Eq + Drop>(
     undoable: &mut Undoable<B, L, R>,
     operation: Operation<L, R>,
@@ -46,10 +46,9 @@ fn perform<B: Bijection<L, R> + Drop, L: CopyLeft + Drop, R: Eq + Drop>(
     }
 }
 
-/// Performs the operations, none of which goes back to a lower mark, and then goes back to the mark. What the mark
-/// stood for is held again, with its exact values, whichever of the operations were refused.
-///
-/// A mark above the number recorded, among the operations, changes nothing.
+/// Performs the operations, none of which goes back to a lower mark, and then goes back to the mark: the bimap contains
+/// what the mark stands for, whichever of the operations were refused. One that goes back to a mark above the number
+/// recorded changes nothing.
 pub fn there_and_back<B: Bijection<L, R> + Drop, L: CopyLeft + Drop, R: Eq + Drop>(
     undoable: &mut Undoable<B, L, R>,
     mark: usize,

@@ -13,10 +13,14 @@ use std::marker::Model;
 
 /// A bimap that goes back to marks.
 ///
-/// Each successful insertion and removal is recorded, and a mark is a number of recorded changes. A mark stands for
-/// the set of pairs held when that many changes were recorded, with their exact values. The record grows by one entry
-/// a change until [`back_to`](Undoable::back_to) shortens it: an insertion's entry is a copy of its left and the pairs
-/// that it struck out, and a removal's is the pair.
+/// Each insertion and removal that isn't refused is recorded, and a mark is a number of recorded changes. It stands for
+/// the pairs at that time, with their exact values. The record grows by one entry a change until
+/// [`back_to`](Undoable::back_to) shortens it: an insertion's entry is a copy of its left and the pairs that it
+/// overwrote, a removal's is the pair.
+///
+/// A call costs what the bimap's own costs, a removal a look-up more, and takes memory for its entry first: so it may
+/// be out of memory also where it would overwrite or be refused. An `Err` hands back what was given and changes
+/// nothing.
 ///
 ///     let mut seats = Undoable::new(alloc, BiBTreeMap::new(alloc));
 ///     seats.insert('a', 1)?;
@@ -24,7 +28,7 @@ use std::marker::Model;
 ///     seats.insert('a', 2)?;
 ///     seats.remove_by_left(&'a')?;
 ///     seats.back_to(mark);
-///     // ('a', 1) is held again
+///     seats.held().get_by_left(&'a'); // Some(&1)
 #[derive(Drop)]
 pub struct Undoable<B: Bijection<L, R> + Drop, L: CopyLeft + Drop, R: Eq + Drop> {
     alloc: Global,
@@ -44,7 +48,7 @@ impl<B: Bijection<L, R> + Drop, L: CopyLeft + Drop, R: Eq + Drop> Model for Undo
 }
 
 impl<B: Bijection<L, R> + Drop, L: CopyLeft + Drop, R: Eq + Drop> Undoable<B, L, R> {
-    /// The bimap, with nothing recorded. Takes no memory.
+    /// Returns the bimap with nothing recorded.
     pub fn new(alloc: Global, bimap: B) -> Self
         ensures held { result.held ≡ B.holding bimap }
         ensures nothing_recorded { result.entries ≡ [] }
@@ -57,11 +61,10 @@ impl<B: Bijection<L, R> + Drop, L: CopyLeft + Drop, R: Eq + Drop> Undoable<B, L,
         }
     }
 
-    /// Inserts a pair, and answers whether others were struck out.
+    /// Inserts a pair and returns whether it overwrote any.
     ///
-    /// Costs what the bimap's own `insert` costs, and a copy of the left. Memory for that copy and for the record is
-    /// taken first, so it may be refused also where something would be struck. A refusal changes nothing, and hands
-    /// the pair back.
+    ///     seats.insert('a', 1); // Ok(false)
+    ///     seats.insert('a', 2); // Ok(true)
     pub fn insert(&mut self, left: L, right: R) -> Result<bool, NoRoom<L, R>>
         ensures { IsRecordedInsertion L.eq R.eq self.old (left, right) result self.new }
     {
@@ -77,12 +80,8 @@ impl<B: Bijection<L, R> + Drop, L: CopyLeft + Drop, R: Eq + Drop> Undoable<B, L,
         }
     }
 
-    /// Inserts a pair where the policy lets it overwrite what it shares a value with, and answers whether others were
-    /// struck out.
-    ///
-    /// Costs what the bimap's own `insert_with` costs, and a copy of the left. Memory for that copy and for the record
-    /// is taken first, so want of it may be answered also where something would be struck, or the policy would refuse.
-    /// A refusal changes nothing, and hands the pair back.
+    /// Inserts a pair where the policy lets it overwrite what it shares a value with, and returns whether it overwrote
+    /// any.
     ///
     ///     let keep = Policy { left: OnHeld::Refuse, right: OnHeld::Refuse };
     ///     seats.insert_with('a', 1, keep)?;
@@ -110,16 +109,14 @@ impl<B: Bijection<L, R> + Drop, L: CopyLeft + Drop, R: Eq + Drop> Undoable<B, L,
 
     /// Inserts all items in order where the policy lets each overwrite what it shares a value with, or none of them.
     ///
-    /// Costs one [`insert_with`](Undoable::insert_with) an item, and takes memory as that does. Each is recorded, so that a
-    /// mark may lie between them.
-    /// The first item that is refused ends it: it is handed back with its number and the reason, no more are asked for,
-    /// and [`back_to`](Undoable::back_to) takes those before it back, for which it asks for no memory. Then exactly the
-    /// pairs of before are held, and the marks of before stand for what they did. Places that were made stay.
+    /// Each is an [`insert_with`](Undoable::insert_with), so that a mark may lie between them. The first that is
+    /// refused ends it and is handed back, no more are asked for, and [`back_to`](Undoable::back_to) takes those before
+    /// it back: the pairs and what marks stand for are those of before. The capacity may have grown.
     ///
     ///     let keep = Policy { left: OnHeld::Refuse, right: OnHeld::Refuse };
     ///     seats.insert('a', 1)?;
     ///     let refused = seats.insert_all([('b', 2), ('c', 3), ('d', 1)], keep);
-    ///     // Err(ItemRefused { taken: 2, why: NotInsertedWith::RightHeld('d', 1) }), and ('a', 1) alone is held
+    ///     // Err(ItemRefused { taken: 2, why: NotInsertedWith::RightHeld('d', 1) }), and ('a', 1) alone is in
     pub fn insert_all<I: IntoIterator<Item = (L, R)>>(
         &mut self,
         items: I,
@@ -143,10 +140,10 @@ impl<B: Bijection<L, R> + Drop, L: CopyLeft + Drop, R: Eq + Drop> Undoable<B, L,
         Ok(())
     }
 
-    /// Takes out the pair of a left, and answers whether it was held.
+    /// Removes the pair of a left and returns whether there was one. If there was none, nothing is recorded and no
+    /// memory taken.
     ///
-    /// Costs what the bimap's own look-up and removal cost. Where the left isn't held, nothing is recorded and no
-    /// memory is taken. Else memory for the record is taken first. A refusal changes nothing.
+    ///     seats.remove_by_left(&'a'); // Ok(true)
     pub fn remove_by_left(&mut self, left: &L) -> Result<bool, NoMemory>
         ensures { IsRecordedRemovalByLeft L.eq R.eq self.old left.now result self.new }
     {
@@ -159,10 +156,10 @@ impl<B: Bijection<L, R> + Drop, L: CopyLeft + Drop, R: Eq + Drop> Undoable<B, L,
         Ok(true)
     }
 
-    /// Takes out the pair of a right, and answers whether it was held.
+    /// Removes the pair of a right and returns whether there was one. If there was none, nothing is recorded and no
+    /// memory taken.
     ///
-    /// Costs what the bimap's own look-up and removal cost. Where the right isn't held, nothing is recorded and no
-    /// memory is taken. Else memory for the record is taken first. A refusal changes nothing.
+    ///     seats.remove_by_right(&2); // Ok(false)
     pub fn remove_by_right(&mut self, right: &R) -> Result<bool, NoMemory>
         ensures { IsRecordedRemovalByRight L.eq R.eq self.old right.now result self.new }
     {
@@ -175,8 +172,10 @@ impl<B: Bijection<L, R> + Drop, L: CopyLeft + Drop, R: Eq + Drop> Undoable<B, L,
         Ok(true)
     }
 
-    /// The number of recorded changes. It and each lower number are marks, and each stands for one set of pairs.
-    /// Takes constant time.
+    /// Returns the number of recorded changes, in constant time. It and each lower number are marks.
+    ///
+    ///     // after three changes
+    ///     seats.mark(); // 3
     pub fn mark(&self) -> usize
         ensures recorded { result ≡ length self.now.entries }
         ensures stands_for_what_is_held { IsBefore L.eq R.eq self.now result self.now.held.pairs }
@@ -187,10 +186,8 @@ impl<B: Bijection<L, R> + Drop, L: CopyLeft + Drop, R: Eq + Drop> Undoable<B, L,
         self.changes.len()
     }
 
-    /// Goes back to a mark: what it stands for is held, and the changes recorded since are forgotten.
-    ///
-    /// Costs one undoing or one insertion of the bimap's for each of these changes. It takes no memory and is never
-    /// refused.
+    /// Goes back to a mark: the bimap contains what it stands for, and the changes since are forgotten. It costs one
+    /// undoing or one insertion for each of these, takes no memory and is never refused.
     pub fn back_to(&mut self, mark: usize)
         requires recorded { mark ≤ length self.old.entries }
         ensures gone_back { IsReturn L.eq R.eq self.old mark self.new }
@@ -202,14 +199,14 @@ impl<B: Bijection<L, R> + Drop, L: CopyLeft + Drop, R: Eq + Drop> Undoable<B, L,
         }
     }
 
-    /// The bimap.
+    /// Returns a reference to the bimap.
     pub fn held(&self) -> &B
         ensures { B.holding result.now ≡ self.now.held }
     {
         &self.bimap
     }
 
-    /// The bimap, without the record.
+    /// Returns the bimap and drops the record.
     pub fn into_inner(self) -> B
         ensures { B.holding result ≡ self.held }
     {
@@ -218,7 +215,7 @@ impl<B: Bijection<L, R> + Drop, L: CopyLeft + Drop, R: Eq + Drop> Undoable<B, L,
     }
 }
 
-/// Takes one change back. The bimap has a place for each pair held before it, so no memory is asked for.
+// Takes one change back. The bimap has a place for each pair before it, so no memory is asked for.
 fn take_back<B: Bijection<L, R>, L: Eq + Drop, R: Eq + Drop>(bimap: &mut B, entry: Entry<L, R>)
     requires { (A : List (L × R)) × IsApart L.eq R.eq A × (length A ≤ (B.holding bimap.old).room) × IsChange L.eq R.eq A entry (B.holding bimap.old).pairs }
     ensures taken_back { (A : List (L × R)) → IsApart L.eq R.eq A → IsChange L.eq R.eq A entry (B.holding bimap.old).pairs → IsSameSet (Contains A) (Contains (B.holding bimap.new).pairs) }
