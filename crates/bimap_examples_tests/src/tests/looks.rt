@@ -3,17 +3,25 @@ use super::{Seats, ordered};
 use bimap::Overwritten;
 use std::process::Abort;
 
+fn counts(rt: &impl Abort, seats: &Seats) {
+    assert!(rt; seats.len() == 3);
+    assert!(rt; seats.is_empty() == false);
+    assert!(rt; seats.capacity() == 4);
+}
+
+fn finds(rt: &impl Abort, seats: &Seats) {
+    assert!(rt; seats.get_by_left(&'a') == Some(&3));
+    assert!(rt; seats.get_by_right(&1) == Some(&'b'));
+    assert!(rt; seats.contains_left(&'d') == false);
+    assert!(rt; seats.contains_right(&2) == true);
+    assert!(rt; seats.can_undo_insert(&'c', &Overwritten::Left('c', 3)) == false);
+}
+
 #[test]
 fn looks_up(rt: HostRuntime) {
     let seats = ordered(&rt);
-    assert!(&rt; seats.len() == 3);
-    assert!(&rt; seats.is_empty() == false);
-    assert!(&rt; seats.capacity() == 4);
-    assert!(&rt; seats.get_by_left(&'a') == Some(&3));
-    assert!(&rt; seats.get_by_right(&1) == Some(&'b'));
-    assert!(&rt; seats.contains_left(&'d') == false);
-    assert!(&rt; seats.contains_right(&2) == true);
-    assert!(&rt; seats.can_undo_insert(&'c', &Overwritten::Left('c', 3)) == false);
+    counts(&rt, &seats);
+    finds(&rt, &seats);
 }
 
 #[test]
