@@ -20,6 +20,7 @@ use Rattle.bimap.specs.declared.value.object.JsonFault.TheVariants.{NotAnObject,
 abbrev pub Entry : Type 0
 Entry = List ℕ × Data
 
+-- the entries of an object's members
 abbrev pub entries_of : Members → List Entry
 entries_of no_members = []
 entries_of (member k d ms) = (k, d) ∷ entries_of ms

@@ -23,6 +23,7 @@ IsSignedText bits text z = (text ≡ signed_decimal z) × IsWithin bits z
 abbrev pub IsCharText : List ℕ → ℕ → Type 0
 IsCharText text c = (text ≡ encode_utf8 c) × IsScalar c
 
+-- the text is that of the string
 abbrev pub IsStringText : List ℕ → String Global → Type 0
 IsStringText text s = string_bytes s ≡ text
 
@@ -38,5 +39,6 @@ IsSignedValue bits value z = (option_and_then as_i64 (as_number value) ≡ Some 
 abbrev pub IsCharValue : Data → ℕ → Type 0
 IsCharValue value c = (as_str value ≡ Some (encode_utf8 c)) × IsScalar c
 
+-- the value is that text
 abbrev pub IsStringValue : Data → String Global → Type 0
 IsStringValue value s = as_str value ≡ Some (string_bytes s)

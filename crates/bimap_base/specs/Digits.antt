@@ -10,6 +10,7 @@ bits_from (suc tries) k n = cond (leb (2 ^ k) n) (bits_from tries (k + 1) n) k
 unfoldable pub bits : ℕ → ℕ
 bits n = bits_from n 0 n
 
--- the greatest height of a balanced tree of n places: at most so many comparisons lead down it
+-- a bound on the height of a balanced tree of n places, and not its greatest height: at most so many comparisons lead
+-- down it
 abbrev pub most_height : ℕ → ℕ
 most_height n = 2 * bits n

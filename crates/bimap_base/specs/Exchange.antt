@@ -26,6 +26,7 @@ module _ {L R K M : Type 0} (part : L × R → K) (pair : K → M → L × R) (s
   abbrev pub HasPart : (L × R → Type 0) → K → Type 0
   HasPart S k = (q : L × R) × S q × (same (part q) k ≡ true)
 
+  -- and none has it
   abbrev pub LacksPart : (L × R → Type 0) → K → Type 0
   LacksPart S k = (q : L × R) → S q → same (part q) k ≡ false
 
@@ -34,6 +35,7 @@ module _ {L R K M : Type 0} (part : L × R → K) (pair : K → M → L × R) (s
   IsPartKept S from to (Missing k) = (k ≡ to) × LacksPart S from
   IsPartKept S from to (Held k) = (k ≡ to) × HasPart S from × (same to from ≡ false) × HasPart S to
 
+  -- what a replacement answers and leaves
   pub record IsReplacement (old : Holding L R) (from to : K) (result : Result K (NotReplaced K)) (new : Holding L R) : Type 0 where
     pub replaced : IfOk result (λ taken. IsPartReplaced (Contains old.pairs) from to taken (Contains new.pairs))
     pub refused : IfErr result (IsPartKept (Contains old.pairs) from to)

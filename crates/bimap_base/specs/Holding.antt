@@ -28,6 +28,7 @@ module _ {L R : Type 0} (same_left : L → L → Bool) where
     pub found : IfSome result (λ right. (l : L) × Contains held.pairs (l, right.now) × (same_left l left ≡ true))
     pub none : IfNone result (LacksLeft same_left (Contains held.pairs) left)
 
+  -- what a removal by left answers and leaves
   pub record IsRemovalByLeft (old : Holding L R) (left : L) (result : Option (L × R)) (new : Holding L R) : Type 0 where
     pub removed : IfSome result (λ p. Contains old.pairs p × (same_left p.0 left ≡ true))
     pub none : IfNone result (LacksLeft same_left (Contains old.pairs) left)
@@ -41,6 +42,7 @@ module _ {L R : Type 0} (same_right : R → R → Bool) where
     pub found : IfSome result (λ left. (r : R) × Contains held.pairs (left.now, r) × (same_right r right ≡ true))
     pub none : IfNone result (LacksRight same_right (Contains held.pairs) right)
 
+  -- and one by right
   pub record IsRemovalByRight (old : Holding L R) (right : R) (result : Option (L × R)) (new : Holding L R) : Type 0 where
     pub removed : IfSome result (λ p. Contains old.pairs p × (same_right p.1 right ≡ true))
     pub none : IfNone result (LacksRight same_right (Contains old.pairs) right)
@@ -55,6 +57,7 @@ module _ {L R : Type 0} (same_left : L → L → Bool) (same_right : R → R →
     pub had_place : length old.pairs < old.room → new.room ≡ old.room
     pub strikes : SomeShares same_left same_right (Contains old.pairs) pair → new.room ≡ old.room
 
+  -- what `insert` answers and leaves
   pub record IsInsertion (old : Holding L R) (pair : L × R) (result : Result (Overwritten L R) (NoRoom L R)) (new : Holding L R) : Type 0 where
     pub answer : IfOk result (IsAnswer same_left same_right (Contains old.pairs) pair)
     pub put : OnOk result (IsWithPut same_left same_right (Contains old.pairs) pair (Contains new.pairs))
@@ -65,6 +68,7 @@ module _ {L R : Type 0} (same_left : L → L → Bool) (same_right : R → R →
     pub unchanged : OnErr result (new ≡ old)
     pub room : IsRoomAfter old pair new
 
+  -- the same of `insert_no_overwrite`
   pub record IsInsertionWithoutOverwriting (old : Holding L R) (pair : L × R) (result : Result (Unit {0}) (NotInserted L R)) (new : Holding L R) : Type 0 where
     pub none_held : OnOk result (NoneShares same_left same_right (Contains old.pairs) pair)
     pub put : OnOk result (IsWithPut same_left same_right (Contains old.pairs) pair (Contains new.pairs))
@@ -73,6 +77,7 @@ module _ {L R : Type 0} (same_left : L → L → Bool) (same_right : R → R →
     pub unchanged : OnErr result (new ≡ old)
     pub room : IsRoomAfter old pair new
 
+  -- of `insert_with`
   pub record IsInsertionUnder (old : Holding L R) (pair : L × R) (policy : Policy) (result : Result (Overwritten L R) (NotInsertedWith L R)) (new : Holding L R) : Type 0 where
     pub allowed : OnOk result (IsAllowed same_left same_right (Contains old.pairs) pair policy)
     pub answer : IfOk result (IsAnswer same_left same_right (Contains old.pairs) pair)
@@ -93,6 +98,7 @@ module _ {L R : Type 0} (same_left : L → L → Bool) (same_right : R → R →
     pub unchanged : OnErr result (new ≡ old)
     pub room : IsRoomAfter old pair new
 
+  -- and of `undo_insert`
   pub record IsUndoing (old : Holding L R) (left : L) (answer : Overwritten L R) (result : Result (L × R) (UndoStopped L R)) (new : Holding L R) : Type 0 where
     pub taken : IfOk result (λ p. Contains old.pairs p × (same_left p.0 left ≡ true))
     pub undone : OnOk result (IsUndone same_left same_right (Contains old.pairs) left answer (Contains new.pairs))

@@ -100,6 +100,7 @@ module _ {K : Type 0} (same : K → K → Bool) (number : K → ℕ) where
     apart = λ a b k l away first second. ∥∥₁_elim h (hlevel props) (λ w. w.apart a b k l away first second);
   }
 
+  -- it lists each place that has a key
   pub hash_listed : (numbers : List (Option ℕ)) (f : ℕ → Option K) → ListsByHash same number numbers f → (p : ℕ) → Contains (places_from 0 numbers) p ↔ IsSome (f p)
   hash_listed numbers f listing p = (
     λ c. let r = in_places numbers 0 p c in let e : r.0 ≡ p = omega (arith, r.1) in has (f p) (sym (ap is_some (listing.numbered p)) ∙ subst (λ z. is_some (number_at numbers z) ≡ true) e r.2),
@@ -114,6 +115,7 @@ module _ {K : Type 0} (same : K → K → Bool) (number : K → ℕ) where
       had None e = e
       had (Some k) e = refl
 
+  -- and none twice
   pub hash_distinct : (numbers : List (Option ℕ)) (f : ℕ → Option K) → ListsByHash same number numbers f → AllPairs (λ a b. a ≢ b) (places_from 0 numbers)
   hash_distinct numbers f listing i j d before inside e = let less = ascends_from numbers 0 i j d before inside in omega (arith, less, e)
 

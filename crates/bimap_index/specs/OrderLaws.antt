@@ -38,6 +38,7 @@ module _ {K : Type 0} (order : K → K → Ordering) (same : K → K → Bool) (
   pub equal_from : (x y : K) → order x y ≡ Equal → same x y ≡ true
   equal_from x y e = agrees x y ∙ (Equal-is (order x y)).1 e
 
+  -- equal keys compare as equal
   pub equal_to : (x y : K) → same x y ≡ true → order x y ≡ Equal
   equal_to x y e = (Equal-is (order x y)).0 (sym (agrees x y) ∙ e)
 
@@ -86,6 +87,7 @@ module _ {K : Type 0} (order : K → K → Ordering) (same : K → K → Bool) (
   pub order_listed : (places : List ℕ) (f : ℕ → Option K) → ListsByOrder order places f → (p : ℕ) → Contains places p ↔ IsSome (f p)
   order_listed places f listing p = (live_listed f places p listing.up, listing.lists p)
 
+  -- no place is listed twice
   pub order_distinct : (places : List ℕ) (f : ℕ → Option K) → ListsByOrder order places f → AllPairs (λ a b. a ≢ b) places
   order_distinct places f listing i j d before inside e =
       let k = some_of (f (get_or places i 0)) (listing.up.live i (omega arith)) in
@@ -94,6 +96,7 @@ module _ {K : Type 0} (order : K → K → Ordering) (same : K → K → Bool) (
       let itself = tied_itself total k.0 in
       absurd (cc)
 
+  -- and their keys ascend
   pub order_in_order : (places : List ℕ) (f : ℕ → Option K) → ListsByOrder order places f → AllPairs (λ a b. (k l : K) → f a ≡ Some k → f b ≡ Some l → order k l ≡ Less) places
   order_in_order places f listing i j d before inside k l first second =
       listing.up.rises i j k l before inside (ap f (get_or_default places i 0 d (omega arith)) ∙ first) (ap f (get_or_default places j 0 d inside) ∙ second)

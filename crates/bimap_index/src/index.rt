@@ -46,7 +46,7 @@ pub trait Index<K: Eq> {
     /// How many comparisons a search may take, by the number of places listed.
     ghost effort: { ℕ → ℕ };
 
-    /// A spot of no key, for `seek` to write.
+    /// A spot of no key, for `step` and `finish` to write.
     fn spot(&self) -> Self::Spot;
 
     /// A spot of a key, for `relink`. It searches nothing.

@@ -25,6 +25,7 @@ abbrev pub told_height : Option Node → ℕ
 told_height None = 0
 told_height (Some node) = node.height
 
+-- the height of the node at a root, 0 where there is none
 abbrev pub height_at : List Node → Option ℕ → ℕ
 height_at nodes None = 0
 height_at nodes (Some place) = told_height (slice_get nodes place)

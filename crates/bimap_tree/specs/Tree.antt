@@ -2,6 +2,7 @@
 use Rattle.std.specs.Prelude.{◌≡◌, ℕ, ◌+◌, ◌≤◌, max, Bool, true, false, cond, eqb, List, [], ◌∷◌, ◌++◌, Option, Some, None, slice_get}
 use Rattle.bimap_base.specs.declared.cells.Node.{Node}
 
+-- a finite tree of places
 pub data Tree : Type 0 where
   leaf : Tree
   fork : Tree → ℕ → Tree → Tree
