@@ -6,7 +6,8 @@ ghost use Rattle.bimap_kinds.specs.Held.{holding};
 
 use crate::map::BijectiveMap;
 use bimap_base::{
-    Bijection, Interning, NoMemory, NotInserted, NotInsertedWith, Overwritten, Policy, UndoStopped,
+    Bijection, Count, Interning, NoMemory, NotInserted, NotInsertedWith, Overwritten, Policy,
+    UndoStopped,
 };
 use bimap_index::Index;
 
@@ -40,7 +41,7 @@ impl<L: Eq + Drop, R: Eq + Drop, I: Index<L>, J: Index<R>> Bijection<L, R>
         right: R,
         policy: Policy,
     ) -> Result<Overwritten<L, R>, NotInsertedWith<L, R>> {
-        BijectiveMap::insert_with(self, left, right, policy)
+        self.insert_under(left, right, policy, &mut Count::new())
     }
 
     fn remove_by_left(&mut self, left: &L) -> Option<(L, R)> {

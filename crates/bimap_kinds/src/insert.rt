@@ -18,7 +18,7 @@ impl<L: Eq + Drop, R: Eq + Drop, I: Index<L>, J: Index<R>> BijectiveMap<L, R, I,
     pub fn insert(&mut self, left: L, right: R) -> Result<Overwritten<L, R>, NoRoom<L, R>>
         ensures { IsInsertion L.eq R.eq (holding self.old) (left, right) result (holding self.new) }
     {
-        Bijection::insert(self, left, right)
+        self.insert_metered(left, right, &mut Count::new())
     }
 
     /// Inserts a pair if the bimap contains neither of its values.
@@ -69,7 +69,7 @@ impl<L: Eq + Drop, R: Eq + Drop, I: Index<L>, J: Index<R>> BijectiveMap<L, R, I,
     }
 
     // The one insertion.
-    fn insert_under<M: Meter>(
+    pub(crate) fn insert_under<M: Meter>(
         &mut self,
         left: L,
         right: R,
