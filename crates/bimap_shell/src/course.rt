@@ -1,114 +1,199 @@
-//! Walks, step by step.
+//! Iterators, step by step.
 use crate::request::Step;
 use crate::word::Word;
-use bimap_walk::{Course, CourseBack, Owned, Part, Values, Walked};
+use bimap_tree::Ordered;
+use bimap_walk::{ByPlace, Owned, Part, Values, Walked};
 use std::alloc::AllocError;
+use std::fmt::Debug;
 
-// Goes by the steps up to the first copy, and answers how many they are: `None` where the walk has no such step.
-macro_rules! go {
-    ($walk:ident, $steps:ident, $said:ident, $back:expr) => {{
-        let mut done = 0usize;
-        for step in $steps {
-            if *step == Step::Copy {
-                break;
-            }
-            if !$said.is_empty() {
-                write!($said, " · ")?;
-            }
-            match step {
-                Step::Front => write!($said, "{:?}", $walk.next())?,
-                Step::Back => $back,
-                Step::Len => write!($said, "{}", $walk.len())?,
-                _ => {
-                    write!($said, "[")?;
-                    let mut first = true;
-                    for _ in 0..$walk.len() {
-                        if let Some(item) = $walk.next() {
-                            if !first {
-                                write!($said, ", ")?;
-                            }
-                            write!($said, "{item:?}")?;
-                            first = false;
-                        }
-                    }
-                    write!($said, "]")?;
+/// An iterator that the shell asks for one step at a time.
+pub trait Walk: Sized {
+    type Item: Debug + Drop;
+
+    /// The next item from the front.
+    fn front(&mut self) -> Option<Self::Item>;
+
+    /// The next item from the back, or `None` of all where it goes ahead alone.
+    fn back(&mut self) -> Option<Option<Self::Item>>;
+
+    /// How many items are left.
+    fn left(&self) -> usize;
+
+    /// Another iterator over the same items; `None` where it gives them by value.
+    fn copy(&self) -> Result<Option<Self>, AllocError>;
+}
+
+impl<'a> Walk for Walked<'a, Word, Word, Ordered> {
+    type Item = (&'a Word, &'a Word);
+
+    fn front(&mut self) -> Option<(&'a Word, &'a Word)> {
+        self.next()
+    }
+
+    fn back(&mut self) -> Option<Option<(&'a Word, &'a Word)>> {
+        Some(self.next_back())
+    }
+
+    fn left(&self) -> usize {
+        self.len()
+    }
+
+    fn copy(&self) -> Result<Option<Self>, AllocError> {
+        Ok(Some(self.clone()?))
+    }
+}
+
+impl<'a> Walk for Walked<'a, Word, Word, ByPlace> {
+    type Item = (&'a Word, &'a Word);
+
+    fn front(&mut self) -> Option<(&'a Word, &'a Word)> {
+        self.next()
+    }
+
+    fn back(&mut self) -> Option<Option<(&'a Word, &'a Word)>> {
+        None
+    }
+
+    fn left(&self) -> usize {
+        self.len()
+    }
+
+    fn copy(&self) -> Result<Option<Self>, AllocError> {
+        Ok(Some(self.clone()?))
+    }
+}
+
+impl<'a, P: Part<Word, Word, Value = Word>> Walk for Values<'a, Word, Word, Ordered, P> {
+    type Item = &'a Word;
+
+    fn front(&mut self) -> Option<&'a Word> {
+        self.next()
+    }
+
+    fn back(&mut self) -> Option<Option<&'a Word>> {
+        Some(self.next_back())
+    }
+
+    fn left(&self) -> usize {
+        self.len()
+    }
+
+    fn copy(&self) -> Result<Option<Self>, AllocError> {
+        Ok(Some(self.clone()?))
+    }
+}
+
+impl<'a, P: Part<Word, Word, Value = Word>> Walk for Values<'a, Word, Word, ByPlace, P> {
+    type Item = &'a Word;
+
+    fn front(&mut self) -> Option<&'a Word> {
+        self.next()
+    }
+
+    fn back(&mut self) -> Option<Option<&'a Word>> {
+        None
+    }
+
+    fn left(&self) -> usize {
+        self.len()
+    }
+
+    fn copy(&self) -> Result<Option<Self>, AllocError> {
+        Ok(Some(self.clone()?))
+    }
+}
+
+impl Walk for Owned<Word, Word, Ordered> {
+    type Item = (Word, Word);
+
+    fn front(&mut self) -> Option<(Word, Word)> {
+        self.next()
+    }
+
+    fn back(&mut self) -> Option<Option<(Word, Word)>> {
+        Some(self.next_back())
+    }
+
+    fn left(&self) -> usize {
+        self.len()
+    }
+
+    fn copy(&self) -> Result<Option<Self>, AllocError> {
+        Ok(None)
+    }
+}
+
+impl Walk for Owned<Word, Word, ByPlace> {
+    type Item = (Word, Word);
+
+    fn front(&mut self) -> Option<(Word, Word)> {
+        self.next()
+    }
+
+    fn back(&mut self) -> Option<Option<(Word, Word)>> {
+        None
+    }
+
+    fn left(&self) -> usize {
+        self.len()
+    }
+
+    fn copy(&self) -> Result<Option<Self>, AllocError> {
+        Ok(None)
+    }
+}
+
+// The items that are left.
+fn rest<W: Walk>(walk: &mut W, said: &mut String) -> Result<(), AllocError> {
+    write!(said, "[")?;
+    let mut between = "";
+    for _ in 0..walk.left() {
+        if let Some(item) = walk.front() {
+            write!(said, "{between}{item:?}")?;
+            between = ", ";
+        }
+    }
+    write!(said, "]")
+}
+
+// What a step shows. It answers whether the iterator has it.
+fn shown<W: Walk>(walk: &mut W, step: Step, said: &mut String) -> Result<bool, AllocError> {
+    if !said.is_empty() {
+        write!(said, " · ")?;
+    }
+    match step {
+        Step::Front => write!(said, "{:?}", walk.front())?,
+        Step::Len => write!(said, "{}", walk.left())?,
+        Step::Back => match walk.back() {
+            Some(item) => write!(said, "{item:?}")?,
+            None => return Ok(false),
+        },
+        _ => rest(walk, said)?,
+    }
+    Ok(true)
+}
+
+/// Goes by the steps: those after a copy are the copy's. It answers whether the iterator has each.
+pub fn follow<W: Walk + Drop>(
+    walk: W,
+    steps: &[Step],
+    said: &mut String,
+) -> Result<bool, AllocError> {
+    let mut walk = walk;
+    for step in steps {
+        let has = match step {
+            Step::Copy => match walk.copy()? {
+                Some(copy) => {
+                    walk = copy;
+                    true
                 }
-            }
-            done = done.saturating_add(1);
+                None => false,
+            },
+            step => shown(&mut walk, *step, said)?,
+        };
+        if !has {
+            return Ok(false);
         }
-        Ok(Some(done))
-    }};
-}
-
-/// The pairs, from the front alone.
-pub fn pairs_ahead<C: Course>(
-    walk: &mut Walked<'_, Word, Word, C>,
-    steps: &[Step],
-    said: &mut String,
-) -> Result<Option<usize>, AllocError> {
-    go!(walk, steps, said, return Ok(None))
-}
-
-/// The pairs, from both ends.
-pub fn pairs_from_both<C: CourseBack>(
-    walk: &mut Walked<'_, Word, Word, C>,
-    steps: &[Step],
-    said: &mut String,
-) -> Result<Option<usize>, AllocError> {
-    go!(walk, steps, said, write!(said, "{:?}", walk.next_back())?)
-}
-
-/// The values of one side, from the front alone.
-pub fn values_ahead<C: Course, P: Part<Word, Word, Value = Word>>(
-    walk: &mut Values<'_, Word, Word, C, P>,
-    steps: &[Step],
-    said: &mut String,
-) -> Result<Option<usize>, AllocError> {
-    go!(walk, steps, said, return Ok(None))
-}
-
-/// The values of one side, from both ends.
-pub fn values_from_both<C: CourseBack, P: Part<Word, Word, Value = Word>>(
-    walk: &mut Values<'_, Word, Word, C, P>,
-    steps: &[Step],
-    said: &mut String,
-) -> Result<Option<usize>, AllocError> {
-    go!(walk, steps, said, write!(said, "{:?}", walk.next_back())?)
-}
-
-/// The pairs by value, from the front alone.
-pub fn owned_ahead<C: Course>(
-    walk: &mut Owned<Word, Word, C>,
-    steps: &[Step],
-    said: &mut String,
-) -> Result<Option<usize>, AllocError> {
-    go!(walk, steps, said, return Ok(None))
-}
-
-/// The pairs by value, from both ends.
-pub fn owned_from_both<C: CourseBack>(
-    walk: &mut Owned<Word, Word, C>,
-    steps: &[Step],
-    said: &mut String,
-) -> Result<Option<usize>, AllocError> {
-    go!(walk, steps, said, write!(said, "{:?}", walk.next_back())?)
-}
-
-/// Goes by the steps: those after a copy are the copy's.
-#[macro_export]
-macro_rules! follow {
-    ($way:path, $walk:expr, $steps:expr, $said:expr) => {{
-        let (mut walk, mut steps) = ($walk, $steps);
-        for _ in 0..$steps.len() {
-            let Some(done) = $way(&mut walk, steps, $said)? else {
-                return Ok(false);
-            };
-            let Some(rest) = steps.get(done.saturating_add(1)..) else {
-                break;
-            };
-            walk = walk.clone()?;
-            steps = rest;
-        }
-        Ok(true)
-    }};
+    }
+    Ok(true)
 }

@@ -1,7 +1,6 @@
 //! What a hashed left gives.
-use crate::course::{owned_ahead, pairs_ahead, values_ahead};
-use crate::follow;
-use crate::kind::{Words, copy_to, intern};
+use crate::course::follow;
+use crate::kind::{Words, copy_to, intern, told};
 use crate::request::Request;
 use crate::word::Word;
 use bimap_index::{CopiedIndex, HashIndex};
@@ -15,19 +14,10 @@ fn walk<LS: BuildHasher + Clone + Drop, J: CopiedIndex<Word> + Drop>(
 ) -> Result<bool, AllocError> {
     let steps = request.steps.as_slice();
     match request.call {
-        "iter" => follow!(pairs_ahead, bimap.iter(), steps, said),
-        "left_values" => follow!(values_ahead, bimap.left_values(), steps, said),
+        "iter" => follow(bimap.iter(), steps, said),
+        "left_values" => follow(bimap.left_values(), steps, said),
         _ => Ok(false),
     }
-}
-
-fn walk_owned<LS: BuildHasher + Clone + Drop, J: CopiedIndex<Word> + Drop>(
-    bimap: Words<HashIndex<LS>, J>,
-    request: &Request<'_>,
-    said: &mut String,
-) -> Result<bool, AllocError> {
-    let mut walk = bimap.into_iter();
-    Ok(owned_ahead(&mut walk, request.steps.as_slice(), said)?.is_some())
 }
 
 /// The bimap by `Debug`.
@@ -48,9 +38,10 @@ pub fn call<LS: BuildHasher + Clone + Drop, J: CopiedIndex<Word> + Drop>(
     match request.call {
         "retain" => {
             let least = request.first;
-            bimap.retain(|_left: &Word, right: &Word| *right >= least);
-            write!(said, "()")?;
-            Ok(true)
+            told(
+                bimap.retain(|_left: &Word, right: &Word| *right >= least),
+                said,
+            )
         }
         "clone" => {
             if copy_to(bimap, other, said)? {
@@ -59,13 +50,10 @@ pub fn call<LS: BuildHasher + Clone + Drop, J: CopiedIndex<Word> + Drop>(
             Ok(true)
         }
         "into_iter" => match bimap.clone() {
-            Ok(copy) => walk_owned(copy, request, said),
+            Ok(copy) => follow(copy.into_iter(), request.steps.as_slice(), said),
             Err(_) => Err(AllocError),
         },
-        "eq" => {
-            write!(said, "{}", bimap == other)?;
-            Ok(true)
-        }
+        "eq" => told(bimap == other, said),
         _ => Ok(walk(bimap, request, said)? || intern(bimap, request, said)?),
     }
 }

@@ -60,16 +60,12 @@ fn eased<B: CopyKind<Word, Word> + ShellKind>(
     Ok(true)
 }
 
-/// Makes a call with the memory that its line leaves, or takes the bimap that was made.
-pub fn call<B: CopyKind<Word, Word> + ShellKind>(
+// Makes a call with the memory that its line leaves.
+fn fed<B: CopyKind<Word, Word> + ShellKind>(
     session: &mut Session<B>,
-    made: Option<Result<B, NoMemory>>,
     request: &mut Request<'_>,
     said: &mut String,
 ) -> Result<bool, AllocError> {
-    if let Some(made) = made {
-        return session.begin(made, said);
-    }
     match request.memory {
         Memory::Plenty => session.call(request, said),
         Memory::Easing => eased(session, request, said),
@@ -79,5 +75,22 @@ pub fn call<B: CopyKind<Word, Word> + ShellKind>(
             drop(famine);
             Ok(has)
         }
+    }
+}
+
+/// Makes a call, or takes the bimap that was made, in a session that begins where there is none yet.
+pub fn call<B: CopyKind<Word, Word> + ShellKind>(
+    begun: &mut Option<Session<B>>,
+    made: Option<Result<B, NoMemory>>,
+    request: &mut Request<'_>,
+    said: &mut String,
+) -> Result<bool, AllocError> {
+    if begun.is_none() {
+        *begun = Some(Session::new(request.alloc));
+    }
+    match (begun, made) {
+        (Some(session), Some(made)) => session.begin(made, said),
+        (Some(session), None) => fed(session, request, said),
+        (None, _) => Ok(false),
     }
 }

@@ -1,5 +1,5 @@
 //! Many pairs at once.
-use crate::kind::ShellKind;
+use crate::kind::{ShellKind, told};
 use crate::request::Request;
 use crate::session::Session;
 use crate::word::Word;
@@ -15,24 +15,17 @@ pub fn call<B: CopyKind<Word, Word> + ShellKind>(
 ) -> Result<bool, AllocError> {
     let items = request.pairs.iter().copied();
     match request.call {
-        "extend" => write!(said, "{:?}", session.bimap.add(request.pairs.as_slice()))?,
-        "extend_with" => {
-            write!(
-                said,
-                "{:?}",
-                extend_with(&mut session.bimap, items, request.policy)
-            )?
-        }
+        "extend" => told(session.bimap.add(request.pairs.as_slice()), said),
+        "extend_with" => told(extend_with(&mut session.bimap, items, request.policy), said),
         "from_iter" => {
             let answer = B::built(session.alloc, request.pairs.as_slice());
-            session.begin(answer, said)?;
+            session.begin(answer, said)
         }
         "from_iter_with" => {
             let empty = B::empty(session.alloc);
             let answer = from_iter_with(empty, items, request.policy);
-            session.begin(answer, said)?;
+            session.begin(answer, said)
         }
-        _ => return Ok(false),
+        _ => Ok(false),
     }
-    Ok(true)
 }

@@ -1,4 +1,4 @@
-//! JSON both ways, at each pair of types.
+//! JSON both ways: each type as both sides, and each as a left and as a right beside another.
 use crate::request::Request;
 use bimap::value::{JsonFault, JsonKey, JsonObject, JsonValue, read_into_with, reread};
 use bimap::{BiBTreeHashMap, BiBTreeMap, BiHashBTreeMap, BiHashMap, NoMemory};
@@ -35,7 +35,10 @@ macro_rules! both_ways {
         match read_into_with(alloc, $empty, $value, $request.policy) {
             Err(fault) => write_fault(fault, $said),
             Ok(read) => {
-                let equal = reread(alloc, &read).map(|again| again == read);
+                let equal = match reread(alloc, &read) {
+                    Ok(again) => Ok(again == read),
+                    Err(fault) => Err(fault),
+                };
                 write_text(read.to_value(alloc), equal, $said)
             }
         }
@@ -102,33 +105,26 @@ fn of_kind<L: JsonKey + Ord + Hash + Drop, R: JsonValue + Ord + Hash + Drop>(
     }
 }
 
-fn of_left<L: JsonKey + Ord + Hash + Drop>(
-    kind: usize,
-    request: &Request<'_>,
-    said: &mut String,
-) -> Result<bool, AllocError> {
-    match request.types.1 {
-        "char" => of_kind::<L, char>(kind, request, said),
-        "String" => of_kind::<L, String>(kind, request, said),
-        "u8" => of_kind::<L, u8>(kind, request, said),
-        "u32" => of_kind::<L, u32>(kind, request, said),
-        "u64" => of_kind::<L, u64>(kind, request, said),
-        "i32" => of_kind::<L, i32>(kind, request, said),
-        "i64" => of_kind::<L, i64>(kind, request, said),
-        _ => Ok(false),
-    }
-}
-
 /// Reads and writes at the types that the request names, in a bimap of the kind of this number.
 pub fn call(kind: usize, request: &Request<'_>, said: &mut String) -> Result<bool, AllocError> {
-    match request.types.0 {
-        "char" => of_left::<char>(kind, request, said),
-        "String" => of_left::<String>(kind, request, said),
-        "u8" => of_left::<u8>(kind, request, said),
-        "u32" => of_left::<u32>(kind, request, said),
-        "u64" => of_left::<u64>(kind, request, said),
-        "i32" => of_left::<i32>(kind, request, said),
-        "i64" => of_left::<i64>(kind, request, said),
+    match request.types {
+        ("char", "char") => of_kind::<char, char>(kind, request, said),
+        ("String", "String") => of_kind::<String, String>(kind, request, said),
+        ("u8", "u8") => of_kind::<u8, u8>(kind, request, said),
+        ("u32", "u32") => of_kind::<u32, u32>(kind, request, said),
+        ("u64", "u64") => of_kind::<u64, u64>(kind, request, said),
+        ("i32", "i32") => of_kind::<i32, i32>(kind, request, said),
+        ("i64", "i64") => of_kind::<i64, i64>(kind, request, said),
+        ("char", "u8") => of_kind::<char, u8>(kind, request, said),
+        ("char", "i32") => of_kind::<char, i32>(kind, request, said),
+        ("String", "char") => of_kind::<String, char>(kind, request, said),
+        ("String", "u8") => of_kind::<String, u8>(kind, request, said),
+        ("u8", "String") => of_kind::<u8, String>(kind, request, said),
+        ("u32", "i64") => of_kind::<u32, i64>(kind, request, said),
+        ("u64", "char") => of_kind::<u64, char>(kind, request, said),
+        ("i32", "u8") => of_kind::<i32, u8>(kind, request, said),
+        ("i32", "u64") => of_kind::<i32, u64>(kind, request, said),
+        ("i64", "u32") => of_kind::<i64, u32>(kind, request, said),
         _ => Ok(false),
     }
 }

@@ -6,6 +6,7 @@ use bimap::BijectiveMap;
 use bimap::btree::Count;
 use bimap_index::{CopiedIndex, Index};
 use std::alloc::AllocError;
+use std::fmt::Debug;
 
 /// A kind that the shell asks. Each call answers whether there is one on this kind, and writes what it said.
 pub trait ShellKind: Sized {
@@ -31,6 +32,12 @@ pub trait ShellKind: Sized {
 
 /// A bimap of words.
 pub type Words<I, J> = BijectiveMap<Word, Word, I, J>;
+
+/// Writes what a call answered. It answers that there is the call.
+pub fn told<T: Debug + Drop>(answer: T, said: &mut String) -> Result<bool, AllocError> {
+    write!(said, "{answer:?}")?;
+    Ok(true)
+}
 
 /// Puts a copy in the place of the other bimap, and answers whether there is one.
 pub fn copy_to<I: CopiedIndex<Word> + Drop, J: CopiedIndex<Word> + Drop>(
@@ -59,9 +66,10 @@ pub fn intern<I: Index<Word>, J: Index<Word>>(
     if request.call != "get_by_left_or_insert" {
         return Ok(false);
     }
-    let answer = bimap.get_by_left_or_insert(request.first, request.second);
-    write!(said, "{answer:?}")?;
-    Ok(true)
+    told(
+        bimap.get_by_left_or_insert(request.first, request.second),
+        said,
+    )
 }
 
 /// The counted calls that every kind has.
@@ -73,19 +81,17 @@ pub fn counted<I: Index<Word>, J: Index<Word>>(
 ) -> Result<bool, AllocError> {
     let (left, right) = (request.first, request.second);
     match request.call {
-        "get_by_left" => write!(said, "{:?}", bimap.get_by_left_metered(&left, meter))?,
-        "get_by_right" => write!(said, "{:?}", bimap.get_by_right_metered(&left, meter))?,
-        "insert" => write!(said, "{:?}", bimap.insert_metered(left, right, meter))?,
-        "remove_by_left" => write!(said, "{:?}", bimap.remove_by_left_metered(&left, meter))?,
-        "remove_by_right" => write!(said, "{:?}", bimap.remove_by_right_metered(&left, meter))?,
+        "get_by_left" => told(bimap.get_by_left_metered(&left, meter), said),
+        "get_by_right" => told(bimap.get_by_right_metered(&left, meter), said),
+        "insert" => told(bimap.insert_metered(left, right, meter), said),
+        "remove_by_left" => told(bimap.remove_by_left_metered(&left, meter), said),
+        "remove_by_right" => told(bimap.remove_by_right_metered(&left, meter), said),
         "get_by_left_or_insert" => {
-            write!(
+            told(
+                bimap.get_by_left_or_insert_metered(left, right, meter),
                 said,
-                "{:?}",
-                bimap.get_by_left_or_insert_metered(left, right, meter)
-            )?
+            )
         }
-        _ => return Ok(false),
+        _ => Ok(false),
     }
-    Ok(true)
 }

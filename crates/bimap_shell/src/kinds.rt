@@ -5,7 +5,7 @@ use crate::word::Word;
 use crate::{hunger, json};
 use bimap::{BiBTreeHashMap, BiBTreeMap, BiHashBTreeMap, BiHashMap};
 use bimap_calls::{Crowded, Zero};
-use std::alloc::{AllocError, Global};
+use std::alloc::AllocError;
 
 /// How a line and an answer name the kinds.
 pub const NAMES: [&str; 5] = [
@@ -26,8 +26,7 @@ pub fn has_ordered_right(kind: usize) -> bool {
     kind == 0 || kind == 3
 }
 
-// The bimap that a call makes, where it makes one. Each kind has a type of its own, so that what stands above it is proved
-// without its contracts: all in one struct took the prover more than seven minutes.
+// The bimap that a call makes, where it makes one.
 macro_rules! made {
     ($request:ident, $new:expr, $with_capacity:expr) => {
         match $request.call {
@@ -38,19 +37,16 @@ macro_rules! made {
     };
 }
 
+// Each kind has a type of its own, whose session its first call makes. So what stands above it is proved without its
+// contracts (all in one struct took the prover more than seven minutes), and each names its kind once.
+
 /// Both sides in order.
 #[derive(Drop)]
 struct Ordered {
-    session: Session<BiBTreeMap<Word, Word>>,
+    session: Option<Session<BiBTreeMap<Word, Word>>>,
 }
 
 impl Ordered {
-    fn new(alloc: Global) -> Ordered {
-        Ordered {
-            session: Session::new(alloc),
-        }
-    }
-
     fn call(&mut self, request: &mut Request<'_>, said: &mut String) -> Result<bool, AllocError> {
         let (alloc, capacity) = (request.alloc, request.number);
         let made = made!(
@@ -65,16 +61,10 @@ impl Ordered {
 /// Both sides by hash.
 #[derive(Drop)]
 struct Hashed {
-    session: Session<BiHashMap<Word, Word>>,
+    session: Option<Session<BiHashMap<Word, Word>>>,
 }
 
 impl Hashed {
-    fn new(alloc: Global) -> Hashed {
-        Hashed {
-            session: Session::new(alloc),
-        }
-    }
-
     fn call(&mut self, request: &mut Request<'_>, said: &mut String) -> Result<bool, AllocError> {
         let (alloc, capacity) = (request.alloc, request.number);
         let made = made!(
@@ -89,16 +79,10 @@ impl Hashed {
 /// Lefts in order, rights by hash.
 #[derive(Drop)]
 struct OrderedLeft {
-    session: Session<BiBTreeHashMap<Word, Word>>,
+    session: Option<Session<BiBTreeHashMap<Word, Word>>>,
 }
 
 impl OrderedLeft {
-    fn new(alloc: Global) -> OrderedLeft {
-        OrderedLeft {
-            session: Session::new(alloc),
-        }
-    }
-
     fn call(&mut self, request: &mut Request<'_>, said: &mut String) -> Result<bool, AllocError> {
         let (alloc, capacity) = (request.alloc, request.number);
         let made = made!(
@@ -113,16 +97,10 @@ impl OrderedLeft {
 /// Lefts by hash, rights in order.
 #[derive(Drop)]
 struct OrderedRight {
-    session: Session<BiHashBTreeMap<Word, Word>>,
+    session: Option<Session<BiHashBTreeMap<Word, Word>>>,
 }
 
 impl OrderedRight {
-    fn new(alloc: Global) -> OrderedRight {
-        OrderedRight {
-            session: Session::new(alloc),
-        }
-    }
-
     fn call(&mut self, request: &mut Request<'_>, said: &mut String) -> Result<bool, AllocError> {
         let (alloc, capacity) = (request.alloc, request.number);
         let made = made!(
@@ -137,16 +115,10 @@ impl OrderedRight {
 /// Both sides by hash, and all keys have one number.
 #[derive(Drop)]
 struct OneNumber {
-    session: Session<Crowded<Word, Word>>,
+    session: Option<Session<Crowded<Word, Word>>>,
 }
 
 impl OneNumber {
-    fn new(alloc: Global) -> OneNumber {
-        OneNumber {
-            session: Session::new(alloc),
-        }
-    }
-
     fn call(&mut self, request: &mut Request<'_>, said: &mut String) -> Result<bool, AllocError> {
         let (alloc, capacity) = (request.alloc, request.number);
         let made = made!(
@@ -170,13 +142,13 @@ pub struct Kinds {
 
 impl Kinds {
     /// All empty.
-    pub fn new(alloc: Global) -> Kinds {
+    pub fn new() -> Kinds {
         Kinds {
-            ordered: Ordered::new(alloc),
-            hashed: Hashed::new(alloc),
-            ordered_left: OrderedLeft::new(alloc),
-            ordered_right: OrderedRight::new(alloc),
-            crowded: OneNumber::new(alloc),
+            ordered: Ordered { session: None },
+            hashed: Hashed { session: None },
+            ordered_left: OrderedLeft { session: None },
+            ordered_right: OrderedRight { session: None },
+            crowded: OneNumber { session: None },
         }
     }
 

@@ -1,4 +1,5 @@
 //! The calls that change nothing, on any bimap.
+use crate::kind::told;
 use crate::request::Request;
 use crate::word::Word;
 use bimap::Bijection;
@@ -12,15 +13,14 @@ pub fn call<B: Bijection<Word, Word>>(
 ) -> Result<bool, AllocError> {
     let word = &request.first;
     match request.call {
-        "len" => write!(said, "{}", bimap.len())?,
-        "is_empty" => write!(said, "{}", bimap.is_empty())?,
-        "capacity" => write!(said, "{}", bimap.capacity())?,
-        "get_by_left" => write!(said, "{:?}", bimap.get_by_left(word))?,
-        "get_by_right" => write!(said, "{:?}", bimap.get_by_right(word))?,
-        "contains_left" => write!(said, "{}", bimap.contains_left(word))?,
-        "contains_right" => write!(said, "{}", bimap.contains_right(word))?,
-        "can_undo_insert" => write!(said, "{}", bimap.can_undo_insert(word, &request.answer))?,
-        _ => return Ok(false),
+        "len" => told(bimap.len(), said),
+        "is_empty" => told(bimap.is_empty(), said),
+        "capacity" => told(bimap.capacity(), said),
+        "get_by_left" => told(bimap.get_by_left(word), said),
+        "get_by_right" => told(bimap.get_by_right(word), said),
+        "contains_left" => told(bimap.contains_left(word), said),
+        "contains_right" => told(bimap.contains_right(word), said),
+        "can_undo_insert" => told(bimap.can_undo_insert(word, &request.answer), said),
+        _ => Ok(false),
     }
-    Ok(true)
 }

@@ -1,5 +1,5 @@
 //! The bimap with a record.
-use crate::kind::ShellKind;
+use crate::kind::{ShellKind, told};
 use crate::request::Request;
 use crate::session::Session;
 use crate::word::Word;
@@ -15,27 +15,22 @@ fn changed<B: CopyKind<Word, Word> + ShellKind>(
 ) -> Result<bool, AllocError> {
     let (left, right) = (request.first, request.second);
     match request.call {
-        "insert" => write!(said, "{:?}", record.insert(left, right))?,
-        "insert_with" => write!(
-            said,
-            "{:?}",
-            record.insert_with(left, right, request.policy)
-        )?,
+        "insert" => told(record.insert(left, right), said),
+        "insert_with" => told(record.insert_with(left, right, request.policy), said),
         "insert_all" => {
             let items = request.pairs.iter().copied();
-            write!(said, "{:?}", record.insert_all(items, request.policy))?;
+            told(record.insert_all(items, request.policy), said)
         }
-        "remove_by_left" => write!(said, "{:?}", record.remove_by_left(&left))?,
-        "remove_by_right" => write!(said, "{:?}", record.remove_by_right(&left))?,
-        "mark" => write!(said, "{}", record.mark())?,
-        "back_to" if request.number > record.mark() => write!(said, "no such mark")?,
-        "back_to" => {
-            record.back_to(request.number);
-            write!(said, "()")?;
+        "remove_by_left" => told(record.remove_by_left(&left), said),
+        "remove_by_right" => told(record.remove_by_right(&left), said),
+        "mark" => told(record.mark(), said),
+        "back_to" if request.number > record.mark() => {
+            write!(said, "no such mark")?;
+            Ok(true)
         }
-        _ => return Ok(false),
+        "back_to" => told(record.back_to(request.number), said),
+        _ => Ok(false),
     }
-    Ok(true)
 }
 
 /// Makes the call, if it is one of these.

@@ -1,8 +1,7 @@
 //! What an ordered left gives.
-use crate::course::{owned_from_both, pairs_from_both, values_from_both};
-use crate::follow;
+use crate::course::follow;
 use crate::forward::forward;
-use crate::kind::{Words, copy_to, intern};
+use crate::kind::{Words, copy_to, intern, told};
 use crate::meter::Shown;
 use crate::request::Request;
 use crate::word::Word;
@@ -25,13 +24,12 @@ fn compare<J: CopiedIndex<Word> + Drop>(
     said: &mut String,
 ) -> Result<bool, AllocError> {
     match call {
-        "eq" => write!(said, "{:?}", bimap == other)?,
-        "partial_cmp" => write!(said, "{:?}", bimap.partial_cmp(other))?,
-        "cmp" => write!(said, "{:?}", bimap.cmp(other))?,
-        "hash" => write!(said, "{:?}", hash_of(bimap) == hash_of(other))?,
-        _ => return Ok(false),
+        "eq" => told(bimap == other, said),
+        "partial_cmp" => told(bimap.partial_cmp(other), said),
+        "cmp" => told(bimap.cmp(other), said),
+        "hash" => told(hash_of(bimap) == hash_of(other), said),
+        _ => Ok(false),
     }
-    Ok(true)
 }
 
 fn walk<J: CopiedIndex<Word> + Drop>(
@@ -41,10 +39,10 @@ fn walk<J: CopiedIndex<Word> + Drop>(
 ) -> Result<bool, AllocError> {
     let steps = request.steps.as_slice();
     match request.call {
-        "iter" => follow!(pairs_from_both, bimap.iter(), steps, said),
-        "left_values" => follow!(values_from_both, bimap.left_values(), steps, said),
+        "iter" => follow(bimap.iter(), steps, said),
+        "left_values" => follow(bimap.left_values(), steps, said),
         "left_range" => match forward(request.range) {
-            Some(range) => follow!(pairs_from_both, bimap.left_range(range), steps, said),
+            Some(range) => follow(bimap.left_range(range), steps, said),
             None => {
                 write!(said, "runs backwards")?;
                 Ok(true)
@@ -54,30 +52,20 @@ fn walk<J: CopiedIndex<Word> + Drop>(
     }
 }
 
-fn walk_owned<J: CopiedIndex<Word> + Drop>(
-    bimap: Words<Ordered, J>,
-    request: &Request<'_>,
-    said: &mut String,
-) -> Result<bool, AllocError> {
-    let mut walk = bimap.into_iter();
-    Ok(owned_from_both(&mut walk, request.steps.as_slice(), said)?.is_some())
-}
-
 fn end<J: CopiedIndex<Word> + Drop>(
     bimap: &mut Words<Ordered, J>,
     request: &Request<'_>,
     said: &mut String,
 ) -> Result<bool, AllocError> {
     match request.call {
-        "first_by_left" => write!(said, "{:?}", bimap.first_by_left())?,
-        "last_by_left" => write!(said, "{:?}", bimap.last_by_left())?,
-        "pop_first_by_left" => write!(said, "{:?}", bimap.pop_first_by_left())?,
-        "pop_last_by_left" => write!(said, "{:?}", bimap.pop_last_by_left())?,
-        "pair_at_left_rank" => write!(said, "{:?}", bimap.pair_at_left_rank(request.number))?,
-        "left_rank" => write!(said, "{}", bimap.left_rank(&request.first))?,
-        _ => return Ok(false),
+        "first_by_left" => told(bimap.first_by_left(), said),
+        "last_by_left" => told(bimap.last_by_left(), said),
+        "pop_first_by_left" => told(bimap.pop_first_by_left(), said),
+        "pop_last_by_left" => told(bimap.pop_last_by_left(), said),
+        "pair_at_left_rank" => told(bimap.pair_at_left_rank(request.number), said),
+        "left_rank" => told(bimap.left_rank(&request.first), said),
+        _ => Ok(false),
     }
-    Ok(true)
 }
 
 /// A walk, an end, a rank, or a comparison with the other bimap, whose place a clone takes.
@@ -90,9 +78,10 @@ pub fn call<J: CopiedIndex<Word> + Drop>(
     match request.call {
         "retain" => {
             let least = request.first;
-            bimap.retain(|_left: &Word, right: &Word| *right >= least);
-            write!(said, "()")?;
-            Ok(true)
+            told(
+                bimap.retain(|_left: &Word, right: &Word| *right >= least),
+                said,
+            )
         }
         "clone" => {
             if copy_to(bimap, other, said)? {
@@ -101,7 +90,7 @@ pub fn call<J: CopiedIndex<Word> + Drop>(
             Ok(true)
         }
         "into_iter" => match bimap.clone() {
-            Ok(copy) => walk_owned(copy, request, said),
+            Ok(copy) => follow(copy.into_iter(), request.steps.as_slice(), said),
             Err(_) => Err(AllocError),
         },
         call => Ok(
@@ -120,20 +109,14 @@ pub fn count<J: CopiedIndex<Word> + Drop>(
     meter: &mut Shown<Count>,
     said: &mut String,
 ) -> Result<bool, AllocError> {
+    let (number, word) = (request.number, &request.first);
     match request.call {
-        "first_by_left" => write!(said, "{:?}", bimap.first_by_left_metered(meter))?,
-        "last_by_left" => write!(said, "{:?}", bimap.last_by_left_metered(meter))?,
-        "pop_first_by_left" => write!(said, "{:?}", bimap.pop_first_by_left_metered(meter))?,
-        "pop_last_by_left" => write!(said, "{:?}", bimap.pop_last_by_left_metered(meter))?,
-        "pair_at_left_rank" => {
-            write!(
-                said,
-                "{:?}",
-                bimap.pair_at_left_rank_metered(request.number, meter)
-            )?
-        }
-        "left_rank" => write!(said, "{}", bimap.left_rank_metered(&request.first, meter))?,
-        _ => return Ok(false),
+        "first_by_left" => told(bimap.first_by_left_metered(meter), said),
+        "last_by_left" => told(bimap.last_by_left_metered(meter), said),
+        "pop_first_by_left" => told(bimap.pop_first_by_left_metered(meter), said),
+        "pop_last_by_left" => told(bimap.pop_last_by_left_metered(meter), said),
+        "pair_at_left_rank" => told(bimap.pair_at_left_rank_metered(number, meter), said),
+        "left_rank" => told(bimap.left_rank_metered(word, meter), said),
+        _ => Ok(false),
     }
-    Ok(true)
 }

@@ -4,8 +4,8 @@ use bimap::{Call, OnHeld, Overwritten, Policy};
 use std::alloc::Global;
 use std::ops::Bound;
 
-/// A step of a walk.
-#[derive(Clone, Copy, Eq, PartialEq)]
+/// A step of an iterator.
+#[derive(Clone, Copy)]
 pub enum Step {
     Front,
     Back,

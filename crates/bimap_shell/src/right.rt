@@ -1,8 +1,7 @@
 //! What a right gives, ordered or hashed.
-use crate::course::{pairs_from_both, values_ahead, values_from_both};
-use crate::follow;
+use crate::course::follow;
 use crate::forward::forward;
-use crate::kind::Words;
+use crate::kind::{Words, told};
 use crate::meter::Shown;
 use crate::request::Request;
 use crate::word::Word;
@@ -19,9 +18,9 @@ fn walk<I: CopiedIndex<Word> + Drop>(
 ) -> Result<bool, AllocError> {
     let steps = request.steps.as_slice();
     match request.call {
-        "right_values" => follow!(values_from_both, bimap.right_values(), steps, said),
+        "right_values" => follow(bimap.right_values(), steps, said),
         "right_range" => match forward(request.range) {
-            Some(range) => follow!(pairs_from_both, bimap.right_range(range), steps, said),
+            Some(range) => follow(bimap.right_range(range), steps, said),
             None => {
                 write!(said, "runs backwards")?;
                 Ok(true)
@@ -37,15 +36,14 @@ fn end<I: CopiedIndex<Word> + Drop>(
     said: &mut String,
 ) -> Result<bool, AllocError> {
     match request.call {
-        "first_by_right" => write!(said, "{:?}", bimap.first_by_right())?,
-        "last_by_right" => write!(said, "{:?}", bimap.last_by_right())?,
-        "pop_first_by_right" => write!(said, "{:?}", bimap.pop_first_by_right())?,
-        "pop_last_by_right" => write!(said, "{:?}", bimap.pop_last_by_right())?,
-        "pair_at_right_rank" => write!(said, "{:?}", bimap.pair_at_right_rank(request.number))?,
-        "right_rank" => write!(said, "{}", bimap.right_rank(&request.first))?,
-        _ => return Ok(false),
+        "first_by_right" => told(bimap.first_by_right(), said),
+        "last_by_right" => told(bimap.last_by_right(), said),
+        "pop_first_by_right" => told(bimap.pop_first_by_right(), said),
+        "pop_last_by_right" => told(bimap.pop_last_by_right(), said),
+        "pair_at_right_rank" => told(bimap.pair_at_right_rank(request.number), said),
+        "right_rank" => told(bimap.right_rank(&request.first), said),
+        _ => Ok(false),
     }
-    Ok(true)
 }
 
 /// A walk, an end or a rank, of an ordered right.
@@ -64,22 +62,16 @@ pub fn count<I: CopiedIndex<Word> + Drop>(
     meter: &mut Shown<Count>,
     said: &mut String,
 ) -> Result<bool, AllocError> {
+    let (number, word) = (request.number, &request.first);
     match request.call {
-        "first_by_right" => write!(said, "{:?}", bimap.first_by_right_metered(meter))?,
-        "last_by_right" => write!(said, "{:?}", bimap.last_by_right_metered(meter))?,
-        "pop_first_by_right" => write!(said, "{:?}", bimap.pop_first_by_right_metered(meter))?,
-        "pop_last_by_right" => write!(said, "{:?}", bimap.pop_last_by_right_metered(meter))?,
-        "pair_at_right_rank" => {
-            write!(
-                said,
-                "{:?}",
-                bimap.pair_at_right_rank_metered(request.number, meter)
-            )?
-        }
-        "right_rank" => write!(said, "{}", bimap.right_rank_metered(&request.first, meter))?,
-        _ => return Ok(false),
+        "first_by_right" => told(bimap.first_by_right_metered(meter), said),
+        "last_by_right" => told(bimap.last_by_right_metered(meter), said),
+        "pop_first_by_right" => told(bimap.pop_first_by_right_metered(meter), said),
+        "pop_last_by_right" => told(bimap.pop_last_by_right_metered(meter), said),
+        "pair_at_right_rank" => told(bimap.pair_at_right_rank_metered(number, meter), said),
+        "right_rank" => told(bimap.right_rank_metered(word, meter), said),
+        _ => Ok(false),
     }
-    Ok(true)
 }
 
 /// The values of a hashed right, in the order of the lefts.
@@ -91,12 +83,7 @@ pub fn values_in_order<RS: BuildHasher + Clone + Drop>(
     if request.call != "right_values" {
         return Ok(false);
     }
-    follow!(
-        values_from_both,
-        bimap.right_values(),
-        request.steps.as_slice(),
-        said
-    )
+    follow(bimap.right_values(), request.steps.as_slice(), said)
 }
 
 /// The same by place.
@@ -108,10 +95,5 @@ pub fn values_by_place<LS: BuildHasher + Clone + Drop, RS: BuildHasher + Clone +
     if request.call != "right_values" {
         return Ok(false);
     }
-    follow!(
-        values_ahead,
-        bimap.right_values(),
-        request.steps.as_slice(),
-        said
-    )
+    follow(bimap.right_values(), request.steps.as_slice(), said)
 }

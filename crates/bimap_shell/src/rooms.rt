@@ -1,5 +1,5 @@
 //! Rooms, copies, and what is shown of the whole.
-use crate::kind::ShellKind;
+use crate::kind::{ShellKind, told};
 use crate::request::Request;
 use crate::session::Session;
 use crate::word::Word;
@@ -15,12 +15,11 @@ fn room<B: CopyKind<Word, Word> + ShellKind>(
 ) -> Result<bool, AllocError> {
     let bimap = &mut session.bimap;
     match request.call {
-        "reserve" => write!(said, "{:?}", bimap.reserve(request.number))?,
-        "shrink_to" => write!(said, "{:?}", bimap.shrink_to(request.number))?,
-        "shrink_to_fit" => write!(said, "{:?}", bimap.shrink_to_fit())?,
-        _ => return Ok(false),
+        "reserve" => told(bimap.reserve(request.number), said),
+        "shrink_to" => told(bimap.shrink_to(request.number), said),
+        "shrink_to_fit" => told(bimap.shrink_to_fit(), said),
+        _ => Ok(false),
     }
-    Ok(true)
 }
 
 fn each<B: Bijection<Word, Word>>(bimap: &B, said: &mut String) {
@@ -49,10 +48,7 @@ pub fn call<B: CopyKind<Word, Word> + ShellKind>(
             each(&session.bimap, said);
             write!(said, "]")?;
         }
-        "swap" => {
-            mem::swap(&mut session.bimap, &mut session.other);
-            write!(said, "()")?;
-        }
+        "swap" => return told(mem::swap(&mut session.bimap, &mut session.other), said),
         _ => return room(session, request, said),
     }
     Ok(true)

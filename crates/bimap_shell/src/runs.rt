@@ -1,4 +1,5 @@
 //! Lists of calls, and their undoing.
+use crate::kind::told;
 use crate::request::Request;
 use crate::word::Word;
 use bimap::{Bijection, RunRefused, perform, run, undo_run};
@@ -12,10 +13,10 @@ fn undone<B: Bijection<Word, Word>>(
     bimap: &mut B,
     pairs: &[(Word, Word)],
     said: &mut String,
-) -> Result<(), AllocError> {
+) -> Result<bool, AllocError> {
     let entries = insert_all(alloc, bimap, pairs)?;
     write!(said, "{entries:?} · ")?;
-    write!(said, "{:?}", undo_run(bimap, entries))
+    told(undo_run(bimap, entries), said)
 }
 
 fn ran<B: Bijection<Word, Word>>(
@@ -23,7 +24,7 @@ fn ran<B: Bijection<Word, Word>>(
     bimap: &mut B,
     request: &mut Request<'_>,
     said: &mut String,
-) -> Result<(), AllocError> {
+) -> Result<bool, AllocError> {
     let calls = mem::replace(&mut request.calls, Vec::new(alloc));
     let answer = run(
         alloc,
@@ -32,12 +33,30 @@ fn ran<B: Bijection<Word, Word>>(
         |least: &Word, _left: &Word, right: &Word| *right >= *least,
     );
     match answer {
-        Ok(replies) => write!(said, "Ok({replies:?})"),
+        Ok(replies) => write!(said, "Ok({replies:?})")?,
         Err(RunRefused { calls }) => {
             write!(said, "Err(RunRefused {{ calls: {calls:?} }})")?;
             request.calls = calls;
-            Ok(())
         }
+    }
+    Ok(true)
+}
+
+fn performed<B: Bijection<Word, Word>>(
+    bimap: &mut B,
+    request: &mut Request<'_>,
+    said: &mut String,
+) -> Result<bool, AllocError> {
+    match request.calls.pop() {
+        Some(call) => {
+            let reply = perform(
+                bimap,
+                call,
+                &|least: &Word, _left: &Word, right: &Word| *right >= *least,
+            );
+            told(reply, said)
+        }
+        None => Ok(false),
     }
 }
 
@@ -49,19 +68,9 @@ pub fn call<B: Bijection<Word, Word>>(
     said: &mut String,
 ) -> Result<bool, AllocError> {
     match request.call {
-        "perform" => {
-            if let Some(call) = request.calls.pop() {
-                let reply = perform(
-                    bimap,
-                    call,
-                    &|least: &Word, _left: &Word, right: &Word| *right >= *least,
-                );
-                write!(said, "{reply:?}")?;
-            }
-        }
-        "run" => ran(alloc, bimap, request, said)?,
-        "undo_run" => undone(alloc, bimap, request.pairs.as_slice(), said)?,
-        _ => return Ok(false),
+        "perform" => performed(bimap, request, said),
+        "run" => ran(alloc, bimap, request, said),
+        "undo_run" => undone(alloc, bimap, request.pairs.as_slice(), said),
+        _ => Ok(false),
     }
-    Ok(true)
 }

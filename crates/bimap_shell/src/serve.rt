@@ -55,7 +55,7 @@ impl Shell {
         let chosen = chosen_of(alloc, "")?.unwrap_or(Vec::new(alloc));
         Ok(Shell {
             alloc,
-            kinds: Kinds::new(alloc),
+            kinds: Kinds::new(),
             chosen,
         })
     }

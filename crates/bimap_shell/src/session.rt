@@ -1,9 +1,9 @@
 //! The bimaps of one kind, and each call on them.
 use crate::kind::ShellKind;
-use crate::meter::Shown;
-use crate::request::{Memory, On, Request};
+use crate::request::{On, Request};
 use crate::word::Word;
 use crate::{counted, items, look, marks, put, rooms, runs};
+use bimap::Bijection;
 use bimap_calls::CopyKind;
 use bimap_undo::Undoable;
 use std::alloc::{AllocError, Global};
@@ -11,7 +11,7 @@ use std::fmt::Debug;
 
 /// The bimap, another one beside it, and one with a record.
 #[derive(Drop)]
-pub struct Session<B: CopyKind<Word, Word> + ShellKind> {
+pub struct Session<B: Bijection<Word, Word> + Drop> {
     pub alloc: Global,
     pub bimap: B,
     pub other: B,
