@@ -37,7 +37,8 @@ pub fn shown(alloc: Global, codes: &Codes) -> Result<String, AllocError> {
 }
 
 /// The reply to a line: `code NAME`, `name CODE`, `assign NAME CODE`, `assign-all NAME CODE NAME CODE ..` or `show`. Of
-/// another line it says so.
+/// another line it says so. Words stand between single spaces. All words of `assign-all` are read before a name gets its
+/// code, and the reply says last how many names have codes.
 pub fn reply_to(alloc: Global, codes: &mut Codes, line: &str) -> Result<String, AllocError> {
     if let Some(text) = line.strip_prefix("assign-all ") {
         return all_assigned(alloc, codes, text);

@@ -1,6 +1,7 @@
 //! A table of protocol codes. The first line of input that gives one is it: a JSON object of names with their codes, or
 //! `table NAME CODE NAME CODE ..`; a later one takes its place. Each other line asks for the code of a name, for the name of
-//! a code or for all, or assigns codes; last the table is written back.
+//! a code or for all, or assigns codes; last the table is written back. Until there is a table, a line that gives none is
+//! answered by what is wrong with it. So is a later line that begins as a table does and gives none: the table stays then.
 #![tactic(auto)]
 
 mod codes;

@@ -35,7 +35,7 @@ fn table_of_json(alloc: Global, text: &str) -> Result<Codes, Fault> {
     read_codes(alloc, &object).map_err(Fault::NotTable)
 }
 
-/// Whether a line gives a table, also where there is one.
+/// Whether a line is read as a table, also where there is one: it begins with `{` or `table `.
 pub fn gives_table(line: &str) -> bool {
     line.strip_prefix("{").is_some() || line.strip_prefix("table ").is_some()
 }

@@ -76,7 +76,8 @@ fn end(alloc: Global, taken: Option<(&String, &u32)>) -> Result<String, AllocErr
 }
 
 /// The reply to a line: `take GUEST SEAT`, `move GUEST SEAT`, `leave GUEST`, `seat GUEST`, `guest SEAT`, `row FIRST END`,
-/// `first` or `last`. Of another line it says so.
+/// `first` or `last`. Of another line it says so. Words stand between single spaces. `row` asks how many sit on the seats
+/// from the first to before the end, which is not below the first.
 pub fn reply_to(alloc: Global, seats: &mut Seats, line: &str) -> Result<String, AllocError> {
     let mut words = line.split(' ');
     let (verb, first) = (words.next(), words.next().unwrap_or(""));

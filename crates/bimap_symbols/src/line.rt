@@ -8,9 +8,9 @@ pub enum Request<'a> {
     Open,
     /// `close`: the innermost scope ends.
     Close,
-    /// `define NAME NUMBER`: the name means the number from here on.
+    /// `define NAME NUMBER`: the name means the number from here on. It shadows what either meant before, even the same.
     Define(&'a str, u32),
-    /// `intern NAME`: the name gets a number, unless it has one.
+    /// `intern NAME`: the name gets the number after the greatest in use, or 0 where none is, unless it has one.
     Intern(&'a str),
     /// `number NAME`: which number has the name?
     Number(&'a str),
