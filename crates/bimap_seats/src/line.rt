@@ -76,21 +76,22 @@ fn end(alloc: Global, taken: Option<(&String, &u32)>) -> Result<String, AllocErr
 }
 
 /// The reply to a line: `take GUEST SEAT`, `move GUEST SEAT`, `leave GUEST`, `seat GUEST`, `guest SEAT`, `row FIRST END`,
-/// `first` or `last`. Of another line it says so. Words stand between single spaces. `row` asks how many sit on the seats
+/// `first` or `last`. Of another line it says so. Words stand between spaces. `row` asks how many sit on the seats
 /// from the first to before the end, which is not below the first.
 pub fn reply_to(alloc: Global, seats: &mut Seats, line: &str) -> Result<String, AllocError> {
-    let mut words = line.split(' ');
-    let (verb, first) = (words.next(), words.next().unwrap_or(""));
+    let mut words = line.split_whitespace();
+    let (verb, first) = (words.next(), words.next());
+    let number = first.map(|word| word.parse::<u32>());
     let second = words.next().map(|word| word.parse::<u32>());
-    match (verb, first.parse::<u32>(), second) {
-        (Some("take"), _, Some(Ok(seat))) => taken(alloc, seats, first, seat),
-        (Some("move"), _, Some(Ok(seat))) => moved(alloc, seats, first, seat),
-        (Some("row"), Ok(first), Some(Ok(end))) => sitters(alloc, seats, first, end),
-        (Some("guest"), Ok(seat), None) => sitter(alloc, seats, seat),
-        (Some("first"), _, None) if first.is_empty() => end(alloc, first_taken(seats)),
-        (Some("last"), _, None) if first.is_empty() => end(alloc, last_taken(seats)),
-        (Some("leave"), _, None) => gone(alloc, seats, first),
-        (Some("seat"), _, None) => place(alloc, seats, first),
+    match (verb, first, number, second, words.next()) {
+        (Some("take"), Some(guest), _, Some(Ok(seat)), None) => taken(alloc, seats, guest, seat),
+        (Some("move"), Some(guest), _, Some(Ok(seat)), None) => moved(alloc, seats, guest, seat),
+        (Some("row"), _, Some(Ok(first)), Some(Ok(end)), None) => sitters(alloc, seats, first, end),
+        (Some("guest"), _, Some(Ok(seat)), None, None) => sitter(alloc, seats, seat),
+        (Some("first"), None, _, None, None) => end(alloc, first_taken(seats)),
+        (Some("last"), None, _, None, None) => end(alloc, last_taken(seats)),
+        (Some("leave"), Some(guest), _, None, None) => gone(alloc, seats, guest),
+        (Some("seat"), Some(guest), _, None, None) => place(alloc, seats, guest),
         _ => String::from_str(alloc, "this asks nothing"),
     }
 }
