@@ -1,50 +1,70 @@
-//! The calls of the shell that the crate's two kinds have.
+//! The crate's two kinds, and what each answers to the calls of the shell that it has. `None` is said to a call that it lacks.
 use crate::word::Word;
-use bimap::{BiBTreeMap, BiHashMap};
+use bimap::{BiBTreeMap, BiHashMap, Overwritten};
 use std::fmt::Debug;
 use std::hash::{DefaultHasher, Hash, Hasher};
 
 pub type Ordered = BiBTreeMap<Word, Word>;
 pub type Hashed = BiHashMap<Word, Word>;
 
-/// What a kind says to a line.
-pub enum Said {
-    Text(String),
-    /// The kind lacks the call, and says nothing.
-    Lacks,
-    /// The call is made, and its answer is open: it depends on how keys were hashed in this run.
-    Open,
-    /// The call is not made: the crate has none of this name, or it isn't known what is held.
-    Unknown,
-}
+/// The greatest room that is asked for: beyond it memory may be wanting, and the crate has no answer for that.
+pub const MOST_ROOM: usize = 1 << 20;
 
 /// A kind of bimap over words.
 pub trait Kind: Clone + Debug + Default + Extend<(Word, Word)> + FromIterator<(Word, Word)> {
-    /// A text of the pairs in their order, which is by chance where there are several by hash.
-    fn in_order(&self, text: String) -> Said;
+    fn contains_left(&self, left: &Word) -> bool;
+    fn contains_right(&self, right: &Word) -> bool;
+    fn insert(&mut self, left: Word, right: Word) -> Overwritten<Word, Word>;
+    fn remove_by_left(&mut self, left: &Word) -> Option<(Word, Word)>;
+    fn remove_by_right(&mut self, right: &Word) -> Option<(Word, Word)>;
 
-    /// A call of the bimap alone.
-    fn call(&mut self, call: &str, words: &[Word]) -> Said;
+    /// A call of no pair or one.
+    fn call(&mut self, call: &str, words: &[Word]) -> Option<String>;
 
-    /// A walk by steps, as the words after the call name them.
-    fn walk(&self, call: &str, words: &[&str]) -> Said;
+    /// An empty one with so much room.
+    fn with_room(room: usize) -> Option<Self>;
+
+    /// More room, or less.
+    fn change_room(&mut self, call: &str, words: &[&str]) -> Option<String>;
+
+    /// A walk by steps, as the words after the call name them. Where an order is by chance, it has no step before the rest.
+    fn walk(&self, call: &str, words: &[&str]) -> Option<String>;
 
     /// A comparison with another one.
-    fn compare(&self, other: &Self, call: &str) -> Said;
+    fn compare(&self, other: &Self, call: &str) -> Option<String>;
+
+    /// A value at an end of an ordered side.
+    fn end(&self, call: &str) -> Option<Word>;
 }
 
 macro_rules! kind {
-    ($kind:ident, $ordered:expr, $walk:ident, $compare:ident) => {
+    ($kind:ident, $with_room:path, $change_room:path, $walk:path, $compare:path, $end:path) => {
         impl Kind for $kind {
-            fn in_order(&self, text: String) -> Said {
-                if $ordered || self.len() < 2 { Said::Text(text) } else { Said::Open }
+            fn contains_left(&self, left: &Word) -> bool {
+                self.contains_left(left)
             }
 
-            fn call(&mut self, call: &str, words: &[Word]) -> Said {
-                Said::Text(match (call, words) {
+            fn contains_right(&self, right: &Word) -> bool {
+                self.contains_right(right)
+            }
+
+            fn insert(&mut self, left: Word, right: Word) -> Overwritten<Word, Word> {
+                self.insert(left, right)
+            }
+
+            fn remove_by_left(&mut self, left: &Word) -> Option<(Word, Word)> {
+                self.remove_by_left(left)
+            }
+
+            fn remove_by_right(&mut self, right: &Word) -> Option<(Word, Word)> {
+                self.remove_by_right(right)
+            }
+
+            fn call(&mut self, call: &str, words: &[Word]) -> Option<String> {
+                Some(match (call, words) {
                     ("len", []) => self.len().to_string(),
                     ("is_empty", []) => self.is_empty().to_string(),
-                    ("show", []) => return self.in_order(format!("{self:?}")),
+                    ("show", []) => format!("{self:?}"),
                     ("get_by_left", [left]) => format!("{:?}", self.get_by_left(left)),
                     ("get_by_right", [right]) => format!("{:?}", self.get_by_right(right)),
                     ("contains_left", [left]) => self.contains_left(left).to_string(),
@@ -66,85 +86,171 @@ macro_rules! kind {
                         self.retain(|_, right| right >= least);
                         "()".to_string()
                     }
-                    _ => return Said::Unknown,
+                    _ => return None,
                 })
             }
 
-            fn walk(&self, call: &str, words: &[&str]) -> Said {
+            fn with_room(room: usize) -> Option<Self> {
+                $with_room(room)
+            }
+
+            fn change_room(&mut self, call: &str, words: &[&str]) -> Option<String> {
+                $change_room(self, call, words)
+            }
+
+            fn walk(&self, call: &str, words: &[&str]) -> Option<String> {
                 $walk(self, call, words)
             }
 
-            fn compare(&self, other: &Self, call: &str) -> Said {
+            fn compare(&self, other: &Self, call: &str) -> Option<String> {
                 $compare(self, other, call)
+            }
+
+            fn end(&self, call: &str) -> Option<Word> {
+                $end(self, call)
             }
         }
     };
 }
 
-kind!(Ordered, true, walk_ordered, compare_ordered);
-kind!(Hashed, false, walk_hashed, compare_hashed);
+kind!(Ordered, ordered::with_room, ordered::change_room, ordered::walk, ordered::compare, ordered::end);
+kind!(Hashed, hashed::with_room, hashed::change_room, hashed::walk, hashed::compare, hashed::end);
 
-fn hash_of(bimap: &Ordered) -> u64 {
-    let mut state = DefaultHasher::new();
-    bimap.hash(&mut state);
-    state.finish()
-}
+type Back<I> = fn(&mut I) -> Option<<I as Iterator>::Item>;
 
-fn compare_ordered(one: &Ordered, other: &Ordered, call: &str) -> Said {
-    Said::Text(match call {
-        "eq" => (one == other).to_string(),
-        "partial_cmp" => format!("{:?}", one.partial_cmp(other)),
-        "cmp" => format!("{:?}", one.cmp(other)),
-        _ => (hash_of(one) == hash_of(other)).to_string(),
-    })
-}
-
-fn compare_hashed(one: &Hashed, other: &Hashed, call: &str) -> Said {
-    if call == "eq" { Said::Text((one == other).to_string()) } else { Said::Lacks }
-}
-
-/// A walk by steps, of which a length and a copy are not everywhere.
-fn follow<I: DoubleEndedIterator>(
-    mut walk: I,
-    steps: &[&str],
-    len: Option<fn(&I) -> usize>,
+/// What a walk has beside its front.
+struct Steps<I: Iterator> {
+    back: Option<Back<I>>,
+    len: fn(&I) -> usize,
     copy: Option<fn(&I) -> I>,
-) -> Said
+}
+
+/// A walk by steps.
+fn follow<I: Iterator>(mut walk: I, steps: &[&str], has: Steps<I>) -> Option<String>
 where
     I::Item: Debug,
 {
     let mut said = Vec::new();
     for step in if steps.is_empty() { &["rest"] } else { steps } {
-        said.push(match (*step, len, copy) {
-            ("front", ..) => format!("{:?}", walk.next()),
-            ("back", ..) => format!("{:?}", walk.next_back()),
-            ("len", Some(len), _) => len(&walk).to_string(),
-            ("hint", Some(_), _) => format!("{:?}", walk.size_hint()),
-            ("rest", ..) => format!("{:?}", walk.by_ref().collect::<Vec<_>>()),
-            ("copy", _, Some(copy)) => {
-                walk = copy(&walk);
+        said.push(match *step {
+            "front" => format!("{:?}", walk.next()),
+            "back" => format!("{:?}", has.back?(&mut walk)),
+            "len" => (has.len)(&walk).to_string(),
+            "rest" => format!("{:?}", walk.by_ref().collect::<Vec<_>>()),
+            "copy" => {
+                walk = has.copy?(&walk);
                 continue;
             }
-            _ => return Said::Unknown,
+            _ => return None,
         });
     }
-    Said::Text(said.join(" · "))
+    Some(said.join(" · "))
 }
 
-fn walk_ordered(bimap: &Ordered, call: &str, words: &[&str]) -> Said {
-    let range = words.first().and_then(|word| Word::read_range(word));
-    match (call, range) {
-        ("iter", _) => follow(bimap.iter(), words, Some(|it| it.len()), Some(Clone::clone)),
-        ("left_values", _) => follow(bimap.left_values(), words, Some(|it| it.len()), Some(Clone::clone)),
-        ("right_values", _) => follow(bimap.right_values(), words, Some(|it| it.len()), Some(Clone::clone)),
-        ("into_iter", _) => follow(bimap.clone().into_iter(), words, Some(|it| it.len()), None),
-        // (the crate's ranges have no length, and their hint is none)
-        ("left_range", Some(range)) => follow(bimap.left_range(range), &words[1..], None, Some(Clone::clone)),
-        ("right_range", Some(range)) => follow(bimap.right_range(range), &words[1..], None, Some(Clone::clone)),
-        _ => Said::Unknown,
+mod ordered {
+    use super::*;
+
+    pub fn with_room(_room: usize) -> Option<Ordered> {
+        None
+    }
+
+    pub fn change_room(_bimap: &mut Ordered, _call: &str, _words: &[&str]) -> Option<String> {
+        None
+    }
+
+    pub fn walk(bimap: &Ordered, call: &str, words: &[&str]) -> Option<String> {
+        fn both<I: DoubleEndedIterator + ExactSizeIterator + Clone>() -> Steps<I> {
+            Steps { back: Some(I::next_back), len: I::len, copy: Some(I::clone) }
+        }
+        // (the crate's ranges claim a length that they don't have: what they give is counted)
+        fn counted<I: DoubleEndedIterator + Clone>() -> Steps<I> {
+            Steps { back: Some(I::next_back), len: |walk| walk.clone().count(), copy: Some(I::clone) }
+        }
+        let range = words.first().and_then(|word| Word::read_range(word));
+        match call {
+            "iter" => follow(bimap.iter(), words, both()),
+            "left_values" => follow(bimap.left_values(), words, both()),
+            "right_values" => follow(bimap.right_values(), words, both()),
+            "into_iter" => {
+                let walk = bimap.clone().into_iter();
+                follow(walk, words, Steps { back: Some(|walk| walk.next_back()), len: |walk| walk.len(), copy: None })
+            }
+            "left_range" => follow(bimap.left_range(range?), &words[1..], counted()),
+            "right_range" => follow(bimap.right_range(range?), &words[1..], counted()),
+            _ => None,
+        }
+    }
+
+    pub fn compare(one: &Ordered, other: &Ordered, call: &str) -> Option<String> {
+        Some(match call {
+            "eq" => (one == other).to_string(),
+            "partial_cmp" => format!("{:?}", one.partial_cmp(other)),
+            "cmp" => format!("{:?}", one.cmp(other)),
+            _ => (hash_of(one) == hash_of(other)).to_string(),
+        })
+    }
+
+    fn hash_of(bimap: &Ordered) -> u64 {
+        let mut state = DefaultHasher::new();
+        bimap.hash(&mut state);
+        state.finish()
+    }
+
+    pub fn end(bimap: &Ordered, call: &str) -> Option<Word> {
+        match call {
+            "pop_first_by_left" => bimap.left_values().next().cloned(),
+            "pop_last_by_left" => bimap.left_values().next_back().cloned(),
+            "pop_first_by_right" => bimap.right_values().next().cloned(),
+            "pop_last_by_right" => bimap.right_values().next_back().cloned(),
+            _ => None,
+        }
     }
 }
 
-fn walk_hashed(_bimap: &Hashed, call: &str, words: &[&str]) -> Said {
-    if call.ends_with("range") || words.contains(&"back") { Said::Lacks } else { Said::Open }
+mod hashed {
+    use super::*;
+
+    pub fn with_room(room: usize) -> Option<Hashed> {
+        Some(Hashed::with_capacity(room))
+    }
+
+    pub fn change_room(bimap: &mut Hashed, call: &str, words: &[&str]) -> Option<String> {
+        let number = words.first().and_then(|word| word.parse::<usize>().ok());
+        match (call, number) {
+            ("reserve", Some(more)) if more <= MOST_ROOM => bimap.reserve(more),
+            ("shrink_to", Some(least)) => bimap.shrink_to(least),
+            ("shrink_to_fit", None) => bimap.shrink_to_fit(),
+            _ => return None,
+        }
+        Some("Ok(())".to_string())
+    }
+
+    pub fn walk(bimap: &Hashed, call: &str, words: &[&str]) -> Option<String> {
+        fn ahead<I: ExactSizeIterator + Clone>() -> Steps<I> {
+            Steps { back: None, len: I::len, copy: Some(I::clone) }
+        }
+        // (which pair comes first is by chance)
+        let by_one = words.iter().take_while(|step| **step != "rest").any(|step| *step == "front");
+        if by_one && bimap.len() > 1 {
+            return None;
+        }
+        match call {
+            "iter" => follow(bimap.iter(), words, ahead()),
+            "left_values" => follow(bimap.left_values(), words, ahead()),
+            "right_values" => follow(bimap.right_values(), words, ahead()),
+            "into_iter" => {
+                let walk = bimap.clone().into_iter();
+                follow(walk, words, Steps { back: None, len: |walk| walk.len(), copy: None })
+            }
+            _ => None,
+        }
+    }
+
+    pub fn compare(one: &Hashed, other: &Hashed, call: &str) -> Option<String> {
+        (call == "eq").then(|| (one == other).to_string())
+    }
+
+    pub fn end(_bimap: &Hashed, _call: &str) -> Option<Word> {
+        None
+    }
 }

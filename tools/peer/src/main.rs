@@ -1,6 +1,7 @@
 //! The Rust crate `bimap` beside this repository's. `peer PAIRS` makes the calls of `crates/bimap_bench` over it: the same keys,
 //! the same order, the same lines. `peer shell` answers the lines of standard input as `crates/bimap_shell` does.
 mod kind;
+mod made;
 mod shell;
 mod word;
 

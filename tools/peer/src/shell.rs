@@ -1,20 +1,21 @@
-//! The shell's language over the crate's two kinds: what each answers to a line, and `-` for what it can't be asked.
-use crate::kind::{Hashed, Kind, Ordered, Said};
+//! The shell's language over the crate's two kinds: what each answers to a line, or nothing where it isn't asked; `-` where neither is.
+//!
+//! Not asked are calls that the crate lacks, and of those that it has
+//! - `capacity`, which it keeps otherwise;
+//! - rooms that may want memory, and calls for which memory is refused, unless they take none: the crate's end the program there;
+//! - ranges that run backwards, at which it panics;
+//! - JSON, which it has by serde alone;
+//! - the first pairs of a hashed bimap, which are by chance;
+//! - any, until a bimap is begun anew, where it isn't known what was refused for memory.
+use crate::kind::{Hashed, Kind, MOST_ROOM, Ordered};
+use crate::made::{make, put_all};
 use crate::word::Word;
 use std::{io, mem};
 
 /// The names of the shell's kinds. The crate has the first two.
 const KINDS: [&str; 5] = ["ordered", "hashed", "ordered-hashed", "hashed-ordered", "crowded"];
-/// The calls of the crate that change a bimap. A line that begins with one and can't be read changes nothing.
-const CHANGING: [&str; 10] = [
-    "insert", "insert_no_overwrite", "remove_by_left", "remove_by_right", "retain", "clear", "extend", "from_iter",
-    "new", "swap",
-];
-/// How words begin that change it otherwise, or that stand before such a call. After these it isn't known what is held.
-const OTHERS: [&str; 10] = [
-    "insert_", "extend_", "from_iter_", "with_capacity", "get_by_left_or_insert", "replace_", "pop_", "undo", "run",
-    "perform",
-];
+/// What may stand before a call.
+const BEFORE: [&str; 5] = ["undoable", "counted", "bounded", "famine", "easing"];
 /// How many different answers of a call made many times are shown.
 const SHOWN: usize = 8;
 
@@ -29,86 +30,157 @@ impl<B: Kind> Held<B> {
         Held { bimap: Some(B::default()), other: Some(B::default()) }
     }
 
-    fn answer(&mut self, line: &str) -> Said {
+    fn answer(&mut self, line: &str) -> Option<String> {
         let words: Vec<&str> = line.split_whitespace().collect();
-        let said = match words.as_slice() {
-            [] => return Said::Unknown,
-            ["times", ..] => return self.times(line),
-            ["new"] => self.begin(B::default()),
-            // (the room is not asked for: of the crate's kinds one has none)
-            ["with_capacity", room] if room.parse::<u16>().is_ok() => {
-                self.bimap = Some(B::default());
-                Said::Open
+        let (before, words) = words.split_at(words.iter().take_while(|word| BEFORE.contains(word)).count());
+        match (before, words) {
+            ([], ["times", ..]) => self.times(line),
+            ([], words) => self.call(words),
+            (["famine"], words) => self.without_memory(words),
+            (before, words) if before.contains(&"undoable") => self.record(words),
+            // (what is said beside the call's own answer is the shell's)
+            (_, words) => {
+                self.call(words);
+                None
             }
-            ["from_iter", words @ ..] => match Word::read_pairs(words) {
-                Some(pairs) => self.begin(pairs.into_iter().collect()),
-                None => Said::Unknown,
-            },
+        }
+    }
+
+    fn call(&mut self, words: &[&str]) -> Option<String> {
+        match words {
+            ["anew"] => {
+                *self = Held::new();
+                Some("()".to_string())
+            }
+            ["new"] => self.begin(B::default()),
+            ["with_capacity", room] => self.begin_with_room(room.parse().ok()?),
+            ["from_iter", words @ ..] => self.begin(Word::read_pairs(words)?.into_iter().collect()),
+            ["from_iter_with", policy, words @ ..] => {
+                let mut bimap = B::default();
+                if put_all(&mut bimap, policy, Word::read_pairs(words)?) {
+                    self.bimap = Some(bimap);
+                }
+                None
+            }
             ["clear"] => self.bimap.get_or_insert_with(B::default).call("clear", &[]),
             ["swap"] => {
                 mem::swap(&mut self.bimap, &mut self.other);
-                Said::Text("()".to_string())
+                Some("()".to_string())
             }
             ["clone"] => {
                 self.other = self.bimap.clone();
                 self.shown()
             }
             [call, words @ ..] => self.of_pairs(call, words),
-        };
-        let changes = |word: &&str| CHANGING.contains(word) || OTHERS.iter().any(|it| word.starts_with(it));
-        if matches!(said, Said::Unknown) && !CHANGING.contains(&words[0]) && words.iter().any(changes) {
-            self.bimap = None;
+            [] => None,
         }
-        said
     }
 
-    fn begin(&mut self, bimap: B) -> Said {
+    fn begin(&mut self, bimap: B) -> Option<String> {
         self.bimap = Some(bimap);
         self.shown()
     }
 
-    fn shown(&self) -> Said {
-        match &self.bimap {
-            Some(bimap) => bimap.in_order(format!("Ok({bimap:?})")),
-            None => Said::Unknown,
+    /// Where there is no memory for so much room, the old one stays.
+    fn begin_with_room(&mut self, room: usize) -> Option<String> {
+        if room > MOST_ROOM {
+            return None;
+        }
+        match B::with_room(room) {
+            Some(bimap) => self.begin(bimap),
+            None => {
+                self.bimap = Some(B::default());
+                None
+            }
         }
     }
 
-    fn of_pairs(&mut self, call: &str, words: &[&str]) -> Said {
-        let Some(bimap) = &mut self.bimap else {
-            return Said::Unknown;
-        };
-        match (call, &self.other, Word::read_pairs(words), Word::read_all(words)) {
-            ("eq" | "partial_cmp" | "cmp" | "hash", Some(other), ..) if words.is_empty() => bimap.compare(other, call),
-            ("iter" | "into_iter" | "left_values" | "right_values" | "left_range" | "right_range", ..) => {
+    fn shown(&self) -> Option<String> {
+        self.bimap.as_ref().map(|bimap| format!("Ok({bimap:?})"))
+    }
+
+    fn of_pairs(&mut self, call: &str, words: &[&str]) -> Option<String> {
+        let bimap = self.bimap.as_mut()?;
+        match call {
+            "eq" | "partial_cmp" | "cmp" | "hash" => bimap.compare(self.other.as_ref()?, call),
+            "iter" | "into_iter" | "left_values" | "right_values" | "left_range" | "right_range" => {
                 bimap.walk(call, words)
             }
-            ("extend", _, Some(pairs), _) => {
-                bimap.extend(pairs);
-                Said::Text("Ok(())".to_string())
+            "extend" => {
+                bimap.extend(Word::read_pairs(words)?);
+                Some("Ok(())".to_string())
             }
-            (_, _, _, Some(words)) => bimap.call(call, &words),
-            _ => Said::Unknown,
+            "reserve" | "shrink_to" | "shrink_to_fit" => bimap.change_room(call, words),
+            _ => {
+                let said = Word::read_all(words).and_then(|words| bimap.call(call, &words));
+                if said.is_none() && make(bimap, call, words).is_none() {
+                    self.bimap = None;
+                }
+                said
+            }
         }
+    }
+
+    /// A call for which memory is refused, where it takes none.
+    fn without_memory(&mut self, words: &[&str]) -> Option<String> {
+        match words {
+            ["reserve" | "shrink_to" | "shrink_to_fit", ..] => None,
+            ["clone"] => {
+                self.other = None;
+                None
+            }
+            words if self.takes_memory(words) => {
+                self.bimap = None;
+                None
+            }
+            words => self.call(words),
+        }
+    }
+
+    /// Whether a call may ask for memory: an insertion does where it strikes nothing.
+    fn takes_memory(&self, words: &[&str]) -> bool {
+        let held = |left: &str, right: &str| {
+            let (bimap, left, right) = (self.bimap.as_ref()?, Word::read(left)?, Word::read(right)?);
+            Some(bimap.contains_left(&left) || bimap.contains_right(&right))
+        };
+        match words {
+            ["perform", call @ ..] => self.takes_memory(call),
+            ["insert" | "insert_no_overwrite" | "get_by_left_or_insert", left, right]
+            | ["insert_with", _, left, right] => held(left, right) != Some(true),
+            ["undo_insert", _, "Both", ..] => true,
+            ["extend" | "extend_with" | "from_iter" | "from_iter_with" | "with_capacity" | "run" | "undo_run", ..] => {
+                true
+            }
+            _ => false,
+        }
+    }
+
+    /// A call of the bimap with a record, which takes the bimap when it begins and gives one back at its end.
+    fn record(&mut self, words: &[&str]) -> Option<String> {
+        match words {
+            ["new"] => self.bimap = Some(B::default()),
+            ["into_inner"] => self.bimap = None,
+            _ => {}
+        }
+        None
     }
 
     /// One call many times, each with two numbers in its words, and how often each answer came.
-    fn times(&mut self, line: &str) -> Said {
-        let parts = line.split_once(' ').and_then(|(_, rest)| rest.trim_start().split_once(' '));
-        let Some((Ok(turns), call)) = parts.map(|(turns, call)| (turns.parse::<u64>(), call)) else {
-            return Said::Unknown;
-        };
-        let (mut answers, mut unsaid): (Vec<(String, u64)>, _) = (Vec::new(), None);
+    fn times(&mut self, line: &str) -> Option<String> {
+        let (_, rest) = line.split_once(' ')?;
+        let (turns, call) = rest.trim_start().split_once(' ')?;
+        let turns: u64 = turns.parse().ok()?;
+        let (mut answers, mut all_said) = (Vec::new(), true);
         for at in 0..turns {
             let (turn, mixed) = (format!("{at:07}"), format!("{:07}", at.saturating_mul(7919) % turns));
             match self.answer(&call.replace('#', &turn).replace('%', &mixed)) {
-                Said::Text(said) if call.contains('%') => tally(&mut answers, said.replace(&mixed, "%")),
-                Said::Text(said) => tally(&mut answers, said.replace(&turn, "#")),
-                other => unsaid = Some(other),
+                Some(said) if call.contains('%') => tally(&mut answers, said.replace(&mixed, "%")),
+                Some(said) => tally(&mut answers, said.replace(&turn, "#")),
+                None => all_said = false,
             }
         }
         let shown: Vec<String> = answers.iter().map(|(said, count)| format!("{count} times {said}")).collect();
-        unsaid.unwrap_or(Said::Text(shown.join(" · ")))
+        all_said.then(|| shown.join(" · "))
     }
 }
 
@@ -146,21 +218,13 @@ impl Shell {
         if line.is_empty() || line.starts_with('#') || line.starts_with("kinds:") {
             return Vec::new();
         }
-        let ordered = self.ordered.as_mut().and_then(|held| text(held.answer(line)));
-        let hashed = self.hashed.as_mut().and_then(|held| text(held.answer(line)));
+        let ordered = self.ordered.as_mut().and_then(|held| held.answer(line));
+        let hashed = self.hashed.as_mut().and_then(|held| held.answer(line));
         if ordered == hashed {
             return vec![ordered.unwrap_or("-".to_string())];
         }
         let sides = [(KINDS[0], ordered), (KINDS[1], hashed)];
         sides.into_iter().filter_map(|(kind, said)| Some(format!("[{kind}] {}", said?))).collect()
-    }
-}
-
-fn text(said: Said) -> Option<String> {
-    match said {
-        Said::Text(said) => Some(said),
-        Said::Lacks => None,
-        Said::Open | Said::Unknown => Some("-".to_string()),
     }
 }
 

@@ -26,10 +26,17 @@ impl Word {
         words.iter().map(|word| Word::read(word)).collect()
     }
 
-    /// The words as pairs, if there is no half of one.
+    /// The words as pairs, if there is no half of one: as they stand, or `each N L R`, with a number for each `#`.
     pub fn read_pairs(words: &[&str]) -> Option<Vec<(Word, Word)>> {
-        let pair = |two: &[&str]| Some((Word::read(two[0])?, Word::read(two.get(1)?)?));
-        words.chunks(2).map(pair).collect()
+        let pair = |left: &str, right: &str| Some((Word::read(left)?, Word::read(right)?));
+        match words {
+            ["each", count, left, right] => {
+                let numbered = |word: &str, at: u64| word.replace('#', &format!("{at:07}"));
+                (0..count.parse().ok()?).map(|at| pair(&numbered(left, at), &numbered(right, at))).collect()
+            }
+            ["each", ..] => None,
+            _ => words.chunks(2).map(|two| pair(two[0], two.get(1)?)).collect(),
+        }
     }
 
     /// The ends of a range, if it runs forward: the crate panics at others.

@@ -1,0 +1,98 @@
+//! The shell's calls that the crate lacks, made of those that it has: so it is known what is held after them. What they answer is
+//! not said.
+use crate::kind::Kind;
+use crate::word::Word;
+
+/// Those that leave what is held.
+const KEEPING: [&str; 13] = [
+    "capacity", "for_each", "reserve", "shrink_to", "shrink_to_fit", "can_undo_insert", "undo_run", "first_by_left",
+    "last_by_left", "first_by_right", "last_by_right", "left_rank", "right_rank",
+];
+
+/// Makes a call, where it is one of the shell's.
+pub fn make<B: Kind>(bimap: &mut B, call: &str, words: &[&str]) -> Option<()> {
+    match (call, words) {
+        ("insert_with", [policy, left, right]) => {
+            put(bimap, policy, Word::read(left)?, Word::read(right)?);
+        }
+        ("extend_with", [policy, words @ ..]) => {
+            put_all(bimap, policy, Word::read_pairs(words)?);
+        }
+        ("get_by_left_or_insert", [left, right]) => {
+            put(bimap, "rr", Word::read(left)?, Word::read(right)?);
+        }
+        ("replace_left", [from, to]) => {
+            let (from, to) = (Word::read(from)?, Word::read(to)?);
+            if from == to || !bimap.contains_left(&to) {
+                let held = bimap.remove_by_left(&from);
+                held.map(|(_, right)| bimap.insert(to, right));
+            }
+        }
+        ("replace_right", [from, to]) => {
+            let (from, to) = (Word::read(from)?, Word::read(to)?);
+            if from == to || !bimap.contains_right(&to) {
+                let held = bimap.remove_by_right(&from);
+                held.map(|(left, _)| bimap.insert(left, to));
+            }
+        }
+        ("pop_first_by_left" | "pop_last_by_left", []) => {
+            let left = bimap.end(call);
+            left.map(|left| bimap.remove_by_left(&left));
+        }
+        ("pop_first_by_right" | "pop_last_by_right", []) => {
+            let right = bimap.end(call);
+            right.map(|right| bimap.remove_by_right(&right));
+        }
+        ("undo_insert", [left, _, pairs @ ..]) => undo(bimap, &Word::read(left)?, Word::read_pairs(pairs)?),
+        ("perform", [call, words @ ..]) => perform(bimap, call, words)?,
+        ("run", words) => {
+            for text in words.join(" ").split(';') {
+                let words: Vec<&str> = text.split_whitespace().collect();
+                if let [call, words @ ..] = words.as_slice() {
+                    perform(bimap, call, words)?;
+                }
+            }
+        }
+        ("pair_at_left_rank" | "pair_at_right_rank", [_]) => {}
+        _ if KEEPING.contains(&call) => {}
+        _ => return None,
+    }
+    Some(())
+}
+
+/// Inserts a pair where a policy allows it, and answers whether it does.
+fn put<B: Kind>(bimap: &mut B, policy: &str, left: Word, right: Word) -> bool {
+    let refused = policy.starts_with('r') && bimap.contains_left(&left)
+        || policy.ends_with('r') && bimap.contains_right(&right);
+    if !refused {
+        bimap.insert(left, right);
+    }
+    !refused
+}
+
+/// Inserts pairs up to the first that a policy refuses, and answers whether there is none.
+pub fn put_all<B: Kind>(bimap: &mut B, policy: &str, pairs: Vec<(Word, Word)>) -> bool {
+    pairs.into_iter().all(|(left, right)| put(bimap, policy, left, right))
+}
+
+/// Puts the pairs of an answer in the place of the pair of a left, where no two of what is held then share a value.
+fn undo<B: Kind>(bimap: &mut B, left: &Word, pairs: Vec<(Word, Word)>) {
+    let Some((left, right)) = bimap.remove_by_left(left) else {
+        return;
+    };
+    let apart = |p: &(Word, Word), q: &(Word, Word)| p.0 != q.0 && p.1 != q.1;
+    let free = |p: &(Word, Word)| !bimap.contains_left(&p.0) && !bimap.contains_right(&p.1);
+    if pairs.iter().all(free) && pairs.windows(2).all(|two| apart(&two[0], &two[1])) {
+        bimap.extend(pairs);
+    } else {
+        bimap.insert(left, right);
+    }
+}
+
+/// A call of a run.
+fn perform<B: Kind>(bimap: &mut B, call: &str, words: &[&str]) -> Option<()> {
+    match Word::read_all(words).and_then(|words| bimap.call(call, &words)) {
+        Some(_) => Some(()),
+        None => make(bimap, call, words),
+    }
+}
