@@ -1,9 +1,10 @@
 //! Names with their codes, each once. It names the facade alone, and has no proof of its own.
 ghost use Rattle.std.specs.Prelude.{◌≡◌, ◌≤◌, [], length, List, Contains, IfOk, IfErr, OnOk, OnErr};
 ghost use Rattle.std.specs.Iterator.{IsFiniteIterable};
+ghost use Rattle.bimap.specs.Answer.{IsRefusal};
 ghost use Rattle.bimap.specs.BTree.{holding};
 ghost use Rattle.bimap.specs.Extension.{IsExtensionUnder, IsExtensionStoppedUnder, IsRefusedNextUnder};
-ghost use Rattle.bimap.specs.Holding.{IsFoundByLeft, IsFoundByRight};
+ghost use Rattle.bimap.specs.Holding.{IsFull, IsFoundByLeft, IsFoundByRight};
 ghost use Rattle.bimap.specs.JsonObjects.{IsObjectOf, IsEntryOf, EachReadsBack, ReadsObjectUnder};
 ghost use Rattle.bimap.specs.Sets.{IsWithPut, LacksLeft, LacksRight};
 ghost use Rattle.bimap.specs.View.{view};
@@ -86,6 +87,7 @@ pub fn assign<L: Ord + Drop, R: Eq + Hash + Drop>(
     ensures was_new { OnOk result (LacksLeft L.eq (Contains (holding codes.old).pairs) name) }
     ensures was_free { OnOk result (LacksRight R.eq (Contains (holding codes.old).pairs) code) }
     ensures assigned { OnOk result (IsWithPut L.eq R.eq (Contains (holding codes.old).pairs) (name, code) (Contains (holding codes.new).pairs)) }
+    ensures refused { IfErr result (IsRefusal L.eq R.eq (Contains (holding codes.old).pairs) (IsFull (holding codes.old)) (name, code)) }
     ensures unchanged { OnErr result (holding codes.new ≡ holding codes.old) }
 {
     codes.insert_no_overwrite(name, code)

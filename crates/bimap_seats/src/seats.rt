@@ -1,10 +1,10 @@
 //! Guests with their seats, one each. It names the facade alone, and has no proof of its own.
-ghost use Rattle.std.specs.Prelude.{◌≡◌, ◌≤◌, ◌-◌, ◌&&◌, nat_le, nat_lt, length, slice_get, option_map, Contains, IfOk, OnOk, OnErr};
+ghost use Rattle.std.specs.Prelude.{◌≡◌, ◌≤◌, ◌-◌, ◌&&◌, nat_le, nat_lt, length, slice_get, option_map, Contains, IfOk, IfErr, OnOk, OnErr};
 ghost use Rattle.std.specs.List.{filter};
 ghost use Rattle.std.specs.Map.Iter.{deref_pair};
-ghost use Rattle.bimap.specs.Answer.{IsAnswer};
+ghost use Rattle.bimap.specs.Answer.{IsAnswer, IsRefusalUnder};
 ghost use Rattle.bimap.specs.BTree.{holding, by_right, IsByRight};
-ghost use Rattle.bimap.specs.Holding.{IsFoundByLeft, IsFoundByRight, IsInsertion, IsRemovalByLeft};
+ghost use Rattle.bimap.specs.Holding.{IsFull, IsFoundByLeft, IsFoundByRight, IsInsertion, IsRemovalByLeft};
 ghost use Rattle.bimap.specs.Sets.{IsWithPut, LacksRight};
 
 use bimap::btree::RightRange;
@@ -26,7 +26,7 @@ pub fn take<G: Eq + Hash + Drop, S: Ord + Drop>(
 
 /// Gives a guest a seat that nobody has. A guest who has another seat leaves it, which is answered.
 ///
-/// Takes memory as `take` does. A refusal changes nothing.
+/// Takes memory as `take` does. A refusal says whether the seat is taken, and changes nothing.
 pub fn move_to<G: Eq + Hash + Drop, S: Ord + Drop>(
     seats: &mut BiHashBTreeMap<G, S>,
     guest: G,
@@ -35,6 +35,7 @@ pub fn move_to<G: Eq + Hash + Drop, S: Ord + Drop>(
     ensures was_free { OnOk result (LacksRight S.eq (Contains (holding seats.old).pairs) seat) }
     ensures left { IfOk result (IsAnswer G.eq S.eq (Contains (holding seats.old).pairs) (guest, seat)) }
     ensures seated { OnOk result (IsWithPut G.eq S.eq (Contains (holding seats.old).pairs) (guest, seat) (Contains (holding seats.new).pairs)) }
+    ensures refused { IfErr result (IsRefusalUnder G.eq S.eq (Contains (holding seats.old).pairs) (IsFull (holding seats.old)) (guest, seat) (record { left = OnHeld.Overwrite; right = OnHeld.Refuse })) }
     ensures unchanged { OnErr result (holding seats.new ≡ holding seats.old) }
 {
     let free = Policy {
