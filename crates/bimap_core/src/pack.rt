@@ -18,8 +18,8 @@ impl<L: Eq, R: Eq, I: PackedIndex<L>, J: PackedIndex<R>> Table<L, R, I, J> {
         L: Drop,
         R: Drop,
         ensures answer { IsShrink (holding_of self.old.pairs) least result (holding_of self.new.pairs) }
-        ensures comparisons { M.comparisons meter.new ≤ M.comparisons meter.old + length (I.places self.old.left) * I.effort (length (I.places self.old.left)) + length (J.places self.old.right) * J.effort (length (J.places self.old.right)) }
-        ensures touches { M.touches meter.new ≤ M.touches meter.old + length (I.places self.old.left) * (64 * (I.effort (length (I.places self.old.left)) + 1)) + length (J.places self.old.right) * (64 * (J.effort (length (J.places self.old.right)) + 1)) }
+        ensures comparisons { let lefts = length (I.places self.old.left) in let rights = length (J.places self.old.right) in M.comparisons meter.new ≤ M.comparisons meter.old + lefts * I.effort lefts + rights * J.effort rights }
+        ensures touches { let lefts = length (I.places self.old.left) in let rights = length (J.places self.old.right) in M.touches meter.new ≤ M.touches meter.old + lefts * (64 * (I.effort lefts + 1)) + rights * (64 * (J.effort rights + 1)) }
     {
         let room = self.room();
         let to = self.len().max(least.min(room));
@@ -39,8 +39,8 @@ impl<L: Eq, R: Eq, I: PackedIndex<L>, J: PackedIndex<R>> Table<L, R, I, J> {
         ensures ok { OnOk result (length self.new.pairs ≡ to) }
         ensures pairs { pairs_in self.new.pairs ≡ pairs_in self.old.pairs }
         ensures err { OnErr result (self.new.pairs ≡ self.old.pairs) }
-        ensures comparisons { M.comparisons meter.new ≤ M.comparisons meter.old + length (I.places self.old.left) * I.effort (length (I.places self.old.left)) + length (J.places self.old.right) * J.effort (length (J.places self.old.right)) }
-        ensures touches { M.touches meter.new ≤ M.touches meter.old + length (I.places self.old.left) * (64 * (I.effort (length (I.places self.old.left)) + 1)) + length (J.places self.old.right) * (64 * (J.effort (length (J.places self.old.right)) + 1)) }
+        ensures comparisons { let lefts = length (I.places self.old.left) in let rights = length (J.places self.old.right) in M.comparisons meter.new ≤ M.comparisons meter.old + lefts * I.effort lefts + rights * J.effort rights }
+        ensures touches { let lefts = length (I.places self.old.left) in let rights = length (J.places self.old.right) in M.touches meter.new ≤ M.touches meter.old + lefts * (64 * (I.effort lefts + 1)) + rights * (64 * (J.effort rights + 1)) }
     {
         let alloc = self.pairs.allocator();
         let left = self.left.packed(alloc, to)?;

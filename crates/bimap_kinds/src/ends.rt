@@ -118,8 +118,8 @@ impl<L: Ord, R: Eq, J: Index<R>> BijectiveMap<L, R, Ordered, J> {
     pub fn pop_first_by_left_metered<M: Meter>(&mut self, meter: &mut M) -> Option<(L, R)>
         ensures taken { TakesFirst (λ p. p) (holding self.old).pairs result (holding self.new).pairs }
         ensures room { (holding self.new).room ≡ (holding self.old).room }
-        ensures comparisons { M.comparisons meter.new ≤ M.comparisons meter.old + most_height (length (holding self.old).pairs) + J.effort (length (holding self.old).pairs) }
-        ensures touches { M.touches meter.new ≤ M.touches meter.old + 66 * (most_height (length (holding self.old).pairs) + 1) + 64 * (J.effort (length (holding self.old).pairs) + 1) }
+        ensures comparisons { let n = length (holding self.old).pairs in M.comparisons meter.new ≤ M.comparisons meter.old + most_height n + J.effort n }
+        ensures touches { let n = length (holding self.old).pairs in M.touches meter.new ≤ M.touches meter.old + 66 * (most_height n + 1) + 64 * (J.effort n + 1) }
     {
         self.take_at_left_rank(0, meter)
     }
@@ -128,8 +128,8 @@ impl<L: Ord, R: Eq, J: Index<R>> BijectiveMap<L, R, Ordered, J> {
     pub fn pop_last_by_left_metered<M: Meter>(&mut self, meter: &mut M) -> Option<(L, R)>
         ensures taken { TakesLast (λ p. p) (holding self.old).pairs result (holding self.new).pairs }
         ensures room { (holding self.new).room ≡ (holding self.old).room }
-        ensures comparisons { M.comparisons meter.new ≤ M.comparisons meter.old + most_height (length (holding self.old).pairs) + J.effort (length (holding self.old).pairs) }
-        ensures touches { M.touches meter.new ≤ M.touches meter.old + 66 * (most_height (length (holding self.old).pairs) + 1) + 64 * (J.effort (length (holding self.old).pairs) + 1) }
+        ensures comparisons { let n = length (holding self.old).pairs in M.comparisons meter.new ≤ M.comparisons meter.old + most_height n + J.effort n }
+        ensures touches { let n = length (holding self.old).pairs in M.touches meter.new ≤ M.touches meter.old + 66 * (most_height n + 1) + 64 * (J.effort n + 1) }
     {
         let last = self.len().saturating_sub(1);
         self.take_at_left_rank(last, meter)
@@ -140,8 +140,8 @@ impl<L: Ord, R: Eq, J: Index<R>> BijectiveMap<L, R, Ordered, J> {
         ensures pair { result ≡ slice_get (holding self.old).pairs rank }
         ensures rest { (holding self.new).pairs ≡ take rank (holding self.old).pairs ++ drop (suc rank) (holding self.old).pairs }
         ensures room { (holding self.new).room ≡ (holding self.old).room }
-        ensures comparisons { M.comparisons meter.new ≤ M.comparisons meter.old + most_height (length (holding self.old).pairs) + J.effort (length (holding self.old).pairs) }
-        ensures touches { M.touches meter.new ≤ M.touches meter.old + 66 * (most_height (length (holding self.old).pairs) + 1) + 64 * (J.effort (length (holding self.old).pairs) + 1) }
+        ensures comparisons { let n = length (holding self.old).pairs in M.comparisons meter.new ≤ M.comparisons meter.old + most_height n + J.effort n }
+        ensures touches { let n = length (holding self.old).pairs in M.touches meter.new ≤ M.touches meter.old + 66 * (most_height n + 1) + 64 * (J.effort n + 1) }
     {
         self.table.take_at_left_rank(rank, meter)
     }
@@ -268,8 +268,8 @@ impl<L: Eq, R: Ord, I: Index<L>> BijectiveMap<L, R, I, Ordered> {
         ensures sorted { IsByRight R.cmp (holding self.old).pairs (by_right self.old) }
         ensures removed { IfSome result (λ p. IsRemoving (holding self.old).pairs p (holding self.new).pairs) }
         ensures room { (holding self.new).room ≡ (holding self.old).room }
-        ensures comparisons { M.comparisons meter.new ≤ M.comparisons meter.old + I.effort (length (holding self.old).pairs) + most_height (length (holding self.old).pairs) }
-        ensures touches { M.touches meter.new ≤ M.touches meter.old + 64 * (I.effort (length (holding self.old).pairs) + 1) + 66 * (most_height (length (holding self.old).pairs) + 1) }
+        ensures comparisons { let n = length (holding self.old).pairs in M.comparisons meter.new ≤ M.comparisons meter.old + I.effort n + most_height n }
+        ensures touches { let n = length (holding self.old).pairs in M.touches meter.new ≤ M.touches meter.old + 64 * (I.effort n + 1) + 66 * (most_height n + 1) }
     {
         self.take_at_right_rank(0, meter)
     }
@@ -280,8 +280,8 @@ impl<L: Eq, R: Ord, I: Index<L>> BijectiveMap<L, R, I, Ordered> {
         ensures sorted { IsByRight R.cmp (holding self.old).pairs (by_right self.old) }
         ensures removed { IfSome result (λ p. IsRemoving (holding self.old).pairs p (holding self.new).pairs) }
         ensures room { (holding self.new).room ≡ (holding self.old).room }
-        ensures comparisons { M.comparisons meter.new ≤ M.comparisons meter.old + I.effort (length (holding self.old).pairs) + most_height (length (holding self.old).pairs) }
-        ensures touches { M.touches meter.new ≤ M.touches meter.old + 64 * (I.effort (length (holding self.old).pairs) + 1) + 66 * (most_height (length (holding self.old).pairs) + 1) }
+        ensures comparisons { let n = length (holding self.old).pairs in M.comparisons meter.new ≤ M.comparisons meter.old + I.effort n + most_height n }
+        ensures touches { let n = length (holding self.old).pairs in M.touches meter.new ≤ M.touches meter.old + 64 * (I.effort n + 1) + 66 * (most_height n + 1) }
     {
         let last = self.len().saturating_sub(1);
         self.take_at_right_rank(last, meter)
@@ -294,8 +294,8 @@ impl<L: Eq, R: Ord, I: Index<L>> BijectiveMap<L, R, I, Ordered> {
         ensures sorted { IsByRight R.cmp (holding self.old).pairs (by_right self.old) }
         ensures removed { IfSome result (λ p. IsRemoving (holding self.old).pairs p (holding self.new).pairs) }
         ensures room { (holding self.new).room ≡ (holding self.old).room }
-        ensures comparisons { M.comparisons meter.new ≤ M.comparisons meter.old + I.effort (length (holding self.old).pairs) + most_height (length (holding self.old).pairs) }
-        ensures touches { M.touches meter.new ≤ M.touches meter.old + 64 * (I.effort (length (holding self.old).pairs) + 1) + 66 * (most_height (length (holding self.old).pairs) + 1) }
+        ensures comparisons { let n = length (holding self.old).pairs in M.comparisons meter.new ≤ M.comparisons meter.old + I.effort n + most_height n }
+        ensures touches { let n = length (holding self.old).pairs in M.touches meter.new ≤ M.touches meter.old + 64 * (I.effort n + 1) + 66 * (most_height n + 1) }
     {
         self.table.take_at_right_rank(rank, meter)
     }

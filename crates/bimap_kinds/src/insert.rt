@@ -54,8 +54,8 @@ impl<L: Eq + Drop, R: Eq + Drop, I: Index<L>, J: Index<R>> BijectiveMap<L, R, I,
         meter: &mut M,
     ) -> Result<Overwritten<L, R>, NoRoom<L, R>>
         ensures answer { IsInsertion L.eq R.eq (holding self.old) (left, right) result (holding self.new) }
-        ensures comparisons { M.comparisons meter.new ≤ M.comparisons meter.old + 3 * I.effort (length (holding self.old).pairs) + 5 * J.effort (length (holding self.old).pairs) }
-        ensures touches { M.touches meter.new ≤ M.touches meter.old + 200 * (I.effort (length (holding self.old).pairs) + 1) + 200 * (J.effort (length (holding self.old).pairs) + 1) }
+        ensures comparisons { let n = length (holding self.old).pairs in M.comparisons meter.new ≤ M.comparisons meter.old + 3 * I.effort n + 5 * J.effort n }
+        ensures touches { let n = length (holding self.old).pairs in M.touches meter.new ≤ M.touches meter.old + 200 * (I.effort n + 1) + 200 * (J.effort n + 1) }
     {
         let policy = Policy {
             left: OnHeld::Overwrite,
@@ -77,8 +77,8 @@ impl<L: Eq + Drop, R: Eq + Drop, I: Index<L>, J: Index<R>> BijectiveMap<L, R, I,
         meter: &mut M,
     ) -> Result<Overwritten<L, R>, NotInsertedWith<L, R>>
         ensures answer { IsInsertionUnder L.eq R.eq (holding self.old) (left, right) policy result (holding self.new) }
-        ensures comparisons { M.comparisons meter.new ≤ M.comparisons meter.old + 3 * I.effort (length (holding self.old).pairs) + 5 * J.effort (length (holding self.old).pairs) }
-        ensures touches { M.touches meter.new ≤ M.touches meter.old + 200 * (I.effort (length (holding self.old).pairs) + 1) + 200 * (J.effort (length (holding self.old).pairs) + 1) }
+        ensures comparisons { let n = length (holding self.old).pairs in M.comparisons meter.new ≤ M.comparisons meter.old + 3 * I.effort n + 5 * J.effort n }
+        ensures touches { let n = length (holding self.old).pairs in M.touches meter.new ≤ M.touches meter.old + 200 * (I.effort n + 1) + 200 * (J.effort n + 1) }
     {
         self.table.insert_with(left, right, policy, meter)
     }
@@ -109,8 +109,8 @@ impl<L: Eq + Drop, R: Copy + Eq + Drop, I: Index<L>, J: Index<R>> BijectiveMap<L
         meter: &mut M,
     ) -> Result<R, NotInserted<L, R>>
         ensures answer { IsInterning L.eq R.eq (holding self.old) (left, right) result (holding self.new) }
-        ensures comparisons { M.comparisons meter.new ≤ M.comparisons meter.old + I.effort (length (holding self.old).pairs) + J.effort (length (holding self.old).pairs) }
-        ensures touches { M.touches meter.new ≤ M.touches meter.old + 65 * (I.effort (length (holding self.old).pairs) + 1) + 65 * (J.effort (length (holding self.old).pairs) + 1) }
+        ensures comparisons { let n = length (holding self.old).pairs in M.comparisons meter.new ≤ M.comparisons meter.old + I.effort n + J.effort n }
+        ensures touches { let n = length (holding self.old).pairs in M.touches meter.new ≤ M.touches meter.old + 65 * (I.effort n + 1) + 65 * (J.effort n + 1) }
     {
         self.table.get_by_left_or_insert(left, right, meter)
     }
