@@ -1,5 +1,5 @@
 -- A history that grows by one entry at its end.
-use Rattle.std.proofs.Common.{◌≡◌, ◌↔◌, ◌⊎◌, inl, inr, ◌≤◌, Bool, true, false, Some, None, List, [], ◌∷◌, ◌++◌, length, refl, sym, ap, subst, arith}
+use Rattle.std.proofs.Common.{◌≡◌, ◌↔◌, ◌⊎◌, inl, inr, ◌≤◌, Bool, true, false, Some, None, List, [], ◌∷◌, ◌++◌, length, refl, sym, ap, ◌∙◌, subst, arith}
 use Rattle.std.specs.Prelude.{Contains}
 use Rattle.std.specs.List.{zip}
 use Rattle.std.proofs.lemmas.List.Elements.{Contains-append_left, Contains-append_right}
@@ -13,8 +13,10 @@ use Rattle.bimap.specs.declared.call.Call.TheVariants.{Insert, InsertNoOverwrite
 use Rattle.bimap.specs.declared.call.Reply.{Reply}
 use Rattle.bimap.specs.declared.call.Reply.TheVariants.{Inserted, NoRoom, Put, Occupied, LeftHeld, RightHeld, Removed, Holds, Done}
 use Rattle.bimap.specs.Test.{IsHandedIn}
-use Rattle.bimap.specs.History.{Entry, Puts, Touches, IsNoRoom, IsSurvivor, IsRight, IsLegal, IsOutOfRoom, NeedsRoom, IsHistory, IsStanding, IsWholeHistory}
-use Rattle.bimap.specs.Step.{MayRetain, IsStep}
+use Rattle.bimap.specs.Growth.{IsOutOfRoom, Outgrows}
+use Rattle.bimap.specs.History.{Entry, Puts, Touches, IsNoRoom, IsSurvivor, IsRight, IsLegal, NeedsRoom, IsHistory, IsStanding, IsWholeHistory}
+use Rattle.bimap.specs.Step.{MayRetain, IsStep, IsRoomAfterCall}
+use Rattle.bimap.proofs.Growing.{out_of_room_along, outgrows_first, outgrows_second, room_push}
 
 module _ {L R : Type 0} (same_left : L → L → Bool) (same_right : R → R → Bool) (S T : L × R → Type 0) (to : (p : L × R) → S p → T p) (from : (p : L × R) → T p → S p) where
   -- a reply that is right for a set is right for one with the same members
@@ -61,6 +63,7 @@ module _ {L R K : Type 0} (same_left : L → L → Bool) (same_right : R → R �
     survivors = Survives_none Puts (Touches same_left same_right Test) (Contains old.pairs);
     needs_room = λ before e later q. not_split before later e q;
     not_lower = omega arith;
+    room = inl refl;
   }
 
   module _ (first second third : Holding L R) (g h : List (Entry L R K)) (one : IsHistory same_left same_right Test first g second) (two : IsHistory same_left same_right Test second h third) where
@@ -80,19 +83,23 @@ module _ {L R K : Type 0} (same_left : L → L → Bool) (same_right : R → R �
               (IsRight_along same_left same_right (IsSurvivor same_left same_right Test (Contains second.pairs) w.0) (IsSurvivor same_left same_right Test (Contains first.pairs) (g ++ w.0)) (λ p. (through w.0 p).0) (λ p. (through w.0 p).1) e (two.legal w.0 e later w.2))
         ]
 
-    out_of_room_both : (before : List (Entry L R K)) → IsOutOfRoom same_left same_right Test (Contains second.pairs) before second.room → IsOutOfRoom same_left same_right Test (Contains first.pairs) (g ++ before) first.room
-    out_of_room_both before f = record {
-      pairs = f.pairs;
-      apart = f.apart;
-      survivors = λ p. (λ m. (through before p).0 ((f.survivors p).0 m), λ s. (f.survivors p).1 ((through before p).1 s));
-      full = omega (arith, f.full, one.not_lower);
-    }
-
     needs_room_both : NeedsRoom same_left same_right Test (Contains first.pairs) first.room (g ++ h)
     needs_room_both before e later q n =
         elim (split_append g h before later e q) [
           | inl w ↦ one.needs_room before e w.0 w.1 n
-          | inr w ↦ subst (λ b. IsOutOfRoom same_left same_right Test (Contains first.pairs) b first.room) (sym w.1) (out_of_room_both w.0 (two.needs_room w.0 e later w.2 n))
+          | inr w ↦
+              subst (λ b. IsOutOfRoom same_left same_right (IsSurvivor same_left same_right Test (Contains first.pairs) b) first.room) (sym w.1)
+              (out_of_room_along same_left same_right (IsSurvivor same_left same_right Test (Contains second.pairs) w.0) (IsSurvivor same_left same_right Test (Contains first.pairs) (g ++ w.0)) first.room second.room (through w.0) one.not_lower (two.needs_room w.0 e later w.2 n))
+        ]
+
+    room_both : (third.room ≡ first.room) ⊎ Outgrows same_left same_right Puts (IsSurvivor same_left same_right Test (Contains first.pairs)) (g ++ h) first.room
+    room_both =
+        elim one.room [
+          | inl stays ↦ elim two.room [
+            | inl still ↦ inl (still ∙ stays)
+            | inr o ↦ inr (outgrows_second same_left same_right Puts (IsSurvivor same_left same_right Test (Contains first.pairs)) (IsSurvivor same_left same_right Test (Contains second.pairs)) g h first.room second.room through one.not_lower o)
+          ]
+          | inr o ↦ inr (outgrows_first same_left same_right Puts (IsSurvivor same_left same_right Test (Contains first.pairs)) g h first.room o)
         ]
 
     -- two histories, one after the other
@@ -102,10 +109,11 @@ module _ {L R K : Type 0} (same_left : L → L → Bool) (same_right : R → R �
       survivors = λ p. (λ m. (through h p).0 ((two.survivors p).0 m), λ s. (two.survivors p).1 ((through h p).1 s));
       needs_room = needs_room_both;
       not_lower = omega (arith, one.not_lower, two.not_lower);
+      room = room_both;
     }
 
   -- a history of one call
-  module _ (old new : Holding L R) (e : Entry L R K) (right : IsRight same_left same_right (Contains old.pairs) e) (step : IsStep same_left same_right Test (Contains old.pairs) e (Contains new.pairs)) (full : IsNoRoom e → old.room ≤ length old.pairs) (apart : IsApart same_left same_right old.pairs) (not_lower : old.room ≤ new.room) where
+  module _ (old new : Holding L R) (e : Entry L R K) (right : IsRight same_left same_right (Contains old.pairs) e) (step : IsStep same_left same_right Test (Contains old.pairs) e (Contains new.pairs)) (full : IsNoRoom e → old.room ≤ length old.pairs) (apart : IsApart same_left same_right old.pairs) (not_lower : old.room ≤ new.room) (room : IsRoomAfterCall same_left same_right old e new) where
     unchanged : (p : L × R) → Contains old.pairs p ↔ IsSurvivor same_left same_right Test (Contains old.pairs) [] p
     unchanged = Survives_none Puts (Touches same_left same_right Test) (Contains old.pairs)
 
@@ -121,9 +129,10 @@ module _ {L R K : Type 0} (same_left : L → L → Bool) (same_right : R → R �
       legal = only (λ before f. IsRight same_left same_right (IsSurvivor same_left same_right Test (Contains old.pairs) before) f)
           (IsRight_along same_left same_right (Contains old.pairs) (IsSurvivor same_left same_right Test (Contains old.pairs) []) (λ p. (unchanged p).0) (λ p. (unchanged p).1) e right);
       survivors = survivors_push Puts (Touches same_left same_right Test) (Contains old.pairs) (Contains old.pairs) (Contains new.pairs) [] e unchanged step;
-      needs_room = only (λ before f. IsNoRoom f → IsOutOfRoom same_left same_right Test (Contains old.pairs) before old.room)
-          (λ n. record { pairs = old.pairs; apart = apart; survivors = unchanged; full = full n });
+      needs_room = only (λ before f. IsNoRoom f → IsOutOfRoom same_left same_right (IsSurvivor same_left same_right Test (Contains old.pairs) before) old.room)
+          (λ n. record { pairs = old.pairs; apart = apart; members = unchanged; full = full n });
       not_lower = not_lower;
+      room = room_push same_left same_right Puts (IsSurvivor same_left same_right Test (Contains old.pairs)) old new [] e old.room apart unchanged (omega arith) (inl refl) room;
     }
 
   -- a history that begins with no pair

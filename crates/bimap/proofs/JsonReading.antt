@@ -1,18 +1,21 @@
 -- The entries of an object, read one after the other.
-use Rattle.std.proofs.Common.{◌≡◌, ◌≢◌, ◌↔◌, ℕ, ◌+◌, Bool, List, [], ◌∷◌, ◌++◌, length, refl, sym, subst, ◌∙◌, append_assoc, append-nil, arith}
+use Rattle.std.proofs.Common.{◌≡◌, ◌≢◌, ◌↔◌, ◌⊎◌, inl, ℕ, ◌+◌, ◌≤◌, Bool, List, [], ◌∷◌, ◌++◌, length, refl, sym, subst, ◌∙◌, append_assoc, append-nil, arith}
 use Rattle.std.specs.Prelude.{Contains, Result, Ok, Err}
 use Rattle.std.proofs.lemmas.List.{length_push}
 use Rattle.serde_json.specs.Data.{Data}
-use Rattle.bimap_base.specs.Sets.{IsWithPut}
-use Rattle.bimap_base.specs.Answer.{IsAllowed, IsRefusalUnder}
+use Rattle.bimap_base.specs.Sets.{IsApart}
+use Rattle.bimap_base.specs.Answer.{IsRefusalUnder, overwrites}
+use Rattle.bimap_base.specs.declared.overwritten.Overwritten.{Overwritten}
 use Rattle.bimap_base.specs.declared.refusal.NotInsertedWith.TheVariants.{LeftHeld as LeftKept, RightHeld as RightKept}
 use Rattle.bimap_base.specs.Survivors.{Survives, PutsItself, TouchesSharing, AreSurvivors}
-use Rattle.bimap_base.specs.Holding.{Holding}
+use Rattle.bimap_base.specs.Holding.{Holding, IsInsertionUnder}
 use Rattle.bimap_base.specs.Extension.{AreAllowed}
 use Rattle.bimap_base.specs.declared.policy.OnHeld.TheVariants.{Refuse}
 use Rattle.bimap_base.specs.declared.policy.Policy.{Policy}
 use Rattle.bimap_base.proofs.Survivors.{items_none, items_push, not_split}
 use Rattle.bimap_base.proofs.Extending.{allowed_push}
+use Rattle.bimap.specs.Growth.{Outgrows}
+use Rattle.bimap.proofs.Growing.{answer_overwrites, room_after, room_push}
 use Rattle.bimap.specs.JsonObjects.{Entry, HasEntries, ReadsAs, EachReadsAs, StopsAt, StopsUnder, IsReadIntoUnder, ReadsObject, ReadsObjectUnder}
 use Rattle.bimap.specs.declared.value.object.JsonFault.{JsonFault}
 use Rattle.bimap.specs.declared.value.object.JsonFault.TheVariants.{NotAnObject, BadKey, BadValue, LeftHeld, RightHeld, Memory}
@@ -26,16 +29,18 @@ module _ {L R : Type 0} (reads_key : List ℕ → L → Type 0) (reads : Data �
 
   module _ (same_left : L → L → Bool) (same_right : R → R → Bool) (policy : Policy) where
     -- so many entries of all were read as pairs, whose survivors are held, and these are left
-    pub record IsReading (all left : List Entry) (held : List (L × R)) (at : ℕ) : Type 0 where
+    pub record IsReading (all left : List Entry) (places : ℕ) (held : Holding L R) (at : ℕ) : Type 0 where
       pub before : List Entry
       pub split : all ≡ before ++ left
       pub place : length before ≡ at
       pub pairs : List (L × R)
       pub read : EachReadsAs reads_key reads before pairs
-      pub survivors : AreSurvivors same_left same_right (Contains []) pairs (Contains held)
+      pub survivors : AreSurvivors same_left same_right (Contains []) pairs (Contains held.pairs)
       pub allowed : AreAllowed same_left same_right (Contains []) pairs policy
+      pub not_lower : places ≤ held.room
+      pub room : (held.room ≡ places) ⊎ Outgrows same_left same_right PutsItself (Survives PutsItself (TouchesSharing same_left same_right) (Contains [])) pairs places
 
-    pub reading_first : (all : List Entry) (held : List (L × R)) → held ≡ [] → IsReading all all held 0
+    pub reading_first : (all : List Entry) (held : Holding L R) → held.pairs ≡ [] → IsReading all all held.room held 0
     reading_first all held empty = record {
       before = [];
       split = refl;
@@ -44,21 +49,27 @@ module _ {L R : Type 0} (reads_key : List ℕ → L → Type 0) (reads : Data �
       read = tt;
       survivors = subst (λ h. AreSurvivors same_left same_right (Contains []) [] (Contains h)) (sym empty) (items_none same_left same_right (Contains []));
       allowed = λ before item later q. not_split before later item q;
+      not_lower = omega arith;
+      room = inl refl;
     }
 
-    pub reading_more : (all left : List Entry) (e : Entry) (old new : List (L × R)) (at : ℕ) (p : L × R) → IsReading all (e ∷ left) old at → ReadsAs reads_key reads e p → IsAllowed same_left same_right (Contains old) p policy → IsWithPut same_left same_right (Contains old) p (Contains new) → IsReading all left new (at + 1)
-    reading_more all left e old new at p r one let_in put = record {
+    pub reading_more : (all left : List Entry) (e : Entry) (places : ℕ) (old new : Holding L R) (at : ℕ) (p : L × R) (answer : Overwritten L R) → IsReading all (e ∷ left) places old at → ReadsAs reads_key reads e p → IsApart same_left same_right old.pairs → length old.pairs ≤ old.room → IsInsertionUnder same_left same_right old p policy (Ok answer) new → IsReading all left places new (at + 1)
+    reading_more all left e places old new at p answer r one apart fits insertion = record {
       before = r.before ++ e ∷ [];
       split = r.split ∙ sym (append_assoc r.before (e ∷ []) left);
       place = length_push r.before e ∙ omega (arith, r.place);
       pairs = r.pairs ++ p ∷ [];
       read = read_more r.before r.pairs e p r.read one;
-      survivors = items_push same_left same_right (Contains []) (Contains old) (Contains new) r.pairs p r.survivors put;
-      allowed = allowed_push same_left same_right (Contains []) (Contains old) r.pairs p policy r.survivors r.allowed let_in;
+      survivors = items_push same_left same_right (Contains []) (Contains old.pairs) (Contains new.pairs) r.pairs p r.survivors insertion.put;
+      allowed = allowed_push same_left same_right (Contains []) (Contains old.pairs) r.pairs p policy r.survivors r.allowed insertion.allowed;
+      not_lower = omega (arith, r.not_lower, insertion.room.not_lower);
+      room =
+          room_push same_left same_right PutsItself (Survives PutsItself (TouchesSharing same_left same_right) (Contains [])) old new r.pairs p places apart r.survivors r.not_lower r.room
+          (room_after same_left same_right PutsItself old new p p (overwrites answer) refl fits (answer_overwrites same_left same_right (Contains old.pairs) p answer insertion.answer) insertion.room);
     }
 
-    pub reading_stops : (value : Data) (all left : List Entry) (e : Entry) (held : List (L × R)) (at : ℕ) (P : (L × R → Type 0) → Entry → Type 0) → HasEntries value all → IsReading all (e ∷ left) held at → ((S : L × R → Type 0) → ((p : L × R) → Contains held p ↔ S p) → P S e) → StopsUnder reads_key reads same_left same_right value policy at P
-    reading_stops value all left e held at P has r stops = record {
+    pub reading_stops : (value : Data) (all left : List Entry) (e : Entry) (places : ℕ) (held : Holding L R) (at : ℕ) (P : (L × R → Type 0) → Entry → Type 0) → HasEntries value all → IsReading all (e ∷ left) places held at → ((S : L × R → Type 0) → ((p : L × R) → Contains held.pairs p ↔ S p) → P S e) → StopsUnder reads_key reads same_left same_right value policy at P
+    reading_stops value all left e places held at P has r stops = record {
       before = r.before;
       entry = e;
       rest = left;
@@ -70,14 +81,16 @@ module _ {L R : Type 0} (reads_key : List ℕ → L → Type 0) (reads : Data �
       stops = stops (Survives PutsItself (TouchesSharing same_left same_right) (Contains []) r.pairs) r.survivors;
     }
 
-    pub reading_done : (value : Data) (all : List Entry) (held : List (L × R)) (at : ℕ) → HasEntries value all → IsReading all [] held at → IsReadIntoUnder reads_key reads same_left same_right value policy held
-    reading_done value all held at has r = record {
+    pub reading_done : (value : Data) (all : List Entry) (places : ℕ) (held : Holding L R) (at : ℕ) → HasEntries value all → IsReading all [] places held at → IsReadIntoUnder reads_key reads same_left same_right value places policy held
+    reading_done value all places held at has r = record {
       is_read = record {
         entries = r.before;
         has = subst (HasEntries value) (r.split ∙ append-nil r.before) has;
         pairs = r.pairs;
         read = r.read;
         survivors = r.survivors;
+        not_lower = r.not_lower;
+        room = r.room;
       };
       allowed = r.allowed;
     }
@@ -103,11 +116,11 @@ module _ {L R : Type 0} (reads_key : List ℕ → L → Type 0) (reads : Data �
     }
 
     -- a reading under a policy that keeps nothing
-    pub read_any : {B : Type 0} (holding : B → Holding L R) (value : Data) → policy.left ≢ Refuse → policy.right ≢ Refuse → (result : Result B JsonFault) → ReadsObjectUnder reads_key reads same_left same_right holding value policy result → ReadsObject reads_key reads same_left same_right holding value result
-    read_any holding value left right (Ok b) h = h.is_read
-    read_any holding value left right (Err NotAnObject) h = h
-    read_any holding value left right (Err (BadKey at)) h = stopped_any value at _ h
-    read_any holding value left right (Err (BadValue at)) h = stopped_any value at _ h
-    read_any holding value left right (Err (LeftHeld at)) h = left h.stops.2.1
-    read_any holding value left right (Err (RightHeld at)) h = right h.stops.2.2
-    read_any holding value left right (Err Memory) h = (h.0, stopped_any value h.0 _ h.1)
+    pub read_any : {B : Type 0} (holding : B → Holding L R) (places : ℕ) (value : Data) → policy.left ≢ Refuse → policy.right ≢ Refuse → (result : Result B JsonFault) → ReadsObjectUnder reads_key reads same_left same_right holding places value policy result → ReadsObject reads_key reads same_left same_right holding places value result
+    read_any holding places value left right (Ok b) h = h.is_read
+    read_any holding places value left right (Err NotAnObject) h = h
+    read_any holding places value left right (Err (BadKey at)) h = stopped_any value at _ h
+    read_any holding places value left right (Err (BadValue at)) h = stopped_any value at _ h
+    read_any holding places value left right (Err (LeftHeld at)) h = left h.stops.2.1
+    read_any holding places value left right (Err (RightHeld at)) h = right h.stops.2.2
+    read_any holding places value left right (Err Memory) h = (h.0, stopped_any value h.0 _ h.1)

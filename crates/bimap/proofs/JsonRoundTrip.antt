@@ -84,14 +84,14 @@ module _ {L R : Type 0} (same_left : L → L → Bool) (same_right : R → R →
         λ i. l i && m i
 
     module _ (value : Data) (object : IsObjectOf (IsEntryOf writes_key writes (Contains ps)) value) where
-      module _ (held : List (L × R)) (read : IsReadInto key val same_left same_right value held) where
+      module _ (places : ℕ) (new : Holding L R) (read : IsReadInto key val same_left same_right value places new) where
         es : List Entry
         es = object.entries
 
         each_read : EachReadsAs key val object.entries read.pairs
         each_read = subst (λ l. EachReadsAs key val l read.pairs) (has_unique value read.entries object.entries read.has object.has) read.read
 
-        forth : (p : L × R) → Contains ps p → HasEqual same_left same_right (Contains held) p
+        forth : (p : L × R) → Contains ps p → HasEqual same_left same_right (Contains new.pairs) p
         forth p c = (q, (read.survivors q).1 (inr stays), pairs.symm p q ∙ like)
           where
             e : Entry
@@ -120,7 +120,7 @@ module _ {L R : Type 0} (same_left : L → L → Bool) (same_right : R → R →
             stays : IsPutToStay PutsItself (TouchesSharing same_left same_right) read.pairs q
             stays = record { before = r.before; entry = q; later = r.after; split = r.is; puts = refl; untouched = none }
 
-        back : (q : L × R) → Contains held q → HasEqual same_left same_right (Contains ps) q
+        back : (q : L × R) → Contains new.pairs q → HasEqual same_left same_right (Contains ps) q
         back q c = by ((read.survivors q).0 c)
           where
             by : Survives PutsItself (TouchesSharing same_left same_right) (Contains []) read.pairs q → HasEqual same_left same_right (Contains ps) q
@@ -131,27 +131,27 @@ module _ {L R : Type 0} (same_left : L → L → Bool) (same_right : R → R →
                 let w = (object.exactly f.0).0 f.1 in
                 (w.0, w.1, alike f.0 w.0 q w.1 w.2 f.2)
 
-        reread_same : IsApart same_left same_right held → IsSame same_left same_right ps held
-        reread_same other = (omega (arith, no_more ps held apart forth, no_more held ps other back), forth)
+        reread_same : IsApart same_left same_right new.pairs → IsSame same_left same_right ps new.pairs
+        reread_same other = (omega (arith, no_more ps new.pairs apart forth, no_more new.pairs ps other back), forth)
 
       -- an entry at which a reading stops was written of some pair
       stopped_at : (at : ℕ) (P : Entry → Type 0) (s : StopsAt key val value at P) → IsEntryOf writes_key writes (Contains ps) s.entry
       stopped_at at P s = (object.exactly s.entry).0 (subst (λ l. Contains l s.entry) (has_unique value (s.before ++ s.entry ∷ s.rest) object.entries s.has object.has) (middle_in s.before s.entry s.rest))
 
-      reread_fault : {B : Type 0} (holding : B → Holding L R) (fault : JsonFault) → ReadsObject key val same_left same_right holding value (Err fault) → fault ≡ Memory
-      reread_fault holding NotAnObject h = let e : Some object.has.members ≡ None = sym object.has.is_object ∙ h in absurd (cc)
-      reread_fault holding (BadKey at) h =
+      reread_fault : {B : Type 0} (holding : B → Holding L R) (places : ℕ) (fault : JsonFault) → ReadsObject key val same_left same_right holding places value (Err fault) → fault ≡ Memory
+      reread_fault holding places NotAnObject h = let e : Some object.has.members ≡ None = sym object.has.is_object ∙ h in absurd (cc)
+      reread_fault holding places (BadKey at) h =
           let w = stopped_at at _ h in
           let b = (each w.0 w.1).0 in
           absurd (h.stops b.as_value (subst (λ f. key f.0 b.as_value) (sym w.2) b.reads))
-      reread_fault holding (BadValue at) h =
+      reread_fault holding places (BadValue at) h =
           let w = stopped_at at _ h in
           let b = (each w.0 w.1).1 in
           absurd (h.stops.1 b.as_value (subst (λ f. val f.1 b.as_value) (sym w.2) b.reads))
-      reread_fault holding (LeftHeld at) h = absurd h
-      reread_fault holding (RightHeld at) h = absurd h
-      reread_fault holding Memory h = refl
+      reread_fault holding places (LeftHeld at) h = absurd h
+      reread_fault holding places (RightHeld at) h = absurd h
+      reread_fault holding places Memory h = refl
 
-      pub reread : {B : Type 0} (holding : B → Holding L R) → ((b : B) → IsApart same_left same_right (holding b).pairs) → (result : Result B JsonFault) → ReadsObject key val same_left same_right holding value result → IfOk result (λ copy. IsSame same_left same_right ps (holding copy).pairs) × IfErr result (λ fault. fault ≡ Memory)
-      reread holding others (Ok b) h = (reread_same (holding b).pairs h (others b), tt)
-      reread holding others (Err fault) h = (tt, reread_fault holding fault h)
+      pub reread : {B : Type 0} (holding : B → Holding L R) (places : ℕ) → ((b : B) → IsApart same_left same_right (holding b).pairs) → (result : Result B JsonFault) → ReadsObject key val same_left same_right holding places value result → IfOk result (λ copy. IsSame same_left same_right ps (holding copy).pairs) × IfErr result (λ fault. fault ≡ Memory)
+      reread holding places others (Ok b) h = (reread_same places (holding b) h (others b), tt)
+      reread holding places others (Err fault) h = (tt, reread_fault holding places fault h)

@@ -1,6 +1,6 @@
 -- A history: calls with their replies, in order, after a set of pairs.
-use Rattle.std.specs.Prelude.{◌≡◌, ◌↔◌, ℕ, ◌≤◌, Bool, true, false, Some, None, List, ◌∷◌, ◌++◌, length, Contains}
-use Rattle.bimap_base.specs.Sets.{shares, NoneShares, SomeShares, HasLeft, LacksLeft, HasRight, LacksRight, IsApart}
+use Rattle.std.specs.Prelude.{◌≡◌, ◌↔◌, ◌⊎◌, ℕ, ◌≤◌, Bool, true, false, Some, None, List, ◌∷◌, ◌++◌, Contains}
+use Rattle.bimap_base.specs.Sets.{shares, NoneShares, SomeShares, HasLeft, LacksLeft, HasRight, LacksRight}
 use Rattle.bimap_base.specs.Answer.{IsAnswer, IsAllowed}
 use Rattle.bimap_base.specs.Survivors.{Survives, IsPutToStay}
 use Rattle.bimap_base.specs.Holding.{Holding}
@@ -9,6 +9,7 @@ use Rattle.bimap.specs.declared.call.Call.{Call}
 use Rattle.bimap.specs.declared.call.Call.TheVariants.{Insert, InsertNoOverwrite, InsertWith, RemoveByLeft, RemoveByRight, ContainsLeft, ContainsRight, Retain, Clear}
 use Rattle.bimap.specs.declared.call.Reply.{Reply}
 use Rattle.bimap.specs.declared.call.Reply.TheVariants.{Inserted, NoRoom, Put, Occupied, LeftHeld, RightHeld, Removed, Holds, Done}
+use Rattle.bimap.specs.Growth.{IsOutOfRoom, Outgrows}
 
 -- a call with its reply
 abbrev pub Entry : (L R K : Type 0) → Type 0
@@ -74,25 +75,20 @@ module _ {L R K : Type 0} (same_left : L → L → Bool) (same_right : R → R �
       (before : List (Entry L R K)) (entry : Entry L R K) (later : List (Entry L R K)) →
       history ≡ before ++ entry ∷ later → IsRight same_left same_right (IsSurvivor S before) entry
 
-  -- the survivors, each once, are as many as the places or more
-  pub record IsOutOfRoom (S : L × R → Type 0) (history : List (Entry L R K)) (room : ℕ) : Type 0 where
-    pub pairs : List (L × R)
-    pub apart : IsApart same_left same_right pairs
-    pub survivors : (p : L × R) → Contains pairs p ↔ IsSurvivor S history p
-    pub full : room ≤ length pairs
-
   -- want of memory is answered only where as many pairs are held as there were places at first
   abbrev pub NeedsRoom : (L × R → Type 0) → ℕ → List (Entry L R K) → Type 0
   NeedsRoom S room history =
       (before : List (Entry L R K)) (entry : Entry L R K) (later : List (Entry L R K)) →
-      history ≡ before ++ entry ∷ later → IsNoRoom entry → IsOutOfRoom S before room
+      history ≡ before ++ entry ∷ later → IsNoRoom entry → IsOutOfRoom same_left same_right (IsSurvivor S before) room
 
-  -- the history leads from old to new: its replies are right, and what is held are the survivors
+  -- the history leads from old to new: its replies are right, and what is held are the survivors. The room never falls, and
+  -- stays unless the history outgrows it
   pub record IsHistory (old : Holding L R) (history : List (Entry L R K)) (new : Holding L R) : Type 0 where
     pub legal : IsLegal (Contains old.pairs) history
     pub survivors : (p : L × R) → Contains new.pairs p ↔ IsSurvivor (Contains old.pairs) history p
     pub needs_room : NeedsRoom (Contains old.pairs) old.room history
     pub not_lower : old.room ≤ new.room
+    pub room : (new.room ≡ old.room) ⊎ Outgrows same_left same_right Puts (IsSurvivor (Contains old.pairs)) history old.room
 
   -- p is the pair of a successful insertion of the history, and no later call touches it
   abbrev pub IsStanding : List (Entry L R K) → L × R → Type 0

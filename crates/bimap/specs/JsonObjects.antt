@@ -1,5 +1,5 @@
 -- The object of a set of pairs, and the bimap of an object.
-use Rattle.std.specs.Prelude.{◌≡◌, ◌↔◌, ℕ, Bool, List, [], ◌∷◌, ◌++◌, Some, None, Result, Ok, Err, length, map, Contains}
+use Rattle.std.specs.Prelude.{◌≡◌, ◌↔◌, ◌⊎◌, ℕ, ◌≤◌, Bool, List, [], ◌∷◌, ◌++◌, Some, None, Result, Ok, Err, length, map, Contains}
 use Rattle.std.specs.List.Sorted.{IsStrictlySortedBy}
 use Rattle.std.specs.Cmp.Lexicographic.{slice_cmp}
 use Rattle.std.specs.Ordering.{nat_cmp}
@@ -12,6 +12,7 @@ use Rattle.bimap_base.specs.Extension.{AreAllowed}
 use Rattle.bimap_base.specs.Holding.{Holding}
 use Rattle.bimap_base.specs.declared.policy.Policy.{Policy}
 use Rattle.bimap_base.specs.declared.refusal.NotInsertedWith.TheVariants.{LeftHeld as LeftKept, RightHeld as RightKept}
+use Rattle.bimap.specs.Growth.{Outgrows}
 use Rattle.bimap.specs.JsonReading.{ReadsNothing, ReadsBack}
 use Rattle.bimap.specs.declared.value.object.JsonFault.{JsonFault}
 use Rattle.bimap.specs.declared.value.object.JsonFault.TheVariants.{NotAnObject, BadKey, BadValue, LeftHeld, RightHeld, Memory}
@@ -88,27 +89,32 @@ module _ {L R : Type 0} (reads_key : List ℕ → L → Type 0) (reads : Data �
     pub stops : P entry
 
   module _ (same_left : L → L → Bool) (same_right : R → R → Bool) where
-    -- all entries of the object read as pairs, and exactly the survivors of these are held
-    pub record IsReadInto (value : Data) (held : List (L × R)) : Type 0 where
+    -- all entries of the object read as pairs, and exactly the survivors of these are held. The room is never below so many
+    -- places, and it is that unless the pairs outgrow it
+    pub record IsReadInto (value : Data) (places : ℕ) (new : Holding L R) : Type 0 where
       pub entries : List Entry
       pub has : HasEntries value entries
       pub pairs : List (L × R)
       pub read : EachReadsAs entries pairs
-      pub survivors : AreSurvivors same_left same_right (Contains []) pairs (Contains held)
+      pub survivors : AreSurvivors same_left same_right (Contains []) pairs (Contains new.pairs)
+      pub not_lower : places ≤ new.room
+      pub room : (new.room ≡ places)
+          ⊎ Outgrows same_left same_right PutsItself (Survives PutsItself (TouchesSharing same_left same_right) (Contains [])) pairs places
 
-    -- what the reading of a bimap answers. The first faulty entry is named, and of it the key first
-    abbrev pub ReadsObject : {B : Type 0} → (B → Holding L R) → Data → Result B JsonFault → Type 0
-    ReadsObject holding value (Ok b) = IsReadInto value (holding b).pairs
-    ReadsObject holding value (Err NotAnObject) = as_object value ≡ None
-    ReadsObject holding value (Err (BadKey at)) = StopsAt value at (λ e. ReadsNothing (reads_key e.0))
-    ReadsObject holding value (Err (BadValue at)) = StopsAt value at (λ e. ((l : L) × reads_key e.0 l) × ReadsNothing (reads e.1))
-    ReadsObject holding value (Err (LeftHeld at)) = ⊥
-    ReadsObject holding value (Err (RightHeld at)) = ⊥
-    ReadsObject holding value (Err Memory) = (at : ℕ) × StopsAt value at (λ e. Unit {0})
+    -- what the reading into a bimap of no pairs and so many places answers. The first faulty entry is named, and of it the
+    -- key first
+    abbrev pub ReadsObject : {B : Type 0} → (B → Holding L R) → ℕ → Data → Result B JsonFault → Type 0
+    ReadsObject holding places value (Ok b) = IsReadInto value places (holding b)
+    ReadsObject holding places value (Err NotAnObject) = as_object value ≡ None
+    ReadsObject holding places value (Err (BadKey at)) = StopsAt value at (λ e. ReadsNothing (reads_key e.0))
+    ReadsObject holding places value (Err (BadValue at)) = StopsAt value at (λ e. ((l : L) × reads_key e.0 l) × ReadsNothing (reads e.1))
+    ReadsObject holding places value (Err (LeftHeld at)) = ⊥
+    ReadsObject holding places value (Err (RightHeld at)) = ⊥
+    ReadsObject holding places value (Err Memory) = (at : ℕ) × StopsAt value at (λ e. Unit {0})
 
     -- and the policy let each of them in
-    pub record IsReadIntoUnder (value : Data) (policy : Policy) (held : List (L × R)) : Type 0 where
-      pub is_read : IsReadInto value held
+    pub record IsReadIntoUnder (value : Data) (places : ℕ) (policy : Policy) (new : Holding L R) : Type 0 where
+      pub is_read : IsReadInto value places new
       pub allowed : AreAllowed same_left same_right (Contains []) is_read.pairs policy
 
     -- so many entries of an object read as pairs that the policy let in, and the next one has P, told of their survivors
@@ -123,18 +129,18 @@ module _ {L R : Type 0} (reads_key : List ℕ → L → Type 0) (reads : Data �
       pub allowed : AreAllowed same_left same_right (Contains []) pairs policy
       pub stops : P (Survives PutsItself (TouchesSharing same_left same_right) (Contains []) pairs) entry
 
-    -- what the reading of a bimap under a policy answers. The first faulty entry is named: its key is asked first, then
-    -- its value, then whether the policy lets the pair in
-    abbrev pub ReadsObjectUnder : {B : Type 0} → (B → Holding L R) → Data → Policy → Result B JsonFault → Type 0
-    ReadsObjectUnder holding value policy (Ok b) = IsReadIntoUnder value policy (holding b).pairs
-    ReadsObjectUnder holding value policy (Err NotAnObject) = as_object value ≡ None
-    ReadsObjectUnder holding value policy (Err (BadKey at)) = StopsUnder value policy at (λ S e. ReadsNothing (reads_key e.0))
-    ReadsObjectUnder holding value policy (Err (BadValue at)) = StopsUnder value policy at (λ S e. ((l : L) × reads_key e.0 l) × ReadsNothing (reads e.1))
-    ReadsObjectUnder holding value policy (Err (LeftHeld at)) =
+    -- what the reading into such a bimap under a policy answers. The first faulty entry is named: its key is asked first,
+    -- then its value, then whether the policy lets the pair in
+    abbrev pub ReadsObjectUnder : {B : Type 0} → (B → Holding L R) → ℕ → Data → Policy → Result B JsonFault → Type 0
+    ReadsObjectUnder holding places value policy (Ok b) = IsReadIntoUnder value places policy (holding b)
+    ReadsObjectUnder holding places value policy (Err NotAnObject) = as_object value ≡ None
+    ReadsObjectUnder holding places value policy (Err (BadKey at)) = StopsUnder value policy at (λ S e. ReadsNothing (reads_key e.0))
+    ReadsObjectUnder holding places value policy (Err (BadValue at)) = StopsUnder value policy at (λ S e. ((l : L) × reads_key e.0 l) × ReadsNothing (reads e.1))
+    ReadsObjectUnder holding places value policy (Err (LeftHeld at)) =
         StopsUnder value policy at (λ S e. (p : L × R) × ReadsAs e p × IsRefusalUnder same_left same_right S ⊥ p policy (LeftKept p.0 p.1))
-    ReadsObjectUnder holding value policy (Err (RightHeld at)) =
+    ReadsObjectUnder holding places value policy (Err (RightHeld at)) =
         StopsUnder value policy at (λ S e. (p : L × R) × ReadsAs e p × IsRefusalUnder same_left same_right S ⊥ p policy (RightKept p.0 p.1))
-    ReadsObjectUnder holding value policy (Err Memory) = (at : ℕ) × StopsUnder value policy at (λ S e. Unit {0})
+    ReadsObjectUnder holding places value policy (Err Memory) = (at : ℕ) × StopsUnder value policy at (λ S e. Unit {0})
 
 -- what references to the sides show
 abbrev pub shown_pairs : {L R : Type 0} → List (Bor L × Bor R) → List (L × R)

@@ -14,6 +14,7 @@ pub use Rattle.bimap_base.specs.Capacity
 pub mod BTree
 pub mod Hash
 pub mod Test
+pub mod Growth
 pub mod History
 pub mod Step
 pub mod Trail

@@ -1,7 +1,9 @@
 -- What one call needs and leaves.
-use Rattle.std.specs.Prelude.{◌≡◌, ◌↔◌, ◌⊎◌, Bool}
+use Rattle.std.specs.Prelude.{◌≡◌, ◌↔◌, ◌⊎◌, Bool, Contains}
+use Rattle.bimap_base.specs.Holding.{Holding, IsFull}
 use Rattle.bimap.specs.declared.call.Call.{Call}
 use Rattle.bimap.specs.declared.call.Call.TheVariants.{Retain}
+use Rattle.bimap.specs.Growth.{Adds}
 use Rattle.bimap.specs.History.{Entry, Puts, Touches}
 
 -- the test may be called on the key of a `Retain` and each member of S
@@ -12,3 +14,8 @@ MayRetain {L} {R} {K} IsDecided S call = (k : K) (p : L × R) → call ≡ Retai
 abbrev pub IsStep : {L R K : Type 0} → (L → L → Bool) → (R → R → Bool) → (K → L × R → Bool → Type 0) → (L × R → Type 0) → Entry L R K → (L × R → Type 0) → Type 0
 IsStep {L} {R} same_left same_right Test S entry T =
     (p : L × R) → T p ↔ (Puts entry p ⊎ (S p × (Touches same_left same_right Test entry p → ⊥)))
+
+-- the room is as it was, or the entry added a pair where no place was free
+abbrev pub IsRoomAfterCall : {L R K : Type 0} → (L → L → Bool) → (R → R → Bool) → Holding L R → Entry L R K → Holding L R → Type 0
+IsRoomAfterCall same_left same_right old entry new =
+    (new.room ≡ old.room) ⊎ (Adds same_left same_right Puts (Contains old.pairs) entry × IsFull old)

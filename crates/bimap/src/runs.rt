@@ -3,7 +3,7 @@ ghost use Rattle.std.specs.Prelude.{◌≡◌, ◌≤◌, [], length, Contains, 
 ghost use Rattle.std.specs.List.{zip};
 ghost use Rattle.bimap.specs.Test.{Answers, IsDecided, IsTestOf};
 ghost use Rattle.bimap.specs.History.{IsNoRoom, IsRight, IsHistory, IsWholeHistory};
-ghost use Rattle.bimap.specs.Step.{MayRetain, IsStep};
+ghost use Rattle.bimap.specs.Step.{MayRetain, IsStep, IsRoomAfterCall};
 
 use crate::call::{Call, Reply, RunRefused};
 use bimap_base::{Bijection, NoRoom, NotInserted, NotInsertedWith};
@@ -11,8 +11,9 @@ use std::alloc::Global;
 
 /// Performs one call and returns its reply.
 ///
-/// It costs what the call costs. A refusal leaves the pairs as they were, and `NoRoom` comes only where no place is
-/// free. The test says which pairs a `Retain` keeps: for its key and each pair it must have one answer.
+/// It costs what the call costs. A refusal leaves the pairs as they were. `NoRoom` comes only where no place is free, and
+/// only there does the capacity grow. The test says which pairs a `Retain` keeps: for its key and each pair it must have
+/// one answer.
 ///
 ///     let reply = perform(&mut seats, Call::InsertNoOverwrite('a', 1), &|_: &u32, _: &char, _: &u32| true);
 ///     // Reply::Put, or Reply::Occupied('a', 1), or Reply::NoRoom('a', 1)
@@ -25,6 +26,7 @@ pub fn perform<L: Eq + Drop, R: Eq + Drop, K: Drop, B: Bijection<L, R>, F: Fn(&K
     ensures right { IsRight L.eq R.eq (Contains (B.holding bimap.old).pairs) (call, result) }
     ensures step { IsStep L.eq R.eq (Answers F.Fn test.now) (Contains (B.holding bimap.old).pairs) (call, result) (Contains (B.holding bimap.new).pairs) }
     ensures not_lower { (B.holding bimap.old).room ≤ (B.holding bimap.new).room }
+    ensures room { IsRoomAfterCall L.eq R.eq (B.holding bimap.old) (call, result) (B.holding bimap.new) }
     ensures full { IsNoRoom (call, result) → (B.holding bimap.old).room ≤ length (B.holding bimap.old).pairs }
 {
     match call {
@@ -66,8 +68,8 @@ pub fn perform<L: Eq + Drop, R: Eq + Drop, K: Drop, B: Bijection<L, R>, F: Fn(&K
 
 /// Performs the calls in order, as [`perform`] does, and returns a reply for each.
 ///
-/// It takes memory for all replies first. An `Err` hands the calls back, and nothing was called; a `NoRoom` doesn't end
-/// the run.
+/// It takes memory for all replies first, and reserves no places ahead. An `Err` hands the calls back, and nothing was
+/// called; a `NoRoom` doesn't end the run.
 ///
 ///     // the key of a `Retain` is the least seat to keep
 ///     let calls = vec![in alloc; Call::Insert('d', 4), Call::Retain(2), Call::ContainsLeft('b')]?;

@@ -14,7 +14,8 @@ pub struct UndoRunStopped<L, R> {
 /// Undoes insertions that led to what the bimap contains, the last one first. An entry is a left with what its
 /// insertion returned.
 ///
-/// Each costs an `undo_insert`, and is out of memory only for `Both` where no place is free.
+/// Each costs an `undo_insert`, and is out of memory only for `Both` where no place is free. Only there does the capacity
+/// grow.
 ///
 ///     // `entries` of the insertion of 'a' with 1: [('a', Overwritten::Both(('a', 3), ('b', 1)))]
 ///     undo_run(&mut seats, entries)?;

@@ -30,7 +30,7 @@ pub fn read_codes<L: JsonKey + Ord + Drop, R: JsonValue + Eq + Hash + Drop>(
     alloc: Global,
     object: &Value,
 ) -> Result<BiBTreeHashMap<L, R>, JsonFault>
-    ensures { ReadsObjectUnder L.reads_key R.reads L.eq R.eq holding (view object.now) (record { left = OnHeld.Refuse; right = OnHeld.Refuse }) result }
+    ensures { ReadsObjectUnder L.reads_key R.reads L.eq R.eq holding 0 (view object.now) (record { left = OnHeld.Refuse; right = OnHeld.Refuse }) result }
 {
     read_into_with(alloc, BiBTreeHashMap::new(alloc), object, ONCE)
 }

@@ -29,6 +29,7 @@ as_history old history new h = record {
   survivors = h.survivors;
   needs_room = λ before e later q n. absurd (h.has_room e (subst (λ l. Contains l e) (sym q) (entry_in before later e)) n);
   not_lower = omega arith;
+  room = inl refl;
 }
 
 pub LeadsTo_push : (old : List (ℕ × ℕ)) (history : List Answered) (pairs : List (ℕ × ℕ)) (e : Answered) (new : List (ℕ × ℕ)) → LeadsTo old history pairs → LeadsTo pairs (e ∷ []) new → LeadsTo old (history ++ e ∷ []) new

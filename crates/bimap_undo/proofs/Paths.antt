@@ -1,12 +1,12 @@
 -- Records that grow and shrink at their end.
 use Rattle.std.proofs.Common.{◌≡◌, ◌⊎◌, inl, inr, ℕ, ◌≤◌, Bool, List, [], ◌∷◌, ◌++◌, length, drop, sym, ap, ◌∙◌, subst, arith, true≢false, length-append}
-use Rattle.std.specs.Prelude.{Contains, MatchBool}
+use Rattle.std.specs.Prelude.{Contains}
 use Rattle.std.specs.Cmp.{IsEquivalence}
-use Rattle.std.proofs.lemmas.Bool.{cases_lt, cases_Bool, or_left, or_right, or_parts}
+use Rattle.std.proofs.lemmas.Bool.{cases_lt, cases_Bool, or_parts}
 use Rattle.std.proofs.lemmas.List.{drop-append-le}
 use Rattle.std.proofs.Math.Seq.{drop-length, drop-append_seam}
-use Rattle.bimap.specs.Sets.{shares, NoneShares, SomeShares, IsApart, IsSameSet}
-use Rattle.bimap.specs.Answer.{IsAnswer, IsBoth, overwrites}
+use Rattle.bimap.specs.Sets.{shares, IsApart, IsSameSet}
+use Rattle.bimap.specs.Answer.{IsAnswer, IsBoth}
 use Rattle.bimap.specs.Undoing.{IsInserting, IsUndone}
 use Rattle.bimap.specs.declared.Overwritten.{Overwritten}
 use Rattle.bimap.specs.declared.Overwritten.TheVariants.{Neither, Left, Right, Pair, Both}
@@ -34,14 +34,6 @@ module _ {X : Type 0} where
   same_set_through S T U h k x = (λ m. (k x).0 ((h x).0 m), λ m. (h x).1 ((k x).1 m))
 
 module _ {L R : Type 0} (same_left : L → L → Bool) (same_right : R → R → Bool) where
-  -- whether an answer names pairs
-  pub answer_overwrites : (S : L × R → Type 0) (new : L × R) (answer : Overwritten L R) → IsAnswer same_left same_right S new answer → MatchBool (overwrites answer) (SomeShares same_left same_right S new) (NoneShares same_left same_right S new)
-  answer_overwrites S new Neither h = h
-  answer_overwrites S new (Left l r) h = ((l, r), h.0.member, or_left (same_left l new.0) (same_right r new.1) h.1)
-  answer_overwrites S new (Right l r) h = ((l, r), h.0.member, or_right (same_left l new.0) (same_right r new.1) h.2)
-  answer_overwrites S new (Pair l r) h = ((l, r), h.0.member, or_left (same_left l new.0) (same_right r new.1) h.1)
-  answer_overwrites S new (Both p q) h = (p, h.first, or_left (same_left p.0 new.0) (same_right p.1 new.1) h.by_left)
-
   -- an answer is the same for a list with the same members
   answer_from : (S T : L × R → Type 0) (new : L × R) (answer : Overwritten L R) → IsSameSet S T → IsAnswer same_left same_right S new answer → IsAnswer same_left same_right T new answer
   answer_from S T new Neither s h = λ q m. h q ((s q).1 m)

@@ -38,7 +38,7 @@ pub fn from_value_with_hashers<
     right_builder: RS,
     value: &Value,
 ) -> Result<BiHashMap<L, R, LS, RS>, JsonFault>
-    ensures { ReadsObject L.reads_key R.reads L.eq R.eq holding (view value.now) result }
+    ensures { ReadsObject L.reads_key R.reads L.eq R.eq holding 0 (view value.now) result }
 {
     let empty = BiHashMap::with_hashers(alloc, left_builder, right_builder);
     read_into(alloc, empty, value)

@@ -31,7 +31,7 @@ pub enum JsonFault {
 }
 
 /// A bimap as a JSON object, with an entry for each pair: its key is the left, and its value the right. Writing and
-/// reading take memory for each pair, and an `Err` leaves nothing.
+/// reading take memory for each pair, and an `Err` leaves nothing. A reading reserves no places ahead.
 pub trait JsonObject<L: JsonKey + Drop, R: JsonValue + Drop>: Bijection<L, R> + Sized {
     /// Returns the object of the pairs. Each of its entries reads as a pair that equals the one it was written of on
     /// both sides.
@@ -49,7 +49,7 @@ pub trait JsonObject<L: JsonKey + Drop, R: JsonValue + Drop>: Bijection<L, R> + 
     ///     let seats: BiBTreeMap<char, u32> = BiBTreeMap::from_value(alloc, &value)?;
     ///     // ('B', 2) and ('C', 1)
     fn from_value(alloc: Global, value: &Value) -> Result<Self, JsonFault>
-        ensures { ReadsObject L.reads_key R.reads L.eq R.eq Self.holding (view value.now) result };
+        ensures { ReadsObject L.reads_key R.reads L.eq R.eq Self.holding 0 (view value.now) result };
 }
 
 /// Returns the object of the pairs that an iterator gives. Of pairs with one key text it has the last.
@@ -82,7 +82,7 @@ pub fn read_into<L: JsonKey + Drop, R: JsonValue + Drop, B: Bijection<L, R> + Dr
     value: &Value,
 ) -> Result<B, JsonFault>
     requires empty { (B.holding empty).pairs ≡ [] }
-    ensures { ReadsObject L.reads_key R.reads L.eq R.eq B.holding (view value.now) result }
+    ensures { ReadsObject L.reads_key R.reads L.eq R.eq B.holding (B.holding empty).room (view value.now) result }
 {
     let policy = Policy {
         left: OnHeld::Overwrite,
@@ -105,7 +105,7 @@ pub fn read_into_with<L: JsonKey + Drop, R: JsonValue + Drop, B: Bijection<L, R>
     policy: Policy,
 ) -> Result<B, JsonFault>
     requires empty { (B.holding empty).pairs ≡ [] }
-    ensures { ReadsObjectUnder L.reads_key R.reads L.eq R.eq B.holding (view value.now) policy result }
+    ensures { ReadsObjectUnder L.reads_key R.reads L.eq R.eq B.holding (B.holding empty).room (view value.now) policy result }
 {
     let Some(map) = value.as_object() else {
         return Err(JsonFault::NotAnObject);

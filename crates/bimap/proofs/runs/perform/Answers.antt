@@ -1,6 +1,11 @@
 use Rattle.std.proofs.Common.{rules, ◌≡◌, true, false, refl, true≢false, Contains}
+use Rattle.bimap_base.specs.Answer.{overwrites}
 use Rattle.bimap_base.proofs.Survivors.{put_touches}
+use Rattle.bimap.specs.declared.call.Call.TheVariants.{Insert, InsertNoOverwrite, InsertWith}
+use Rattle.bimap.specs.declared.call.Reply.TheVariants.{Inserted, Put}
+use Rattle.bimap.specs.History.{Puts}
 use Rattle.bimap.specs.Test.{Answers}
+use Rattle.bimap.proofs.Growing.{answer_overwrites, room_after}
 use Rattle.bimap.proofs.Tested.{MayTest_by, IsKept-by, may_call, answers_as}
 use Rattle.bimap.proofs.Histories.{right_contains_left, right_contains_right, step_retain}
 use Rattle.bimap.proofs.runs.perform.Goals as goal
@@ -18,6 +23,27 @@ returns-in-Ok-clause-step g c = rw c.in-Insert.is (put_touches g.L.PartialEq.eq 
 pub returns-in-Ok-insert_no_overwrite-clause-step :
     goal.returns-in-Ok-insert_no_overwrite-clause-step
 returns-in-Ok-insert_no_overwrite-clause-step g c = rw c.in-InsertNoOverwrite.is (put_touches g.L.PartialEq.eq g.R.PartialEq.eq _ _ _ c.in-Ok-insert_no_overwrite.ensures.put)
+
+pub returns-in-Ok-clause-room : goal.returns-in-Ok-clause-room
+returns-in-Ok-clause-room g c =
+    let e = c.in-Ok.ensures in
+    let pair : g.row.L.Denot × g.row.R.Denot = (c.in-Insert.left, c.in-Insert.right) in
+    rw c.in-Insert.is (room_after g.L.PartialEq.eq g.R.PartialEq.eq (Puts {K = g.row.K.Denot}) (g.B.Bijection.holding c.args.bimap.now) (g.B.Bijection.holding c.insert.new.self) pair (Insert pair.0 pair.1, Inserted c.in-Ok.answer) (overwrites c.in-Ok.answer) refl (g.met.B.Bijection.fits c.args.bimap.now)
+    (answer_overwrites g.L.PartialEq.eq g.R.PartialEq.eq (Contains (g.B.Bijection.holding c.args.bimap.now).pairs) pair c.in-Ok.answer e.answer) e.room)
+
+pub returns-in-Ok-insert_no_overwrite-clause-room :
+    goal.returns-in-Ok-insert_no_overwrite-clause-room
+returns-in-Ok-insert_no_overwrite-clause-room g c =
+    let e = c.in-Ok-insert_no_overwrite.ensures in
+    let pair : g.row.L.Denot × g.row.R.Denot = (c.in-InsertNoOverwrite.left, c.in-InsertNoOverwrite.right) in
+    rw c.in-InsertNoOverwrite.is (room_after g.L.PartialEq.eq g.R.PartialEq.eq (Puts {K = g.row.K.Denot}) (g.B.Bijection.holding c.args.bimap.now) (g.B.Bijection.holding c.insert_no_overwrite.new.self) pair (InsertNoOverwrite pair.0 pair.1, Put) false refl (g.met.B.Bijection.fits c.args.bimap.now) e.none_held e.room)
+
+pub returns-in-Ok-insert_with-clause-room : goal.returns-in-Ok-insert_with-clause-room
+returns-in-Ok-insert_with-clause-room g c =
+    let e = c.in-Ok-insert_with.ensures in
+    let pair : g.row.L.Denot × g.row.R.Denot = (c.in-InsertWith.left, c.in-InsertWith.right) in
+    rw c.in-InsertWith.is (room_after g.L.PartialEq.eq g.R.PartialEq.eq (Puts {K = g.row.K.Denot}) (g.B.Bijection.holding c.args.bimap.now) (g.B.Bijection.holding c.insert_with.new.self) pair (InsertWith pair.0 pair.1 c.in-InsertWith.policy, Inserted c.in-Ok-insert_with.answer) (overwrites c.in-Ok-insert_with.answer) refl (g.met.B.Bijection.fits c.args.bimap.now)
+    (answer_overwrites g.L.PartialEq.eq g.R.PartialEq.eq (Contains (g.B.Bijection.holding c.args.bimap.now).pairs) pair c.in-Ok-insert_with.answer e.answer) e.room)
 
 pub returns-in-Retain-clause-step : goal.returns-in-Retain-clause-step
 returns-in-Retain-clause-step g c =

@@ -26,7 +26,7 @@ perform-reply-requires g c = record {
 pub loop-call-preserved : goal.loop-call-preserved
 loop-call-preserved g c =
     let e = c.perform-reply.ensures in
-    let one = IsHistory_one g.L.PartialEq.eq g.R.PartialEq.eq (Answers g.F.Fn c.args.test) (g.B.Bijection.holding c.loop-call.bimap) (g.B.Bijection.holding c.perform-reply.new.bimap) (c.in-Some.call, c.perform-reply.result) e.right e.step e.full (g.met.B.Bijection.apart c.loop-call.bimap) e.not_lower in
+    let one = IsHistory_one g.L.PartialEq.eq g.R.PartialEq.eq (Answers g.F.Fn c.args.test) (g.B.Bijection.holding c.loop-call.bimap) (g.B.Bijection.holding c.perform-reply.new.bimap) (c.in-Some.call, c.perform-reply.result) e.right e.step e.full (g.met.B.Bijection.apart c.loop-call.bimap) e.not_lower e.room in
     record {
       front = (search rules) ∙ sym (append_assoc c.loop-call.yielded (c.in-Some.call ∷ []) (into_iter_items c.next.new.self));
       long = rw c.push_reserved.ensures.items (omega (arith, length-append c.loop-call.replies.items (c.perform-reply.result ∷ []), length-append c.loop-call.yielded (c.in-Some.call ∷ []), c.loop-call.invariant.long));

@@ -1,5 +1,4 @@
-use Rattle.std.proofs.Common.{rules}
 use Rattle.bimap.proofs.value.kinds.from_value_with_hashers.Goals as goal
 
 pub returns : goal.returns
-returns g c = search rules
+returns g c = rw c.with_hashers-empty.ensures.room at c.read_into.ensures

@@ -3,4 +3,4 @@ use Rattle.bimap.proofs.JsonReading.{read_any}
 use Rattle.bimap.proofs.value.object.read_into.Goals as goal
 
 pub returns : goal.returns
-returns g c = read_any g.L.JsonKey.reads_key g.R.JsonValue.reads g.L.PartialEq.eq g.R.PartialEq.eq _ g.B.Bijection.holding (view c.args.value.now) (λ e. absurd (cc)) (λ e. absurd (cc)) c.read_into_with.result c.read_into_with.ensures
+returns g c = read_any g.L.JsonKey.reads_key g.R.JsonValue.reads g.L.PartialEq.eq g.R.PartialEq.eq _ g.B.Bijection.holding (g.B.Bijection.holding c.args.empty).room (view c.args.value.now) (λ e. absurd (cc)) (λ e. absurd (cc)) c.read_into_with.result c.read_into_with.ensures

@@ -15,7 +15,7 @@ read_key g c = subst (λ t. g.L.JsonKey.reads_key t c.in-Ok.left) c.as_str.ensur
 
 pub loop-key-init : goal.loop-key-init
 loop-key-init g c = record {
-  reading = reading_first g.L.JsonKey.reads_key g.R.JsonValue.reads g.L.PartialEq.eq g.R.PartialEq.eq c.args.policy (entries_of (members_view c.iter-entries.result)) (g.B.Bijection.holding c.args.empty).pairs c.requires.empty;
+  reading = reading_first g.L.JsonKey.reads_key g.R.JsonValue.reads g.L.PartialEq.eq g.R.PartialEq.eq c.args.policy (entries_of (members_view c.iter-entries.result)) (g.B.Bijection.holding c.args.empty) c.requires.empty;
   counted = omega arith;
 }
 
@@ -25,13 +25,14 @@ loop-key-preserved g c =
     let val = g.R.JsonValue.reads in
     let i = c.loop-key.invariant in
     let p : g.row.L.Denot × g.row.R.Denot = (c.in-Ok.left, c.in-Ok-from_json.right) in
-    let held = (g.B.Bijection.holding c.loop-key.bimap).pairs in
+    let places = (g.B.Bijection.holding c.args.empty).room in
+    let held = g.B.Bijection.holding c.loop-key.bimap in
     let all = entries_of (members_view c.iter-entries.result) in
     record {
-      reading = reading_more key val g.L.PartialEq.eq g.R.PartialEq.eq c.args.policy all (entries_of (members_view c.next.new.self)) (string_bytes c.in-Some-next.key.now, view c.in-Some-next.value.now) held (g.B.Bijection.holding c.insert_with.new.self).pairs c.loop-key.at p
-          (subst (λ l. IsReading key val g.L.PartialEq.eq g.R.PartialEq.eq c.args.policy all (entries_of (members_view l)) held c.loop-key.at) c.in-Some-next.ensures.steps i.reading)
+      reading = reading_more key val g.L.PartialEq.eq g.R.PartialEq.eq c.args.policy all (entries_of (members_view c.next.new.self)) (string_bytes c.in-Some-next.key.now, view c.in-Some-next.value.now) places held (g.B.Bijection.holding c.insert_with.new.self) c.loop-key.at p c.in-Ok-insert_with.struck
+          (subst (λ l. IsReading key val g.L.PartialEq.eq g.R.PartialEq.eq c.args.policy all (entries_of (members_view l)) places held c.loop-key.at) c.in-Some-next.ensures.steps i.reading)
           (read_key g (goal.at.loop-key-preserved g c).In-Ok, c.in-Ok-from_json.ensures)
-          c.in-Ok-insert_with.ensures.allowed c.in-Ok-insert_with.ensures.put;
+          (g.met.B.Bijection.apart c.loop-key.bimap) (g.met.B.Bijection.fits c.loop-key.bimap) c.in-Ok-insert_with.ensures;
       counted = omega (arith, ap length c.in-Some-next.ensures.steps, i.counted);
     }
 
@@ -44,11 +45,12 @@ stops : (g : _) (c : In-Some-next g) (P : (g.row.L.Denot × g.row.R.Denot → Ty
 stops g c P why =
     let key = g.L.JsonKey.reads_key in
     let val = g.R.JsonValue.reads in
-    let held = (g.B.Bijection.holding c.loop-key.bimap).pairs in
+    let places = (g.B.Bijection.holding c.args.empty).room in
+    let held = g.B.Bijection.holding c.loop-key.bimap in
     let all = entries_of (members_view c.iter-entries.result) in
-    reading_stops key val g.L.PartialEq.eq g.R.PartialEq.eq c.args.policy (view c.args.value.now) all (entries_of (members_view c.next.new.self)) (string_bytes c.in-Some-next.key.now, view c.in-Some-next.value.now) held c.loop-key.at P
+    reading_stops key val g.L.PartialEq.eq g.R.PartialEq.eq c.args.policy (view c.args.value.now) all (entries_of (members_view c.next.new.self)) (string_bytes c.in-Some-next.key.now, view c.in-Some-next.value.now) places held c.loop-key.at P
     (map_has (view c.args.value.now) c.in-Some.map.now.entries c.iter-entries.result c.in-Some.ensures c.iter-entries.ensures.rest c.iter-entries.ensures.ordered)
-    (subst (λ l. IsReading key val g.L.PartialEq.eq g.R.PartialEq.eq c.args.policy all (entries_of (members_view l)) held c.loop-key.at) c.in-Some-next.ensures.steps c.loop-key.invariant.reading) why
+    (subst (λ l. IsReading key val g.L.PartialEq.eq g.R.PartialEq.eq c.args.policy all (entries_of (members_view l)) places held c.loop-key.at) c.in-Some-next.ensures.steps c.loop-key.invariant.reading) why
 
 pub returns-in-Err-Bad : goal.returns-in-Err-Bad
 returns-in-Err-Bad g c =
@@ -75,11 +77,12 @@ pub returns : goal.returns
 returns g c =
     let key = g.L.JsonKey.reads_key in
     let val = g.R.JsonValue.reads in
-    let held = (g.B.Bijection.holding c.loop-key.bimap).pairs in
+    let places = (g.B.Bijection.holding c.args.empty).room in
+    let held = g.B.Bijection.holding c.loop-key.bimap in
     let all = entries_of (members_view c.iter-entries.result) in
-    reading_done key val g.L.PartialEq.eq g.R.PartialEq.eq c.args.policy (view c.args.value.now) all held c.loop-key.at
+    reading_done key val g.L.PartialEq.eq g.R.PartialEq.eq c.args.policy (view c.args.value.now) all places held c.loop-key.at
     (map_has (view c.args.value.now) c.in-Some.map.now.entries c.iter-entries.result c.in-Some.ensures c.iter-entries.ensures.rest c.iter-entries.ensures.ordered)
-    (subst (λ l. IsReading key val g.L.PartialEq.eq g.R.PartialEq.eq c.args.policy all (entries_of (members_view l)) held c.loop-key.at) c.in_default-next.ensures.steps.0 c.loop-key.invariant.reading)
+    (subst (λ l. IsReading key val g.L.PartialEq.eq g.R.PartialEq.eq c.args.policy all (entries_of (members_view l)) places held c.loop-key.at) c.in_default-next.ensures.steps.0 c.loop-key.invariant.reading)
 
 pub returns-in-Err-LeftHeld : goal.returns-in-Err-LeftHeld
 returns-in-Err-LeftHeld g c =

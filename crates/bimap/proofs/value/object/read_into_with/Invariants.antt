@@ -6,7 +6,7 @@ use Rattle.bimap.proofs.value.object.read_into_with.Given as goal
 
 abbrev pub invariant-loop-key : goal.invariant-loop-key
 invariant-loop-key g l = record {
-  reading : IsReading g.L.JsonKey.reads_key g.R.JsonValue.reads g.L.PartialEq.eq g.R.PartialEq.eq l.fn.policy (entries_of (members_view l.initial.entries)) (entries_of (members_view l.entries)) (g.B.Bijection.holding l.bimap).pairs l.at;
+  reading : IsReading g.L.JsonKey.reads_key g.R.JsonValue.reads g.L.PartialEq.eq g.R.PartialEq.eq l.fn.policy (entries_of (members_view l.initial.entries)) (entries_of (members_view l.entries)) (g.B.Bijection.holding l.fn.empty).room (g.B.Bijection.holding l.bimap) l.at;
   counted : l.at + length l.entries ≡ length l.initial.entries;
 }
 

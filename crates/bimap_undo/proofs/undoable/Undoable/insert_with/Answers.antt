@@ -5,7 +5,8 @@ use Rattle.bimap.specs.Answer.{IsRefusalUnder}
 use Rattle.bimap.specs.Types.{Policy, NotInsertedWith}
 use Rattle.bimap.specs.declared.NotInsertedWith.TheVariants.{LeftHeld, RightHeld, Memory as MemoryWith}
 use Rattle.bimap_undo.specs.Marks.{marked, IsChange, IsRecordedRefusal}
-use Rattle.bimap_undo.proofs.Paths.{answer_overwrites, keeps_push, marks_push}
+use Rattle.bimap.proofs.Growing.{answer_overwrites}
+use Rattle.bimap_undo.proofs.Paths.{keeps_push, marks_push}
 use Rattle.bimap_undo.proofs.undoable.Undoable.insert_with.Goals as goal
 
 pub invariant_of-self : goal.invariant_of-self

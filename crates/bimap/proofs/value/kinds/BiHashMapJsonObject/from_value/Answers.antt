@@ -1,5 +1,4 @@
-use Rattle.std.proofs.Common.{rules}
 use Rattle.bimap.proofs.value.kinds.BiHashMapJsonObject.from_value.Goals as goal
 
 pub returns : goal.returns
-returns g c = search rules
+returns g c = rw c.new.ensures.room at c.read_into.ensures
