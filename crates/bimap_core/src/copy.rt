@@ -1,5 +1,5 @@
 //! A copy of the whole. It knows places and insertions, and no index but an empty one.
-ghost use Rattle.std.specs.Prelude.{◌≡◌, ◌≤◌, length, Contains, IfOk, OnOk};
+ghost use Rattle.std.specs.Prelude.{◌≡◌, ◌+◌, ◌<◌, ◌≤◌, length, Contains, IfOk, OnOk};
 ghost use Rattle.bimap_base.specs.Copies.{AreClonesEqual, IsCopy};
 ghost use Rattle.bimap_base.specs.Places.{pairs_in};
 ghost use Rattle.bimap_base.specs.Sets.{IsWithPut};
@@ -29,7 +29,7 @@ where
         R: Clone,
         requires equal { AreClonesEqual L.is_clone R.is_clone L.eq R.eq (holding_of self.now.pairs).pairs }
         ensures pairs { IfOk result (λ copy. IsCopy L.is_clone R.is_clone L.eq R.eq (holding_of self.now.pairs).pairs (holding_of copy.pairs).pairs) }
-        ensures room { IfOk result (λ copy. length self.now.pairs ≤ length copy.pairs) }
+        ensures room { IfOk result (λ copy. length copy.pairs ≡ length self.now.pairs) }
     {
         let alloc = self.pairs.allocator();
         let left_index = self.left.copied(alloc)?;
@@ -48,7 +48,8 @@ where
     // Puts a pair in, and drops those that share a value with it.
     fn add<M: Meter>(&mut self, left: L, right: R, meter: &mut M) -> Result<(), NoMemory>
         ensures put { OnOk result (IsWithPut L.eq R.eq (Contains (pairs_in self.old.pairs)) (left, right) (Contains (pairs_in self.new.pairs))) }
-        ensures not_lower { length self.old.pairs ≤ length self.new.pairs }
+        ensures count { OnOk result (length (pairs_in self.new.pairs) ≤ length (pairs_in self.old.pairs) + 1) }
+        ensures room { length (pairs_in self.old.pairs) < length self.old.pairs → length self.new.pairs ≡ length self.old.pairs }
     {
         let policy = Policy {
             left: OnHeld::Overwrite,

@@ -1,5 +1,5 @@
 //! A copy of the whole.
-ghost use Rattle.std.specs.Prelude.{◌≤◌, IfOk};
+ghost use Rattle.std.specs.Prelude.{◌≡◌, IfOk};
 ghost use Rattle.bimap_base.specs.Copies.{AreClonesEqual, IsCopy};
 
 use crate::map::BijectiveMap;
@@ -14,7 +14,7 @@ impl<
 > BijectiveMap<L, R, I, J> {
     ghost use Rattle.bimap_kinds.specs.Held.{holding};
 
-    /// Returns a bimap of the clones of the pairs, equal to this one and with its capacity or more.
+    /// Returns a bimap of the clones of the pairs, equal to this one and with its capacity.
     ///
     /// Each clone of a value has to equal it, and hashed sides get clones of the builders. It takes memory for the
     /// whole capacity, beside that of the clones, and the time of an insertion for each pair.
@@ -23,7 +23,7 @@ impl<
     pub fn clone(&self) -> Result<Self, NoMemory>
         requires equal { AreClonesEqual L.is_clone R.is_clone L.eq R.eq (holding self.now).pairs }
         ensures pairs { IfOk result (λ copy. IsCopy L.is_clone R.is_clone L.eq R.eq (holding self.now).pairs (holding copy).pairs) }
-        ensures room { IfOk result (λ copy. (holding self.now).room ≤ (holding copy).room) }
+        ensures room { IfOk result (λ copy. (holding copy).room ≡ (holding self.now).room) }
     {
         let table = self.table.clone(&mut Count::new())?;
         Ok(BijectiveMap { table })
