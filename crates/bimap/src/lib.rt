@@ -13,6 +13,7 @@ pub use bimap_base::{
     NotInsertedWith, NotReplaced, OnHeld, Overwritten, Policy, UndoStopped, extend_with,
     from_iter_with, replace_left, replace_right,
 };
+pub use bimap_index::Index;
 pub use bimap_kinds::{BiBTreeHashMap, BiBTreeMap, BiHashBTreeMap, BiHashMap, BijectiveMap};
 pub use call::{Call, Reply, RunRefused};
 pub use runs::{perform, run};

@@ -1,15 +1,14 @@
-//! What a bimap shows from both sides after a run that began with no pair.
+//! What a bimap of any kind shows from both sides after a run that began with no pair.
 ghost use Rattle.std.specs.Prelude.{◌≡◌, [], IfOk, IfErr};
 ghost use Rattle.std.specs.List.{zip};
 ghost use Rattle.bimap.specs.Test.{Answers, IsTestOf};
 ghost use Rattle.bimap.specs.BTree.{holding};
-ghost use Rattle.bimap.specs.Hash.{holding as hash_holding};
-ghost use Rattle.bimap_user.specs.Shown.{IsShown, IsCounted};
+ghost use Rattle.bimap.specs.Digits.{most_height};
+ghost use Rattle.bimap_user.specs.Shown.{IsShown};
 
 use bimap::btree::Meter;
-use bimap::{BiBTreeMap, BiHashMap, Bijection, Call, Reply, RunRefused, run};
+use bimap::{BiBTreeMap, BijectiveMap, Call, Index, Reply, RunRefused, run};
 use std::alloc::Global;
-use std::hash::{BuildHasher, Hash};
 
 /// The replies of a run, and what the bimap then shows from both sides.
 #[derive(Drop)]
@@ -19,38 +18,48 @@ pub struct Shown<'a, L, R> {
     pub of_right: Option<&'a L>,
 }
 
-/// Performs the calls on any empty bimap, and looks a left and a right up.
+/// Performs the calls on an empty bimap of any kind, and looks a left and a right up, each counted.
+///
+/// Costs the calls and a search a side, whose comparisons `effort` bounds: none where the side is hashed. It takes memory
+/// for the replies, and what the calls take. An `Err` hands the calls back, and nothing was called.
 #[tactic(auto, using(bimap::proofs::Histories::IsWholeHistory_from))]
 pub fn run_and_look<
     'a,
     L: Eq + Drop,
     R: Eq + Drop,
+    I: Index<L>,
+    J: Index<R>,
     K: Drop,
-    B: Bijection<L, R>,
     F: Fn(&K, &L, &R) -> bool,
+    M: Meter,
 >(
     alloc: Global,
-    bimap: &'a mut B,
+    bimap: &'a mut BijectiveMap<L, R, I, J>,
     calls: Vec<Call<L, R, K>>,
     test: F,
     left: &L,
     right: &R,
+    of_left: &mut M,
+    of_right: &mut M,
 ) -> Result<Shown<'a, L, R>, RunRefused<L, R, K>>
-    requires empty { (B.holding bimap.old).pairs ≡ [] }
-    requires tested { IsTestOf F.Fn test (B.holding bimap.old).pairs calls.items }
-    ensures shown { IfOk result (λ shown. IsShown L.eq R.eq (Answers F.Fn test) (zip calls.items shown.replies.items) left.now right.now shown.of_left shown.of_right) }
+    requires empty { (holding bimap.old).pairs ≡ [] }
+    requires tested { IsTestOf F.Fn test (holding bimap.old).pairs calls.items }
+    ensures shown { IfOk result (λ shown. IsShown L.eq R.eq (Answers F.Fn test)
+        I.effort J.effort
+        (zip calls.items shown.replies.items) left.now right.now shown.of_left shown.of_right
+        (M.comparisons of_left.old) (M.comparisons of_left.new)
+        (M.comparisons of_right.old) (M.comparisons of_right.new)) }
     ensures handed_back { IfErr result (λ refused. refused.calls.items ≡ calls.items) }
 {
     let replies = run(alloc, bimap, calls, test)?;
     Ok(Shown {
         replies,
-        of_left: bimap.get_by_left(left),
-        of_right: bimap.get_by_right(right),
+        of_left: bimap.get_by_left_metered(left, of_left),
+        of_right: bimap.get_by_right_metered(right, of_right),
     })
 }
 
-/// Performs the calls on an empty ordered bimap, and looks a left and a right up, each counted.
-#[tactic(auto, using(bimap::proofs::Histories::IsWholeHistory_from))]
+/// [`run_and_look`] of two ordered sides: `effort` is twice the binary digits of the length.
 pub fn run_and_look_ordered<
     'a,
     L: Ord + Drop,
@@ -70,38 +79,12 @@ pub fn run_and_look_ordered<
 ) -> Result<Shown<'a, L, R>, RunRefused<L, R, K>>
     requires empty { (holding bimap.old).pairs ≡ [] }
     requires tested { IsTestOf F.Fn test (holding bimap.old).pairs calls.items }
-    ensures shown { IfOk result (λ shown. IsCounted L.eq R.eq (Answers F.Fn test) (zip calls.items shown.replies.items) left.now right.now shown.of_left shown.of_right (M.comparisons of_left.old) (M.comparisons of_left.new) (M.comparisons of_right.old) (M.comparisons of_right.new)) }
+    ensures shown { IfOk result (λ shown. IsShown L.eq R.eq (Answers F.Fn test)
+        most_height most_height
+        (zip calls.items shown.replies.items) left.now right.now shown.of_left shown.of_right
+        (M.comparisons of_left.old) (M.comparisons of_left.new)
+        (M.comparisons of_right.old) (M.comparisons of_right.new)) }
     ensures handed_back { IfErr result (λ refused. refused.calls.items ≡ calls.items) }
 {
-    let replies = run(alloc, bimap, calls, test)?;
-    Ok(Shown {
-        replies,
-        of_left: bimap.get_by_left_metered(left, of_left),
-        of_right: bimap.get_by_right_metered(right, of_right),
-    })
-}
-
-/// Performs the calls on an empty hashed bimap, and looks a left and a right up.
-pub fn run_and_look_hashed<
-    'a,
-    L: Eq + Hash + Drop,
-    R: Eq + Hash + Drop,
-    LS: BuildHasher,
-    RS: BuildHasher,
-    K: Drop,
-    F: Fn(&K, &L, &R) -> bool,
->(
-    alloc: Global,
-    bimap: &'a mut BiHashMap<L, R, LS, RS>,
-    calls: Vec<Call<L, R, K>>,
-    test: F,
-    left: &L,
-    right: &R,
-) -> Result<Shown<'a, L, R>, RunRefused<L, R, K>>
-    requires empty { (hash_holding bimap.old).pairs ≡ [] }
-    requires tested { IsTestOf F.Fn test (hash_holding bimap.old).pairs calls.items }
-    ensures shown { IfOk result (λ shown. IsShown L.eq R.eq (Answers F.Fn test) (zip calls.items shown.replies.items) left.now right.now shown.of_left shown.of_right) }
-    ensures handed_back { IfErr result (λ refused. refused.calls.items ≡ calls.items) }
-{
-    run_and_look(alloc, bimap, calls, test, left, right)
+    run_and_look(alloc, bimap, calls, test, left, right, of_left, of_right)
 }

@@ -1,7 +1,7 @@
-//! What both look-ups show after a run. `run_and_look` runs in its sister for the hashed one.
+//! What both look-ups show after a run, and how many comparisons they make.
 use super::meter::at_zero;
-use bimap::{BiBTreeMap, BiHashMap, Call, Overwritten, Reply};
-use bimap_user::{Shown, run_and_look_hashed, run_and_look_ordered};
+use bimap::{BiBTreeMap, BiHashBTreeMap, Call, Overwritten, Reply};
+use bimap_user::{Shown, run_and_look, run_and_look_ordered};
 use std::alloc::{AllocError, Global};
 
 // Calls after which ('a', 3) and ('c', 2) stand.
@@ -39,26 +39,31 @@ const LOOKS: [(char, Option<u32>, u32, Option<char>); 3] = [
     ('z', None, 0, None),
 ];
 
+// Two pairs stand after the calls: by order a look-up makes at most four comparisons, and by hash none.
 #[test]
-fn the_hashed_one_shows_it(rt: HostRuntime) {
-    let mut bimap: BiHashMap<char, u32> = BiHashMap::new(rt.alloc());
+fn a_mixed_one_shows_it_and_counts(rt: HostRuntime) {
+    let mut bimap: BiHashBTreeMap<char, u32> = BiHashBTreeMap::new(rt.alloc());
     for (left, of_left, right, of_right) in LOOKS {
         bimap.clear();
-        let shown = run_and_look_hashed(
+        let (mut by_left, mut by_right) = (at_zero(&rt), at_zero(&rt));
+        let shown = run_and_look(
             rt.alloc(),
             &mut bimap,
             five_calls(rt.alloc()).expect(&rt, "no memory"),
             |least: &u32, _: &char, right: &u32| *right >= *least,
             &left,
             &right,
+            &mut by_left,
+            &mut by_right,
         );
         let shown = shown.ok().expect(&rt, "no memory");
         let alike = are(rt.alloc(), &shown, of_left.as_ref(), of_right.as_ref());
         assert!(&rt; alike.expect(&rt, "no memory"), "{left} {right}");
+        assert!(&rt; by_left.comparisons == 0);
+        assert!(&rt; by_right.comparisons >= 1 && by_right.comparisons <= 4);
     }
 }
 
-// Two pairs stand after the calls: at most four comparisons a look-up.
 #[test]
 fn the_ordered_one_shows_it_and_counts(rt: HostRuntime) {
     let mut bimap: BiBTreeMap<char, u32> = BiBTreeMap::new(rt.alloc());
