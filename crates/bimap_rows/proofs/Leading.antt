@@ -1,18 +1,17 @@
 -- A history of the program that grows by one entry, and the history of one call.
-use Rattle.std.proofs.Common.{◌≡◌, ◌↔◌, inl, inr, ℕ, List, [], ◌∷◌, ◌++◌, Bool, refl, sym, ap, subst, arith, nat_eq, ◌≢◌, length, Some}
-use Rattle.std.specs.List.{zip}
-use Rattle.std.proofs.lemmas.List.{length_push}
-use Rattle.bimap.specs.declared.call.Reply.{Reply}
-use Rattle.std.specs.Prelude.{Contains, Result, Ok, Err}
-use Rattle.std.specs.Result.{result_ok}
+use Rattle.std.proofs.Common.{◌≡◌, ◌≢◌, inl, inr, ℕ, List, [], ◌∷◌, ◌++◌, Bool, false, refl, sym, subst, arith, nat_eq}
+use Rattle.std.specs.Prelude.{Contains}
 use Rattle.std.proofs.lemmas.List.Elements.{Contains-append_cases, Contains-append_right, Contains-push_cases}
 use Rattle.bimap.specs.Holding.{Holding}
+use Rattle.bimap.specs.Sets.{IsApart}
 use Rattle.bimap.proofs.Members.{none_in, head_in}
-use Rattle.bimap.proofs.Survivors.{split_push, not_split, Survives_none, Survives_one}
+use Rattle.bimap.proofs.Survivors.{not_split, Survives_none}
+use Rattle.bimap.specs.declared.call.Reply.{Reply}
 use Rattle.bimap.specs.declared.call.Call.TheVariants.{Insert, InsertNoOverwrite, InsertWith, RemoveByLeft, RemoveByRight, Retain, Clear}
 use Rattle.bimap.specs.declared.call.Reply.TheVariants.{Inserted, NoRoom, Put}
-use Rattle.bimap.specs.History.{Puts, Touches, IsNoRoom, IsRight, IsLegal, IsSurvivor, IsHistory}
-use Rattle.bimap.proofs.Histories.{IsHistory_append, IsRight_along}
+use Rattle.bimap.specs.History.{Puts, Touches, IsNoRoom, IsRight, IsHistory}
+use Rattle.bimap.specs.Step.{IsStep}
+use Rattle.bimap.proofs.Histories.{IsHistory_append, IsHistory_one}
 use Rattle.bimap_rows.specs.Lines.{Request}
 use Rattle.bimap_rows.specs.Serving.{Answered, NoTest, LeadsTo}
 
@@ -48,64 +47,39 @@ LeadsTo_none pairs e = subst (LeadsTo [] []) (sym e) (record {
   has_room = λ f m. none_in f m;
 })
 
--- a call but `Retain` touches the same pairs whatever the test
-module _ (Test Other : Unit {0} → ℕ × ℕ → Bool → Type 0) where
-  touches : (e : Answered) (p : ℕ × ℕ) → ((key : Unit {0}) → e.0 ≡ Retain key → ⊥) → Touches nat_eq nat_eq Test e p → Touches nat_eq nat_eq Other e p
-  touches (Insert l r, Inserted a) p n t = t
-  touches (InsertNoOverwrite l r, Put) p n t = t
-  touches (InsertWith l r policy, Inserted a) p n t = t
-  touches (RemoveByLeft l, reply) p n t = t
-  touches (RemoveByRight r, reply) p n t = t
-  touches (Retain key, reply) p n t = absurd (n key refl)
-  touches (Clear, reply) p n t = t
-  touches (call, reply) p n t = absurd t
+-- what a call touches with one test it touches with another that refuses all that the first does
+module _ (Test Other : Unit {0} → ℕ × ℕ → Bool → Type 0) (refused : (key : Unit {0}) (p : ℕ × ℕ) → Test key p false → Other key p false) where
+  touches : (e : Answered) (p : ℕ × ℕ) → Touches nat_eq nat_eq Test e p → Touches nat_eq nat_eq Other e p
+  touches (Insert l r, Inserted a) p t = t
+  touches (InsertNoOverwrite l r, Put) p t = t
+  touches (InsertWith l r policy, Inserted a) p t = t
+  touches (RemoveByLeft l, reply) p t = t
+  touches (RemoveByRight r, reply) p t = t
+  touches (Retain key, reply) p t = refused key p t
+  touches (Clear, reply) p t = t
+  touches (call, reply) p t = absurd t
 
-module _ (Test : Unit {0} → ℕ × ℕ → Bool → Type 0) (old new : Holding ℕ ℕ) (e : Answered) (h : IsHistory nat_eq nat_eq Test old (e ∷ []) new) (other : (key : Unit {0}) → e.0 ≡ Retain key → ⊥) where
-  first : (p : ℕ × ℕ) → IsSurvivor nat_eq nat_eq Test (Contains old.pairs) [] p ↔ IsSurvivor nat_eq nat_eq NoTest (Contains old.pairs) [] p
-  first p =
-      let one = Survives_none Puts (Touches nat_eq nat_eq Test) (Contains old.pairs) p in
-      let two = Survives_none Puts (Touches nat_eq nat_eq NoTest) (Contains old.pairs) p in
-      (λ s. two.0 (one.1 s), λ s. one.0 (two.1 s))
+-- a reply of another name doesn't want memory
+found_room : (call : Request) (reply : Reply ℕ ℕ) → ((l r : ℕ) → reply ≢ NoRoom l r) → IsNoRoom (call, reply) → ⊥
+found_room call (NoRoom l r) other n = other l r refl
+found_room call reply other n = n
 
-  right_first : IsRight nat_eq nat_eq (IsSurvivor nat_eq nat_eq NoTest (Contains old.pairs) []) e
-  right_first = IsRight_along nat_eq nat_eq (IsSurvivor nat_eq nat_eq Test (Contains old.pairs) []) (IsSurvivor nat_eq nat_eq NoTest (Contains old.pairs) []) (λ p. (first p).0) (λ p. (first p).1) e (h.legal [] e [] refl)
+-- one call that found memory, with a test that refuses no pair
+module _ (Test : Unit {0} → ℕ × ℕ → Bool → Type 0) (old new : List (ℕ × ℕ)) (call : Request) (reply : Reply ℕ ℕ) (apart : IsApart nat_eq nat_eq old)
+    (right : IsRight nat_eq nat_eq (Contains old) (call, reply)) (step : IsStep nat_eq nat_eq Test (Contains old) (call, reply) (Contains new))
+    (keeps : (key : Unit {0}) (p : ℕ × ℕ) → Test key p false → ⊥) (other : (l r : ℕ) → reply ≢ NoRoom l r) where
+  step_untested : IsStep nat_eq nat_eq NoTest (Contains old) (call, reply) (Contains new)
+  step_untested p = (
+    λ m. elim ((step p).0 m) [ inl w ↦ inl w | inr s ↦ inr (s.0, λ t. s.1 (touches NoTest Test (λ key q n. absurd n) (call, reply) p t)) ],
+    λ m. (step p).1 (elim m [ inl w ↦ inl w | inr s ↦ inr (s.0, λ t. s.1 (touches Test NoTest keeps (call, reply) p t)) ]),
+  )
 
-  legal_one : IsLegal nat_eq nat_eq NoTest (Contains old.pairs) (e ∷ [])
-  legal_one before f later q =
-      elim (split_push [] before later f e q) [
-        | inl w ↦ subst (λ b. IsRight nat_eq nat_eq (IsSurvivor nat_eq nat_eq NoTest (Contains old.pairs) b) f) w.1 (subst (λ x. IsRight nat_eq nat_eq (IsSurvivor nat_eq nat_eq NoTest (Contains old.pairs) []) x) w.2 right_first)
-        | inr w ↦ not_split before w.0 f w.2
-      ]
-
-  survivors_one : (p : ℕ × ℕ) → Contains new.pairs p ↔ IsSurvivor nat_eq nat_eq NoTest (Contains old.pairs) (e ∷ []) p
-  survivors_one p =
-      let one = Survives_one Puts (Touches nat_eq nat_eq Test) (Contains old.pairs) e p in
-      let two = Survives_one Puts (Touches nat_eq nat_eq NoTest) (Contains old.pairs) e p in (
-        λ m. two.1 (elim (one.0 ((h.survivors p).0 m)) [ inl s ↦ inl s | inr s ↦ inr (s.0, λ t. s.1 (touches NoTest Test e p other t)) ]),
-        λ s. (h.survivors p).1 (one.1 (elim (two.0 s) [ inl w ↦ inl w | inr w ↦ inr (w.0, λ t. w.1 (touches Test NoTest e p other t)) ])),
-      )
-
-  -- one call but `Retain` that found memory
-  LeadsTo_one : (IsNoRoom e → ⊥) → LeadsTo old.pairs (e ∷ []) new.pairs
-  LeadsTo_one n = record {
-    legal = legal_one;
-    survivors = survivors_one;
-    has_room = λ f m w. elim (Contains-push_cases [] e f m) [ inl k ↦ none_in f k | inr k ↦ n (subst IsNoRoom (sym k) w) ];
-  }
-
-wants_memory : (call : Request) (reply : Reply ℕ ℕ) → IsNoRoom (call, reply) → (l : ℕ) × (r : ℕ) × (reply ≡ NoRoom l r)
-wants_memory call (NoRoom l r) n = (l, r, refl)
-wants_memory call reply n = absurd n
-
--- a list of one call, run
-pub LeadsTo_run : (Test : Unit {0} → ℕ × ℕ → Bool → Type 0) (old new : Holding ℕ ℕ) (calls : List Request) (replies front : List (Reply ℕ ℕ)) (call : Request) (reply : Reply ℕ ℕ)
-    → IsHistory nat_eq nat_eq Test old (zip calls replies) new → calls ≡ call ∷ [] → length replies ≡ length calls → replies ≡ front ++ reply ∷ []
-    → ((key : Unit {0}) → call ≢ Retain key) → ((l r : ℕ) → reply ≢ NoRoom l r) → LeadsTo old.pairs ((call, reply) ∷ []) new.pairs
-LeadsTo_run Test old new calls replies [] call reply h c n e other room =
-    LeadsTo_one Test old new (call, reply) (rw (c, e) at h) other (λ w. let m = wants_memory call reply w in room m.0 m.1 m.2)
-LeadsTo_run Test old new calls replies (x ∷ front) call reply h c n e other room = absurd (omega (arith, n, ap length c, ap length e, length_push front reply))
-
--- a value that `ok` gave
-pub was_ok : {X E : Type 0} (r : Result X E) (x : X) → Some x ≡ result_ok r → r ≡ Ok x
-was_ok (Ok y) x e = cc
-was_ok (Err d) x e = absurd cc
+  pub LeadsTo_one : LeadsTo old ((call, reply) ∷ []) new
+  LeadsTo_one =
+      let room = found_room call reply other in
+      let one = IsHistory_one nat_eq nat_eq NoTest (holding old) (holding new) (call, reply) right step_untested (λ n. absurd (room n)) apart (omega arith) in
+      record {
+        legal = one.legal;
+        survivors = one.survivors;
+        has_room = λ e m n. elim (Contains-push_cases [] (call, reply) e m) [ inl k ↦ none_in e k | inr k ↦ room (subst IsNoRoom (sym k) n) ];
+      }

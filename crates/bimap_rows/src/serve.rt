@@ -1,16 +1,16 @@
 //! The program's work over any reader and writer: each line is performed, and its reply is written.
-ghost use Rattle.std.specs.Prelude.{◌≡◌, ◌≢◌, ◌⊎◌, ℕ, [], ◌∷◌, IfSome, MatchOption, OnOk, IfErr};
+ghost use Rattle.std.specs.Prelude.{◌≡◌, ◌≢◌, ◌⊎◌, [], OnOk, IfErr};
 ghost use Rattle.std.specs.IoError.{error_kind};
 ghost use Rattle.std.specs.Io.KnownBytes.{Appends};
 ghost use Rattle.bimap_rows.specs.Lines.{SaysInAll};
-ghost use Rattle.bimap_rows.specs.Serving.{LeadsTo, IsServed, IsReadOut, Stops, Ends};
+ghost use Rattle.bimap_rows.specs.Serving.{IsServed, IsReadOut, Stops, Ends};
 ghost use Rattle.bimap_rows.specs.Steps.{TakesLine, StopsAtLine, IsFlushed};
 
 use crate::held::{Held, write_held};
 use crate::input::{read_line, without_return};
-use crate::line::{Line, Request, parse_line};
+use crate::line::{Line, parse_line};
 use crate::reply::write_reply;
-use bimap::{Bijection, Call, Reply, run};
+use bimap::{Bijection, Reply, perform};
 use std::alloc::Global;
 use std::io::{BufRead, Error, ErrorKind, Write};
 
@@ -29,26 +29,8 @@ pub enum Ending {
     NoMemory,
 }
 
-// Performs one call, and answers `None` where there was no memory.
-fn perform<B: Bijection<char, u32>>(
-    alloc: Global,
-    held: &mut B,
-    call: Request,
-) -> Option<Reply<char, u32>>
-    requires no_retain { (key : _) → call ≢ Call.Retain key }
-    ensures { IfSome result (λ reply. LeadsTo (B.holding held.old).pairs ((call, reply) ∷ []) (B.holding held.new).pairs) }
-{
-    let calls = Vec::from_array(alloc, [call]).ok()?;
-    let mut replies = run(alloc, held, calls, |_: &(), _: &char, _: &u32| true).ok()?;
-    match replies.pop()? {
-        Reply::NoRoom(_, _) => None,
-        reply => Some(reply),
-    }
-}
-
 // Performs what a line says, and writes the reply.
 fn take_line<B: Bijection<char, u32>, W: Write>(
-    alloc: Global,
     held: &mut B,
     output: &mut W,
     line: &[u8],
@@ -62,8 +44,10 @@ fn take_line<B: Bijection<char, u32>, W: Write>(
         Line::Bad => return Err(Ending::BadLine(number)),
         Line::Call(call) => call,
     };
-    let reply = perform(alloc, held, call).ok_or(Ending::NoMemory)?;
-    write_reply(output, reply).map_err(|_| Ending::OutputFailed)
+    match perform(held, call, &|_: &(), _: &char, _: &u32| true) {
+        Reply::NoRoom(_, _) => Err(Ending::NoMemory),
+        reply => write_reply(output, reply).map_err(|_| Ending::OutputFailed),
+    }
 }
 
 // Why a line could not be read.
@@ -94,7 +78,7 @@ fn serve_lines<B: Bijection<char, u32>, I: BufRead, W: Write>(
     let mut line = Vec::new(alloc);
     for taken in 0..u64::MAX {
         let ended = read_line(input, &mut line).map_err(read_fault)?;
-        take_line(alloc, held, output, line.as_slice(), taken + 1)?;
+        take_line(held, output, line.as_slice(), taken + 1)?;
         if !ended {
             return Ok(());
         }
