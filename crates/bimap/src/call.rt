@@ -1,5 +1,6 @@
 //! The calls of a run and their replies. It doesn't know how they are performed.
 use bimap_base::{Overwritten, Policy};
+use thiserror::Error;
 
 /// A call on a bimap. A `Retain` has a key `K` for the test of pairs.
 #[derive(Debug, Drop, Eq, PartialEq)]
@@ -48,7 +49,8 @@ pub enum Reply<L, R> {
 }
 
 /// Out of memory for the replies. Nothing was called, and the calls are handed back.
-#[derive(Debug, Drop, Eq, PartialEq)]
+#[derive(Debug, Drop, Eq, Error, PartialEq)]
+#[error("out of memory for the replies")]
 pub struct RunRefused<L, R, K> {
     pub calls: Vec<Call<L, R, K>>,
 }

@@ -4,9 +4,11 @@ ghost use Rattle.bimap_base.specs.Sets.{IsSameSet};
 ghost use Rattle.bimap.specs.Trail.{Leads, LeadsWithin, IsStopped};
 
 use bimap_base::{Bijection, Overwritten};
+use thiserror::Error;
 
 /// Out of memory for putting two pairs back. The entries that are not undone are handed back in order, that one last.
-#[derive(Debug, Drop, Eq, PartialEq)]
+#[derive(Debug, Drop, Eq, Error, PartialEq)]
+#[error("out of memory for putting two pairs back, {} left to undo", .rest.len())]
 pub struct UndoRunStopped<L, R> {
     pub rest: Vec<(L, Overwritten<L, R>)>,
 }

@@ -1,9 +1,11 @@
-//! Why a call did nothing, or not all, and what it hands back.
+//! Why a call did nothing, or not all, and what it hands back. Its text names no value, so that it asks nothing of the sides.
 use crate::overwritten::Overwritten;
 use std::alloc::AllocError;
+use thiserror::Error;
 
 /// Out of memory, and nothing has changed.
-#[derive(Clone, Copy, Debug, Eq, PartialEq)]
+#[derive(Clone, Copy, Debug, Eq, Error, PartialEq)]
+#[error("out of memory")]
 pub struct NoMemory;
 
 impl From<AllocError> for NoMemory {
@@ -13,34 +15,41 @@ impl From<AllocError> for NoMemory {
 }
 
 /// Out of memory for a pair that would overwrite nothing. The pair is handed back, and nothing has changed.
-#[derive(Debug, Drop, Eq, PartialEq)]
+#[derive(Debug, Drop, Eq, Error, PartialEq)]
+#[error("out of memory for the pair")]
 pub struct NoRoom<L, R> {
     pub left: L,
     pub right: R,
 }
 
 /// Why `insert_no_overwrite` refused a pair. The pair is handed back, and nothing has changed.
-#[derive(Debug, Drop, Eq, PartialEq)]
+#[derive(Debug, Drop, Eq, Error, PartialEq)]
 pub enum NotInserted<L, R> {
     /// The bimap contains one of the values, or both.
+    #[error("the left or the right is already contained")]
     Occupied(L, R),
     /// It contains neither, and was out of memory.
+    #[error("out of memory for the pair")]
     Memory(L, R),
 }
 
 /// Why `insert_with` refused a pair. The pair is handed back, and nothing has changed.
-#[derive(Debug, Drop, Eq, PartialEq)]
+#[derive(Debug, Drop, Eq, Error, PartialEq)]
 pub enum NotInsertedWith<L, R> {
     /// The bimap contains the left, and the policy keeps it. It is asked before the right.
+    #[error("the left is already contained")]
     LeftHeld(L, R),
     /// It contains the right, and the policy keeps it.
+    #[error("the right is already contained")]
     RightHeld(L, R),
     /// It contains neither, and was out of memory.
+    #[error("out of memory for the pair")]
     Memory(L, R),
 }
 
 /// Out of memory for an item that would overwrite nothing. It is handed back, and those before it were inserted.
-#[derive(Debug, Drop, Eq, PartialEq)]
+#[derive(Debug, Drop, Eq, Error, PartialEq)]
+#[error("item {taken}: out of memory for the pair")]
 pub struct ExtendStopped<L, R> {
     /// How many items were inserted, or `usize::MAX` if more were.
     pub taken: usize,
@@ -49,16 +58,19 @@ pub struct ExtendStopped<L, R> {
 }
 
 /// Why a value was not replaced. The new value is handed back, and nothing has changed.
-#[derive(Debug, Drop, Eq, PartialEq)]
+#[derive(Debug, Drop, Eq, Error, PartialEq)]
 pub enum NotReplaced<V> {
     /// The bimap doesn't contain the old value. It is asked first.
+    #[error("the old value is not contained")]
     Missing(V),
     /// Another pair has the new value.
+    #[error("another pair has the new value")]
     Held(V),
 }
 
 /// An item that the policy refused, or that was out of memory. The call says what became of those before it.
-#[derive(Debug, Drop, Eq, PartialEq)]
+#[derive(Debug, Drop, Eq, Error, PartialEq)]
+#[error("item {taken}: {why}")]
 pub struct ItemRefused<L, R> {
     /// The item's number, from 0, or `usize::MAX` if that is less.
     pub taken: usize,
@@ -67,7 +79,8 @@ pub struct ItemRefused<L, R> {
 }
 
 /// Out of memory for putting two pairs back. The answer is handed back, and nothing has changed.
-#[derive(Debug, Drop, Eq, PartialEq)]
+#[derive(Debug, Drop, Eq, Error, PartialEq)]
+#[error("out of memory for putting two pairs back")]
 pub struct UndoStopped<L, R> {
     pub answer: Overwritten<L, R>,
 }

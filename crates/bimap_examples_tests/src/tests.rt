@@ -6,6 +6,7 @@ mod looks;
 mod made;
 mod marks;
 mod recipes;
+mod refusals;
 mod sides;
 
 use bimap::BiBTreeMap;

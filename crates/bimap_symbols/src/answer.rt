@@ -27,7 +27,7 @@ fn define(
     match symbols.define(owned(rt, name)?, number) {
         Ok(true) => println!(rt; "{name} is {number}, and shadows"),
         Ok(false) => println!(rt; "{name} is {number}"),
-        Err(_) => println!(rt; "{name} is not defined: no memory"),
+        Err(refused) => println!(rt; "{name} is not defined: {refused}"),
     }
 }
 

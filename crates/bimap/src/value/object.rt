@@ -11,22 +11,29 @@ use bimap_base::{Bijection, NoMemory, NotInsertedWith, OnHeld, Policy};
 use serde_json::{Map, Value};
 use std::alloc::Global;
 use std::mem;
+use thiserror::Error;
 
 /// Why no bimap was read. An entry is named by its number, from 0, in ascending byte order of the keys; those before it
 /// were inserted.
-#[derive(Clone, Copy, Debug, Eq, PartialEq)]
+#[derive(Clone, Copy, Debug, Eq, Error, PartialEq)]
 pub enum JsonFault {
     /// The value is not an object.
+    #[error("not a JSON object")]
     NotAnObject,
     /// The key reads as no left.
+    #[error("entry {0}: the key is no left")]
     BadKey(usize),
     /// The key reads as a left, and the value as no right.
+    #[error("entry {0}: the value is no right")]
     BadValue(usize),
     /// The bimap contains the left by then, and the policy keeps it. It is asked before the right.
+    #[error("entry {0}: the left is already contained")]
     LeftHeld(usize),
     /// It contains the right, and the policy keeps it.
+    #[error("entry {0}: the right is already contained")]
     RightHeld(usize),
     /// Out of memory, before any fault was met.
+    #[error("out of memory")]
     Memory,
 }
 

@@ -7,13 +7,16 @@ ghost use Rattle.bimap.specs.JsonReading.{Reads, ReadsBack};
 use bimap_base::NoMemory;
 use serde_json::Value;
 use std::alloc::Global;
+use thiserror::Error;
 
 /// Why nothing was read.
-#[derive(Clone, Copy, Debug, Eq, PartialEq)]
+#[derive(Clone, Copy, Debug, Eq, Error, PartialEq)]
 pub enum ReadFault {
     /// The text or JSON value reads as nothing.
+    #[error("no value of this type")]
     Bad,
     /// Out of memory.
+    #[error("out of memory")]
     Memory,
 }
 
