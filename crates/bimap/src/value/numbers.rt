@@ -7,15 +7,16 @@ ghost use Rattle.bimap.specs.JsonReading.{Reads, ReadsBack, ReadsSome};
 ghost use Rattle.bimap.specs.JsonNumbers.{IsPlain, ParsesPlain, NumberForm, unsigned_form, signed_form};
 ghost use Rattle.bimap.specs.declared.value.sides.ReadFault.TheVariants.{Bad};
 
-use crate::value::sides::{JsonKey, JsonValue, ReadFault};
+use crate::value::sides::{self, ReadFault};
 use bimap_base::NoMemory;
 use serde_json::Value;
 use std::alloc::Global;
 use std::num::ParseIntError;
 use std::str::FromStr;
 
-/// A type of whole numbers: what differs from one to the other.
-pub trait WholeNumber: Copy + Eq {
+/// A whole number as a key: what differs from one type to the other. It has the name of the trait that it gives, by which a
+/// missing bound is told.
+pub trait JsonKey: Copy + Eq {
     /// What a number is written as, and what reads as it.
     ghost form: { NumberForm Self };
 
@@ -24,21 +25,24 @@ pub trait WholeNumber: Copy + Eq {
         ensures text { IfOk result (λ s. string_bytes s ≡ form.writes_key self) }
         ensures reads_back { OnOk result (ReadsBack Self.eq (form.reads_key (form.writes_key self)) self) };
 
-    /// The JSON value of a number.
-    fn to_value(self) -> Value
-        ensures json { view result ≡ form.writes self }
-        ensures reads_back { ReadsBack Self.eq (form.reads (form.writes self)) self };
-
     /// The number that a key text reads as.
     fn of_text(text: &str) -> Option<Self>
         ensures { ReadsSome (form.reads_key text.now) result };
+}
+
+/// The same of a value.
+pub trait JsonValue: JsonKey {
+    /// The JSON value of a number.
+    fn to_value(self) -> Value
+        ensures json { view result ≡ Self.form.writes self }
+        ensures reads_back { ReadsBack Self.eq (Self.form.reads (Self.form.writes self)) self };
 
     /// The number that a JSON value reads as.
     fn of_value(value: &Value) -> Option<Self>
-        ensures { ReadsSome (form.reads (view value.now)) result };
+        ensures { ReadsSome (Self.form.reads (view value.now)) result };
 }
 
-impl<N: WholeNumber> JsonKey for N {
+impl<N: JsonKey> sides::JsonKey for N {
     ghost writes_key = { N.form.writes_key };
 
     ghost reads_key = { N.form.reads_key };
@@ -55,7 +59,7 @@ impl<N: WholeNumber> JsonKey for N {
     }
 }
 
-impl<N: WholeNumber> JsonValue for N {
+impl<N: JsonValue> sides::JsonValue for N {
     ghost writes = { N.form.writes };
 
     ghost reads = { N.form.reads };
@@ -94,19 +98,21 @@ fn parse_plain<N: FromStr<Err = ParseIntError>>(text: &str) -> Option<N>
     }
 }
 
-impl WholeNumber for u8 {
+impl JsonKey for u8 {
     ghost form = { unsigned_form 8 };
 
     fn to_text(self, alloc: Global) -> Result<String, NoMemory> {
         Ok(self.to_string(alloc)?)
     }
 
-    fn to_value(self) -> Value {
-        Value::from(self)
-    }
-
     fn of_text(text: &str) -> Option<u8> {
         parse_plain(text)
+    }
+}
+
+impl JsonValue for u8 {
+    fn to_value(self) -> Value {
+        Value::from(self)
     }
 
     fn of_value(value: &Value) -> Option<u8> {
@@ -114,19 +120,21 @@ impl WholeNumber for u8 {
     }
 }
 
-impl WholeNumber for u32 {
+impl JsonKey for u32 {
     ghost form = { unsigned_form 32 };
 
     fn to_text(self, alloc: Global) -> Result<String, NoMemory> {
         Ok(self.to_string(alloc)?)
     }
 
-    fn to_value(self) -> Value {
-        Value::from(self)
-    }
-
     fn of_text(text: &str) -> Option<u32> {
         parse_plain(text)
+    }
+}
+
+impl JsonValue for u32 {
+    fn to_value(self) -> Value {
+        Value::from(self)
     }
 
     fn of_value(value: &Value) -> Option<u32> {
@@ -134,19 +142,21 @@ impl WholeNumber for u32 {
     }
 }
 
-impl WholeNumber for u64 {
+impl JsonKey for u64 {
     ghost form = { unsigned_form 64 };
 
     fn to_text(self, alloc: Global) -> Result<String, NoMemory> {
         Ok(self.to_string(alloc)?)
     }
 
-    fn to_value(self) -> Value {
-        Value::from(self)
-    }
-
     fn of_text(text: &str) -> Option<u64> {
         parse_plain(text)
+    }
+}
+
+impl JsonValue for u64 {
+    fn to_value(self) -> Value {
+        Value::from(self)
     }
 
     fn of_value(value: &Value) -> Option<u64> {
@@ -154,19 +164,21 @@ impl WholeNumber for u64 {
     }
 }
 
-impl WholeNumber for i32 {
+impl JsonKey for i32 {
     ghost form = { signed_form 31 };
 
     fn to_text(self, alloc: Global) -> Result<String, NoMemory> {
         Ok(self.to_string(alloc)?)
     }
 
-    fn to_value(self) -> Value {
-        Value::from(self)
-    }
-
     fn of_text(text: &str) -> Option<i32> {
         parse_plain(text)
+    }
+}
+
+impl JsonValue for i32 {
+    fn to_value(self) -> Value {
+        Value::from(self)
     }
 
     fn of_value(value: &Value) -> Option<i32> {
@@ -174,19 +186,21 @@ impl WholeNumber for i32 {
     }
 }
 
-impl WholeNumber for i64 {
+impl JsonKey for i64 {
     ghost form = { signed_form 63 };
 
     fn to_text(self, alloc: Global) -> Result<String, NoMemory> {
         Ok(self.to_string(alloc)?)
     }
 
-    fn to_value(self) -> Value {
-        Value::from(self)
-    }
-
     fn of_text(text: &str) -> Option<i64> {
         parse_plain(text)
+    }
+}
+
+impl JsonValue for i64 {
+    fn to_value(self) -> Value {
+        Value::from(self)
     }
 
     fn of_value(value: &Value) -> Option<i64> {

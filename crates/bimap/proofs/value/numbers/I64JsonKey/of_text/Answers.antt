@@ -1,6 +1,6 @@
 use Rattle.std.proofs.Common.{w64, lit≤}
 use Rattle.bimap.proofs.JsonNumbers.{signed_read}
-use Rattle.bimap.proofs.value.numbers.I64WholeNumber.of_text.Goals as goal
+use Rattle.bimap.proofs.value.numbers.I64JsonKey.of_text.Goals as goal
 
 pub returns : goal.returns
 returns c = signed_read w64 (lit≤ tt) c.args.text.now c.parse_plain.result c.parse_plain.ensures

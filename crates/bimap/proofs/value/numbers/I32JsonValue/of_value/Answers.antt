@@ -1,5 +1,5 @@
 use Rattle.std.proofs.Common.{rules}
-use Rattle.bimap.proofs.value.numbers.I32WholeNumber.of_value.Goals as goal
+use Rattle.bimap.proofs.value.numbers.I32JsonValue.of_value.Goals as goal
 
 pub returns : goal.returns
 returns c = search rules

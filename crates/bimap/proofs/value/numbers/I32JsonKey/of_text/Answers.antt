@@ -1,6 +1,6 @@
 use Rattle.std.proofs.Common.{w32, lit≤}
 use Rattle.bimap.proofs.JsonNumbers.{signed_read}
-use Rattle.bimap.proofs.value.numbers.I32WholeNumber.of_text.Goals as goal
+use Rattle.bimap.proofs.value.numbers.I32JsonKey.of_text.Goals as goal
 
 pub returns : goal.returns
 returns c = signed_read w32 (lit≤ tt) c.args.text.now c.parse_plain.result c.parse_plain.ensures
