@@ -1,14 +1,15 @@
--- What the texts of characters read as.
-use Rattle.std.proofs.Common.{◌≡◌, ℕ, ◌&&◌, [], ◌∷◌, true, nat_eq, Some, refl, sym, ap, ◌∙◌, get_or, append-nil, String, string_bytes, Global}
+-- What the texts of characters, strings and truths read as.
+use Rattle.std.proofs.Common.{◌≡◌, ℕ, ◌&&◌, [], ◌∷◌, Bool, true, false, nat_eq, Some, refl, sym, ap, ◌∙◌, get_or, append-nil, arith, String, string_bytes, Global}
+use Rattle.std.specs.Bool.{beq}
 use Rattle.std.specs.Char.{encode_utf8, IsScalar}
 use Rattle.std.specs.Str.{chars}
 use Rattle.std.proofs.lemmas.Str.{chars-encodes}
 use borrow.Author.Tests.{eq-eqb}
 use Rattle.std.specs.Cmp.Lexicographic.{bytes_decides}
 use Rattle.std.specs.String.{string_eq}
-use Rattle.serde_json.specs.Data.{string}
+use Rattle.serde_json.specs.Data.{boolean, string}
 use Rattle.bimap.specs.JsonReading.{ReadsBack}
-use Rattle.bimap.specs.JsonTexts.{IsCharText, IsStringText, IsCharValue, IsStringValue}
+use Rattle.bimap.specs.JsonTexts.{IsCharText, IsStringText, IsCharValue, IsStringValue, bool_text, IsBoolText, IsBoolValue}
 
 pub some_inj : {A : Type 0} (x y : A) → Some x ≡ Some y → x ≡ y
 some_inj x y e = cc
@@ -30,3 +31,15 @@ back_string s = record { as_value = s; reads = refl; only = λ k e. (bytes_decid
 
 pub back_string_json : (s : String Global) → ReadsBack string_eq (IsStringValue (string (string_bytes s))) s
 back_string_json s = record { as_value = s; reads = refl; only = λ k e. (bytes_decides (string_bytes k) (string_bytes s)).1 (sym (some_inj _ _ e)) }
+
+same_truth : (b w : Bool) → bool_text b ≡ bool_text w → beq w b ≡ true
+same_truth true true e = refl
+same_truth true false e = absurd (omega (arith, ap (λ l. get_or l 0 0) e))
+same_truth false true e = absurd (omega (arith, ap (λ l. get_or l 0 0) e))
+same_truth false false e = refl
+
+pub back_bool : (b : Bool) → ReadsBack beq (IsBoolText (bool_text b)) b
+back_bool b = record { as_value = b; reads = refl; only = same_truth b }
+
+pub back_bool_json : (b : Bool) → ReadsBack beq (IsBoolValue (boolean b)) b
+back_bool_json b = record { as_value = b; reads = refl; only = λ w e. same_truth b w (ap bool_text (some_inj b w e)) }

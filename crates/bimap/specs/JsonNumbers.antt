@@ -1,4 +1,4 @@
--- What the types of whole numbers have in common. No public clause cites this module.
+-- What the types of whole numbers have in common.
 use Rattle.std.specs.Prelude.{◌≡◌, ◌≢◌, ℕ, ℤ, List, Option, Some, None, Result, Ok, Err, ◌⊎◌, length, slice_index, decimal}
 use Rattle.std.specs.Fmt.{signed_decimal}
 use Rattle.serde_json.specs.Data.{Data, number, unsigned}
@@ -18,6 +18,7 @@ pub record NumberForm (T : Type 0) : Type 1 where
   pub writes : T → Data
   pub reads : Data → T → Type 0
 
+-- with so many bits, none of them a sign
 abbrev pub unsigned_form : ℕ → NumberForm ℕ
 unsigned_form bits = record { writes_key = decimal; reads_key = IsUnsignedText bits; writes = λ n. number (unsigned n); reads = IsUnsignedValue bits }
 

@@ -1,10 +1,10 @@
 -- What texts and JSON values read as, for the types of std.
-use Rattle.std.specs.Prelude.{◌≡◌, ℕ, ◌<◌, ◌^◌, List, Some, option_and_then, decimal, ℤ, pos, negsuc, String, string_bytes}
+use Rattle.std.specs.Prelude.{◌≡◌, ℕ, ◌<◌, ◌^◌, Bool, if◌then◌else◌, List, codes, Some, option_and_then, decimal, ℤ, pos, negsuc, String, string_bytes}
 use Rattle.std.specs.Fmt.{signed_decimal}
 use Rattle.std.specs.Char.{encode_utf8, IsScalar}
 use Rattle.std.specs.declared.alloc.Global.{Global}
 use Rattle.serde_json.specs.Data.{Data}
-use Rattle.serde_json.specs.Find.{as_number, as_u64, as_i64, as_str}
+use Rattle.serde_json.specs.Find.{as_bool, as_number, as_u64, as_i64, as_str}
 
 -- z is in the range of the signed type with so many bits below the sign
 abbrev pub IsWithin : ℕ → ℤ → Type 0
@@ -27,6 +27,14 @@ IsCharText text c = (text ≡ encode_utf8 c) × IsScalar c
 abbrev pub IsStringText : List ℕ → String Global → Type 0
 IsStringText text s = string_bytes s ≡ text
 
+-- what a truth is written as
+abbrev pub bool_text : Bool → List ℕ
+bool_text b = if b then codes "true" else codes "false"
+
+-- the text is that of the truth b
+abbrev pub IsBoolText : List ℕ → Bool → Type 0
+IsBoolText text b = text ≡ bool_text b
+
 -- the value is the whole number n, which has at most so many bits
 abbrev pub IsUnsignedValue : ℕ → Data → ℕ → Type 0
 IsUnsignedValue bits value n = (option_and_then as_u64 (as_number value) ≡ Some n) × (n < 2 ^ bits)
@@ -42,3 +50,7 @@ IsCharValue value c = (as_str value ≡ Some (encode_utf8 c)) × IsScalar c
 -- the value is that text
 abbrev pub IsStringValue : Data → String Global → Type 0
 IsStringValue value s = as_str value ≡ Some (string_bytes s)
+
+-- the value is the truth b
+abbrev pub IsBoolValue : Data → Bool → Type 0
+IsBoolValue value b = as_bool value ≡ Some b

@@ -33,8 +33,8 @@ STEPS: front back len copy rest   RANGE: .. b.. b..d b..=d ..d ..=d, and >b.. wi
   undoable insert L R · undoable insert_with POLICY L R · undoable insert_all POLICY PAIRS
   undoable remove_by_left L · undoable remove_by_right R · undoable mark · undoable back_to N
   undoable new · undoable held · undoable into_inner
-  json LEFT RIGHT POLICY TEXT                 types: char String u8 u32 u64 i32 i64, each with itself, and
-      char u8 · char i32 · String char · String u8 · u8 String · u32 i64 · u64 char · i32 u8 · i32 u64 · i64 u32
+  json LEFT RIGHT POLICY TEXT                 types, each with itself: char String bool u8 u16 u32 u64 usize
+      i8 i16 i32 i64; and char u8 · char i32 · String char · String u8 · u8 String · u32 i64 · u64 char · i32 u8 · i32 u64 · i64 u32
 
 Before a call:
   times N CALL                # in its words is the turn, % a turn in mixed order; seven digits

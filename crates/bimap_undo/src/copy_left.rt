@@ -6,7 +6,7 @@ use std::alloc::Global;
 
 /// A left that can be copied.
 pub trait CopyLeft: Eq + Sized {
-    /// Returns a value equal to this one. A `String` takes memory for the text; a `char` or a number takes none, and is
+    /// Returns a value equal to this one. A `String` takes memory for the text; a `char`, a `bool` or a number takes none, and is
     /// never refused.
     fn copy_left(&self, alloc: Global) -> Result<Self, NoMemory>
         ensures { IfOk result (λ copy. Self.eq copy self.now ≡ true) };
@@ -17,6 +17,15 @@ impl CopyLeft for char {
         ensures { result ≡ Ok self.now }
     {
         let copy: char = *self;
+        Ok(copy)
+    }
+}
+
+impl CopyLeft for bool {
+    fn copy_left(&self, _alloc: Global) -> Result<bool, NoMemory>
+        ensures { result ≡ Ok self.now }
+    {
+        let copy: bool = *self;
         Ok(copy)
     }
 }
@@ -36,6 +45,15 @@ impl CopyLeft for u8 {
     }
 }
 
+impl CopyLeft for u16 {
+    fn copy_left(&self, _alloc: Global) -> Result<u16, NoMemory>
+        ensures { result ≡ Ok self.now }
+    {
+        let copy: u16 = *self;
+        Ok(copy)
+    }
+}
+
 impl CopyLeft for u32 {
     fn copy_left(&self, _alloc: Global) -> Result<u32, NoMemory>
         ensures { result ≡ Ok self.now }
@@ -50,6 +68,33 @@ impl CopyLeft for u64 {
         ensures { result ≡ Ok self.now }
     {
         let copy: u64 = *self;
+        Ok(copy)
+    }
+}
+
+impl CopyLeft for usize {
+    fn copy_left(&self, _alloc: Global) -> Result<usize, NoMemory>
+        ensures { result ≡ Ok self.now }
+    {
+        let copy: usize = *self;
+        Ok(copy)
+    }
+}
+
+impl CopyLeft for i8 {
+    fn copy_left(&self, _alloc: Global) -> Result<i8, NoMemory>
+        ensures { result ≡ Ok self.now }
+    {
+        let copy: i8 = *self;
+        Ok(copy)
+    }
+}
+
+impl CopyLeft for i16 {
+    fn copy_left(&self, _alloc: Global) -> Result<i16, NoMemory>
+        ensures { result ≡ Ok self.now }
+    {
+        let copy: i16 = *self;
         Ok(copy)
     }
 }

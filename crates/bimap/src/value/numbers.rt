@@ -120,6 +120,28 @@ impl JsonValue for u8 {
     }
 }
 
+impl JsonKey for u16 {
+    ghost form = { unsigned_form 16 };
+
+    fn to_text(self, alloc: Global) -> Result<String, NoMemory> {
+        Ok(self.to_string(alloc)?)
+    }
+
+    fn of_text(text: &str) -> Option<u16> {
+        parse_plain(text)
+    }
+}
+
+impl JsonValue for u16 {
+    fn to_value(self) -> Value {
+        Value::from(self)
+    }
+
+    fn of_value(value: &Value) -> Option<u16> {
+        u16::try_from(value.as_u64()?).ok()
+    }
+}
+
 impl JsonKey for u32 {
     ghost form = { unsigned_form 32 };
 
@@ -161,6 +183,72 @@ impl JsonValue for u64 {
 
     fn of_value(value: &Value) -> Option<u64> {
         value.as_u64()
+    }
+}
+
+impl JsonKey for usize {
+    ghost form = { unsigned_form 64 };
+
+    fn to_text(self, alloc: Global) -> Result<String, NoMemory> {
+        Ok(self.to_string(alloc)?)
+    }
+
+    fn of_text(text: &str) -> Option<usize> {
+        parse_plain(text)
+    }
+}
+
+impl JsonValue for usize {
+    fn to_value(self) -> Value {
+        Value::from(self)
+    }
+
+    fn of_value(value: &Value) -> Option<usize> {
+        usize::try_from(value.as_u64()?).ok()
+    }
+}
+
+impl JsonKey for i8 {
+    ghost form = { signed_form 7 };
+
+    fn to_text(self, alloc: Global) -> Result<String, NoMemory> {
+        Ok(self.to_string(alloc)?)
+    }
+
+    fn of_text(text: &str) -> Option<i8> {
+        parse_plain(text)
+    }
+}
+
+impl JsonValue for i8 {
+    fn to_value(self) -> Value {
+        Value::from(self)
+    }
+
+    fn of_value(value: &Value) -> Option<i8> {
+        i8::try_from(value.as_i64()?).ok()
+    }
+}
+
+impl JsonKey for i16 {
+    ghost form = { signed_form 15 };
+
+    fn to_text(self, alloc: Global) -> Result<String, NoMemory> {
+        Ok(self.to_string(alloc)?)
+    }
+
+    fn of_text(text: &str) -> Option<i16> {
+        parse_plain(text)
+    }
+}
+
+impl JsonValue for i16 {
+    fn to_value(self) -> Value {
+        Value::from(self)
+    }
+
+    fn of_value(value: &Value) -> Option<i16> {
+        i16::try_from(value.as_i64()?).ok()
     }
 }
 
