@@ -31,7 +31,10 @@ STEPS: front back len copy rest   RANGE: .. b.. b..d b..=d ..d ..=d, and >b.. wi
   pair_at_left_rank N · left_rank L           all six also by right
   clone · swap · eq · partial_cmp · cmp · hash     (with the other bimap, which clone makes)
   undoable insert L R · undoable insert_with POLICY L R · undoable insert_all POLICY PAIRS
-  undoable remove_by_left L · undoable remove_by_right R · undoable mark · undoable back_to N
+  undoable replace_left L L · undoable replace_right R R
+  undoable remove_by_left L · undoable remove_by_right R
+  undoable last_change · undoable mark · undoable changes_since N
+  undoable back_to N · undoable undo_last N · undoable forget
   undoable new · undoable held · undoable into_inner
   json LEFT RIGHT POLICY TEXT                 types, each with itself: char String bool u8 u16 u32 u64 usize
       i8 i16 i32 i64; and char u8 · char i32 · String char · String u8 · u8 String · u32 i64 · u64 char · i32 u8 · i32 u64 · i64 u32

@@ -8,6 +8,7 @@ use bimap_undo::Undoable;
 use std::alloc::AllocError;
 use std::mem;
 
+// A change, which is recorded.
 fn changed<B: CopyKind<Word, Word> + ShellKind>(
     record: &mut Undoable<B, Word, Word>,
     request: &Request<'_>,
@@ -21,14 +22,32 @@ fn changed<B: CopyKind<Word, Word> + ShellKind>(
             let items = request.pairs.iter().copied();
             told(record.insert_all(items, request.policy), said)
         }
+        "replace_left" => told(record.replace_left(&left, right), said),
+        "replace_right" => told(record.replace_right(&left, right), said),
         "remove_by_left" => told(record.remove_by_left(&left), said),
         "remove_by_right" => told(record.remove_by_right(&left), said),
+        _ => Ok(false),
+    }
+}
+
+// What the record shows, and the ways back.
+fn recorded<B: CopyKind<Word, Word> + ShellKind>(
+    record: &mut Undoable<B, Word, Word>,
+    request: &Request<'_>,
+    said: &mut String,
+) -> Result<bool, AllocError> {
+    let number = request.number;
+    if number > record.mark() {
+        write!(said, "no such mark")?;
+        return Ok(true);
+    }
+    match request.call {
         "mark" => told(record.mark(), said),
-        "back_to" if request.number > record.mark() => {
-            write!(said, "no such mark")?;
-            Ok(true)
-        }
-        "back_to" => told(record.back_to(request.number), said),
+        "last_change" => told(record.last_change(), said),
+        "changes_since" => told(record.changes_since(number), said),
+        "back_to" => told(record.back_to(number), said),
+        "undo_last" => told(record.undo_last(number), said),
+        "forget" => told(record.forget(), said),
         _ => Ok(false),
     }
 }
@@ -52,7 +71,12 @@ pub fn call<B: CopyKind<Word, Word> + ShellKind>(
             session.bimap = mem::replace(&mut session.record, empty).into_inner();
             session.bimap.show(said)?;
         }
-        _ => return changed(&mut session.record, request, said),
+        _ => {
+            return Ok(
+                changed(&mut session.record, request, said)?
+                    || recorded(&mut session.record, request, said)?,
+            );
+        }
     }
     Ok(true)
 }

@@ -46,7 +46,9 @@ fn words_of(name: &str) -> Option<Words> {
         | "shrink_to"
         | "pair_at_left_rank"
         | "pair_at_right_rank"
-        | "back_to" => Some(Words::Number),
+        | "changes_since"
+        | "back_to"
+        | "undo_last" => Some(Words::Number),
         "undo_insert" | "can_undo_insert" => Some(Words::Undo),
         "iter" | "into_iter" | "left_values" | "right_values" => Some(Words::Steps),
         "left_range" | "right_range" => Some(Words::RangeSteps),
@@ -76,7 +78,7 @@ fn nothing_after(name: &str) -> bool {
         | "hash" => true,
         "first_by_left" | "last_by_left" | "pop_first_by_left" | "pop_last_by_left" => true,
         "first_by_right" | "last_by_right" | "pop_first_by_right" | "pop_last_by_right" => true,
-        "mark" | "held" | "into_inner" => true,
+        "last_change" | "mark" | "forget" | "held" | "into_inner" => true,
         _ => false,
     }
 }

@@ -1,2 +1,4 @@
+pub mod Replacing
 pub mod Paths
 pub mod Removing
+pub mod Replaced

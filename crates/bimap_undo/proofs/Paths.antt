@@ -1,20 +1,22 @@
 -- Records that grow and shrink at their end.
-use Rattle.std.proofs.Common.{◌≡◌, ◌⊎◌, inl, inr, ℕ, ◌≤◌, Bool, List, [], ◌∷◌, ◌++◌, length, drop, sym, ap, ◌∙◌, subst, arith, true≢false, length-append}
-use Rattle.std.specs.Prelude.{Contains}
+use Rattle.std.proofs.Common.{◌≡◌, ◌⊎◌, inl, inr, ℕ, ◌≤◌, Bool, List, [], ◌∷◌, ◌++◌, length, drop, sym, ap, ◌∙◌, subst, arith, true≢false, length-append, ◌↔◌, take, refl}
+use Rattle.std.specs.Prelude.{Contains, IsTrue}
 use Rattle.std.specs.Cmp.{IsEquivalence}
-use Rattle.std.proofs.lemmas.Bool.{cases_lt, cases_Bool, or_parts}
-use Rattle.std.proofs.lemmas.List.{drop-append-le}
+use Rattle.std.proofs.lemmas.Bool.{cases_lt, cases_Bool, or_parts, or_left, or_right}
+use Rattle.std.proofs.lemmas.List.{drop-append-le, take-take, take-append-le}
 use Rattle.std.proofs.Math.Seq.{drop-length, drop-append_seam}
-use Rattle.bimap.specs.Sets.{shares, IsApart, IsSameSet}
-use Rattle.bimap.specs.Answer.{IsAnswer, IsBoth}
+use Rattle.bimap.specs.Sets.{shares, IsApart, IsSameSet, SomeShares}
+use Rattle.bimap.specs.Answer.{IsAnswer, IsBoth, overwrites}
+use Rattle.bimap.specs.Exchange.{IsExchanged}
 use Rattle.bimap.specs.Undoing.{IsInserting, IsUndone}
 use Rattle.bimap.specs.declared.Overwritten.{Overwritten}
 use Rattle.bimap.specs.declared.Overwritten.TheVariants.{Neither, Left, Right, Pair, Both}
 use Rattle.bimap.proofs.Undoing.{named_struck, struck_named, undone_same}
 use Rattle.bimap_undo.specs.declared.entry.Entry.{Entry}
-use Rattle.bimap_undo.specs.declared.entry.Entry.TheVariants.{Inserted, Removed}
-use Rattle.bimap_undo.specs.Marks.{Marked, IsChange, IsPath, IsBefore, KeepsMarks, HasMarks}
+use Rattle.bimap_undo.specs.declared.entry.Entry.TheVariants.{Inserted, LeftReplaced, RightReplaced, Removed}
+use Rattle.bimap_undo.specs.Marks.{Marked, IsReplacing, IsChange, IsPath, IsBefore, KeepsMarks, HasMarks}
 use Rattle.bimap.proofs.Removals.{removing_from_one}
+use Rattle.bimap_undo.proofs.Replacing.{replacing_from_one, left_close, right_close}
 
 pub both_or_not : {L R : Type 0} (answer : Overwritten L R) → IsBoth answer ⊎ (IsBoth answer → ⊥)
 both_or_not (Both p q) = inl tt
@@ -34,6 +36,14 @@ module _ {X : Type 0} where
   same_set_through S T U h k x = (λ m. (k x).0 ((h x).0 m), λ m. (h x).1 ((k x).1 m))
 
 module _ {L R : Type 0} (same_left : L → L → Bool) (same_right : R → R → Bool) where
+  -- an answer names a pair exactly where one shares a value
+  pub overwrites_where_shared : (S : L × R → Type 0) (new : L × R) (answer : Overwritten L R) → IsAnswer same_left same_right S new answer → IsTrue (overwrites answer) ↔ SomeShares same_left same_right S new
+  overwrites_where_shared S new Neither h = (λ e. absurd (true≢false (sym e)), λ w. absurd (true≢false (sym w.2 ∙ h w.0 w.1)))
+  overwrites_where_shared S new (Left l r) h = (λ e. ((l, r), h.0.member, or_left (same_left l new.0) (same_right r new.1) h.1), λ w. refl)
+  overwrites_where_shared S new (Right l r) h = (λ e. ((l, r), h.0.member, or_right (same_left l new.0) (same_right r new.1) h.2), λ w. refl)
+  overwrites_where_shared S new (Pair l r) h = (λ e. ((l, r), h.0.member, or_left (same_left l new.0) (same_right r new.1) h.1), λ w. refl)
+  overwrites_where_shared S new (Both p q) h = (λ e. (p, h.first, or_left (same_left p.0 new.0) (same_right p.1 new.1) h.by_left), λ w. refl)
+
   -- an answer is the same for a list with the same members
   answer_from : (S T : L × R → Type 0) (new : L × R) (answer : Overwritten L R) → IsSameSet S T → IsAnswer same_left same_right S new answer → IsAnswer same_left same_right T new answer
   answer_from S T new Neither s h = λ q m. h q ((s q).1 m)
@@ -49,6 +59,28 @@ module _ {L R : Type 0} (same_left : L → L → Bool) (same_right : R → R →
     only = λ w m. h.only w ((s w).1 m);
   }
 
+  -- so is an exchange
+  exchange_from : (S S' T : L × R → Type 0) (p other : L × R) → IsSameSet S S' → IsExchanged S p other T → IsExchanged S' p other T
+  exchange_from S S' T p other s e = record {
+    member = (s p).0 e.member;
+    exchanged = λ q. (
+      λ m. elim ((e.exchanged q).0 m) [ inl f ↦ inl f | inr w ↦ inr ((s q).0 w.0, w.1) ],
+      λ m. (e.exchanged q).1 (elim m [ inl f ↦ inl f | inr w ↦ inr ((s q).1 w.0, w.1) ]),
+    );
+  }
+
+  exchange_to : (S T T' : L × R → Type 0) (p other : L × R) → IsSameSet T T' → IsExchanged S p other T → IsExchanged S p other T'
+  exchange_to S T T' p other s e = record {
+    member = e.member;
+    exchanged = λ q. (λ m. (e.exchanged q).0 ((s q).1 m), λ m. (s q).0 ((e.exchanged q).1 m));
+  }
+
+  replacing_from : (A A' : List (L × R)) (left : L) (before : L × R → L × R) (B : List (L × R)) → IsSameSet (Contains A) (Contains A') → IsReplacing same_left same_right A left before B → IsReplacing same_left same_right A' left before B
+  replacing_from A A' left before B s i = record { pair = i.pair; by_left = i.by_left; exchanged = exchange_from (Contains A) (Contains A') (Contains B) (before i.pair) i.pair s i.exchanged }
+
+  replacing_to : (A : List (L × R)) (left : L) (before : L × R → L × R) (B B' : List (L × R)) → IsSameSet (Contains B) (Contains B') → IsReplacing same_left same_right A left before B → IsReplacing same_left same_right A left before B'
+  replacing_to A left before B B' s i = record { pair = i.pair; by_left = i.by_left; exchanged = exchange_to (Contains A) (Contains B) (Contains B') (before i.pair) i.pair s i.exchanged }
+
   -- a change leads as well from a list with the same members, and to one
   change_from : (A A' : List (L × R)) (entry : Entry L R) (B : List (L × R)) → IsSameSet (Contains A) (Contains A') → IsChange same_left same_right A entry B → IsChange same_left same_right A' entry B
   change_from A A' (Inserted left answer) B s i = record {
@@ -60,6 +92,8 @@ module _ {L R : Type 0} (same_left : L → L → Bool) (same_right : R → R →
       λ m. (i.put q).1 (elim m [ inl e ↦ inl e | inr w ↦ inr ((s q).1 w.0, w.1) ]),
     );
   }
+  change_from A A' (LeftReplaced left old) B s i = replacing_from A A' left (λ p. (old, p.1)) B s i
+  change_from A A' (RightReplaced left old) B s i = replacing_from A A' left (λ p. (p.0, old)) B s i
   change_from A A' (Removed left right) B s i = record {
     member = (s (left, right)).0 i.member;
     without = λ q. (λ m. ((s q).0 ((i.without q).0 m).0, ((i.without q).0 m).1), λ m. (i.without q).1 ((s q).1 m.0, m.1));
@@ -72,6 +106,8 @@ module _ {L R : Type 0} (same_left : L → L → Bool) (same_right : R → R →
     is_answer = i.is_answer;
     put = λ q. (λ m. (i.put q).0 ((s q).1 m), λ m. (s q).0 ((i.put q).1 m));
   }
+  change_to A (LeftReplaced left old) B B' s i = replacing_to A left (λ p. (old, p.1)) B B' s i
+  change_to A (RightReplaced left old) B B' s i = replacing_to A left (λ p. (p.0, old)) B B' s i
   change_to A (Removed left right) B B' s i = record {
     member = i.member;
     without = λ q. (λ m. (i.without q).0 ((s q).1 m), λ m. (s q).0 ((i.without q).1 m));
@@ -92,6 +128,19 @@ module _ {L R : Type 0} (same_left : L → L → Bool) (same_right : R → R →
   path_pop A (first ∷ entries) entry T apart h =
       let w = path_pop h.0 entries entry T h.1 h.3 in (w.0, w.1, (h.0, h.1, h.2, w.2), w.3)
 
+  -- marks are kept by what changes nothing, those below where more are, and from the first to the last of three
+  pub keeps_all : (u : Marked L R) (last : ℕ) → KeepsMarks same_left same_right u last u
+  keeps_all u last = record { sets = λ mark within A b. b; changes = refl }
+
+  pub keeps_below : (u v : Marked L R) (last lower : ℕ) → lower ≤ last → KeepsMarks same_left same_right u last v → KeepsMarks same_left same_right u lower v
+  keeps_below u v last lower below k = record {
+    sets = λ mark within A b. k.sets mark (omega arith) A b;
+    changes = sym (take-take lower last v.entries below) ∙ ap (take lower) k.changes ∙ take-take lower last u.entries below;
+  }
+
+  pub keeps_through : (u v w : Marked L R) (last : ℕ) → KeepsMarks same_left same_right u last v → KeepsMarks same_left same_right v last w → KeepsMarks same_left same_right u last w
+  keeps_through u v w last k l = record { sets = λ mark within A b. l.sets mark within A (k.sets mark within A b); changes = l.changes ∙ k.changes }
+
   -- the last mark stands for what is held
   pub held_before_last : (u : Marked L R) (mark : ℕ) → mark ≡ length u.entries → IsApart same_left same_right u.held.pairs → IsBefore same_left same_right u mark u.held.pairs
   held_before_last u mark last apart = record {
@@ -109,9 +158,12 @@ module _ {L R : Type 0} (same_left : L → L → Bool) (same_right : R → R →
   module _ (u v : Marked L R) (entry : Entry L R) (grown : v.entries ≡ u.entries ++ entry ∷ []) (apart : IsApart same_left same_right v.held.pairs) (change : IsChange same_left same_right u.held.pairs entry v.held.pairs) where
     -- a recorded change keeps what the marks stand for
     pub keeps_push : KeepsMarks same_left same_right u (length u.entries) v
-    keeps_push mark within A b = record {
-      apart = b.apart;
-      path = subst (λ entries. IsPath same_left same_right A entries v.held.pairs) (sym (ap (drop mark) grown ∙ drop-append-le mark u.entries (entry ∷ []) within)) (path_push A (drop mark u.entries) u.held.pairs entry v.held.pairs b.path apart change);
+    keeps_push = record {
+      sets = λ mark within A b. record {
+        apart = b.apart;
+        path = subst (λ entries. IsPath same_left same_right A entries v.held.pairs) (sym (ap (drop mark) grown ∙ drop-append-le mark u.entries (entry ∷ []) within)) (path_push A (drop mark u.entries) u.held.pairs entry v.held.pairs b.path apart change);
+      };
+      changes = ap (take (length u.entries)) grown ∙ take-append-le (length u.entries) u.entries (entry ∷ []) (omega arith);
     }
 
     pub marks_push : HasMarks same_left same_right u → u.held.room ≤ v.held.room → length v.held.pairs ≤ v.held.room → HasMarks same_left same_right v
@@ -122,21 +174,24 @@ module _ {L R : Type 0} (same_left : L → L → Bool) (same_right : R → R →
               (v.held.pairs, held_before_last v mark last apart, fits)
           | inr old ↦
               let w = marks mark (omega (arith, old)) in
-              (w.0, keeps_push mark (omega (arith, old)) w.0 w.1, omega (arith, w.2, rooms))
+              (w.0, keeps_push.sets mark (omega (arith, old)) w.0 w.1, omega (arith, w.2, rooms))
         ]
 
 module _ {L R : Type 0} (same_left : L → L → Bool) (same_right : R → R → Bool) (lefts : IsEquivalence same_left) (rights : IsEquivalence same_right) where
   -- a record without its last change
   module _ (u v : Marked L R) (entry : Entry L R) (shrunk : u.entries ≡ v.entries ++ entry ∷ []) (back : (A : List (L × R)) → IsApart same_left same_right A → IsChange same_left same_right A entry u.held.pairs → IsSameSet (Contains A) (Contains v.held.pairs)) where
     pub keeps_pop : KeepsMarks same_left same_right u (length v.entries) v
-    keeps_pop mark within A b =
-        let w = path_pop same_left same_right A (drop mark v.entries) entry u.held.pairs b.apart (subst (λ entries. IsPath same_left same_right A entries u.held.pairs) (ap (drop mark) shrunk ∙ drop-append-le mark v.entries (entry ∷ []) within) b.path) in
-        record { apart = b.apart; path = path_to same_left same_right A (drop mark v.entries) w.0 v.held.pairs w.2 (back w.0 w.1 w.3) }
+    keeps_pop = record {
+      sets = λ mark within A b.
+          let w = path_pop same_left same_right A (drop mark v.entries) entry u.held.pairs b.apart (subst (λ entries. IsPath same_left same_right A entries u.held.pairs) (ap (drop mark) shrunk ∙ drop-append-le mark v.entries (entry ∷ []) within) b.path) in
+          record { apart = b.apart; path = path_to same_left same_right A (drop mark v.entries) w.0 v.held.pairs w.2 (back w.0 w.1 w.3) };
+      changes = sym (ap (take (length v.entries)) shrunk ∙ take-append-le (length v.entries) v.entries (entry ∷ []) (omega arith));
+    }
 
     pub marks_pop : HasMarks same_left same_right u → v.held.room ≡ u.held.room → HasMarks same_left same_right v
     marks_pop marks rooms mark within =
         let w = marks mark (omega (arith, ap length shrunk, length-append v.entries (entry ∷ []))) in
-        (w.0, keeps_pop mark within w.0 w.1, omega (arith, w.2, rooms))
+        (w.0, keeps_pop.sets mark within w.0 w.1, omega (arith, w.2, rooms))
 
   -- the set before the last change, for which there are places
   pub before_last : (u : Marked L R) (front : List (Entry L R)) (entry : Entry L R) → u.entries ≡ front ++ entry ∷ [] → HasMarks same_left same_right u → (A : List (L × R)) × IsApart same_left same_right A × (length A ≤ u.held.room) × IsChange same_left same_right A entry u.held.pairs
@@ -163,11 +218,13 @@ module _ {L R : Type 0} (same_left : L → L → Bool) (same_right : R → R →
   )
 
   -- a change leads from one set alone
-  change_from_one : (A A' : List (L × R)) (entry : Entry L R) (B : List (L × R)) → IsApart same_left same_right A → IsApart same_left same_right A' → IsChange same_left same_right A entry B → IsChange same_left same_right A' entry B → IsSameSet (Contains A) (Contains A')
-  change_from_one A A' (Inserted left answer) B apart apart' i j = undone_same same_left same_right lefts rights A B left answer apart i (Contains A') (undone_before A' B left answer j)
-  change_from_one A A' (Removed left right) B apart apart' i j = removing_from_one same_left same_right lefts rights A A' (left, right) B apart apart' i j
+  change_from_one : (A A' : List (L × R)) (entry : Entry L R) (B : List (L × R)) → IsApart same_left same_right A → IsApart same_left same_right A' → IsApart same_left same_right B → IsChange same_left same_right A entry B → IsChange same_left same_right A' entry B → IsSameSet (Contains A) (Contains A')
+  change_from_one A A' (LeftReplaced left old) B apart apart' after i j = replacing_from_one same_left same_right lefts rights A A' B left (λ p. (old, p.1)) (left_close same_left same_right lefts rights old) apart apart' after i j
+  change_from_one A A' (RightReplaced left old) B apart apart' after i j = replacing_from_one same_left same_right lefts rights A A' B left (λ p. (p.0, old)) (right_close same_left same_right lefts rights old) apart apart' after i j
+  change_from_one A A' (Inserted left answer) B apart apart' after i j = undone_same same_left same_right lefts rights A B left answer apart i (Contains A') (undone_before A' B left answer j)
+  change_from_one A A' (Removed left right) B apart apart' after i j = removing_from_one same_left same_right lefts rights A A' (left, right) B apart apart' i j
 
   -- and so does a path
   pub path_from_one : (A A' : List (L × R)) (entries : List (Entry L R)) (S : List (L × R)) → IsApart same_left same_right A → IsApart same_left same_right A' → IsPath same_left same_right A entries S → IsPath same_left same_right A' entries S → IsSameSet (Contains A) (Contains A')
   path_from_one A A' [] S apart apart' i j = same_set_through (Contains A) (Contains S) (Contains A') i (same_set_back (Contains A') (Contains S) j)
-  path_from_one A A' (entry ∷ entries) S apart apart' i j = change_from_one A A' entry j.0 apart apart' (change_to same_left same_right A entry i.0 j.0 (path_from_one i.0 j.0 entries S i.1 j.1 i.3 j.3) i.2) j.2
+  path_from_one A A' (entry ∷ entries) S apart apart' i j = change_from_one A A' entry j.0 apart apart' j.1 (change_to same_left same_right A entry i.0 j.0 (path_from_one i.0 j.0 entries S i.1 j.1 i.3 j.3) i.2) j.2

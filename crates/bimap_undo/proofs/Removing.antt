@@ -1,5 +1,5 @@
 -- What a recorded removal answers and leaves, by its three ends. Once for both sides: `part` is the side.
-use Rattle.std.proofs.Common.{◌≡◌, ◌↔◌, ◌∙◌, ◌≤◌, Bool, true, false, List, [], ◌∷◌, ◌++◌, length, refl, ap, arith, length-append}
+use Rattle.std.proofs.Common.{◌≡◌, ◌↔◌, ◌∙◌, ◌≤◌, Bool, true, false, List, [], ◌∷◌, ◌++◌, length, refl, sym, ap, arith, true≢false, length-append}
 use Rattle.std.specs.Prelude.{Contains, Result, Ok, Err, IsErr}
 use Rattle.bimap.specs.Sets.{IsApart}
 use Rattle.bimap.specs.Holding.{Holding}
@@ -8,17 +8,26 @@ use Rattle.bimap.specs.declared.NoMemory.{NoMemory}
 use Rattle.bimap_undo.specs.declared.entry.Entry.{Entry}
 use Rattle.bimap_undo.specs.declared.entry.Entry.TheVariants.{Removed}
 use Rattle.bimap_undo.specs.Marks.{marked, HasMarks, IsRecordedRemoval}
-use Rattle.bimap_undo.proofs.Paths.{keeps_push, marks_push}
+use Rattle.bimap_undo.proofs.Paths.{keeps_all, keeps_push, marks_push}
 
 module _ {L R K : Type 0} (same_left : L → L → Bool) (same_right : R → R → Bool) (part : L × R → K) (same : K → K → Bool) (old : Holding L R) (entries entries' : List (Entry L R)) (value : K) where
   -- no pair has the value
   pub absent : ((q : L × R) → Contains old.pairs q → same (part q) value ≡ false) → IsRecordedRemoval same_left same_right part same (marked old entries) value (Ok false) (marked old entries)
-  absent lacks = record { found = lacks; without = λ q. (λ m. (m, lacks q m), λ m. m.0); recorded = refl; kept = λ mark within A b. b; room = refl; refused = tt; unchanged = tt }
+  absent lacks = record {
+    found = (λ e. absurd (true≢false (sym e)), λ w. absurd (true≢false (sym w.2 ∙ lacks w.0 w.1)));
+    without = λ q. (λ m. (m, lacks q m), λ m. m.0);
+    recorded = refl;
+    last = tt;
+    kept = keeps_all same_left same_right (marked old entries) (length entries);
+    room = refl;
+    refused = tt;
+    unchanged = tt;
+  }
 
   -- there is no memory for the record
   pub refused : (r : Result Bool NoMemory) → IsErr r → (q : L × R) × Contains old.pairs q × (same (part q) value ≡ true) → entries' ≡ entries → IsRecordedRemoval same_left same_right part same (marked old entries) value r (marked old entries')
   refused (Ok b) no_ok has still = absurd cc
-  refused (Err e) some has still = record { found = tt; without = tt; recorded = tt; kept = tt; room = refl; refused = has; unchanged = ap (marked old) still }
+  refused (Err e) some has still = record { found = tt; without = tt; recorded = tt; last = tt; kept = tt; room = refl; refused = has; unchanged = ap (marked old) still }
 
   -- the pair is taken out and recorded
   module _ (removing : (A : List (L × R)) (p : L × R) (B : List (L × R)) → IsApart same_left same_right A → (k : K) → Contains A p → same (part p) k ≡ true → ((q : L × R) → Contains B q ↔ (Contains A q × (same (part q) k ≡ false))) → IsRemoving A p B)
@@ -35,9 +44,10 @@ module _ {L R K : Type 0} (same_left : L → L → Bool) (same_right : R → R �
 
     pub recorded : IsRecordedRemoval same_left same_right part same (marked old entries) value (Ok true) (marked new entries')
     recorded = record {
-      found = (p, removed.0, removed.1);
+      found = (λ e. (p, removed.0, removed.1), λ w. refl);
       without = without;
       recorded = ap length grown ∙ length-append entries (Removed p.0 p.1 ∷ []);
+      last = (p, removed.0, removed.1, grown);
       kept = keeps_push same_left same_right (marked old entries) (marked new entries') (Removed p.0 p.1) grown apart' taken;
       room = room;
       refused = tt;

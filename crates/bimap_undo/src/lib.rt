@@ -4,8 +4,11 @@
 mod copy_left;
 mod entry;
 mod operations;
+mod refusal;
 mod undoable;
 
 pub use copy_left::CopyLeft;
+pub use entry::Entry;
 pub use operations::{Operation, there_and_back};
+pub use refusal::NotRecorded;
 pub use undoable::Undoable;

@@ -5,12 +5,20 @@ ghost use Rattle.bimap_undo.specs.Operations.{StaysAbove};
 
 use crate::copy_left::CopyLeft;
 use crate::undoable::Undoable;
-use bimap::Bijection;
+use bimap::{Bijection, Policy};
 
 /// What is done to a bimap with a record.
+///
+/// An `insert_all` is none of these: an operation that owns its items could not be copied. An `undo_last` is the
+/// `BackTo` of its mark, and a `forget` would forget the mark.
 #[derive(Clone, Copy, Debug, Drop, Eq, PartialEq)]
 pub enum Operation<L, R> {
     Insert(L, R),
+    InsertWith(L, R, Policy),
+    /// The left to replace, and the new one.
+    ReplaceLeft(L, L),
+    /// The right to replace, and the new one.
+    ReplaceRight(R, R),
     RemoveByLeft(L),
     RemoveByRight(R),
     BackTo(usize),
@@ -31,6 +39,15 @@ fn perform<B: Bijection<L, R> + Drop, L: CopyLeft + Drop, R: Eq + Drop>(
     match operation {
         Operation::Insert(left, right) => {
             let _done = undoable.insert(left, right);
+        }
+        Operation::InsertWith(left, right, policy) => {
+            let _done = undoable.insert_with(left, right, policy);
+        }
+        Operation::ReplaceLeft(from, to) => {
+            let _done = undoable.replace_left(&from, to);
+        }
+        Operation::ReplaceRight(from, to) => {
+            let _done = undoable.replace_right(&from, to);
         }
         Operation::RemoveByLeft(left) => {
             let _done = undoable.remove_by_left(&left);

@@ -1,7 +1,9 @@
 //! Examples of marks.
 use super::{Seats, holds};
-use bimap::{BiBTreeMap, ItemRefused, NoRoom, NotInsertedWith, OnHeld, Policy};
-use bimap_undo::Undoable;
+use bimap::{
+    BiBTreeMap, ItemRefused, NoRoom, NotInsertedWith, NotReplaced, OnHeld, Overwritten, Policy,
+};
+use bimap_undo::{Entry, NotRecorded, Undoable};
 use std::process::Abort;
 use std::test::Fail;
 
@@ -65,4 +67,93 @@ fn records_changes_and_no_refusal(rt: HostRuntime) {
             }))
     );
     assert!(&rt; holds(seats.held(), &[('a', 1)]));
+}
+
+fn replaces_a_left(rt: &impl Abort, seats: &mut Recorded) -> Result<(), Fail> {
+    seats.insert('a', 1)?;
+    assert!(rt; seats.replace_left(&'a', 'b') == Ok(()));
+    assert!(rt;
+        seats.replace_left(&'a', 'c') == Err(NotRecorded::Refused(NotReplaced::Missing('c')))
+    );
+    assert!(rt; holds(seats.held(), &[('b', 1)]));
+    Ok(())
+}
+
+fn replaces_a_right(rt: &impl Abort, seats: &mut Recorded) -> Result<(), Fail> {
+    seats.insert('a', 1)?;
+    assert!(rt; seats.replace_right(&1, 2) == Ok(()));
+    assert!(rt; holds(seats.held(), &[('a', 2)]));
+    Ok(())
+}
+
+fn shows_the_last_change(rt: &impl Abort, seats: &mut Recorded) -> Result<(), Fail> {
+    seats.insert('a', 1)?;
+    seats.insert('a', 2)?;
+    assert!(rt; seats.last_change() == Some(&Entry::Inserted('a', Overwritten::Left('a', 1))));
+    Ok(())
+}
+
+fn shows_changes_since(rt: &impl Abort, seats: &mut Recorded) -> Result<(), Fail> {
+    seats.insert('a', 1)?;
+    let mark = seats.mark();
+    seats.remove_by_left(&'a')?;
+    assert!(rt; seats.changes_since(mark) == [Entry::Removed('a', 1)].as_slice());
+    Ok(())
+}
+
+fn undoes_the_last(rt: &impl Abort, seats: &mut Recorded) -> Result<(), Fail> {
+    seats.insert('a', 1)?;
+    seats.insert('a', 2)?;
+    seats.undo_last(1);
+    assert!(rt; seats.held().get_by_left(&'a') == Some(&1));
+    Ok(())
+}
+
+fn forgets(rt: &impl Abort, seats: &mut Recorded) -> Result<(), Fail> {
+    seats.insert('a', 1)?;
+    seats.forget();
+    assert!(rt; seats.mark() == 0);
+    Ok(())
+}
+
+fn takes_out_the_first(rt: &impl Abort, seats: &mut Recorded) -> Result<(), Fail> {
+    if let Some((&left, _)) = seats.held().first_by_left() {
+        seats.remove_by_left(&left)?;
+    }
+    assert!(rt; seats.held().len() == 0);
+    Ok(())
+}
+
+fn writes(rt: &(impl Abort + AllocGlobal), seats: &Recorded) -> Result<(), Fail> {
+    let mut said = String::new(rt.alloc());
+    write!(said, "{seats:?}")?;
+    let wanted = "Undoable { held: {'a' <> 1}, changes: [Inserted('a', Neither)] }";
+    assert_eq!(rt; said.as_str(), wanted);
+    Ok(())
+}
+
+fn shows_changes(rt: &(impl Abort + AllocGlobal), seats: &mut Recorded) -> Result<(), Fail> {
+    shows_the_last_change(rt, seats)?;
+    seats.back_to(0);
+    shows_changes_since(rt, seats)?;
+    seats.back_to(0);
+    undoes_the_last(rt, seats)?;
+    writes(rt, seats)
+}
+
+fn forgets_changes(rt: &impl Abort, seats: &mut Recorded) -> Result<(), Fail> {
+    seats.back_to(0);
+    replaces_a_left(rt, seats)?;
+    seats.back_to(0);
+    replaces_a_right(rt, seats)?;
+    seats.back_to(0);
+    forgets(rt, seats)?;
+    takes_out_the_first(rt, seats)
+}
+
+#[test]
+fn shows_and_forgets(rt: HostRuntime) -> Result<(), Fail> {
+    let mut seats = Undoable::new(rt.alloc(), Seats::new(rt.alloc()));
+    shows_changes(&rt, &mut seats)?;
+    forgets_changes(&rt, &mut seats)
 }

@@ -2,6 +2,7 @@ use Rattle.std.proofs.Common.{inl, inr, arith, Contains}
 use Rattle.bimap.proofs.Undoing.{inserting_undoable, inserting_shorter, undone_same}
 use Rattle.bimap.proofs.Removals.{removing_shorter, put_again}
 use Rattle.bimap_undo.proofs.Paths.{both_or_not}
+use Rattle.bimap_undo.proofs.Replacing.{left_close, right_close, has_new, replaced_back, found_there}
 use Rattle.bimap_undo.proofs.undoable.take_back.Goals as goal
 
 pub undo_insert-requires : goal.undo_insert-requires
@@ -17,11 +18,26 @@ unreachable-requires g c =
     let l = inserting_shorter g.L.PartialEq.eq g.R.PartialEq.eq g.met.L.Eq.laws g.met.R.Eq.laws c.requires.0 (g.B.Bijection.holding c.args.bimap.now).pairs c.in-Inserted.left c.in-Inserted.answer c.requires.1 (g.met.B.Bijection.apart c.args.bimap.now) i c.in-Err.ensures.both in
     omega (arith, l, c.requires.2, c.in-Err.ensures.full)
 
-pub unreachable-requires-in-Err-insert : goal.unreachable-requires-in-Err-insert
-unreachable-requires-in-Err-insert g c =
-    let i = rw c.in-Removed.is at c.requires.3 in
-    let l = removing_shorter g.L.PartialEq.eq g.R.PartialEq.eq g.met.L.Eq.laws g.met.R.Eq.laws c.requires.0 (c.in-Removed.left, c.in-Removed.right) (g.B.Bijection.holding c.args.bimap.now).pairs c.requires.1 (g.met.B.Bijection.apart c.args.bimap.now) i in
-    omega (arith, l, c.requires.2, c.in-Err-insert.ensures.full)
+pub unwrap-right-requires : goal.unwrap-right-requires
+unwrap-right-requires g c = found_there g.L.PartialEq.eq (Contains (g.B.Bijection.holding c.args.bimap.now).pairs) c.in-LeftReplaced.left c.remove_by_left.result c.remove_by_left.ensures.none (has_new g.L.PartialEq.eq g.R.PartialEq.eq g.met.L.Eq.laws g.met.R.Eq.laws c.requires.0 (g.B.Bijection.holding c.args.bimap.now).pairs c.in-LeftReplaced.left (λ p. (c.in-LeftReplaced.old, p.1)) (left_close g.L.PartialEq.eq g.R.PartialEq.eq g.met.L.Eq.laws g.met.R.Eq.laws c.in-LeftReplaced.old) c.requires.1 (g.met.B.Bijection.apart c.args.bimap.now) (rw c.in-LeftReplaced.is at c.requires.3))
+
+pub returns-in-LeftReplaced-clause-taken_back : goal.returns-in-LeftReplaced-clause-taken_back
+returns-in-LeftReplaced-clause-taken_back g c A apart i =
+    replaced_back g.L.PartialEq.eq g.R.PartialEq.eq g.met.L.Eq.laws g.met.R.Eq.laws A (g.B.Bijection.holding c.args.bimap.now).pairs c.in-LeftReplaced.left (λ p. (c.in-LeftReplaced.old, p.1)) (left_close g.L.PartialEq.eq g.R.PartialEq.eq g.met.L.Eq.laws g.met.R.Eq.laws c.in-LeftReplaced.old) apart (g.met.B.Bijection.apart c.args.bimap.now) (rw c.in-LeftReplaced.is at i) (g.B.Bijection.holding c.remove_by_left.new.self).pairs (g.B.Bijection.holding c.put_back.new.bimap).pairs c.unwrap-right.result
+    (rw c.unwrap-right.ensures at c.remove_by_left.ensures.removed) c.remove_by_left.ensures.without c.put_back.ensures.put
+
+pub unwrap-left-requires : goal.unwrap-left-requires
+unwrap-left-requires g c = found_there g.L.PartialEq.eq (Contains (g.B.Bijection.holding c.args.bimap.now).pairs) c.in-RightReplaced.left c.remove_by_left-in-RightReplaced.result c.remove_by_left-in-RightReplaced.ensures.none (has_new g.L.PartialEq.eq g.R.PartialEq.eq g.met.L.Eq.laws g.met.R.Eq.laws c.requires.0 (g.B.Bijection.holding c.args.bimap.now).pairs c.in-RightReplaced.left (λ p. (p.0, c.in-RightReplaced.old)) (right_close g.L.PartialEq.eq g.R.PartialEq.eq g.met.L.Eq.laws g.met.R.Eq.laws c.in-RightReplaced.old) c.requires.1 (g.met.B.Bijection.apart c.args.bimap.now) (rw c.in-RightReplaced.is at c.requires.3))
+
+pub returns-in-RightReplaced-clause-taken_back : goal.returns-in-RightReplaced-clause-taken_back
+returns-in-RightReplaced-clause-taken_back g c A apart i =
+    replaced_back g.L.PartialEq.eq g.R.PartialEq.eq g.met.L.Eq.laws g.met.R.Eq.laws A (g.B.Bijection.holding c.args.bimap.now).pairs c.in-RightReplaced.left (λ p. (p.0, c.in-RightReplaced.old)) (right_close g.L.PartialEq.eq g.R.PartialEq.eq g.met.L.Eq.laws g.met.R.Eq.laws c.in-RightReplaced.old) apart (g.met.B.Bijection.apart c.args.bimap.now) (rw c.in-RightReplaced.is at i) (g.B.Bijection.holding c.remove_by_left-in-RightReplaced.new.self).pairs (g.B.Bijection.holding c.put_back-in-RightReplaced.new.bimap).pairs c.unwrap-left.result
+    (rw c.unwrap-left.ensures at c.remove_by_left-in-RightReplaced.ensures.removed) c.remove_by_left-in-RightReplaced.ensures.without c.put_back-in-RightReplaced.ensures.put
+
+pub put_back-requires-in-Removed : goal.put_back-requires-in-Removed
+put_back-requires-in-Removed g c =
+    let l = removing_shorter g.L.PartialEq.eq g.R.PartialEq.eq g.met.L.Eq.laws g.met.R.Eq.laws c.requires.0 (c.in-Removed.left, c.in-Removed.right) (g.B.Bijection.holding c.args.bimap.now).pairs c.requires.1 (g.met.B.Bijection.apart c.args.bimap.now) (rw c.in-Removed.is at c.requires.3) in
+    record { free = omega (arith, l, c.requires.2) }
 
 pub returns-in-Ok-clause-taken_back : goal.returns-in-Ok-clause-taken_back
 returns-in-Ok-clause-taken_back g c A apart i =
@@ -37,12 +53,6 @@ returns-in-Ok-clause-room g c =
       | inr not ↦ c.undo_insert.ensures.not_both not
     ]
 
-pub returns-in-Ok-insert-clause-taken_back : goal.returns-in-Ok-insert-clause-taken_back
-returns-in-Ok-insert-clause-taken_back g c A apart i =
-    put_again g.L.PartialEq.eq g.R.PartialEq.eq g.met.L.Eq.laws g.met.R.Eq.laws A (c.in-Removed.left, c.in-Removed.right) (g.B.Bijection.holding c.args.bimap.now).pairs apart (g.B.Bijection.holding c.insert.new.self).pairs (rw c.in-Removed.is at i) c.in-Ok-insert.ensures.put
-
-pub returns-in-Ok-insert-clause-room : goal.returns-in-Ok-insert-clause-room
-returns-in-Ok-insert-clause-room g c =
-    let i = rw c.in-Removed.is at c.requires.3 in
-    let l = removing_shorter g.L.PartialEq.eq g.R.PartialEq.eq g.met.L.Eq.laws g.met.R.Eq.laws c.requires.0 (c.in-Removed.left, c.in-Removed.right) (g.B.Bijection.holding c.args.bimap.now).pairs c.requires.1 (g.met.B.Bijection.apart c.args.bimap.now) i in
-    c.insert.ensures.room.had_place (omega (arith, l, c.requires.2))
+pub returns-in-Removed-clause-taken_back : goal.returns-in-Removed-clause-taken_back
+returns-in-Removed-clause-taken_back g c A apart i =
+    put_again g.L.PartialEq.eq g.R.PartialEq.eq g.met.L.Eq.laws g.met.R.Eq.laws A (c.in-Removed.left, c.in-Removed.right) (g.B.Bijection.holding c.args.bimap.now).pairs apart (g.B.Bijection.holding c.put_back-in-Removed.new.bimap).pairs (rw c.in-Removed.is at i) c.put_back-in-Removed.ensures.put

@@ -5,6 +5,7 @@ use Rattle.bimap.specs.Types.{Policy, NotInsertedWith}
 use Rattle.bimap.proofs.Extending.{ArePutIn, put_in_none, put_in_more}
 use Rattle.bimap.specs.declared.NotInsertedWith.TheVariants.{LeftHeld, RightHeld, Memory}
 use Rattle.bimap_undo.specs.Marks.{Marked, KeepsMarks, IsRecordedRefusal}
+use Rattle.bimap_undo.proofs.Paths.{keeps_all, keeps_below, keeps_through}
 use Rattle.bimap_undo.proofs.undoable.Undoable.insert_all.Goals as goal
 
 pub loop-left-init : goal.loop-left-init
@@ -17,7 +18,7 @@ loop-left-init g c =
       apart = c.mark-mark.ensures.stands_for_what_is_held.apart;
       put_in = put_in_none g.L.PartialEq.eq g.R.PartialEq.eq c.args.self.now.held c.args.policy;
       recorded = omega arith;
-      kept = λ mark within A b. b;
+      kept = keeps_all g.L.PartialEq.eq g.R.PartialEq.eq c.args.self.now (length c.args.self.now.entries);
     }
 
 pub loop-left-preserved : goal.loop-left-preserved
@@ -35,7 +36,8 @@ loop-left-preserved g c =
       put_in = put_in_more g.L.PartialEq.eq g.R.PartialEq.eq c.args.self.now.held c.loop-left.yielded c.args.policy c.loop-left.self.held (c.in-Some.left, c.in-Some.right) c.insert_with.new.self.held
           g.met.L.Eq.laws g.met.R.Eq.laws i.apart apart i.put_in e.allowed e.put e.room;
       recorded = omega (arith, more, e.recorded, i.recorded);
-      kept = λ mark within A b. e.kept mark (omega (arith, within, i.recorded)) A (i.kept mark within A b);
+      kept = keeps_through g.L.PartialEq.eq g.R.PartialEq.eq c.args.self.now c.loop-left.self c.insert_with.new.self (length c.args.self.now.entries) i.kept
+          (keeps_below g.L.PartialEq.eq g.R.PartialEq.eq c.loop-left.self c.insert_with.new.self (length c.loop-left.self.entries) (length c.args.self.now.entries) (omega (arith, i.recorded)) e.kept);
     }
 
 pub back_to-requires : goal.back_to-requires
@@ -70,9 +72,9 @@ returns-in-Err-clause-none g c =
       };
       allowed = put_in.allowed;
       why = recorded_along g.L.PartialEq.eq g.R.PartialEq.eq (Contains held.held.pairs) _ (c.in-Some.left, c.in-Some.right) c.args.policy c.in-Err.why i.put_in.survivors e.refused;
-      held = back.gone_back.held first.held.pairs (kept c.mark-mark.result (omega (arith, mark)) first.held.pairs c.mark-mark.ensures.stands_for_what_is_held);
+      held = back.gone_back.held first.held.pairs (kept.sets c.mark-mark.result (omega (arith, mark)) first.held.pairs c.mark-mark.ensures.stands_for_what_is_held);
       recorded = back.gone_back.recorded ∙ mark;
-      kept = λ m within A b. back.gone_back.kept m (omega (arith, within, mark)) A (kept m within A b);
+      kept = keeps_through g.L.PartialEq.eq g.R.PartialEq.eq first c.insert_with.new.self c.back_to.new.self (length first.entries) kept (subst (λ m. KeepsMarks g.L.PartialEq.eq g.R.PartialEq.eq c.insert_with.new.self m c.back_to.new.self) mark back.gone_back.kept);
       room = record {
         not_lower = omega (arith, put_in.room.not_lower, back.room);
         had_places = λ fits. back.room ∙ put_in.room.had_places fits;

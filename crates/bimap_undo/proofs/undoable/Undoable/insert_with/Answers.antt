@@ -5,8 +5,7 @@ use Rattle.bimap.specs.Answer.{IsRefusalUnder}
 use Rattle.bimap.specs.Types.{Policy, NotInsertedWith}
 use Rattle.bimap.specs.declared.NotInsertedWith.TheVariants.{LeftHeld, RightHeld, Memory as MemoryWith}
 use Rattle.bimap_undo.specs.Marks.{marked, IsChange, IsRecordedRefusal}
-use Rattle.bimap.proofs.Growing.{answer_overwrites}
-use Rattle.bimap_undo.proofs.Paths.{keeps_push, marks_push}
+use Rattle.bimap_undo.proofs.Paths.{overwrites_where_shared, keeps_push, marks_push}
 use Rattle.bimap_undo.proofs.undoable.Undoable.insert_with.Goals as goal
 
 pub invariant_of-self : goal.invariant_of-self
@@ -38,9 +37,16 @@ pub returns : goal.returns
 returns g c =
     rw (← c.self.view_is)
     (record {
-      overwrote = rw c.did_overwrite-overwrote.ensures (answer_overwrites g.L.PartialEq.eq g.R.PartialEq.eq (Contains (g.B.Bijection.holding c.self.inside.bimap).pairs) (c.args.left, c.args.right) c.in_ok-answer.answer c.in_ok-answer.ensures.answer);
+      overwrote = rw c.did_overwrite-overwrote.ensures (overwrites_where_shared g.L.PartialEq.eq g.R.PartialEq.eq (Contains (g.B.Bijection.holding c.self.inside.bimap).pairs) (c.args.left, c.args.right) c.in_ok-answer.answer c.in_ok-answer.ensures.answer);
       put = c.in_ok-answer.ensures.put;
       recorded = ap length (grown g c) ∙ length-append c.self.inside.changes.items (Inserted c.in-Ok.copy c.in_ok-answer.answer ∷ []);
+      last = record {
+        left = c.in-Ok.copy;
+        answer = c.in_ok-answer.answer;
+        by_left = g.met.L.Eq.laws.symm c.args.left c.in-Ok.copy ∙ c.in-Ok.ensures;
+        is_answer = c.in_ok-answer.ensures.answer;
+        entries = grown g c;
+      };
       kept = keeps_push g.L.PartialEq.eq g.R.PartialEq.eq
           (marked (g.B.Bijection.holding c.self.inside.bimap) c.self.inside.changes.items)
           (marked (g.B.Bijection.holding c.insert_with.new.self) c.push_reserved.new.self.items)
@@ -65,6 +71,7 @@ returns-in_err-answer g c =
       overwrote = tt;
       put = tt;
       recorded = tt;
+      last = tt;
       kept = tt;
       room = c.insert_with.ensures.room;
       refused = recorded_refusal g.L.PartialEq.eq g.R.PartialEq.eq _ _ (c.args.left, c.args.right) c.args.policy c.in_err-answer.field-0.0 c.in_err-answer.ensures.refused;
