@@ -5,6 +5,7 @@ use bimap::{
     BiBTreeMap, Call, ExtendStopped, ItemRefused, NoMemory, NoRoom, NotInserted, NotInsertedWith,
     NotReplaced, Overwritten, RunRefused, UndoRunStopped, UndoStopped,
 };
+use bimap_undo::NotRecorded;
 use std::error::Error;
 use std::process::Abort;
 use std::test::Fail;
@@ -49,6 +50,12 @@ fn refusals_of_a_pair(rt: HostRuntime) {
         NotReplaced::Held('a'),
         "another pair has the new value",
     );
+    says(
+        &rt,
+        NotRecorded::Refused(NotReplaced::Missing('a')),
+        "the old value is not contained",
+    );
+    says(&rt, NotRecorded::Memory('a'), "out of memory");
 }
 
 #[test]
