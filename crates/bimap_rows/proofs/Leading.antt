@@ -77,7 +77,7 @@ module _ (Test : Unit {0} → ℕ × ℕ → Bool → Type 0) (old new : List (�
   pub LeadsTo_one : LeadsTo old ((call, reply) ∷ []) new
   LeadsTo_one =
       let room = found_room call reply other in
-      let one = IsHistory_one nat_eq nat_eq NoTest (holding old) (holding new) (call, reply) right step_untested (λ n. absurd (room n)) apart (omega arith) in
+      let one = IsHistory_one nat_eq nat_eq NoTest (holding old) (holding new) (call, reply) right step_untested (λ n. absurd (room n)) apart (omega arith) (inl refl) in
       record {
         legal = one.legal;
         survivors = one.survivors;
