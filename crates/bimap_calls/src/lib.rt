@@ -3,6 +3,7 @@
 
 mod counted;
 mod kind;
+mod meter;
 mod policies;
 mod shown;
 mod trails;
@@ -10,6 +11,7 @@ mod zero;
 
 pub use counted::{Counted, counted_at};
 pub use kind::{CopyKind, Kind};
+pub use meter::{Counter, at_zero};
 pub use policies::{KEEP_LEFT, KEEP_RIGHT, ONCE, OVERWRITE};
 pub use shown::shows;
 pub use trails::insert_all;

@@ -3,13 +3,12 @@
 //! The kinds are written out, and what a hashed left shows stands in a function over any builder: the kit has no proof where a
 //! bound is met by an `impl` whose type holds a hashed index of a type that it leaves open.
 use crate::kind::{ShellKind, counted};
-use crate::meter::Shown;
 use crate::request::Request;
 use crate::word::Word;
 use crate::{hashed_left, ordered_left, right};
 use bimap::btree::Count;
 use bimap::{BiBTreeHashMap, BiBTreeMap, BiHashBTreeMap, BiHashMap};
-use bimap_calls::Crowded;
+use bimap_calls::{Counter, Crowded};
 use std::alloc::AllocError;
 
 impl ShellKind for BiBTreeMap<Word, Word> {
@@ -29,7 +28,7 @@ impl ShellKind for BiBTreeMap<Word, Word> {
     fn count(
         &mut self,
         request: &Request<'_>,
-        meter: &mut Shown<Count>,
+        meter: &mut Counter<Count>,
         said: &mut String,
     ) -> Result<bool, AllocError> {
         Ok(
@@ -60,7 +59,7 @@ impl ShellKind for BiHashMap<Word, Word> {
     fn count(
         &mut self,
         request: &Request<'_>,
-        meter: &mut Shown<Count>,
+        meter: &mut Counter<Count>,
         said: &mut String,
     ) -> Result<bool, AllocError> {
         Ok(counted(self, request, meter, said)?)
@@ -87,7 +86,7 @@ impl ShellKind for BiBTreeHashMap<Word, Word> {
     fn count(
         &mut self,
         request: &Request<'_>,
-        meter: &mut Shown<Count>,
+        meter: &mut Counter<Count>,
         said: &mut String,
     ) -> Result<bool, AllocError> {
         Ok(counted(self, request, meter, said)? || ordered_left::count(self, request, meter, said)?)
@@ -111,7 +110,7 @@ impl ShellKind for BiHashBTreeMap<Word, Word> {
     fn count(
         &mut self,
         request: &Request<'_>,
-        meter: &mut Shown<Count>,
+        meter: &mut Counter<Count>,
         said: &mut String,
     ) -> Result<bool, AllocError> {
         Ok(counted(self, request, meter, said)? || right::count(self, request, meter, said)?)
@@ -138,7 +137,7 @@ impl ShellKind for Crowded<Word, Word> {
     fn count(
         &mut self,
         request: &Request<'_>,
-        meter: &mut Shown<Count>,
+        meter: &mut Counter<Count>,
         said: &mut String,
     ) -> Result<bool, AllocError> {
         Ok(counted(self, request, meter, said)?)

@@ -1,11 +1,10 @@
 //! Calls with a meter, and their bounds.
 use crate::kind::ShellKind;
 use crate::kinds::{has_ordered_left, has_ordered_right};
-use crate::meter::at_zero;
 use crate::request::{On, Request};
 use crate::word::Word;
 use bimap::Bijection;
-use bimap_calls::CopyKind;
+use bimap_calls::{CopyKind, at_zero};
 use std::alloc::AllocError;
 
 // How many searches by left and by right the bound of a call counts.

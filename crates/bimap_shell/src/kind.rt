@@ -1,9 +1,9 @@
 //! What the shell asks of a bimap of any kind, beside the calls that every bimap has.
-use crate::meter::Shown;
 use crate::request::Request;
 use crate::word::Word;
 use bimap::BijectiveMap;
 use bimap::btree::Count;
+use bimap_calls::Counter;
 use bimap_index::{CopiedIndex, Index};
 use std::alloc::AllocError;
 use std::fmt::Debug;
@@ -25,7 +25,7 @@ pub trait ShellKind: Sized {
     fn count(
         &mut self,
         request: &Request<'_>,
-        meter: &mut Shown<Count>,
+        meter: &mut Counter<Count>,
         said: &mut String,
     ) -> Result<bool, AllocError>;
 }
@@ -76,7 +76,7 @@ pub fn intern<I: Index<Word>, J: Index<Word>>(
 pub fn counted<I: Index<Word>, J: Index<Word>>(
     bimap: &mut Words<I, J>,
     request: &Request<'_>,
-    meter: &mut Shown<Count>,
+    meter: &mut Counter<Count>,
     said: &mut String,
 ) -> Result<bool, AllocError> {
     let (left, right) = (request.first, request.second);

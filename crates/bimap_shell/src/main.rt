@@ -14,7 +14,6 @@ mod kind;
 mod kinds;
 mod look;
 mod marks;
-mod meter;
 mod ordered_left;
 mod parse;
 mod put;

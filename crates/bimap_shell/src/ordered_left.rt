@@ -2,10 +2,10 @@
 use crate::course::follow;
 use crate::forward::forward;
 use crate::kind::{Words, copy_to, intern, told};
-use crate::meter::Shown;
 use crate::request::Request;
 use crate::word::Word;
 use bimap::btree::Count;
+use bimap_calls::Counter;
 use bimap_index::CopiedIndex;
 use bimap_tree::Ordered;
 use std::alloc::AllocError;
@@ -106,7 +106,7 @@ pub fn call<J: CopiedIndex<Word> + Drop>(
 pub fn count<J: CopiedIndex<Word> + Drop>(
     bimap: &mut Words<Ordered, J>,
     request: &Request<'_>,
-    meter: &mut Shown<Count>,
+    meter: &mut Counter<Count>,
     said: &mut String,
 ) -> Result<bool, AllocError> {
     let (number, word) = (request.number, &request.first);

@@ -2,10 +2,10 @@
 use crate::course::follow;
 use crate::forward::forward;
 use crate::kind::{Words, told};
-use crate::meter::Shown;
 use crate::request::Request;
 use crate::word::Word;
 use bimap::btree::Count;
+use bimap_calls::Counter;
 use bimap_index::{CopiedIndex, HashIndex};
 use bimap_tree::Ordered;
 use std::alloc::AllocError;
@@ -59,7 +59,7 @@ pub fn call<I: CopiedIndex<Word> + Drop>(
 pub fn count<I: CopiedIndex<Word> + Drop>(
     bimap: &mut Words<I, Ordered>,
     request: &Request<'_>,
-    meter: &mut Shown<Count>,
+    meter: &mut Counter<Count>,
     said: &mut String,
 ) -> Result<bool, AllocError> {
     let (number, word) = (request.number, &request.first);

@@ -1,5 +1,4 @@
 //! The callers, each once at a bimap of its kind.
 mod ledger;
 mod looks;
-mod meter;
 mod names;

@@ -1,6 +1,6 @@
 //! What both look-ups show after a run, and how many comparisons they make.
-use super::meter::at_zero;
 use bimap::{BiBTreeMap, BiHashBTreeMap, Call, Overwritten, Reply};
+use bimap_calls::at_zero;
 use bimap_user::{Shown, run_and_look, run_and_look_ordered};
 use std::alloc::{AllocError, Global};
 
@@ -69,7 +69,7 @@ fn the_ordered_one_shows_it_and_counts(rt: HostRuntime) {
     let mut bimap: BiBTreeMap<char, u32> = BiBTreeMap::new(rt.alloc());
     for (left, of_left, right, of_right) in LOOKS {
         bimap.clear();
-        let (mut by_left, mut by_right) = (at_zero(&rt), at_zero(&rt));
+        let (mut by_left, mut by_right) = (at_zero(), at_zero());
         let shown = run_and_look_ordered(
             rt.alloc(),
             &mut bimap,
@@ -83,7 +83,7 @@ fn the_ordered_one_shows_it_and_counts(rt: HostRuntime) {
         let shown = shown.ok().expect(&rt, "no memory");
         let alike = are(rt.alloc(), &shown, of_left.as_ref(), of_right.as_ref());
         assert!(&rt; alike.expect(&rt, "no memory"), "{left} {right}");
-        assert!(&rt; by_left.comparisons >= 1 && by_left.comparisons <= 4);
-        assert!(&rt; by_right.comparisons >= 1 && by_right.comparisons <= 4);
+        assert!(&rt; by_left.comparisons() >= 1 && by_left.comparisons() <= 4);
+        assert!(&rt; by_right.comparisons() >= 1 && by_right.comparisons() <= 4);
     }
 }
