@@ -1,14 +1,17 @@
 //! A number that counts what is asked of it.
 ghost use Rattle.std.proofs.Common.{rules};
+ghost use Rattle.std.specs.Cmp.{partial_order_from_own_ties};
 ghost use Rattle.std.specs.Cmp.Rules.{comparing, hashing};
 ghost use Rattle.std.specs.Hash as fed;
+ghost use Rattle.std.specs.Ordering.{nat_cmp, on, as_partial_cmp};
 ghost use Rattle.std.specs.Prelude.{◌≡◌, ◌==◌};
 
 use std::cell::Cell;
+use std::cmp::Ordering;
 use std::hash::{Hash, Hasher};
 
-/// A number whose equality tests are counted.
-#[derive(Drop)]
+/// A number whose comparisons are counted, for equality and for order.
+#[derive(Clone, Copy, Drop)]
 pub struct Counted<'a> {
     pub number: u32,
     compared: &'a Cell<u64>,
@@ -27,6 +30,31 @@ impl PartialEq for Counted<'_> {
 
 impl Eq for Counted<'_> {
     ghost laws = { Prim.search (comparing, rules) };
+}
+
+impl PartialOrd for Counted<'_> {
+    ghost partial_cmp = { as_partial_cmp (on (λ x. x.number) nat_cmp) };
+
+    ghost laws = { partial_order_from_own_ties (Prim.search (comparing, rules)) (Prim.search (comparing, rules)) };
+
+    fn partial_cmp(&self, other: &Self) -> Option<Ordering> {
+        Some(self.cmp(other))
+    }
+}
+
+impl Ord for Counted<'_> {
+    ghost cmp = { on (λ x. x.number) nat_cmp };
+
+    ghost total = { Prim.search (comparing, rules) };
+
+    ghost matches_partial_cmp = { Prim.search (comparing, rules) };
+
+    ghost matches_eq = { Prim.search (comparing, rules) };
+
+    fn cmp(&self, other: &Self) -> Ordering {
+        self.compared.set(self.compared.get().wrapping_add(1));
+        self.number.cmp(&other.number)
+    }
 }
 
 impl Hash for Counted<'_> {

@@ -5,4 +5,5 @@ mod counted;
 mod drops;
 mod few_tests;
 mod loops;
+mod meters;
 mod no_bytes;
