@@ -1,6 +1,6 @@
 //! What a hashed left gives.
 use crate::course::follow;
-use crate::kind::{Words, copy_to, intern, told};
+use crate::kind::{Words, copy_to, insert, told};
 use crate::request::Request;
 use crate::word::Word;
 use bimap_index::{CopiedIndex, HashIndex};
@@ -54,6 +54,6 @@ pub fn call<LS: BuildHasher + Clone + Drop, J: CopiedIndex<Word> + Drop>(
             Err(_) => Err(AllocError),
         },
         "eq" => told(bimap == other, said),
-        _ => Ok(walk(bimap, request, said)? || intern(bimap, request, said)?),
+        _ => Ok(walk(bimap, request, said)? || insert(bimap, request, said)?),
     }
 }

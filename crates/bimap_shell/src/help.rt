@@ -4,11 +4,13 @@
 pub const HELP: &str =
     "A line is a call, made on each kind of bimap: ordered (BiBTreeMap), hashed (BiHashMap), ordered-hashed
 (BiBTreeHashMap), hashed-ordered (BiHashBTreeMap), crowded (BiHashMap whose keys all have one hash number).
-Answers that differ have the kind before them. A kind that lacks the call says nothing.
+Answers that differ have the kind before them. A kind that lacks the call says nothing. An answer of more
+than 4,096 bytes is shown by its two ends, with its length.
 
 Values L and R are words of up to 16 bytes, with a note where one is wanted: ann, ann'2. Notes are printed,
 and nothing compares them. N is a number, POLICY two letters, left then right: o overwrites, r refuses.
-PAIRS: L R L R .., or `each N L R`: N pairs, each # in the words its number of seven digits
+PAIRS: L R L R .., or `each N L R`: N pairs, each # in the words its number of seven digits. And so
+`run each N CALL`, and `json .. each N MEMBER` of an object.
 ANSWER: Neither, Left L R, Right L R, Pair L R, Both L R L R
 STEPS: front back len copy rest   RANGE: .. b.. b..d b..=d ..d ..=d, and >b.. without its start
 

@@ -1,9 +1,10 @@
 //! JSON both ways: each type as both sides, and each as a left and as a right beside another.
 use crate::request::Request;
+use crate::values::{numbered, repeated};
 use bimap::value::{JsonFault, JsonKey, JsonObject, JsonValue, read_into_with, reread};
 use bimap::{BiBTreeHashMap, BiBTreeMap, BiHashBTreeMap, BiHashMap, NoMemory};
 use serde_json::Value;
-use std::alloc::AllocError;
+use std::alloc::{AllocError, Global};
 use std::hash::Hash;
 
 fn write_fault(fault: JsonFault, said: &mut String) -> Result<bool, AllocError> {
@@ -87,12 +88,27 @@ fn ordered_right<L: JsonKey + Hash + Drop, R: JsonValue + Ord + Drop>(
     )
 }
 
+// The value of a text: as it stands, or an object of so many members for `each N MEMBER`. `None` where it is no JSON.
+fn value_of(alloc: Global, text: &str) -> Result<Option<Value>, AllocError> {
+    let Some((count, member)) = repeated(text) else {
+        return Ok(Value::from_str(alloc, text).ok());
+    };
+    let mut object = String::from_str(alloc, "{")?;
+    let mut between = "";
+    for number in 0..count {
+        write!(object, "{between}{}", numbered(alloc, member, number)?)?;
+        between = ",";
+    }
+    write!(object, "}}")?;
+    Ok(Value::from_str(alloc, object.as_str()).ok())
+}
+
 fn of_kind<L: JsonKey + Ord + Hash + Drop, R: JsonValue + Ord + Hash + Drop>(
     kind: usize,
     request: &Request<'_>,
     said: &mut String,
 ) -> Result<bool, AllocError> {
-    let Ok(value) = Value::from_str(request.alloc, request.text) else {
+    let Some(value) = value_of(request.alloc, request.text)? else {
         write!(said, "no JSON")?;
         return Ok(true);
     };

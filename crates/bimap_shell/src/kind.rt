@@ -57,19 +57,20 @@ pub fn copy_to<I: CopiedIndex<Word> + Drop, J: CopiedIndex<Word> + Drop>(
     }
 }
 
-/// Interning, which is no call of every bimap.
-pub fn intern<I: Index<Word>, J: Index<Word>>(
+/// Insertions by the calls of the bimap's own, which users make. (A run makes those of every bimap)
+pub fn insert<I: Index<Word>, J: Index<Word>>(
     bimap: &mut Words<I, J>,
     request: &Request<'_>,
     said: &mut String,
 ) -> Result<bool, AllocError> {
-    if request.call != "get_by_left_or_insert" {
-        return Ok(false);
+    let (left, right) = (request.first, request.second);
+    match request.call {
+        "insert" => told(bimap.insert(left, right), said),
+        "insert_no_overwrite" => told(bimap.insert_no_overwrite(left, right), said),
+        "insert_with" => told(bimap.insert_with(left, right, request.policy), said),
+        "get_by_left_or_insert" => told(bimap.get_by_left_or_insert(left, right), said),
+        _ => Ok(false),
     }
-    told(
-        bimap.get_by_left_or_insert(request.first, request.second),
-        said,
-    )
 }
 
 /// The counted calls that every kind has.

@@ -1,7 +1,7 @@
 //! What an ordered left gives.
 use crate::course::follow;
 use crate::forward::forward;
-use crate::kind::{Words, copy_to, intern, told};
+use crate::kind::{Words, copy_to, insert, told};
 use crate::request::Request;
 use crate::word::Word;
 use bimap::btree::Count;
@@ -97,7 +97,7 @@ pub fn call<J: CopiedIndex<Word> + Drop>(
             walk(bimap, request, said)?
                 || end(bimap, request, said)?
                 || compare(bimap, other, call, said)?
-                || intern(bimap, request, said)?,
+                || insert(bimap, request, said)?,
         ),
     }
 }

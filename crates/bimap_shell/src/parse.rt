@@ -1,6 +1,6 @@
 //! What a line asks for, read from its words.
 use crate::request::{Memory, On, Request};
-use crate::values::{answer, call, pair, pairs, policy, range, steps, value};
+use crate::values::{answer, call, numbered, pair, pairs, policy, range, repeated, steps, value};
 use std::alloc::{AllocError, Global};
 use std::str::SplitWhitespace;
 
@@ -168,8 +168,12 @@ fn read_text<'a>(
 ) -> Result<Option<()>, AllocError> {
     match kind {
         Words::Call | Words::Calls => {
-            if read_calls(request, rest)?.is_none() {
-                return Ok(None);
+            let (count, text) = repeated(rest).unwrap_or((1, rest));
+            for number in 0..count {
+                let text = numbered(request.alloc, text, number)?;
+                if read_calls(request, text.as_str())?.is_none() {
+                    return Ok(None);
+                }
             }
             let one = request.calls.len() == 1;
             Ok((one || matches!(kind, Words::Calls)).then_some(()))

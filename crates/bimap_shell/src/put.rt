@@ -1,4 +1,4 @@
-//! The calls of one pair, on any bimap.
+//! The calls of one pair, on any bimap, beside insertions.
 use crate::kind::told;
 use crate::request::Request;
 use crate::word::Word;
@@ -38,9 +38,6 @@ pub fn call<B: Bijection<Word, Word>>(
 ) -> Result<bool, AllocError> {
     let (left, right) = (request.first, request.second);
     match request.call {
-        "insert" => told(bimap.insert(left, right), said),
-        "insert_no_overwrite" => told(bimap.insert_no_overwrite(left, right), said),
-        "insert_with" => told(bimap.insert_with(left, right, request.policy), said),
         "replace_left" => told(replace_left(bimap, &left, right), said),
         "replace_right" => told(replace_right(bimap, &left, right), said),
         "undo_insert" => undone(bimap, request, said),

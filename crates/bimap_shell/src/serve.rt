@@ -8,12 +8,29 @@ use std::alloc::{AllocError, Global};
 /// How much may be said while nothing can be allocated.
 const SAID: usize = 1 << 16;
 
+/// The bytes up to which an answer is shown whole.
+const WHOLE: usize = 4096;
+
+/// The bytes of either end of a longer one that are shown.
+const END: usize = 40;
+
 /// The kinds, and which of them are asked.
 #[derive(Drop)]
 pub struct Shell {
     alloc: Global,
     kinds: Kinds,
     chosen: Vec<usize>,
+}
+
+// A long answer by its two ends and its length.
+fn shortened(alloc: Global, said: String) -> Result<String, AllocError> {
+    if said.len() <= WHOLE {
+        return Ok(said);
+    }
+    match (said.get(..END), said.get(said.len().saturating_sub(END)..)) {
+        (Some(front), Some(back)) => format!(in alloc; "{front} .. {back} · {} bytes", said.len()),
+        _ => Ok(said),
+    }
 }
 
 // The answers, each with the number of its kind: one line where they are alike.
@@ -104,7 +121,7 @@ impl Shell {
             }
             let mut said = String::with_capacity(self.alloc, SAID)?;
             match self.one(kind, line, &mut said)? {
-                Some(true) => answers.push((kind, said))?,
+                Some(true) => answers.push((kind, shortened(self.alloc, said)?))?,
                 Some(false) => {}
                 None => return format!(in self.alloc; "bad line: {line}\n"),
             }

@@ -76,11 +76,16 @@ pub fn steps(
     Ok(Some(steps))
 }
 
-// The word in which the digits of a number stand for each `#`.
-fn numbered(alloc: Global, pattern: &str, number: usize) -> Result<Option<Word>, AllocError> {
+/// The text in which the digits of a number stand for each `#`.
+pub fn numbered(alloc: Global, pattern: &str, number: usize) -> Result<String, AllocError> {
     let digits = format!(in alloc; "{number:07}")?;
-    let text = pattern.replace(alloc, '#', digits.as_str())?;
-    Ok(Word::read(text.as_str()))
+    pattern.replace(alloc, '#', digits.as_str())
+}
+
+/// What `each N TEXT` says: how often the text is meant, each time with a number for each `#`.
+pub fn repeated(text: &str) -> Option<(usize, &str)> {
+    let (count, text) = text.trim_start().strip_prefix("each ")?.split_once(' ')?;
+    Some((count.parse().ok()?, text))
 }
 
 // So many pairs of numbered words.
@@ -94,10 +99,11 @@ fn numbered_pairs(
     };
     let mut pairs = Vec::new(alloc);
     for number in 0..count {
-        match (
+        let (left, right) = (
             numbered(alloc, left, number)?,
             numbered(alloc, right, number)?,
-        ) {
+        );
+        match (Word::read(left.as_str()), Word::read(right.as_str())) {
             (Some(left), Some(right)) => pairs.push((left, right))?,
             _ => return Ok(None),
         }

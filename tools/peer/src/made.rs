@@ -4,9 +4,9 @@ use crate::kind::Kind;
 use crate::word::Word;
 
 /// Those that leave what is held.
-const KEEPING: [&str; 13] = [
+const KEEPING: [&str; 14] = [
     "capacity", "for_each", "reserve", "shrink_to", "shrink_to_fit", "can_undo_insert", "undo_run", "first_by_left",
-    "last_by_left", "first_by_right", "last_by_right", "left_rank", "right_rank",
+    "last_by_left", "first_by_right", "last_by_right", "left_rank", "right_rank", "json",
 ];
 
 /// Makes a call, where it is one of the shell's.
@@ -45,14 +45,12 @@ pub fn make<B: Kind>(bimap: &mut B, call: &str, words: &[&str]) -> Option<()> {
         }
         ("undo_insert", [left, _, pairs @ ..]) => undo(bimap, &Word::read(left)?, Word::read_pairs(pairs)?),
         ("perform", [call, words @ ..]) => perform(bimap, call, words)?,
-        ("run", words) => {
-            for text in words.join(" ").split(';') {
-                let words: Vec<&str> = text.split_whitespace().collect();
-                if let [call, words @ ..] = words.as_slice() {
-                    perform(bimap, call, words)?;
-                }
+        ("run", ["each", count, words @ ..]) => {
+            for at in 0..count.parse().ok()? {
+                run(bimap, &words.join(" ").replace('#', &format!("{at:07}")))?;
             }
         }
+        ("run", words) => run(bimap, &words.join(" "))?,
         ("pair_at_left_rank" | "pair_at_right_rank", [_]) => {}
         _ if KEEPING.contains(&call) => {}
         _ => return None,
@@ -87,6 +85,17 @@ fn undo<B: Kind>(bimap: &mut B, left: &Word, pairs: Vec<(Word, Word)>) {
     } else {
         bimap.insert(left, right);
     }
+}
+
+/// The calls of a run, which semicolons part.
+fn run<B: Kind>(bimap: &mut B, text: &str) -> Option<()> {
+    for text in text.split(';') {
+        let words: Vec<&str> = text.split_whitespace().collect();
+        if let [call, words @ ..] = words.as_slice() {
+            perform(bimap, call, words)?;
+        }
+    }
+    Some(())
 }
 
 /// A call of a run.

@@ -6,6 +6,7 @@
 //! - ranges that run backwards, at which it panics;
 //! - JSON, which it has by serde alone;
 //! - the first pairs of a hashed bimap, which are by chance;
+//! - answers of which the shell shows the two ends alone;
 //! - any, until a bimap is begun anew, where it isn't known what was refused for memory.
 use crate::kind::{Hashed, Kind, MOST_ROOM, Ordered};
 use crate::made::{make, put_all};
@@ -16,6 +17,8 @@ use std::{io, mem};
 const KINDS: [&str; 5] = ["ordered", "hashed", "ordered-hashed", "hashed-ordered", "crowded"];
 /// What may stand before a call.
 const BEFORE: [&str; 5] = ["undoable", "counted", "bounded", "famine", "easing"];
+/// The bytes up to which the shell shows an answer whole.
+const WHOLE: usize = 4096;
 /// How many different answers of a call made many times are shown.
 const SHOWN: usize = 8;
 
@@ -33,7 +36,7 @@ impl<B: Kind> Held<B> {
     fn answer(&mut self, line: &str) -> Option<String> {
         let words: Vec<&str> = line.split_whitespace().collect();
         let (before, words) = words.split_at(words.iter().take_while(|word| BEFORE.contains(word)).count());
-        match (before, words) {
+        let said = match (before, words) {
             ([], ["times", ..]) => self.times(line),
             ([], words) => self.call(words),
             (["famine"], words) => self.without_memory(words),
@@ -43,7 +46,8 @@ impl<B: Kind> Held<B> {
                 self.call(words);
                 None
             }
-        }
+        };
+        said.filter(|said| said.len() <= WHOLE)
     }
 
     fn call(&mut self, words: &[&str]) -> Option<String> {

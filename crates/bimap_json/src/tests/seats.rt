@@ -1,12 +1,14 @@
-//! Seats on both sides of a bimap that is none of the library's, and builders of one's own.
+//! Seats on both sides of a bimap that is none of the library's, and a large bimap with builders that are handed in.
 use crate::Seat;
+use bimap::BiHashMap;
 use bimap::value::{
     JsonFault, JsonKey, JsonValue, Value, from_value_with_hashers, hash_to_value, read_into,
     reread_with_hashers,
 };
-use bimap_calls::{Crowded, Zero, shows};
+use bimap_calls::shows;
 use bimap_plain::Plain;
 use std::alloc::Global;
+use std::hash::{BuildHasherDefault, FoldHasher};
 use std::process::Abort;
 
 fn seats(rt: &impl Abort, alloc: Global, text: &str) -> Result<Plain<Seat, Seat>, JsonFault> {
@@ -42,24 +44,31 @@ fn faults_of_sides_of_ones_own(rt: HostRuntime) {
     }
 }
 
-type Letters = Crowded<char, u8>;
+type Numbers = BiHashMap<u32, u32>;
 
-fn letters(rt: &impl Abort, alloc: Global, text: &str) -> Result<Letters, JsonFault> {
-    let value = Value::from_str(alloc, text).expect(rt, "JSON");
-    from_value_with_hashers(alloc, Zero, Zero, &value)
+fn builder() -> BuildHasherDefault<FoldHasher> {
+    BuildHasherDefault::new()
+}
+
+// More pairs than two bytes count.
+fn many(rt: &impl Abort, alloc: Global) -> Numbers {
+    let items = (0..70_000u32).map(|at| (at, at ^ 1));
+    let made = BiHashMap::from_iter_with_hashers(alloc, builder(), builder(), items);
+    made.ok().expect(rt, "memory")
+}
+
+// The bimap from an object of its pairs.
+fn read_back(rt: &impl Abort, alloc: Global, numbers: &Numbers) -> Numbers {
+    let value = hash_to_value(alloc, numbers).expect(rt, "memory");
+    from_value_with_hashers(alloc, builder(), builder(), &value).expect(rt, "memory")
 }
 
 #[test]
-fn builders_of_ones_own(rt: HostRuntime) {
+fn builders_are_handed_in(rt: HostRuntime) {
     let alloc = rt.alloc();
-    let pairs = [('A', 1), ('B', 2)];
-    let read = letters(&rt, alloc, r#"{"A":1,"B":2}"#).expect(&rt, "letters");
-    assert!(rt; shows(&read, &pairs));
-    let value = hash_to_value(alloc, &read).expect(&rt, "memory");
-    let text = value.to_string(alloc).expect(&rt, "memory");
-    assert_eq!(rt; text.as_str(), r#"{"A":1,"B":2}"#);
-    let again = reread_with_hashers(alloc, Zero, Zero, &read).expect(&rt, "memory");
-    assert!(rt; shows(&again, &pairs));
-    let fault = letters(&rt, alloc, r#"{"A":1,"AB":2}"#).err();
-    assert_eq!(rt; fault, Some(JsonFault::BadKey(1)));
+    let read = read_back(&rt, alloc, &many(&rt, alloc));
+    let again: Numbers = reread_with_hashers(alloc, builder(), builder(), &read).expect(
+        &rt, "memory",
+    );
+    assert_eq!(rt; (read.len(), again.len()), (70_000, 70_000));
 }
