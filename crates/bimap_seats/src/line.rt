@@ -1,7 +1,22 @@
 //! What a line asks of the ledger, and the reply to it.
+ghost use Rattle.std.specs.Prelude.{◌≤◌};
+
 use crate::seats::{first_taken, guest_on, last_taken, leave, move_to, row, seat_of, take};
 use bimap::{BiHashBTreeMap, NoRoom, NotInsertedWith, Overwritten};
+use bimap_lines::{NO_TEXT, text_of, wanted};
 use std::alloc::{AllocError, Global};
+use std::io;
+
+// The requests, and what each asks. Words stand between spaces.
+const REQUESTS: &str = "take GUEST SEAT - whoever has it loses it
+move GUEST SEAT - if nobody has it
+leave GUEST - gives up the seat
+seat GUEST - which seat?
+guest SEAT - who has it?
+row FIRST END - who sits from FIRST to before END >= FIRST?
+first - who has the first seat taken?
+last - who has the last seat taken?
+help - lists these; SEAT, FIRST and END are numbers up to 4294967295";
 
 /// Guests by their names, each with the number of a seat.
 pub type Seats = BiHashBTreeMap<String, u32>;
@@ -58,13 +73,19 @@ fn sitter(alloc: Global, seats: &Seats, seat: u32) -> Result<String, AllocError>
     }
 }
 
-// How many guests sit on the seats of a row.
-fn sitters(alloc: Global, seats: &Seats, first: u32, end: u32) -> Result<String, AllocError> {
-    if first > end {
-        return String::from_str(alloc, "this is no row");
+// The guests on the seats of a row, each with the seat, by ascending seat.
+fn sitters(alloc: Global, seats: &Seats, first: u32, end: u32) -> Result<String, AllocError>
+    requires ordered { first ≤ end }
+{
+    let mut told = String::new(alloc);
+    for (guest, seat) in row(seats, first, end) {
+        let comma = if told.is_empty() { "" } else { ", " };
+        write!(told, "{comma}{guest} on {seat}")?;
     }
-    let held = row(seats, first, end).len();
-    format!(in alloc; "{held}")
+    match told.is_empty() {
+        true => String::from_str(alloc, "nobody"),
+        false => Ok(told),
+    }
 }
 
 // The guest and the seat at an end of the seats that are taken.
@@ -75,10 +96,8 @@ fn end(alloc: Global, taken: Option<(&String, &u32)>) -> Result<String, AllocErr
     }
 }
 
-/// The reply to a line: `take GUEST SEAT`, `move GUEST SEAT`, `leave GUEST`, `seat GUEST`, `guest SEAT`, `row FIRST END`,
-/// `first` or `last`. Of another line it says so. Words stand between spaces. `row` asks how many sit on the seats
-/// from the first to before the end, which is not below the first.
-pub fn reply_to(alloc: Global, seats: &mut Seats, line: &str) -> Result<String, AllocError> {
+// The reply to a line of text.
+fn reply_to(alloc: Global, seats: &mut Seats, line: &str) -> Result<String, AllocError> {
     let mut words = line.split_whitespace();
     let (verb, first) = (words.next(), words.next());
     let number = first.map(|word| word.parse::<u32>());
@@ -86,12 +105,24 @@ pub fn reply_to(alloc: Global, seats: &mut Seats, line: &str) -> Result<String, 
     match (verb, first, number, second, words.next()) {
         (Some("take"), Some(guest), _, Some(Ok(seat)), None) => taken(alloc, seats, guest, seat),
         (Some("move"), Some(guest), _, Some(Ok(seat)), None) => moved(alloc, seats, guest, seat),
-        (Some("row"), _, Some(Ok(first)), Some(Ok(end)), None) => sitters(alloc, seats, first, end),
+        (Some("row"), _, Some(Ok(first)), Some(Ok(end)), None) if first <= end => {
+            sitters(alloc, seats, first, end)
+        }
         (Some("guest"), _, Some(Ok(seat)), None, None) => sitter(alloc, seats, seat),
         (Some("first"), None, _, None, None) => end(alloc, first_taken(seats)),
         (Some("last"), None, _, None, None) => end(alloc, last_taken(seats)),
         (Some("leave"), Some(guest), _, None, None) => gone(alloc, seats, guest),
         (Some("seat"), Some(guest), _, None, None) => place(alloc, seats, guest),
-        _ => String::from_str(alloc, "this asks nothing"),
+        (Some("help"), None, _, None, None) => String::from_str(alloc, REQUESTS),
+        _ => format!(in alloc; "bad line; wanted: {}", wanted(REQUESTS, line)),
     }
+}
+
+/// The reply to a line, which asks what one of `REQUESTS` says. Of another line it says what was wanted, and changes nothing.
+pub fn reply(alloc: Global, seats: &mut Seats, line: io::Result<String>) -> io::Result<String> {
+    let told = match text_of(line)? {
+        Some(line) => reply_to(alloc, seats, line.as_str())?,
+        None => String::from_str(alloc, NO_TEXT)?,
+    };
+    Ok(told)
 }

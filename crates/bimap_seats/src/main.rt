@@ -4,15 +4,15 @@
 mod line;
 mod seats;
 
-use line::{Seats, reply_to};
+use line::{Seats, reply};
 use std::io;
 
 fn main(rt: HostRuntime) -> io::Result<()> {
     let alloc = rt.alloc();
     let mut seats: Seats = Seats::new(alloc);
     for line in rt.lines(alloc) {
-        let reply = reply_to(alloc, &mut seats, line?.as_str())?;
-        println!(rt; "{reply}")?;
+        let told = reply(alloc, &mut seats, line)?;
+        println!(rt; "{told}")?;
     }
     println!(rt; "{} seated", seats.len())?;
     Ok(())
