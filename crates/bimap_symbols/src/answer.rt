@@ -1,6 +1,7 @@
 //! The answers to lines. It doesn't know how a symbol table keeps its symbols.
-use crate::line::{Request, parse_line};
+use crate::line::{REQUESTS, Request, parse_line};
 use crate::symbols::{NotInterned, Symbols};
+use bimap_lines::wanted;
 use std::io;
 
 // A name as a text of its own.
@@ -31,31 +32,32 @@ fn define(
     }
 }
 
-/// Does what a line asks for, and prints the answer. A bad line changes nothing.
+/// Does what a line asks for, and prints the answer. A bad line changes nothing, and is told what was wanted.
 pub fn answer(
     rt: &(impl Print + AllocGlobal),
     symbols: &mut Symbols,
     line: &str,
 ) -> io::Result<()> {
     match parse_line(line) {
-        Ok(Request::Open) => match symbols.open() {
+        Some(Request::Open) => match symbols.open() {
             Ok(()) => println!(rt; "a scope is opened"),
             Err(_) => println!(rt; "no scope is opened: no memory"),
         },
-        Ok(Request::Close) => match symbols.close() {
+        Some(Request::Close) => match symbols.close() {
             true => println!(rt; "a scope is closed"),
             false => println!(rt; "no scope is open"),
         },
-        Ok(Request::Define(name, number)) => define(rt, symbols, name, number),
-        Ok(Request::Intern(name)) => intern(rt, symbols, name),
-        Ok(Request::Number(name)) => match symbols.number_of(&owned(rt, name)?) {
+        Some(Request::Define(name, number)) => define(rt, symbols, name, number),
+        Some(Request::Intern(name)) => intern(rt, symbols, name),
+        Some(Request::Number(name)) => match symbols.number_of(&owned(rt, name)?) {
             Some(number) => println!(rt; "{name} is {number}"),
             None => println!(rt; "{name} is not known"),
         },
-        Ok(Request::Name(number)) => match symbols.name_of(&number) {
+        Some(Request::Name(number)) => match symbols.name_of(&number) {
             Some(name) => println!(rt; "{number} is {name}"),
             None => println!(rt; "{number} is not known"),
         },
-        Err(bad) => println!(rt; "bad line: {bad}"),
+        Some(Request::Help) => println!(rt; "{REQUESTS}"),
+        None => println!(rt; "bad line; wanted: {}", wanted(REQUESTS, line)),
     }
 }

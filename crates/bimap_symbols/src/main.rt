@@ -6,18 +6,16 @@ mod line;
 mod symbols;
 
 use answer::answer;
-use std::io::{self, ErrorKind};
+use bimap_lines::{NO_TEXT, text_of};
+use std::io;
 use symbols::Symbols;
 
 fn main(rt: HostRuntime) -> io::Result<()> {
     let mut symbols = Symbols::new(rt.alloc());
     for line in rt.lines(rt.alloc()) {
-        match line {
-            Ok(line) => answer(&rt, &mut symbols, line.as_str())?,
-            Err(error) if error.kind() == ErrorKind::InvalidData => {
-                println!(rt; "bad line: no text")?;
-            }
-            Err(error) => return Err(error),
+        match text_of(line)? {
+            Some(line) => answer(&rt, &mut symbols, line.as_str())?,
+            None => println!(rt; "{NO_TEXT}")?,
         }
     }
     Ok(())
