@@ -1,9 +1,12 @@
 //! The answers to lines. It doesn't know how a registry keeps its members.
-use crate::line::{Request, parse_line};
+use crate::fault::Fault;
+use crate::file::listed;
+use crate::line::{REQUESTS, Request, parse_line, parse_members};
 use crate::registry::{
-    Registry, give_back_room, id_of, members, name_of, register, register_all, rename, renumber,
+    Registry, give_back_room, id_of, name_of, register, register_all, rename, renumber,
 };
-use bimap::{ItemRefused, NoMemory, NotInserted, NotInsertedWith, NotReplaced};
+use bimap::{NoMemory, NotInserted, NotReplaced};
+use bimap_lines::wanted;
 use std::fmt::Display;
 use std::io;
 
@@ -26,26 +29,25 @@ fn answer_register(
     }
 }
 
-// Prints which member of a batch was refused, counted from 0, and why.
-fn answer_refused(rt: &impl Print, refused: &ItemRefused<u32, String>) -> io::Result<()> {
-    print!(rt; "none is registered: member {}, ", refused.taken)?;
-    match &refused.why {
-        NotInsertedWith::LeftHeld(id, name) => println!(rt; "{id} {name}: {id} is taken"),
-        NotInsertedWith::RightHeld(id, name) => println!(rt; "{id} {name}: {name} is taken"),
-        NotInsertedWith::Memory(id, name) => println!(rt; "{id} {name}: no memory"),
-    }
+// Prints what a line should have been that asks for nothing.
+fn answer_bad(rt: &impl Print, line: &str) -> io::Result<()> {
+    println!(rt; "bad line; wanted: {}", wanted(REQUESTS, line))
 }
 
-// Registers all or none, and prints the answer.
+// Registers all that the rest of a line lists, or none, and prints the answer.
 fn answer_batch(
     rt: &(impl Print + AllocGlobal),
     registry: &mut Registry,
-    batch: Vec<(u32, String)>,
+    line: &str,
+    rest: &str,
 ) -> io::Result<()> {
+    let Some(batch) = parse_members(rt.alloc(), rest)? else {
+        return answer_bad(rt, line);
+    };
     let count = batch.len();
-    match register_all(rt.alloc(), registry, batch) {
+    match register_all(rt.alloc(), registry, batch).map_err(Fault::Refused) {
         Ok(()) => println!(rt; "{count} are registered"),
-        Err(refused) => answer_refused(rt, &refused),
+        Err(fault) => println!(rt; "none is registered: {fault}"),
     }
 }
 
@@ -72,43 +74,41 @@ fn answer_give_back(rt: &impl Print, registry: &mut Registry) -> io::Result<()> 
 }
 
 // Prints all members, by ascending id.
-fn answer_list(rt: &impl Print, registry: &Registry) -> io::Result<()> {
+fn answer_list(rt: &(impl Print + AllocGlobal), registry: &Registry) -> io::Result<()> {
     println!(rt; "{} are registered", registry.len())?;
-    for (id, name) in members(registry) {
-        println!(rt; "{id} {name}")?;
-    }
-    Ok(())
+    print!(rt; "{}", listed(rt.alloc(), registry)?)
 }
 
-/// Does what a line asks for, and prints the answer. A bad line changes nothing.
+/// Does what a line asks for, and prints the answer. A bad line changes nothing, and is told what was wanted.
 pub fn answer(
     rt: &(impl Print + AllocGlobal),
     registry: &mut Registry,
     line: &str,
 ) -> io::Result<()> {
-    match parse_line(rt.alloc(), line) {
-        Ok(Request::Register(id, name)) => answer_register(rt, registry, id, name),
-        Ok(Request::Rename(from, to)) => {
+    match parse_line(line) {
+        Some(Request::Register(id, name)) => answer_register(rt, registry, id, name),
+        Some(Request::Rename(from, to)) => {
             let (from, to) = (owned(rt, from)?, owned(rt, to)?);
             let renamed = rename(registry, &from, to.clone()?);
             answer_replaced(rt, &from, &to, renamed)
         }
-        Ok(Request::Renumber(from, to)) => {
+        Some(Request::Renumber(from, to)) => {
             let renumbered = renumber(registry, &from, to);
             answer_replaced(rt, &from, &to, renumbered)
         }
-        Ok(Request::Batch(batch)) => answer_batch(rt, registry, batch),
-        Ok(Request::Who(id)) => match name_of(registry, &id) {
+        Some(Request::Batch(rest)) => answer_batch(rt, registry, line, rest),
+        Some(Request::Who(id)) => match name_of(registry, &id) {
             Some(name) => println!(rt; "{id} is {name}"),
             None => println!(rt; "{id} is free"),
         },
-        Ok(Request::Id(name)) => match id_of(registry, &owned(rt, name)?) {
+        Some(Request::Id(name)) => match id_of(registry, &owned(rt, name)?) {
             Some(id) => println!(rt; "{name} has {id}"),
             None => println!(rt; "{name} is free"),
         },
-        Ok(Request::List) => answer_list(rt, registry),
-        Ok(Request::Room) => println!(rt; "{} have places", registry.capacity()),
-        Ok(Request::GiveBack) => answer_give_back(rt, registry),
-        Err(bad) => println!(rt; "bad line: {bad}"),
+        Some(Request::List) => answer_list(rt, registry),
+        Some(Request::Room) => println!(rt; "{} have places", registry.capacity()),
+        Some(Request::GiveBack) => answer_give_back(rt, registry),
+        Some(Request::Help) => println!(rt; "{REQUESTS}"),
+        None => answer_bad(rt, line),
     }
 }

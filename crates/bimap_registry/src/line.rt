@@ -1,9 +1,20 @@
-//! What a line asks for. It knows no registry.
+//! What a line asks for, and the members that a text lists. It knows no registry.
 use std::alloc::{AllocError, Global};
-use std::fmt;
+
+/// The requests, and what each asks. Words stand between spaces.
+pub const REQUESTS: &str = "register ID NAME - if neither is taken
+rename NAME to NAME - the id of the first has the second
+renumber ID to ID - the name of the first has the second
+batch ID NAME ID NAME .. - all of them, or none
+who ID - which name?
+id NAME - which id?
+list - all ids with their names
+room - how many have places?
+give-back - gives up places that nobody has
+help - lists these; an ID is a number up to 4294967295";
 
 /// What a line asks for.
-#[derive(Debug, Drop, Eq, PartialEq)]
+#[derive(Clone, Copy, Debug)]
 pub enum Request<'a> {
     /// `register ID NAME`: both are taken from here on.
     Register(u32, &'a str),
@@ -11,8 +22,8 @@ pub enum Request<'a> {
     Rename(&'a str, &'a str),
     /// `renumber ID to ID`: the name of the first has the second.
     Renumber(u32, u32),
-    /// `batch ID NAME ID NAME ..`: all of them are registered, or none.
-    Batch(Vec<(u32, String)>),
+    /// `batch ID NAME ID NAME ..`: all of those that the rest of the line lists are registered, or none.
+    Batch(&'a str),
     /// `who ID`: which name has the id?
     Who(u32),
     /// `id NAME`: which id has the name?
@@ -23,88 +34,48 @@ pub enum Request<'a> {
     Room,
     /// `give-back`: the places that no member has are given back.
     GiveBack,
+    /// `help`: which requests are there?
+    Help,
 }
 
-/// Why a line asks for nothing.
-#[derive(Clone, Copy, Debug, Eq, PartialEq)]
-pub enum BadLine {
-    /// It does not begin with a word of a request.
-    NoRequest,
-    /// It has fewer, more or other words than its request.
-    WrongWords,
-    /// The word that stands for an id is no number below 2^32.
-    NoNumber,
-    /// There was no memory for its names.
-    NoMemory,
-}
-
-impl From<AllocError> for BadLine {
-    fn from(_: AllocError) -> BadLine {
-        BadLine::NoMemory
-    }
-}
-
-impl fmt::Display for BadLine {
-    fn fmt<W: fmt::Write>(&self, f: &mut fmt::Formatter<W>) -> fmt::Result {
-        match self {
-            BadLine::NoRequest => write!(f, "no request"),
-            BadLine::WrongWords => write!(f, "wrong words"),
-            BadLine::NoNumber => write!(f, "no number"),
-            BadLine::NoMemory => write!(f, "no memory"),
-        }
-    }
-}
-
-// The number that a word spells.
-fn parse_number(word: &str) -> Result<u32, BadLine> {
-    match word.parse::<u32>() {
-        Ok(number) => Ok(number),
-        Err(_) => Err(BadLine::NoNumber),
-    }
-}
-
-// The ids and names that stand in turn after the first word of a line.
-fn parse_batch(alloc: Global, line: &str) -> Result<Vec<(u32, String)>, BadLine> {
+/// The ids and names that stand in turn in a text, between blanks. `None` where other words do. It takes memory for them.
+pub fn parse_members(alloc: Global, text: &str) -> Result<Option<Vec<(u32, String)>>, AllocError> {
     let mut members = Vec::new(alloc);
     let mut id = None;
-    for word in line.split_whitespace().skip(1) {
-        match id {
-            None => id = Some(parse_number(word)?),
-            Some(number) => {
-                let name = String::from_str(alloc, word)?;
-                members.push((number, name)).map_err(AllocError::from)?;
+    for word in text.split_whitespace() {
+        match (id, word.parse::<u32>()) {
+            (None, Ok(number)) => id = Some(number),
+            (None, Err(_)) => return Ok(None),
+            (Some(number), _) => {
+                members
+                    .push((number, String::from_str(alloc, word)?))
+                    .map_err(AllocError::from)?;
                 id = None;
             }
         }
     }
-    match id {
-        None => Ok(members),
-        Some(_) => Err(BadLine::WrongWords),
-    }
+    Ok(id.is_none().then_some(members))
 }
 
-/// What a line of words between spaces asks for. It takes memory for the names of a batch alone.
-pub fn parse_line(alloc: Global, line: &str) -> Result<Request<'_>, BadLine> {
+/// What a line of words between spaces asks for. It takes no memory.
+pub fn parse_line(line: &str) -> Option<Request<'_>> {
     let mut words = line.split_whitespace();
-    let request = words.next().unwrap_or("");
+    let request = words.next()?;
     let (first, second, third) = (words.next(), words.next(), words.next());
     let ended = words.next().is_none();
     match (request, first, second, third) {
-        ("batch", _, _, _) => Ok(Request::Batch(parse_batch(alloc, line)?)),
-        ("register", Some(id), Some(name), None) => {
-            Ok(Request::Register(parse_number(id)?, name))
-        }
-        ("rename", Some(from), Some("to"), Some(to)) if ended => Ok(Request::Rename(from, to)),
+        ("batch", _, _, _) => Some(Request::Batch(line.trim_start().strip_prefix("batch")?)),
+        ("register", Some(id), Some(name), None) => Some(Request::Register(id.parse().ok()?, name)),
+        ("rename", Some(from), Some("to"), Some(to)) if ended => Some(Request::Rename(from, to)),
         ("renumber", Some(from), Some("to"), Some(to)) if ended => {
-            Ok(Request::Renumber(parse_number(from)?, parse_number(to)?))
+            Some(Request::Renumber(from.parse().ok()?, to.parse().ok()?))
         }
-        ("who", Some(id), None, None) => Ok(Request::Who(parse_number(id)?)),
-        ("id", Some(name), None, None) => Ok(Request::Id(name)),
-        ("list", None, None, None) => Ok(Request::List),
-        ("room", None, None, None) => Ok(Request::Room),
-        ("give-back", None, None, None) => Ok(Request::GiveBack),
-        ("register" | "rename" | "renumber" | "who" | "id", _, _, _) => Err(BadLine::WrongWords),
-        ("list" | "room" | "give-back", _, _, _) => Err(BadLine::WrongWords),
-        _ => Err(BadLine::NoRequest),
+        ("who", Some(id), None, None) => Some(Request::Who(id.parse().ok()?)),
+        ("id", Some(name), None, None) => Some(Request::Id(name)),
+        ("list", None, None, None) => Some(Request::List),
+        ("room", None, None, None) => Some(Request::Room),
+        ("give-back", None, None, None) => Some(Request::GiveBack),
+        ("help", None, None, None) => Some(Request::Help),
+        _ => None,
     }
 }
