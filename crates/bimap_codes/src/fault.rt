@@ -1,11 +1,13 @@
 //! Why names and their codes were not taken, in words. It knows no lines.
 use bimap::value::JsonFault;
 use bimap::{ItemRefused, NotInsertedWith};
-use std::fmt;
+use std::{fmt, io};
 
 /// Why names and their codes were not taken. Entries and items are counted from 0.
-#[derive(Debug, Drop, Eq, PartialEq)]
+#[derive(Debug, Drop)]
 pub enum Fault {
+    /// A file could not be read.
+    Unread(io::Error),
     /// A text is no JSON.
     NotJson,
     /// A JSON value is no table.
@@ -23,7 +25,7 @@ pub enum Fault {
 // What is wrong with a JSON value.
 fn write_entry<W: fmt::Write>(f: &mut fmt::Formatter<W>, fault: JsonFault) -> fmt::Result {
     match fault {
-        JsonFault::NotAnObject => write!(f, "this is no object"),
+        JsonFault::NotAnObject => write!(f, "no JSON object; wanted: one of names with codes"),
         JsonFault::BadKey(at) => write!(f, "entry {at}: its name is no text"),
         JsonFault::BadValue(at) => {
             write!(f, "entry {at}: its code is no number from 0 to 4294967295")
@@ -54,9 +56,10 @@ fn write_item<W: fmt::Write>(
 impl fmt::Display for Fault {
     fn fmt<W: fmt::Write>(&self, f: &mut fmt::Formatter<W>) -> fmt::Result {
         match self {
-            Fault::NotJson => write!(f, "this is no JSON"),
+            Fault::Unread(error) => write!(f, "{error}"),
+            Fault::NotJson => write!(f, "no JSON; wanted: an object of names with codes"),
             Fault::NotTable(fault) => write_entry(f, *fault),
-            Fault::NotCode => write!(f, "this is no code"),
+            Fault::NotCode => write!(f, "a code is no number from 0 to 4294967295"),
             Fault::NoCode => write!(f, "the last name has no code"),
             Fault::Refused(refused) => write_item(f, refused),
             Fault::Memory => write!(f, "no memory"),

@@ -1,7 +1,7 @@
-//! A table of protocol codes. The first line of input that gives one is it: a JSON object of names with their codes, or
-//! `table NAME CODE NAME CODE ..`; a later one takes its place. Each other line asks for the code of a name, for the name of
-//! a code or for all, or assigns codes; last the table is written back. Until there is a table, a line that gives none is
-//! answered by what is wrong with it. So is a later line that begins as a table does and gives none: the table stays then.
+//! A table of protocol codes, kept by the lines of standard input: each asks for the code of a name, for the name of a code or
+//! for all, assigns codes, or gives another table. It begins empty, and is printed last; with the name of a file it begins with
+//! the table of that file, and goes back there. The status is 2 where a table could not be read; where it is that of the file,
+//! no line is answered.
 #![tactic(auto)]
 
 mod codes;
@@ -9,29 +9,59 @@ mod fault;
 mod line;
 mod table;
 
-use line::{reply_to, shown};
-use std::io;
-use table::{Codes, gives_table, table_of};
+use bimap_lines::{NO_TEXT, replace_file, text_of};
+use line::{answer, shown};
+use std::process::ExitCode;
+use std::rt::Files;
+use std::{env, io};
+use table::{Codes, read_table};
 
-fn main(rt: HostRuntime) -> io::Result<()> {
-    let alloc = rt.alloc();
-    let mut table: Option<Codes> = None;
-    for line in rt.lines(alloc) {
-        let line = line?;
-        match &mut table {
-            Some(codes) if !gives_table(line.as_str()) => {
-                let reply = reply_to(alloc, codes, line.as_str())?;
-                println!(rt; "{reply}")?;
+// Answers all lines, and tells by the status whether each table was read.
+fn serve(rt: &(impl Input + Print + AllocGlobal), codes: &mut Codes) -> io::Result<ExitCode> {
+    let mut status = ExitCode::SUCCESS;
+    for line in rt.lines(rt.alloc()) {
+        match text_of(line)? {
+            Some(line) => {
+                if !answer(rt, codes, line.as_str())? {
+                    status = ExitCode::from(2);
+                }
             }
-            _ => match table_of(alloc, line.as_str()) {
-                Ok(codes) => table = Some(codes),
-                Err(fault) => println!(rt; "{fault}")?,
-            },
+            None => println!(rt; "{NO_TEXT}")?,
         }
     }
-    if let Some(codes) = table {
-        let object = shown(alloc, &codes)?;
-        println!(rt; "{object}")?;
+    Ok(status)
+}
+
+// The same on a table that begins empty, and is printed last.
+fn serve_empty(rt: &(impl Input + Print + AllocGlobal)) -> io::Result<ExitCode> {
+    let mut codes = Codes::new(rt.alloc());
+    let status = serve(rt, &mut codes)?;
+    println!(rt; "{}", shown(rt.alloc(), &codes)?)?;
+    Ok(status)
+}
+
+// The same on the table of a file, which goes back there.
+fn serve_file<R: Files + Input + Print + Eprint + AllocGlobal>(
+    rt: &R,
+    path: &str,
+) -> io::Result<ExitCode> {
+    match read_table(rt, path) {
+        Ok(mut codes) => {
+            let status = serve(rt, &mut codes)?;
+            let text = format!(in rt.alloc(); "{}\n", shown(rt.alloc(), &codes)?)?;
+            replace_file(rt, path, text.as_str())?;
+            Ok(status)
+        }
+        Err(fault) => {
+            eprintln!(rt; "{path}: {fault}")?;
+            Ok(ExitCode::from(2))
+        }
     }
-    Ok(())
+}
+
+fn main(rt: HostRuntime) -> io::Result<ExitCode> {
+    match env::args(&rt)?.nth(1) {
+        Some(path) => serve_file(&rt, path.as_str()),
+        None => serve_empty(&rt),
+    }
 }

@@ -1,9 +1,11 @@
-//! The table that a line of input gives.
+//! The table that a text gives, be it a line of input or a file.
 use crate::codes::{collect_codes, read_codes};
 use crate::fault::Fault;
 use bimap::BiBTreeHashMap;
 use bimap::value::Value;
 use std::alloc::Global;
+use std::fs;
+use std::rt::Files;
 
 /// Names by their order, each with a code that is found by its hash.
 pub type Codes = BiBTreeHashMap<String, u32>;
@@ -35,18 +37,24 @@ fn table_of_json(alloc: Global, text: &str) -> Result<Codes, Fault> {
     read_codes(alloc, &object).map_err(Fault::NotTable)
 }
 
-/// Whether a line is read as a table, also where there is one: it begins with `{` or `table `.
+/// Whether a line is to give a table: it begins with `{` or `table `.
 pub fn gives_table(line: &str) -> bool {
     line.strip_prefix("{").is_some() || line.strip_prefix("table ").is_some()
 }
 
-/// The table of a line: `table NAME CODE NAME CODE ..`, or else a JSON object of names with their codes.
-pub fn table_of(alloc: Global, line: &str) -> Result<Codes, Fault> {
-    match line.strip_prefix("table ") {
+/// The table of a text: `table NAME CODE NAME CODE ..`, or else a JSON object of names with their codes.
+pub fn table_of(alloc: Global, text: &str) -> Result<Codes, Fault> {
+    match text.strip_prefix("table ") {
         Some(text) => {
             let items = parse_items(alloc, text)?;
             collect_codes(Codes::new(alloc), items).map_err(Fault::Refused)
         }
-        None => table_of_json(alloc, line),
+        None => table_of_json(alloc, text),
     }
+}
+
+/// The table of a file.
+pub fn read_table<R: Files + AllocGlobal>(rt: &R, path: &str) -> Result<Codes, Fault> {
+    let text = fs::read_to_string(rt, path).map_err(Fault::Unread)?;
+    table_of(rt.alloc(), text.trim_end())
 }
