@@ -16,6 +16,15 @@ use serve::{Ending, serve};
 use std::io::{self, BufReader, BufWriter};
 use std::process::ExitCode;
 
+// The lines that say a call. A left is a character, a right a number from 0 to 4294967295.
+const REQUESTS: &str = "insert LEFT RIGHT - overwrites what is held of either
+put LEFT RIGHT - if neither is held
+insert-with POLICY LEFT RIGHT - oo, or, ro or rr, left then right: o overwrites, r refuses
+drop-left LEFT
+drop-right RIGHT
+clear
+LEFT is a character, RIGHT a number up to 4294967295";
+
 // The work over standard input and output, which are read and written in blocks.
 fn run(rt: &HostRuntime) -> io::Result<Ending> {
     let mut input = BufReader::new(rt.alloc(), rt.reader())?;
@@ -43,7 +52,7 @@ fn main(rt: HostRuntime) -> ExitCode {
         Ending::Clean => Ok(()),
         Ending::InputFailed => eprintln!(rt; "input failed"),
         Ending::OutputFailed => eprintln!(rt; "output failed"),
-        Ending::BadLine(number) => eprintln!(rt; "bad line {number}"),
+        Ending::BadLine(number) => eprintln!(rt; "bad line {number}; wanted:\n{REQUESTS}"),
         Ending::NoMemory => eprintln!(rt; "no memory"),
     };
     ExitCode::from(status(ending))
