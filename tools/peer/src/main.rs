@@ -1,5 +1,5 @@
-//! The Rust crate `bimap` beside this repository's. `peer PAIRS` makes the calls of `crates/bimap_bench` over it: the same keys,
-//! the same order, the same lines. `peer shell` answers the lines of standard input as `crates/bimap_shell` does.
+//! The Rust crate `bimap` beside this repository's. `peer PAIRS times KEYS KIND` makes the calls of `crates/bimap_bench` over it:
+//! the same keys, the same order, the same lines. `peer shell` answers the lines of standard input as `crates/bimap_shell` does.
 mod kind;
 mod made;
 mod shell;
@@ -8,64 +8,104 @@ mod word;
 use bimap::{BiBTreeMap, BiHashMap, Overwritten};
 use std::time::Instant;
 
-fn left(number: u64) -> u64 {
-    number.wrapping_mul(0x9E37_79B9_7F4A_7C15)
+/// The keys of a run, as in `crates/bimap_bench`.
+#[derive(Clone, Copy)]
+struct Keys {
+    pairs: u64,
+    lefts: u64,
+    rights: u64,
+    step: u64,
 }
 
-fn right(number: u64) -> u64 {
-    number.wrapping_mul(0xD1B5_4A32_D192_ED03)
-}
+impl Keys {
+    fn new(pairs: u64, is_rising: bool) -> Self {
+        if is_rising {
+            return Keys { pairs, lefts: 1, rights: 1, step: 1 };
+        }
+        let prime = if pairs % 7919 == 0 { 7907u64 } else { 7919 };
+        let step = prime.checked_rem(pairs).unwrap_or(0);
+        Keys { pairs, lefts: 0x9E37_79B9_7F4A_7C15, rights: 0xD1B5_4A32_D192_ED03, step }
+    }
 
-fn mixed(number: u64, pairs: u64) -> u64 {
-    number.wrapping_mul(7919).checked_rem(pairs).unwrap_or(0)
+    fn left(&self, number: u64) -> u64 {
+        number.wrapping_mul(self.lefts)
+    }
+
+    fn right(&self, number: u64) -> u64 {
+        number.wrapping_mul(self.rights)
+    }
+
+    /// How many of the numbers that are looked up pass a test.
+    fn count(&self, mut test: impl FnMut(u64) -> bool) -> u64 {
+        let (mut found, mut number) = (0, 0u64);
+        for _ in 0..self.pairs {
+            found += u64::from(test(number));
+            let next = number.wrapping_add(self.step);
+            number = if next < self.pairs { next } else { next.wrapping_sub(self.pairs) };
+        }
+        found
+    }
 }
 
 fn timed(kind: &str, call: &str, pairs: u64, work: impl FnOnce() -> u64) {
     let start = Instant::now();
     let found = work();
     let tenths = start.elapsed().as_nanos() * 10 / u128::from(pairs.max(1));
-    // What was found keeps the work from being left out.
-    eprintln!("{kind} {call} {found}");
-    println!("{kind} {call} {}.{}", tenths / 10, tenths % 10);
+    println!("{kind} {call} {}.{} {found}", tenths / 10, tenths % 10);
+}
+
+/// The bytes of memory that the process has for itself.
+fn memory() -> u64 {
+    let text = std::fs::read_to_string("/proc/self/statm").unwrap_or_default();
+    let mut pages = text.split(' ').skip(1).map(|word| word.parse().unwrap_or(0u64));
+    let (all, shared) = (pages.next().unwrap_or(0), pages.next().unwrap_or(0));
+    all.saturating_sub(shared) * 4096
 }
 
 macro_rules! measure {
-    ($kind:ident, $pairs:expr) => {{
-        let (name, n) = (stringify!($kind), $pairs);
+    ($kind:ident, $keys:expr) => {{
+        let (name, keys, n) = (stringify!($kind), $keys, $keys.pairs);
         let mut bimap: $kind<u64, u64> = $kind::new();
         let insert = |bimap: &mut $kind<u64, u64>, apart: u64| {
             (0..n)
                 .filter(|at| {
-                    bimap.insert(left(*at), right(at.wrapping_add(apart))) != Overwritten::Neither
+                    let right = keys.right(at.wrapping_add(apart));
+                    bimap.insert(keys.left(*at), right) != Overwritten::Neither
                 })
                 .count() as u64
         };
+        let before = memory();
         timed(name, "insert", n, || insert(&mut bimap, 0));
+        println!("{name} bytes {} 0", memory().saturating_sub(before) / n.max(1));
         timed(name, "hit-by-left", n, || {
-            (0..n).filter(|at| bimap.get_by_left(&left(mixed(*at, n))).is_some()).count() as u64
+            keys.count(|at| bimap.get_by_left(&keys.left(at)).is_some())
         });
         timed(name, "hit-by-right", n, || {
-            (0..n).filter(|at| bimap.get_by_right(&right(mixed(*at, n))).is_some()).count() as u64
+            keys.count(|at| bimap.get_by_right(&keys.right(at)).is_some())
         });
         timed(name, "miss-by-left", n, || {
-            (0..n).filter(|at| bimap.get_by_left(&left(mixed(*at, n) + n)).is_some()).count() as u64
+            keys.count(|at| bimap.get_by_left(&keys.left(at + n)).is_some())
         });
         timed(name, "same-pair", n, || insert(&mut bimap, 0));
         timed(name, "overwrite", n, || insert(&mut bimap, n));
         timed(name, "walk", n, || bimap.iter().fold(0, |sum, (l, r)| sum.wrapping_add(l ^ r)));
         timed(name, "remove", n, || {
-            (0..n).filter(|at| bimap.remove_by_left(&left(mixed(*at, n))).is_some()).count() as u64
+            keys.count(|at| bimap.remove_by_left(&keys.left(at)).is_some())
         });
     }};
 }
 
 fn main() -> std::io::Result<()> {
-    let word = std::env::args().nth(1);
-    if word.as_deref() == Some("shell") {
+    let words: Vec<String> = std::env::args().skip(1).collect();
+    let word = |at: usize| words.get(at).map_or("", String::as_str);
+    if word(0) == "shell" {
         return shell::serve();
     }
-    let pairs = word.and_then(|word| word.parse().ok()).unwrap_or(1000);
-    measure!(BiBTreeMap, pairs);
-    measure!(BiHashMap, pairs);
+    let keys = Keys::new(word(0).parse().unwrap_or(1000), word(2) == "rising");
+    match word(3) {
+        "BiBTreeMap" => measure!(BiBTreeMap, keys),
+        "BiHashMap" => measure!(BiHashMap, keys),
+        kind => eprintln!("peer: the Rust crate has no kind {kind}"),
+    }
     Ok(())
 }

@@ -1,0 +1,98 @@
+// Boost.Bimap beside this repository's: `boost PAIRS times KEYS KIND` makes the calls of `crates/bimap_bench` over it: the same keys,
+// the same order, the same lines. `boost` alone prints its version.
+#include <boost/bimap.hpp>
+#include <boost/bimap/set_of.hpp>
+#include <boost/bimap/unordered_set_of.hpp>
+#include <boost/version.hpp>
+#include <chrono>
+#include <cstdint>
+#include <cstdio>
+#include <string>
+
+using boost::bimaps::set_of;
+using boost::bimaps::unordered_set_of;
+
+// The keys of a run, as in `crates/bimap_bench`.
+struct Keys {
+    uint64_t pairs, lefts = 0x9E3779B97F4A7C15, rights = 0xD1B54A32D192ED03, step = 0;
+    Keys(uint64_t pairs, bool is_rising) : pairs(pairs) {
+        if (is_rising) lefts = rights = step = 1;
+        else if (pairs) step = (pairs % 7919 == 0 ? 7907 : 7919) % pairs;
+    }
+    uint64_t left(uint64_t number) const { return number * lefts; }
+    uint64_t right(uint64_t number) const { return number * rights; }
+    template <class Test> uint64_t count(Test test) const {
+        uint64_t found = 0, number = 0;
+        for (uint64_t at = 0; at < pairs; at++) {
+            found += test(number);
+            uint64_t next = number + step;
+            number = next < pairs ? next : next - pairs;
+        }
+        return found;
+    }
+};
+
+template <class Work> void timed(const char *kind, const char *call, uint64_t pairs, Work work) {
+    auto start = std::chrono::steady_clock::now();
+    uint64_t found = work();
+    std::chrono::duration<double, std::nano> time = std::chrono::steady_clock::now() - start;
+    std::printf("%s %s %.1f %llu\n", kind, call, time.count() / (pairs ? pairs : 1), (unsigned long long)found);
+}
+
+// The bytes of memory that the process has for itself.
+static uint64_t memory() {
+    unsigned long long size, all, shared, own = 0;
+    if (FILE *file = std::fopen("/proc/self/statm", "r")) {
+        if (std::fscanf(file, "%llu %llu %llu", &size, &all, &shared) == 3) own = all - shared;
+        std::fclose(file);
+    }
+    return own * 4096;
+}
+
+template <class Bimap> void measure(const char *kind, Keys keys) {
+    typedef typename Bimap::value_type Pair;
+    uint64_t n = keys.pairs;
+    Bimap bimap;
+    // An insertion that overwrites: what holds either value goes. Counts those that struck a pair.
+    auto insert = [&](uint64_t apart) {
+        uint64_t struck = 0;
+        for (uint64_t at = 0; at < n; at++) {
+            Pair pair(keys.left(at), keys.right(at + apart));
+            if (bimap.insert(pair).second) continue;
+            struck++;
+            bimap.left.erase(pair.left);
+            bimap.right.erase(pair.right);
+            bimap.insert(pair);
+        }
+        return struck;
+    };
+    uint64_t before = memory();
+    timed(kind, "insert", n, [&] { return insert(0); });
+    uint64_t after = memory();
+    std::printf("%s bytes %llu 0\n", kind, (unsigned long long)((after > before ? after - before : 0) / (n ? n : 1)));
+    timed(kind, "hit-by-left", n, [&] { return keys.count([&](uint64_t at) { return bimap.left.find(keys.left(at)) != bimap.left.end(); }); });
+    timed(kind, "hit-by-right", n, [&] { return keys.count([&](uint64_t at) { return bimap.right.find(keys.right(at)) != bimap.right.end(); }); });
+    timed(kind, "miss-by-left", n, [&] { return keys.count([&](uint64_t at) { return bimap.left.find(keys.left(at + n)) != bimap.left.end(); }); });
+    timed(kind, "same-pair", n, [&] { return insert(0); });
+    timed(kind, "overwrite", n, [&] { return insert(n); });
+    timed(kind, "walk", n, [&] {
+        uint64_t sum = 0;
+        for (auto &pair : bimap.left) sum += pair.first ^ pair.second;
+        return sum;
+    });
+    timed(kind, "remove", n, [&] { return keys.count([&](uint64_t at) { return bimap.left.erase(keys.left(at)) != 0; }); });
+}
+
+int main(int count, char **words) {
+    if (count < 5) {
+        std::puts(BOOST_LIB_VERSION);
+        return 0;
+    }
+    Keys keys(std::stoull(words[1]), std::string(words[3]) == "rising");
+    std::string kind = words[4];
+    typedef uint64_t N;
+    if (kind == "BiBTreeMap") measure<boost::bimap<set_of<N>, set_of<N>>>("BiBTreeMap", keys);
+    if (kind == "BiBTreeHashMap") measure<boost::bimap<set_of<N>, unordered_set_of<N>>>("BiBTreeHashMap", keys);
+    if (kind == "BiHashBTreeMap") measure<boost::bimap<unordered_set_of<N>, set_of<N>>>("BiHashBTreeMap", keys);
+    if (kind == "BiHashMap") measure<boost::bimap<unordered_set_of<N>, unordered_set_of<N>>>("BiHashMap", keys);
+}
