@@ -1,8 +1,9 @@
 mod Fieldless
 pub mod Apart
+pub mod Compaction
 pub mod CopiesAlike
-pub mod Counts
 pub mod Copying
+pub mod Counts
 pub mod Digits
 pub mod Extending
 pub mod Fits
@@ -10,16 +11,15 @@ pub mod FreeList
 pub mod HoldingsAlike
 pub mod Meeting
 pub mod Members
-pub mod Packing
-pub mod Packs
+pub mod NodesInCells
 pub mod Passing
-pub mod Results
 pub mod Removals
 pub mod Replacing
+pub mod Results
 pub mod SameAscending
 pub mod SameSets
 pub mod SetsAlike
 pub mod Survivors
 pub mod Testing
 pub mod Undoing
-pub mod Walked
+pub mod Walk

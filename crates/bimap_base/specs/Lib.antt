@@ -16,6 +16,6 @@ pub mod Slots
 pub mod FreeSlots
 pub mod Keyed
 pub mod Numbered
-pub mod Packed
+pub mod NodesInCells
 pub mod Places
 pub mod PairsAt

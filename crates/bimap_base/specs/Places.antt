@@ -10,8 +10,8 @@ module _ {P : Type 0} where
   pairs_in (Some pair ∷ slots) = pair ∷ pairs_in slots
 
   -- so many places, of which the first have the pairs, in this order
-  abbrev pub packed : List P → ℕ → List (Option P)
-  packed pairs places = map Some pairs ++ replicate (places - length pairs) None
+  abbrev pub compacted : List P → ℕ → List (Option P)
+  compacted pairs places = map Some pairs ++ replicate (places - length pairs) None
 
 -- the place has a pair with an equal key, if it is told, and no other place has one
 pub record IsFoundAt {P K : Type 0} (key : P → K) (same : K → K → Bool) (slots : List (Option P)) (k : K) (found : Option ℕ) : Type 0 where

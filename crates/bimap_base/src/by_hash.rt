@@ -4,9 +4,9 @@ ghost use Rattle.std.specs.List.{fold};
 ghost use Rattle.std.proofs.Common.{ap};
 ghost use Rattle.bimap_base.specs.Numbered.{number_by};
 
+use crate::hash_keys::Spread;
 use crate::numbered::hash_number;
 use crate::side::Side;
-use crate::spread::Spread;
 use std::hash::{BuildHasher, Hash};
 use std::marker::PhantomData;
 

@@ -2,7 +2,7 @@
 ghost use Rattle.std.specs.Prelude.{◌≡◌, ℕ, ◌+◌, ◌<◌, ◌≤◌, ◌^◌, max, true, false, Some, [], length, map, slice_get, slice_set, vec_len, OnOk, OnErr, IfOk, IsOk};
 ghost use Rattle.bimap_base.specs.Digits.{most_height};
 ghost use Rattle.bimap_base.specs.declared.cells.Node.{Node};
-ghost use Rattle.bimap_base.specs.Packed.{IsThere, IsAmong, CanCount, recounted, link_of, narrow_node, wide_node, nodes_in};
+ghost use Rattle.bimap_base.specs.NodesInCells.{IsThere, IsAmong, CanCount, recounted, link_of, narrow_node, wide_node, nodes_in};
 
 use crate::meter::Meter;
 use crate::refusal::NoMemory;
@@ -93,7 +93,7 @@ pub enum Cells {
     Wide(Nodes<WideCell>),
 }
 
-fn packed_link(child: Option<usize>) -> usize
+fn link_to(child: Option<usize>) -> usize
     requires { (n : ℕ) × (IsThere n child × n < 2 ^ 64) }
     ensures link { link_of result ≡ child }
     ensures within { (n : ℕ) → IsThere n child → result ≤ n }
@@ -132,8 +132,8 @@ impl Cell for NarrowCell {
     #[inline(always)]
     fn of(node: Node) -> Self {
         NarrowCell {
-            left: packed_link(node.left) as u32,
-            right: packed_link(node.right) as u32,
+            left: link_to(node.left) as u32,
+            right: link_to(node.right) as u32,
             count: (node.height * WIDE + node.size) as u32,
         }
     }
@@ -145,7 +145,7 @@ impl Cell for NarrowCell {
 
     #[inline(always)]
     fn recounted(self, turn: bool, child: Option<usize>, grew: bool) -> Self {
-        let link = packed_link(child) as u32;
+        let link = link_to(child) as u32;
         NarrowCell {
             left: if turn { self.left } else { link },
             right: if turn { link } else { self.right },
@@ -162,8 +162,8 @@ impl Cell for WideCell {
     #[inline(always)]
     fn of(node: Node) -> Self {
         WideCell {
-            left: packed_link(node.left),
-            right: packed_link(node.right),
+            left: link_to(node.left),
+            right: link_to(node.right),
             height: node.height,
             size: node.size,
         }
@@ -181,7 +181,7 @@ impl Cell for WideCell {
 
     #[inline(always)]
     fn recounted(self, turn: bool, child: Option<usize>, grew: bool) -> Self {
-        let link = packed_link(child);
+        let link = link_to(child);
         WideCell {
             left: if turn { self.left } else { link },
             right: if turn { link } else { self.right },

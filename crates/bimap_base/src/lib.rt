@@ -7,6 +7,7 @@ mod by_order;
 mod cells;
 mod count;
 mod fill;
+mod hash_keys;
 mod interning;
 mod keys;
 mod meter;
@@ -17,7 +18,6 @@ mod policy;
 mod refusal;
 mod replace;
 mod side;
-mod spread;
 
 pub use bijection::Bijection;
 pub use by_hash::ByHash;
@@ -25,6 +25,7 @@ pub use by_order::ByOrder;
 pub use cells::{Cell, Cells, NarrowCell, Node, Nodes, WideCell};
 pub use count::Count;
 pub use fill::{extend, extend_with, from_iter, from_iter_with};
+pub use hash_keys::Spread;
 pub use interning::Interning;
 pub use keys::Keys;
 pub use meter::Meter;
@@ -38,4 +39,3 @@ pub use refusal::{
 };
 pub use replace::{replace_left, replace_right};
 pub use side::{LeftSide, RightSide, Side};
-pub use spread::Spread;

@@ -1,7 +1,7 @@
 //! The store: pairs in numbered places. It knows nothing of their values, nor of how places are found.
 ghost use Rattle.std.specs.Prelude.{◌≡◌, ◌+◌, ◌<◌, ◌≤◌, [], max, map, length, option_map, Some, None, IsOk, IsSome, OnOk, OnErr, slice_set, slice_index_or, replicate, ℕ, vec_len, vec_capacity};
 ghost use Rattle.bimap_base.specs.Slots.{pair_at, IsLive, pair_count};
-ghost use Rattle.bimap_base.specs.Places.{pairs_in, packed};
+ghost use Rattle.bimap_base.specs.Places.{pairs_in, compacted};
 ghost use Rattle.bimap_base.specs.FreeSlots.{pair_of, IsFreeList, IsSound, IsGrown};
 
 use crate::refusal::NoMemory;
@@ -176,12 +176,12 @@ impl<L, R> Pairs<L, R> {
     }
 
     /// Makes exactly `to` places, and moves the pairs to the first of them, in their order. A refusal changes nothing.
-    pub fn pack(&mut self, to: usize) -> Result<(), NoMemory>
+    pub fn compact(&mut self, to: usize) -> Result<(), NoMemory>
     where
         L: Drop,
         R: Drop,
         requires fits { pair_count self.old ≤ to }
-        ensures ok { OnOk result (self.new ≡ packed (pairs_in self.old) to) }
+        ensures ok { OnOk result (self.new ≡ compacted (pairs_in self.old) to) }
         ensures err { OnErr result (self.new ≡ self.old) }
     {
         let alloc = *self.slots.allocator();

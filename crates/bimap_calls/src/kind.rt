@@ -3,7 +3,7 @@ ghost use Rattle.std.specs.Prelude.{◌≡◌, []};
 ghost use Rattle.bimap_base.specs.Capacity.{IsShrink};
 
 use bimap::{Bijection, BijectiveMap, ExtendStopped, NoMemory};
-use bimap_index::{EmptyIndex, PackedIndex};
+use bimap_index::{CompactedIndex, EmptyIndex};
 use std::alloc::Global;
 
 /// A kind of bimap, which tests make.
@@ -33,8 +33,8 @@ pub trait CopyKind<L: Copy + Eq + Drop, R: Copy + Eq + Drop>: Kind<L, R> {
 impl<
     L: Eq + Drop,
     R: Eq + Drop,
-    I: EmptyIndex<L> + PackedIndex<L> + Drop,
-    J: EmptyIndex<R> + PackedIndex<R> + Drop,
+    I: EmptyIndex<L> + CompactedIndex<L> + Drop,
+    J: EmptyIndex<R> + CompactedIndex<R> + Drop,
 > Kind<L, R> for BijectiveMap<L, R, I, J> {
     fn empty(alloc: Global) -> Self {
         BijectiveMap::empty(alloc)
@@ -52,8 +52,8 @@ impl<
 impl<
     L: Copy + Eq + Drop,
     R: Copy + Eq + Drop,
-    I: EmptyIndex<L> + PackedIndex<L> + Drop,
-    J: EmptyIndex<R> + PackedIndex<R> + Drop,
+    I: EmptyIndex<L> + CompactedIndex<L> + Drop,
+    J: EmptyIndex<R> + CompactedIndex<R> + Drop,
 > CopyKind<L, R> for BijectiveMap<L, R, I, J> {
     fn built(alloc: Global, items: &[(L, R)]) -> Result<Self, ExtendStopped<L, R>> {
         BijectiveMap::from_iter(alloc, items.iter().copied())

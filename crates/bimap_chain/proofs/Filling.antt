@@ -3,8 +3,8 @@ use Rattle.std.proofs.Common.{◌≡◌, ℕ, suc, ◌+◌, ◌-◌, ◌<◌, �
 use Rattle.std.specs.Prelude.{slice_set}
 use Rattle.std.proofs.lemmas.List.{append-nil, map-append, length-map, take-append-drop, take_more, length-take-le}
 use Rattle.std.proofs.Math.Seq.{set-append_seam}
-use Rattle.bimap_base.specs.Places.{pairs_in, packed}
-use Rattle.bimap_base.proofs.Packing.{pairs_in-append}
+use Rattle.bimap_base.specs.Places.{pairs_in, compacted}
+use Rattle.bimap_base.proofs.Compaction.{pairs_in-append}
 use Rattle.bimap_chain.specs.Chains.{Numbers, number_at}
 
 module _ (numbers : Numbers) (place : ℕ) (inside : place < length numbers) where
@@ -47,11 +47,11 @@ module _ (ns : List ℕ) (to : ℕ) (less : length ns < to) where
   abbrev rest : ℕ
   rest = to - (length ns + 1)
 
-  split : packed ns to ≡ map Some ns ++ None ∷ replicate rest None
+  split : compacted ns to ≡ map Some ns ++ None ∷ replicate rest None
   split = let e : to - length ns ≡ suc (to - (length ns + 1)) = omega arith in ap (λ k. map Some ns ++ replicate k None) e
 
   -- one more number fills the first free cell
-  pub filled_more : (n : ℕ) → slice_set (packed ns to) (length ns) (Some n) ≡ packed (ns ++ n ∷ []) to
+  pub filled_more : (n : ℕ) → slice_set (compacted ns to) (length ns) (Some n) ≡ compacted (ns ++ n ∷ []) to
   filled_more n =
       ap (λ z. slice_set z (length ns) (Some n)) split ∙ ap (λ k. slice_set (map Some ns ++ None ∷ replicate rest None) k (Some n)) (sym (length-map ns Some)) ∙ set-append_seam (map Some ns) None (replicate rest None) (Some n)
       ∙ sym (append_assoc (map Some ns) (Some n ∷ []) (replicate rest None)) ∙ ap (λ z. z ++ replicate rest None) (sym (map-append Some ns (n ∷ []))) ∙ ap (λ k. map Some (ns ++ n ∷ []) ++ replicate k None) by

@@ -3,7 +3,7 @@ use Rattle.std.proofs.Common.{◌≡◌, ◌≢◌, ℕ, zero, suc, ◌+◌, ◌
 use Rattle.std.specs.Prelude.{slice_index_or, slice_set, IfSome}
 use Rattle.bimap_chain.specs.Chains.{Numbers, number_at, is_of, last_below, NoneWithin, IsThreaded, IsListed, GoesOver, Links, link_or_head}
 use Rattle.std.proofs.lemmas.Bool.{cases_eq, cases_order}
-use Rattle.bimap_chain.specs.Packed.{Threading, IsSized, IsSound, numbers_of, links_of as the_links}
+use Rattle.bimap_chain.specs.Threads.{Threading, IsSized, IsSound, numbers_of, links_of as the_links}
 use Rattle.bimap_chain.proofs.Below.{found, last_here, last_lower, same_last, skipped, same_above}
 use Rattle.bimap_chain.proofs.Walk.{leads, of_bucket}
 

@@ -2,7 +2,7 @@
 use Rattle.std.proofs.Common.{◌≡◌, ℕ, ◌+◌, ◌-◌, ◌<◌, ◌≤◌, List, ◌++◌, length, take, map, replicate, Option, None, Some, sym, ◌∙◌, ap, arith, get_or}
 use Rattle.std.specs.Prelude.{slice_index_or, slice_set, IfSome, IsSome, is_some}
 use Rattle.std.proofs.lemmas.List.{length-map, take_all, map-append, get_or-map, map-set}
-use Rattle.bimap_base.proofs.Packs.{map-written}
+use Rattle.bimap_base.proofs.NodesInCells.{map-written}
 use Rattle.bimap_chain.specs.Cells.{Cell, free_cell, relinked_cell, numbers_in}
 use Rattle.bimap_chain.proofs.Kept.{map-replicated, set_same}
 

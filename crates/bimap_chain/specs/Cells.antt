@@ -1,7 +1,7 @@
 -- What the cells and the heads of a hashed index tell. No public clause cites this module.
 use Rattle.std.specs.Prelude.{ℕ, List, map, Option, None, Some, ◌==◌, if◌then◌else◌}
-use Rattle.bimap_chain.specs.Width.{Width, told}
-use Rattle.bimap_chain.specs.declared.cells.PackedCell.{PackedCell}
+use Rattle.bimap_chain.specs.Width.{Width, target}
+use Rattle.bimap_chain.specs.declared.cells.ChainCell.{ChainCell}
 
 -- what a cell tells of its place: the number under which it is listed, or none, and the next place of its chain
 pub record Cell : Type 0 where
@@ -21,8 +21,8 @@ abbrev pub relinked_cell : Cell → Option ℕ → Cell
 relinked_cell c next = record { number = c.number; next = next }
 
 -- what a cell that is kept so tells
-abbrev pub cell_of : {L : Type 0} → Width L → PackedCell L → Cell
-cell_of width c = if width.number c.link == width.free then free_cell else listed_cell c.number (told width c.link)
+abbrev pub cell_of : {L : Type 0} → Width L → ChainCell L → Cell
+cell_of width c = if width.number c.link == width.free then free_cell else listed_cell c.number (target width c.link)
 
 -- the numbers and the links that the cells tell
 abbrev pub numbers_in : List Cell → List (Option ℕ)

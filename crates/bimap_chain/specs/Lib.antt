@@ -1,5 +1,5 @@
 pub mod Chains
 pub mod Width
 pub mod Cells
-pub mod Packed
-pub mod Forms
+pub mod Threads
+pub mod ByWidth

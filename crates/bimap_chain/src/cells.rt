@@ -7,18 +7,18 @@ use crate::link::{Link, link_to, place_of};
 
 /// The number of a place, and its link in the chain: 8 bytes where the link has four, and 16 where it has eight.
 #[derive(Clone, Copy, Drop)]
-pub(crate) struct PackedCell<L> {
+pub(crate) struct ChainCell<L> {
     number: u32,
     link: L,
 }
 
-impl<L: Link> PackedCell<L> {
+impl<L: Link> ChainCell<L> {
     /// The cell of a place that isn't listed.
     #[inline(always)]
     pub(crate) fn free() -> Self
         ensures { cell_of L.width result ≡ free_cell }
     {
-        PackedCell {
+        ChainCell {
             number: 0,
             link: L::free(),
         }
@@ -30,7 +30,7 @@ impl<L: Link> PackedCell<L> {
         requires { IfSome next (λ p. p + 1 < L.width.free) }
         ensures { cell_of L.width result ≡ listed_cell number next }
     {
-        PackedCell {
+        ChainCell {
             number,
             link: link_to(next),
         }

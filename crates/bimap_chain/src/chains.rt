@@ -1,9 +1,9 @@
 //! The calls along a chain. They know keys by `Spread` alone.
 ghost use Rattle.std.specs.Prelude.{◌≡◌, ℕ, ◌+◌, ◌*◌, ◌<◌, ◌≤◌, ◌-◌, ◌%◌, ◌^◌, ◌++◌, length, None, Some, replicate, slice_set, slice_index_or, OnOk, OnErr, IfSome, IfNone, IfOk};
 ghost use Rattle.std.specs.Int.{IsPowerOfTwo};
-ghost use Rattle.bimap_base.specs.Places.{pairs_in, packed};
+ghost use Rattle.bimap_base.specs.Places.{pairs_in, compacted};
 ghost use Rattle.bimap_chain.specs.Chains.{IsThreaded, IsListed, GoesOver, AreNumbered, Matches, link_or_head, number_at};
-ghost use Rattle.bimap_chain.specs.Packed.{numbers_of, links_of, IsSized, IsSound};
+ghost use Rattle.bimap_chain.specs.Threads.{numbers_of, links_of, IsSized, IsSound};
 
 use crate::link::Link;
 use crate::threads::Threads;
@@ -76,7 +76,7 @@ impl<L: Link> Threads<L> {
 
     /// The listed place with an equal key, by the number of the key.
     #[inline(always)]
-    pub(crate) fn find_under<S: Spread>(
+    pub(crate) fn find_numbered<S: Spread>(
         &self,
         spread: &S,
         number: u32,
@@ -106,7 +106,7 @@ impl<L: Link> Threads<L> {
 
     /// Lists the place under a number. It takes no memory.
     #[inline(always)]
-    pub(crate) fn insert_under(&mut self, place: usize, number: u32)
+    pub(crate) fn insert_numbered(&mut self, place: usize, number: u32)
         requires sound { IsSound self.old }
         requires cell { place < length (numbers_of self.old) }
         requires free { number_at (numbers_of self.old) place ≡ None }
@@ -167,7 +167,7 @@ impl<L: Link> Threads<L> {
         let cells = self.len();
         for place in 0..cells {
             if let Some(number) = self.number(place) {
-                wide.insert_under(place, number);
+                wide.insert_numbered(place, number);
             }
         }
         Ok(wide)
@@ -175,19 +175,19 @@ impl<L: Link> Threads<L> {
 
     /// Other ones of exactly `to` cells, of which the first list the same numbers, in the order of their places. It hashes
     /// nothing. A refusal makes nothing.
-    pub(crate) fn packed<M: Link>(&self, to: usize) -> Result<Threads<M>, NoMemory>
+    pub(crate) fn compacted<M: Link>(&self, to: usize) -> Result<Threads<M>, NoMemory>
         requires fits { length (pairs_in (numbers_of self.now)) ≤ to }
         requires most { to ≤ 2 ^ 62 }
         requires few { to < M.width.free }
         ensures sound { IfOk result (λ t. IsSound t) }
-        ensures numbers { IfOk result (λ t. numbers_of t ≡ packed (pairs_in (numbers_of self.now)) to) }
+        ensures numbers { IfOk result (λ t. numbers_of t ≡ compacted (pairs_in (numbers_of self.now)) to) }
     {
         let mut kept: Threads<M> = Threads::new(self.allocator());
         kept.grow(to)?;
         let mut next = 0;
         for place in 0..self.len() {
             if let Some(number) = self.number(place) {
-                kept.insert_under(next, number);
+                kept.insert_numbered(next, number);
                 next += 1;
             }
         }

@@ -1,8 +1,8 @@
-//! `Hashed` and its calls: each asks once which form the threads have. It knows no values.
+//! `Hashed` and its calls: each asks once which width the threads have. It knows no values.
 ghost use Rattle.std.specs.Prelude.{◌≡◌, ◌<◌, ◌≤◌, ◌-◌, ℕ, [], ◌++◌, length, None, Some, replicate, slice_set, IfSome, IfNone, IfOk, OnOk, OnErr, IsOk, IsSome};
-ghost use Rattle.bimap_base.specs.Places.{pairs_in, packed};
+ghost use Rattle.bimap_base.specs.Places.{pairs_in, compacted};
 ghost use Rattle.bimap_chain.specs.Chains.{number_at, IsListed, AreNumbered, Matches};
-ghost use Rattle.bimap_chain.specs.Packed.{numbers_of, IsSound};
+ghost use Rattle.bimap_chain.specs.Threads.{numbers_of, IsSound};
 
 use crate::chains::MOST;
 use crate::link::Link;
@@ -16,7 +16,7 @@ const WIDE: usize = 4_294_967_295;
 
 // The threads, with links of four bytes where there are fewer places than that, and else of eight.
 #[derive(Drop)]
-enum Form {
+enum ByWidth {
     Narrow(Threads<u32>),
     Wide(Threads<usize>),
 }
@@ -28,7 +28,7 @@ enum Form {
 /// before its key changes for an unequal one, and put in after.
 #[derive(Drop)]
 pub struct Hashed {
-    form: Form,
+    by_width: ByWidth,
 }
 
 impl Model for Hashed {
@@ -36,28 +36,28 @@ impl Model for Hashed {
 
     ghost Value = { List (Option ℕ) };
 
-    ghost use Rattle.bimap_chain.specs.Packed.{numbers_of, IsSound};
-    ghost use Rattle.bimap_chain.specs.Forms.{threads_in};
+    ghost use Rattle.bimap_chain.specs.Threads.{numbers_of, IsSound};
+    ghost use Rattle.bimap_chain.specs.ByWidth.{threads_in};
 
-    ghost view = { λ h. numbers_of (threads_in h.form) };
+    ghost view = { λ h. numbers_of (threads_in h.by_width) };
 
-    ghost invariant = { λ h. IsSound (threads_in h.form) };
+    ghost invariant = { λ h. IsSound (threads_in h.by_width) };
 }
 
-// The packed ones of these threads, in the form that so many cells have.
-fn packed_of<L: Link>(threads: &Threads<L>, to: usize) -> Result<Hashed, NoMemory>
+// The threads of a compaction of these, in the width that so many cells have.
+fn compacted_of<L: Link>(threads: &Threads<L>, to: usize) -> Result<Hashed, NoMemory>
     requires sound { IsSound threads.now }
     requires fits { length (pairs_in (numbers_of threads.now)) ≤ to }
-    ensures { IfOk result (λ h. h ≡ packed (pairs_in (numbers_of threads.now)) to) }
+    ensures { IfOk result (λ h. h ≡ compacted (pairs_in (numbers_of threads.now)) to) }
 {
-    let form = if to < WIDE {
-        Form::Narrow(threads.packed(to)?)
+    let by_width = if to < WIDE {
+        ByWidth::Narrow(threads.compacted(to)?)
     } else if to <= MOST {
-        Form::Wide(threads.packed(to)?)
+        ByWidth::Wide(threads.compacted(to)?)
     } else {
         return Err(NoMemory);
     };
-    Ok(Hashed { form })
+    Ok(Hashed { by_width })
 }
 
 impl Hashed {
@@ -66,7 +66,7 @@ impl Hashed {
         ensures { result ≡ [] }
     {
         Hashed {
-            form: Form::Narrow(Threads::new(alloc)),
+            by_width: ByWidth::Narrow(Threads::new(alloc)),
         }
     }
 
@@ -77,20 +77,20 @@ impl Hashed {
         ensures found { IfSome result (Matches (S.key_at spread.now) (λ k. S.same_key k key.now) self.now) }
         ensures absent { IfNone result ((p : ℕ) → ¬ Matches (S.key_at spread.now) (λ k. S.same_key k key.now) self.now p) }
     {
-        self.find_under(spread, spread.hash_key(key), key)
+        self.find_numbered(spread, spread.hash_key(key), key)
     }
 
     /// As `find`, by a number that the caller has.
     #[inline(always)]
-    pub fn find_under<S: Spread>(&self, spread: &S, number: u32, key: &S::Key) -> Option<usize>
+    pub fn find_numbered<S: Spread>(&self, spread: &S, number: u32, key: &S::Key) -> Option<usize>
         requires numbered { AreNumbered (S.key_at spread.now) (S.number_of spread.now) self.now }
         requires number { number ≡ S.number_of spread.now key.now }
         ensures found { IfSome result (Matches (S.key_at spread.now) (λ k. S.same_key k key.now) self.now) }
         ensures absent { IfNone result ((p : ℕ) → ¬ Matches (S.key_at spread.now) (λ k. S.same_key k key.now) self.now p) }
     {
-        match &self.form {
-            Form::Narrow(threads) => threads.find_under(spread, number, key),
-            Form::Wide(threads) => threads.find_under(spread, number, key),
+        match &self.by_width {
+            ByWidth::Narrow(threads) => threads.find_numbered(spread, number, key),
+            ByWidth::Wide(threads) => threads.find_numbered(spread, number, key),
         }
     }
 
@@ -101,19 +101,19 @@ impl Hashed {
         requires free { number_at self.old place ≡ None }
         ensures { IfSome (S.key_at spread.now place) (λ k. self.new ≡ slice_set self.old place (Some (S.number_of spread.now k))) }
     {
-        self.insert_under(place, spread.hash_place(place));
+        self.insert_numbered(place, spread.hash_place(place));
     }
 
     /// Lists the place under a number. It takes no memory.
     #[inline(always)]
-    pub fn insert_under(&mut self, place: usize, number: u32)
+    pub fn insert_numbered(&mut self, place: usize, number: u32)
         requires cell { place < length self.old }
         requires free { number_at self.old place ≡ None }
         ensures { self.new ≡ slice_set self.old place (Some number) }
     {
-        match &mut self.form {
-            Form::Narrow(threads) => threads.insert_under(place, number),
-            Form::Wide(threads) => threads.insert_under(place, number),
+        match &mut self.by_width {
+            ByWidth::Narrow(threads) => threads.insert_numbered(place, number),
+            ByWidth::Wide(threads) => threads.insert_numbered(place, number),
         }
     }
 
@@ -123,9 +123,9 @@ impl Hashed {
         requires { IsListed self.old place }
         ensures { self.new ≡ slice_set self.old place None }
     {
-        match &mut self.form {
-            Form::Narrow(threads) => threads.remove(place),
-            Form::Wide(threads) => threads.remove(place),
+        match &mut self.by_width {
+            ByWidth::Narrow(threads) => threads.remove(place),
+            ByWidth::Wide(threads) => threads.remove(place),
         }
     }
 
@@ -151,16 +151,16 @@ impl Hashed {
         if to > MOST {
             return Err(NoMemory);
         }
-        match &mut self.form {
-            Form::Narrow(threads) => {
+        match &mut self.by_width {
+            ByWidth::Narrow(threads) => {
                 if to < WIDE {
                     return threads.grow(to);
                 }
                 let wide = threads.widened(to)?;
-                self.form = Form::Wide(wide);
+                self.by_width = ByWidth::Wide(wide);
                 Ok(())
             }
-            Form::Wide(threads) => threads.grow(to),
+            ByWidth::Wide(threads) => threads.grow(to),
         }
     }
 
@@ -168,21 +168,21 @@ impl Hashed {
     fn cells(&self) -> usize
         ensures { result ≡ length self.now }
     {
-        match &self.form {
-            Form::Narrow(threads) => threads.len(),
-            Form::Wide(threads) => threads.len(),
+        match &self.by_width {
+            ByWidth::Narrow(threads) => threads.len(),
+            ByWidth::Wide(threads) => threads.len(),
         }
     }
 
     /// Another one of exactly `to` cells, of which the first list the same numbers, in the order of their places. It hashes
     /// nothing. A refusal makes nothing.
-    pub fn packed(&self, to: usize) -> Result<Self, NoMemory>
+    pub fn compacted(&self, to: usize) -> Result<Self, NoMemory>
         requires { length (pairs_in self.now) ≤ to }
-        ensures { IfOk result (λ h. h ≡ packed (pairs_in self.now) to) }
+        ensures { IfOk result (λ h. h ≡ compacted (pairs_in self.now) to) }
     {
-        match &self.form {
-            Form::Narrow(threads) => packed_of(threads, to),
-            Form::Wide(threads) => packed_of(threads, to),
+        match &self.by_width {
+            ByWidth::Narrow(threads) => compacted_of(threads, to),
+            ByWidth::Wide(threads) => compacted_of(threads, to),
         }
     }
 
@@ -190,9 +190,9 @@ impl Hashed {
     pub fn clear(&mut self)
         ensures { self.new ≡ replicate (length self.old) None }
     {
-        match &mut self.form {
-            Form::Narrow(threads) => threads.clear(),
-            Form::Wide(threads) => threads.clear(),
+        match &mut self.by_width {
+            ByWidth::Narrow(threads) => threads.clear(),
+            ByWidth::Wide(threads) => threads.clear(),
         }
     }
 }

@@ -1,6 +1,6 @@
 //! Links: a place, or none, in four bytes or in eight.
 ghost use Rattle.std.specs.Prelude.{◌≡◌, ◌+◌, ◌<◌, ◌≤◌, ◌^◌, IfSome};
-ghost use Rattle.bimap_chain.specs.Width.{Width, told, narrow, wide};
+ghost use Rattle.bimap_chain.specs.Width.{Width, target, narrow, wide};
 
 /// A number that tells a place, by the place plus one, or none, by 0. Its greatest stands where a place isn't listed.
 pub(crate) trait Link: Copy + Drop {
@@ -74,7 +74,7 @@ impl Link for usize {
 #[inline(always)]
 pub(crate) fn link_to<L: Link>(place: Option<usize>) -> L
     requires { IfSome place (λ p. p + 1 < L.width.free) }
-    ensures told { told L.width result ≡ place }
+    ensures target { target L.width result ≡ place }
     ensures not_free { L.width.number result < L.width.free }
 {
     match place {
@@ -86,7 +86,7 @@ pub(crate) fn link_to<L: Link>(place: Option<usize>) -> L
 /// The place that a link tells.
 #[inline(always)]
 pub(crate) fn place_of<L: Link>(link: L) -> Option<usize>
-    ensures { result ≡ told L.width link }
+    ensures { result ≡ target L.width link }
 {
     let number = link.get();
     if number == 0 { None } else { Some(number - 1) }

@@ -3,9 +3,9 @@ ghost use Rattle.std.specs.Prelude.{◌≡◌, ◌<◌, ◌≤◌, ◌-◌, ◌+
 ghost use Rattle.std.specs.Option.{option_eq};
 ghost use Rattle.bimap_chain.specs.Cells.{free_cell};
 ghost use Rattle.bimap_chain.specs.Chains.{IsListed, Links, number_at};
-ghost use Rattle.bimap_chain.specs.Packed.{numbers_of, links_of};
+ghost use Rattle.bimap_chain.specs.Threads.{numbers_of, links_of};
 
-use crate::cells::PackedCell;
+use crate::cells::ChainCell;
 use crate::link::{Link, link_to, place_of};
 use bimap_base::NoMemory;
 use std::alloc::Global;
@@ -15,20 +15,20 @@ use std::marker::Model;
 /// are few enough for a link to tell each place.
 #[derive(Drop)]
 pub(crate) struct Threads<L: Link> {
-    cells: Vec<PackedCell<L>>,
+    cells: Vec<ChainCell<L>>,
     heads: Vec<L>,
 }
 
 impl<L: Link> Model for Threads<L> {
     ghost use Rattle.std.specs.Prelude.{◌<◌, length, map};
-    ghost use Rattle.bimap_chain.specs.Packed.{Threading};
+    ghost use Rattle.bimap_chain.specs.Threads.{Threading};
 
     ghost Value = { Threading };
 
-    ghost use Rattle.bimap_chain.specs.Width.{told};
+    ghost use Rattle.bimap_chain.specs.Width.{target};
     ghost use Rattle.bimap_chain.specs.Cells.{cell_of};
 
-    ghost view = { λ t. record { cells = map (cell_of L.width) t.cells.items; heads = map (told L.width) t.heads.items } };
+    ghost view = { λ t. record { cells = map (cell_of L.width) t.cells.items; heads = map (target L.width) t.heads.items } };
 
     ghost invariant = { λ t. length t.cells.items < L.width.free };
 }
@@ -144,7 +144,7 @@ impl<L: Link> Threads<L> {
         ensures heads { self.new.heads ≡ self.old.heads }
     {
         let cells = &mut self.cells;
-        cells[place] = PackedCell::of(number, next);
+        cells[place] = ChainCell::of(number, next);
     }
 
     /// Takes a place off, without its link.
@@ -156,7 +156,7 @@ impl<L: Link> Threads<L> {
         ensures cells { length self.new.cells ≡ length self.old.cells }
         ensures heads { self.new.heads ≡ self.old.heads }
     {
-        self.cells[place] = PackedCell::free();
+        self.cells[place] = ChainCell::free();
     }
 
     /// Makes cells for all places below `cells`, exactly, and so many heads, all of them empty, each with one request for
@@ -177,7 +177,7 @@ impl<L: Link> Threads<L> {
         if self.heads.try_reserve_exact(more_heads).is_err() {
             return Err(NoMemory);
         }
-        let Ok(()) = self.cells.resize(cells, PackedCell::free()) else {
+        let Ok(()) = self.cells.resize(cells, ChainCell::free()) else {
             unreachable!()
         };
         refill(&mut self.heads, heads, L::of(0));
@@ -190,7 +190,7 @@ impl<L: Link> Threads<L> {
         ensures heads { self.new.heads ≡ replicate (length self.old.heads) None }
     {
         let cells = self.cells.len();
-        refill(&mut self.cells, cells, PackedCell::free());
+        refill(&mut self.cells, cells, ChainCell::free());
         let heads = self.heads.len();
         refill(&mut self.heads, heads, L::of(0));
     }

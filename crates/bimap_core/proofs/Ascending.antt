@@ -15,7 +15,7 @@ use Rattle.bimap_base.specs.PairsAt.{pairs_at}
 use Rattle.bimap_base.specs.Places.{pairs_in}
 use Rattle.bimap_base.specs.Sets.{IsApart}
 use Rattle.bimap_base.specs.Slots.{pair_at, IsLive, pair_count}
-use Rattle.bimap_base.proofs.Walked.{IsWalk, walk_of, pairs_walked, long_at, count_walked, read_at, listed_at, place_listed, some_at, walked, held_at}
+use Rattle.bimap_base.proofs.Walk.{IsWalk, walk_of, pairs_walked, long_at, count_walked, read_at, listed_at, place_listed, some_at, walked, held_at}
 use Rattle.bimap_index.specs.ByOrder.{ListsByOrder}
 use Rattle.bimap_index.specs.OrderLaws.{order_settled, order_listed, order_distinct, order_in_order}
 use Rattle.bimap_core.specs.Ranks.{IsTakenAtRank}

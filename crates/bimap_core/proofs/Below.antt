@@ -12,7 +12,7 @@ use Rattle.std.proofs.lemmas.List.Sums.{sum_by-cons}
 use Rattle.std.proofs.lemmas.Option.{slice_get-get_or, slice_get_within, get_or_from_slice_get}
 use Rattle.bimap_base.specs.PairsAt.{pairs_at}
 use Rattle.bimap_base.specs.Slots.{pair_at}
-use Rattle.bimap_base.proofs.Walked.{IsWalk, long_at, read_at}
+use Rattle.bimap_base.proofs.Walk.{IsWalk, long_at, read_at}
 use Rattle.bimap_tree.specs.Start.{IsStart}
 
 -- a test that holds up to a rank, and no further, holds so often

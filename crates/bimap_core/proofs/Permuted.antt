@@ -11,7 +11,7 @@ use Rattle.bimap_base.specs.PairsAt.{pairs_at}
 use Rattle.bimap_base.specs.Places.{pairs_in}
 use Rattle.bimap_base.specs.Sets.{shares, IsApart}
 use Rattle.bimap_base.proofs.Members.{head_in, more_in, cases_in, none_in, AllPairs-head, AllPairs-tail}
-use Rattle.bimap_base.proofs.Walked.{IsWalk, walked, apart_walked}
+use Rattle.bimap_base.proofs.Walk.{IsWalk, walked, apart_walked}
 use Rattle.bimap_core.proofs.Inserting.{left_of_two}
 use Rattle.bimap_core.proofs.Places.{apart_at_places}
 

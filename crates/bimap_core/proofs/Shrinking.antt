@@ -3,30 +3,30 @@ use Rattle.std.proofs.Common.{◌≡◌, ◌≢◌, ◌↔◌, ℕ, zero, suc, �
 use Rattle.std.specs.List.{AllPairs, Contains}
 use Rattle.std.specs.Option.{option_map}
 use Rattle.std.specs.Cmp.{IsEquivalence}
-use Rattle.bimap_base.specs.Places.{pairs_in, packed}
+use Rattle.bimap_base.specs.Places.{pairs_in, compacted}
 use Rattle.bimap_base.specs.PairsAt.{pairs_at}
 use Rattle.bimap_base.specs.Sets.{IsApart}
 use Rattle.bimap_base.specs.Slots.{pair_at, left_at, pair_count}
 use Rattle.bimap_base.proofs.Apart.{apart_unique}
 use Rattle.bimap_base.proofs.Members.{head_in, more_in}
-use Rattle.bimap_base.proofs.Packing.{counted_in, length-packed}
-use Rattle.bimap_base.proofs.Walked.{IsWalk, walk_of, walked, listed_long}
-use Rattle.bimap_index.proofs.Packing.{keys_at, keys_in}
+use Rattle.bimap_base.proofs.Compaction.{counted_in, length-compacted}
+use Rattle.bimap_base.proofs.Walk.{IsWalk, walk_of, walked, listed_long}
+use Rattle.bimap_index.proofs.Compaction.{keys_at, keys_in}
 
 module _ {P : Type 0} where
-  packed_first : (ps : List P) (k : ℕ) → pairs_in (map Some ps ++ replicate k None) ≡ ps
-  packed_first [] zero = refl
-  packed_first [] (suc k) = packed_first [] k
-  packed_first (p ∷ ps) k = ap (λ z. p ∷ z) (packed_first ps k)
+  compacted_first : (ps : List P) (k : ℕ) → pairs_in (map Some ps ++ replicate k None) ≡ ps
+  compacted_first [] zero = refl
+  compacted_first [] (suc k) = compacted_first [] k
+  compacted_first (p ∷ ps) k = ap (λ z. p ∷ z) (compacted_first ps k)
 
   -- it has the same pairs
-  pub pairs_packed : (ps : List P) (to : ℕ) → pairs_in (packed ps to) ≡ ps
-  pairs_packed ps to = packed_first ps _
+  pub pairs_compacted : (ps : List P) (to : ℕ) → pairs_in (compacted ps to) ≡ ps
+  pairs_compacted ps to = compacted_first ps _
 
   module _ (slots : List (Option P)) (to : ℕ) (fits : pair_count slots ≤ to) where
     -- and so many places
-    pub long_packed : length (packed (pairs_in slots) to) ≡ to
-    long_packed = length-packed (pairs_in slots) to (omega (arith, fits, counted_in slots))
+    pub long_compacted : length (compacted (pairs_in slots) to) ≡ to
+    long_compacted = length-compacted (pairs_in slots) to (omega (arith, fits, counted_in slots))
 
     -- an index lists no more
     pub places_fit : {K : Type 0} (key : P → K) (places : List ℕ) → ((place : ℕ) → Contains places place ↔ IsSome (option_map key (pair_at slots place))) → AllPairs (λ a b. a ≢ b) places → length places ≤ to

@@ -11,58 +11,58 @@ use Rattle.bimap_base.specs.Kept.{TestedAt}
 use Rattle.bimap_base.specs.Places.{pairs_in}
 use Rattle.bimap_base.specs.Slots.{pair_at}
 use Rattle.bimap_base.specs.Visited.{VisitsInTurn, MayVisit, IsVisited}
-use Rattle.bimap_base.proofs.Packing.{pairs_in-append}
+use Rattle.bimap_base.proofs.Compaction.{pairs_in-append}
 use Rattle.bimap_core.proofs.Retaining.{pairs_in-none, head_at}
 
 module _ {F L R : Type 0} (g : Mut F (Bor L × (Bor R × Unit {0})) (Unit {0})) where
   -- the places below `place` were visited, and f is the closure now
-  pub record Going (first f : F) (slots : List (Option (L × R))) (place : ℕ) : Type 0 where
+  pub record IsVisitedBelow (first f : F) (slots : List (Option (L × R))) (place : ℕ) : Type 0 where
     pub seen : List (Option (L × R))
     pub rest : List (Option (L × R))
     pub all : slots ≡ seen ++ rest
     pub long : place ≡ length seen
     pub calls : VisitsInTurn g first (pairs_in seen) f
 
-  pub start : (f : F) (slots : List (Option (L × R))) → Going f f slots 0
+  pub start : (f : F) (slots : List (Option (L × R))) → IsVisitedBelow f f slots 0
   start f slots = record { seen = []; rest = slots; all = refl; long = refl; calls = refl }
 
-  module _ (first f : F) (slots : List (Option (L × R))) (place : ℕ) (going : Going first f slots place) (inside : place < length slots) where
-    split : (zs : List (Option (L × R))) × (going.rest ≡ pair_at slots place ∷ zs)
+  module _ (first f : F) (slots : List (Option (L × R))) (place : ℕ) (so_far : IsVisitedBelow first f slots place) (inside : place < length slots) where
+    split : (zs : List (Option (L × R))) × (so_far.rest ≡ pair_at slots place ∷ zs)
     split =
-        let s = head_at going.seen going.rest place going.long (subst (λ z. place < length z) going.all inside) in
-        (s.0, s.1 ∙ ap (λ z. pair_at z place ∷ s.0) (sym going.all))
+        let s = head_at so_far.seen so_far.rest place so_far.long (subst (λ z. place < length z) so_far.all inside) in
+        (s.0, s.1 ∙ ap (λ z. pair_at z place ∷ s.0) (sym so_far.all))
 
     -- the closure may be called at the pair of this place
     pub may : MayVisit g first (pairs_in slots) → (l : Bor L) (r : Bor R) → pair_at slots place ≡ Some (l.now, r.now) → g.pre f (l, (r, tt))
     may visit l r is =
-        visit.at (pairs_in going.seen) f l r (pairs_in split.0)
-        (subst (IsPermutation (pairs_in slots)) (ap pairs_in (going.all ∙ ap (λ z. going.seen ++ z) (split.1 ∙ ap (λ z. z ∷ split.0) is)) ∙ pairs_in-append going.seen (Some (l.now, r.now) ∷ split.0)) (IsPermutation-refl (pairs_in slots)))
-        going.calls
+        visit.at (pairs_in so_far.seen) f l r (pairs_in split.0)
+        (subst (IsPermutation (pairs_in slots)) (ap pairs_in (so_far.all ∙ ap (λ z. so_far.seen ++ z) (split.1 ∙ ap (λ z. z ∷ split.0) is)) ∙ pairs_in-append so_far.seen (Some (l.now, r.now) ∷ split.0)) (IsPermutation-refl (pairs_in slots)))
+        so_far.calls
 
     -- one more place was visited
-    pub goes_on : (f' : F) → IfSome (pair_at slots place) (λ p. TestedAt g f p tt f') → IfNone (pair_at slots place) (f' ≡ f) → Going first f' slots (place + 1)
+    pub goes_on : (f' : F) → IfSome (pair_at slots place) (λ p. TestedAt g f p tt f') → IfNone (pair_at slots place) (f' ≡ f) → IsVisitedBelow first f' slots (place + 1)
     goes_on f' some none = record {
-      seen = going.seen ++ pair_at slots place ∷ [];
+      seen = so_far.seen ++ pair_at slots place ∷ [];
       rest = split.0;
-      all = going.all ∙ ap (λ z. going.seen ++ z) split.1 ∙ sym (append_assoc going.seen (pair_at slots place ∷ []) split.0);
-      long = omega (arith, length-append going.seen (pair_at slots place ∷ []), going.long);
+      all = so_far.all ∙ ap (λ z. so_far.seen ++ z) split.1 ∙ sym (append_assoc so_far.seen (pair_at slots place ∷ []) split.0);
+      long = omega (arith, length-append so_far.seen (pair_at slots place ∷ []), so_far.long);
       calls = by (pair_at slots place) some none;
     }
       where
-        by : (o : Option (L × R)) → IfSome o (λ p. TestedAt g f p tt f') → IfNone o (f' ≡ f) → VisitsInTurn g first (pairs_in (going.seen ++ o ∷ [])) f'
-        by None some none = subst (λ z. VisitsInTurn g first z f') (sym (pairs_in-none going.seen)) (subst (VisitsInTurn g first (pairs_in going.seen)) (sym none) going.calls)
-        by (Some p) some none = subst (λ z. VisitsInTurn g first z f') (sym (pairs_in-append going.seen (Some p ∷ []))) (FoldsTo-push (λ state p next. TestedAt g state p tt next) first (pairs_in going.seen) f p f' going.calls some)
+        by : (o : Option (L × R)) → IfSome o (λ p. TestedAt g f p tt f') → IfNone o (f' ≡ f) → VisitsInTurn g first (pairs_in (so_far.seen ++ o ∷ [])) f'
+        by None some none = subst (λ z. VisitsInTurn g first z f') (sym (pairs_in-none so_far.seen)) (subst (VisitsInTurn g first (pairs_in so_far.seen)) (sym none) so_far.calls)
+        by (Some p) some none = subst (λ z. VisitsInTurn g first z f') (sym (pairs_in-append so_far.seen (Some p ∷ []))) (FoldsTo-push (λ state p next. TestedAt g state p tt next) first (pairs_in so_far.seen) f p f' so_far.calls some)
 
   -- at the end each pair was visited
-  pub ended : (first f : F) (slots : List (Option (L × R))) (place : ℕ) → Going first f slots place → length slots ≤ place → IsVisited g first (pairs_in slots)
-  ended first f slots place going end =
-      let none = none_left going.seen going.rest (omega (arith, ap length going.all, going.long)) in
-      let order : pairs_in slots ≡ pairs_in going.seen = ap pairs_in (going.all ∙ ap (λ z. going.seen ++ z) none ∙ append-nil going.seen) in
+  pub ended : (first f : F) (slots : List (Option (L × R))) (place : ℕ) → IsVisitedBelow first f slots place → length slots ≤ place → IsVisited g first (pairs_in slots)
+  ended first f slots place so_far end =
+      let none = none_left so_far.seen so_far.rest (omega (arith, ap length so_far.all, so_far.long)) in
+      let order : pairs_in slots ≡ pairs_in so_far.seen = ap pairs_in (so_far.all ∙ ap (λ z. so_far.seen ++ z) none ∙ append-nil so_far.seen) in
       record {
-        order = pairs_in going.seen;
+        order = pairs_in so_far.seen;
         last = f;
         each_once = subst (IsPermutation (pairs_in slots)) order (IsPermutation-refl (pairs_in slots));
-        calls = going.calls;
+        calls = so_far.calls;
       }
     where
       none_left : (xs ys : List (Option (L × R))) → length (xs ++ ys) ≤ length xs → ys ≡ []

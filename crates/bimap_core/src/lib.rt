@@ -1,17 +1,17 @@
 //! A bimap over any two indexes: the store, one index for each side, and what they keep together.
 #![tactic(auto)]
 
+mod compact;
 mod copy;
 mod for_each;
 mod insert;
 mod intern;
-mod pack;
 mod ranks;
-mod relist;
 mod remove;
 mod retain;
 mod retain_in_turn;
 mod room;
+mod slot_update;
 mod table;
 mod undo;
 mod write;

@@ -5,7 +5,7 @@ ghost use Rattle.bimap_base.specs.Places.{IsFoundAt};
 ghost use Rattle.bimap_base.specs.Slots.{pair_at, IsLive, pair_count};
 ghost use Rattle.bimap_base.specs.Undoing.{IsUndoable};
 
-use crate::relist::renew;
+use crate::slot_update::renew;
 use crate::table::Table;
 use bimap_base::{LeftSide, Meter, Overwritten, RightSide, UndoStopped};
 use bimap_index::Index;

@@ -2,7 +2,7 @@
 ghost use Rattle.std.specs.Prelude.{◌≡◌, ◌<◌, ◌≤◌, ◌+◌, ◌*◌, ℕ, true, length, Some, None, IsSomeAnd, MatchBool, OnOk, OnErr, max, slice_set, if◌then◌else◌};
 ghost use Rattle.bimap_base.specs.Slots.{pair_at, left_at, right_at, IsLive, pair_count};
 
-use crate::relist::{relist, unlist};
+use crate::slot_update::{relist, unlist};
 use crate::table::Table;
 use bimap_base::{LeftSide, Meter, NoMemory, RightSide};
 use bimap_index::Index;

@@ -1,9 +1,9 @@
 //! What the examples share: the bimaps that they begin with.
 mod any;
 mod changes;
+mod constructors;
 mod json;
 mod looks;
-mod made;
 mod marks;
 mod recipes;
 mod refusals;

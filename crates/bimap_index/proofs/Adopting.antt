@@ -1,4 +1,4 @@
--- An ordered index that lists a packed side anew, place by place.
+-- An ordered index that lists a compacted side anew, place by place.
 use Rattle.std.proofs.Common.{◌≡◌, ◌≢◌, ◌↔◌, ℕ, suc, ◌+◌, ◌*◌, ◌-◌, ◌<◌, ◌≤◌, Bool, List, [], length, Option, Some, is_some, IsSome, refl, sym, ap, subst, ◌∙◌, inl, inr, arith, Contains}
 use Rattle.std.specs.declared.cmp.Ordering.{Ordering}
 use Rattle.std.specs.declared.cmp.Ordering.TheVariants.{Equal}
@@ -10,12 +10,12 @@ use Rattle.std.proofs.lemmas.Cmp.{tied_back, tied_itself}
 use Rattle.bimap_base.specs.Keyed.{standing, Ascends, Adds}
 use Rattle.bimap_base.specs.Places.{pairs_in}
 use Rattle.bimap_base.proofs.Members.{none_in}
-use Rattle.bimap_base.proofs.Walked.{listed_long, some_at}
+use Rattle.bimap_base.proofs.Walk.{listed_long, some_at}
 use Rattle.bimap_index.specs.ByOrder.{ListsByOrder}
-use Rattle.bimap_index.specs.Listed.{IsPackedSide}
+use Rattle.bimap_index.specs.Listed.{IsCompactedSide}
 use Rattle.bimap_index.specs.OrderLaws.{order_walk_of}
 use Rattle.bimap_index.proofs.Ascending.{stands, one_place}
-use Rattle.bimap_index.proofs.Packing.{live_in, rank_of, packed_apart}
+use Rattle.bimap_index.proofs.Compaction.{live_in, rank_of, compacted_apart}
 
 -- the first so many places are listed, and no other
 pub record IsListedUpTo {K : Type 0} (order : K → K → Ordering) (f : ℕ → Option K) (place : ℕ) (places : List ℕ) : Type 0 where
@@ -49,7 +49,7 @@ costs start before after calls each most so_far more least =
     omega (arith, e, so_far, more, least)
 
 module _ {K : Type 0} (order : K → K → Ordering) (same : K → K → Bool) (total : IsTotalOrder order) (agrees : (x y : K) → same x y ≡ eq_by_cmp order x y)
-    (places : List ℕ) (f g : ℕ → Option K) (to : ℕ) (listing : ListsByOrder order places f) (side : IsPackedSide f g to) where
+    (places : List ℕ) (f g : ℕ → Option K) (to : ℕ) (listing : ListsByOrder order places f) (side : IsCompactedSide f g to) where
   abbrev keys : List K
   keys = pairs_in side.keys
 
@@ -58,24 +58,24 @@ module _ {K : Type 0} (order : K → K → Ordering) (same : K → K → Bool) (
   as_many = listed_long side.keys places (order_walk_of order same total agrees places side.keys (subst (ListsByOrder order places) (λ i place. side.before place i) listing))
 
   -- the first so many places have a key, and no other
-  pub packed_live : (place : ℕ) → place < length places → IsSome (g place)
-  packed_live place inside = subst IsSome (sym (side.after place)) (live_in keys (to - length keys) place (omega (arith, inside, as_many)))
+  pub compacted_live : (place : ℕ) → place < length places → IsSome (g place)
+  compacted_live place inside = subst IsSome (sym (side.after place)) (live_in keys (to - length keys) place (omega (arith, inside, as_many)))
 
-  packed_within : (place : ℕ) → IsSome (g place) → place < length places
-  packed_within place live =
+  compacted_within : (place : ℕ) → IsSome (g place) → place < length places
+  compacted_within place live =
       let k = some_at (g place) live in
       let r = rank_of keys (to - length keys) place k.0 (sym (side.after place) ∙ k.1) in
       omega (arith, r.0, as_many)
 
   -- no two of them are equal
-  pub packed_unequal : (place p : ℕ) (k : K) → p < place → g place ≡ Some k → standing g order k p ≡ Some Equal → ⊥
-  packed_unequal place p k before is e =
+  pub compacted_unequal : (place p : ℕ) (k : K) → p < place → g place ≡ Some k → standing g order k p ≡ Some Equal → ⊥
+  compacted_unequal place p k before is e =
       let s = stands order same total agrees g k p e in
-      packed_apart side (λ k l. order k l ≡ Equal → ⊥) (λ k l differ tie. differ (tied_back total l k tie)) unequal p place s.0 k (λ at. absurd (omega (arith, before, at))) s.1 is s.2
+      compacted_apart side (λ k l. order k l ≡ Equal → ⊥) (λ k l differ tie. differ (tied_back total l k tie)) unequal p place s.0 k (λ at. absurd (omega (arith, before, at))) s.1 is s.2
     where
       unequal : (a b : ℕ) (k l : K) → a ≢ b → f a ≡ Some k → f b ≡ Some l → order k l ≡ Equal → ⊥
       unequal a b k l away first second tie = away (one_place order same total agrees f places listing.up l a b k l (listing.lists a (ap is_some first)) (listing.lists b (ap is_some second)) first second tie (tied_itself total l))
 
   -- so the whole side is listed
   pub all_listed : (new : List ℕ) → IsListedUpTo order g (length places) new → ListsByOrder order new g
-  all_listed new listed = record { up = listed.up; lists = λ place live. (listed.first place).1 (packed_within place live) }
+  all_listed new listed = record { up = listed.up; lists = λ place live. (listed.first place).1 (compacted_within place live) }

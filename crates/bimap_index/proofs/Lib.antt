@@ -1,4 +1,4 @@
 pub mod Adopting
 pub mod Ascending
+pub mod Compaction
 pub mod Grown
-pub mod Packing

@@ -1,7 +1,7 @@
 -- What an index is asked and told of the keys of places. A side is a function from places to keys: a place without a pair has none.
 use Rattle.std.specs.Prelude.{◌≡◌, ℕ, Bool, true, false, List, Option, Some, None, IfSome, IsSomeAnd}
 use Rattle.bimap_base.specs.Slots.{pair_at}
-use Rattle.bimap_base.specs.Places.{pairs_in, packed}
+use Rattle.bimap_base.specs.Places.{pairs_in, compacted}
 
 module _ {K : Type 0} where
   -- the place has an equal key, if one is told, and no other place has one
@@ -35,7 +35,7 @@ module _ {K : Type 0} where
     pub absent : IsAbsentElsewhere g same key place
 
   -- the keys of g are those of f, moved in the order of their places to the first of so many
-  pub record IsPackedSide (f g : ℕ → Option K) (places : ℕ) : Type 0 where
+  pub record IsCompactedSide (f g : ℕ → Option K) (places : ℕ) : Type 0 where
     pub keys : List (Option K)
     pub before : (place : ℕ) → f place ≡ pair_at keys place
-    pub after : (place : ℕ) → g place ≡ pair_at (packed (pairs_in keys) places) place
+    pub after : (place : ℕ) → g place ≡ pair_at (compacted (pairs_in keys) places) place

@@ -16,7 +16,7 @@ use Rattle.bimap_base.specs.Slots.{pair_at}
 use Rattle.bimap_base.specs.Places.{pairs_in}
 use Rattle.bimap_base.specs.PairsAt.{pairs_at}
 use Rattle.bimap_base.proofs.Members.{head_in, more_in, cases_in, none_in}
-use Rattle.bimap_base.proofs.Walked.{IsWalk, walked, pairs_walked}
+use Rattle.bimap_base.proofs.Walk.{IsWalk, walked, pairs_walked}
 use Rattle.bimap_index.specs.Listed.{IsAlike}
 use Rattle.bimap_index.specs.ByOrder.{ListsByOrder}
 use Rattle.bimap_index.specs.SameLists.{same_ascending}

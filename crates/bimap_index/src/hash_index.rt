@@ -4,12 +4,12 @@ ghost use Rattle.std.specs.declared.cmp.Ordering.TheVariants.{Less};
 ghost use Rattle.std.specs.List.{fold};
 ghost use Rattle.std.proofs.Common.{ap};
 ghost use Rattle.bimap_base.specs.Numbered.{number_by};
-ghost use Rattle.bimap_base.specs.Places.{pairs_in, packed};
+ghost use Rattle.bimap_base.specs.Places.{pairs_in, compacted};
 ghost use Rattle.bimap_index.specs.ByHash.{ListsByHash, places_from};
 ghost use Rattle.bimap_index.specs.HashLaws.{hash_listed, hash_distinct, hash_in_order, hash_respects, hash_settled, hash_walks_alike};
 
+use crate::constructors::{CompactedIndex, CopiedIndex, DefaultIndex, EmptyIndex};
 use crate::index::Index;
-use crate::made::{CopiedIndex, DefaultIndex, EmptyIndex, PackedIndex};
 use bimap_base::{ByHash, Meter, NoMemory, Side, Spread, hash_number};
 use bimap_chain::Hashed;
 use std::alloc::Global;
@@ -91,7 +91,7 @@ impl<K: Eq + Hash, B: BuildHasher> Index<K> for HashIndex<B> {
         let spread = ByHash::new(side, &self.builder);
         let number = spread.hash_key(key);
         *spot = number;
-        self.hashed.find_under(&spread, number, key)
+        self.hashed.find_numbered(&spread, number, key)
     }
 
     fn is_known<S: Side<K>, M: Meter>(
@@ -105,11 +105,11 @@ impl<K: Eq + Hash, B: BuildHasher> Index<K> for HashIndex<B> {
     }
 
     fn link<S: Side<K>, M: Meter>(&mut self, _side: S, place: usize, spot: &u32, _meter: &mut M) {
-        self.hashed.insert_under(place, *spot);
+        self.hashed.insert_numbered(place, *spot);
     }
 
     fn relink<S: Side<K>, M: Meter>(&mut self, _side: S, place: usize, spot: &u32, _meter: &mut M) {
-        self.hashed.insert_under(place, *spot);
+        self.hashed.insert_numbered(place, *spot);
     }
 
     fn unlink<S: Side<K>, M: Meter>(&mut self, _side: S, place: usize, _meter: &mut M) {
@@ -165,17 +165,17 @@ impl<K: Eq + Hash, B: BuildHasher + Clone> CopiedIndex<K> for HashIndex<B> {
     }
 }
 
-impl<K: Eq + Hash, B: BuildHasher> PackedIndex<K> for HashIndex<B> {
-    type Packed = Hashed;
+impl<K: Eq + Hash, B: BuildHasher> CompactedIndex<K> for HashIndex<B> {
+    type Compacted = Hashed;
 
-    ghost is_packed = { λ h to new. (length (pairs_in h.hashed) ≤ to) × (new ≡ packed (pairs_in h.hashed) to) };
+    ghost is_compacted = { λ h to new. (length (pairs_in h.hashed) ≤ to) × (new ≡ compacted (pairs_in h.hashed) to) };
 
-    fn packed(&self, _alloc: Global, to: usize) -> Result<Hashed, NoMemory> {
-        self.hashed.packed(to)
+    fn compacted(&self, _alloc: Global, to: usize) -> Result<Hashed, NoMemory> {
+        self.hashed.compacted(to)
     }
 
-    fn adopt<S: Side<K>, M: Meter>(&mut self, packed: Hashed, _side: S, _meter: &mut M) {
-        self.hashed = packed;
+    fn adopt<S: Side<K>, M: Meter>(&mut self, compacted: Hashed, _side: S, _meter: &mut M) {
+        self.hashed = compacted;
     }
 
     ghost walks_alike = { λ h other. hash_walks_alike K.eq (number_by B.Hasher.finish B.Hasher.write B.build_hasher K.hash_input h.builder) (number_by B.Hasher.finish B.Hasher.write B.build_hasher K.hash_input other.builder) h.hashed other.hashed };

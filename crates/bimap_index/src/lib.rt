@@ -4,11 +4,11 @@
 //! no key.
 #![tactic(auto)]
 
+mod constructors;
 mod hash_index;
 mod index;
-mod made;
 mod ordered;
 
+pub use constructors::{CompactedIndex, CopiedIndex, DefaultIndex, EmptyIndex};
 pub use hash_index::HashIndex;
 pub use index::Index;
-pub use made::{CopiedIndex, DefaultIndex, EmptyIndex, PackedIndex};

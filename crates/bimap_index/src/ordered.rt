@@ -7,8 +7,8 @@ ghost use Rattle.bimap_tree.specs.Route.{IsRoute};
 ghost use Rattle.bimap_index.specs.ByOrder.{ListsByOrder};
 ghost use Rattle.bimap_index.specs.OrderLaws.{order_listed, order_distinct, order_in_order, order_respects, order_settled, order_walks_alike};
 
+use crate::constructors::{CompactedIndex, CopiedIndex, DefaultIndex, EmptyIndex};
 use crate::index::Index;
-use crate::made::{CopiedIndex, DefaultIndex, EmptyIndex, PackedIndex};
 use bimap_base::{ByOrder, Keys, Meter, NoMemory, Side};
 use bimap_tree::{Descent, Ordered, Route};
 use std::alloc::Global;
@@ -152,21 +152,21 @@ impl<K: Ord> CopiedIndex<K> for Ordered {
     }
 }
 
-impl<K: Ord> PackedIndex<K> for Ordered {
-    type Packed = Ordered;
+impl<K: Ord> CompactedIndex<K> for Ordered {
+    type Compacted = Ordered;
 
-    ghost is_packed = { λ o to new. (length o.places ≤ to) × (new.places ≡ []) × (length new.nodes ≡ to) };
+    ghost is_compacted = { λ o to new. (length o.places ≤ to) × (new.places ≡ []) × (length new.nodes ≡ to) };
 
-    fn packed(&self, alloc: Global, to: usize) -> Result<Ordered, NoMemory> {
-        let mut packed = Ordered::new(alloc);
-        packed.grow(to)?;
-        Ok(packed)
+    fn compacted(&self, alloc: Global, to: usize) -> Result<Ordered, NoMemory> {
+        let mut compacted = Ordered::new(alloc);
+        compacted.grow(to)?;
+        Ok(compacted)
     }
 
-    fn adopt<S: Side<K>, M: Meter>(&mut self, packed: Ordered, side: S, meter: &mut M) {
+    fn adopt<S: Side<K>, M: Meter>(&mut self, compacted: Ordered, side: S, meter: &mut M) {
         let len = self.len();
         let keys = ByOrder::new(side);
-        *self = packed;
+        *self = compacted;
         for place in 0..len {
             self.insert(&keys, place, meter);
         }

@@ -22,7 +22,7 @@ use Rattle.bimap_base.specs.Places.{pairs_in}
 use Rattle.bimap_base.specs.Sets.{IsApart}
 use Rattle.bimap_base.specs.Slots.{pair_at, left_at, right_at, IsLive}
 use Rattle.bimap_base.proofs.HoldingsAlike.{AreAlike}
-use Rattle.bimap_base.proofs.Walked.{IsWalk, walk_of, walked, long_walked, fits_walked, listed_long, pairs_walked}
+use Rattle.bimap_base.proofs.Walk.{IsWalk, walk_of, walked, long_walked, fits_walked, listed_long, pairs_walked}
 use Rattle.bimap_base.proofs.Results.{OnErr-then}
 use Rattle.bimap_index.specs.ByOrder.{ListsByOrder}
 use Rattle.bimap_index.specs.ByHash.{ListsByHash, places_from}

@@ -41,7 +41,7 @@ impl<L: Eq + Drop, R: Eq + Drop, I: Index<L>, J: Index<R>> Bijection<L, R>
         right: R,
         policy: Policy,
     ) -> Result<Overwritten<L, R>, NotInsertedWith<L, R>> {
-        self.insert_under(left, right, policy, &mut Count::new())
+        self.insert_with_metered(left, right, policy, &mut Count::new())
     }
 
     fn remove_by_left(&mut self, left: &L) -> Option<(L, R)> {

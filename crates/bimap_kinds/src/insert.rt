@@ -43,7 +43,7 @@ impl<L: Eq + Drop, R: Eq + Drop, I: Index<L>, J: Index<R>> BijectiveMap<L, R, I,
     ) -> Result<Overwritten<L, R>, NotInsertedWith<L, R>>
         ensures { IsInsertionUnder L.eq R.eq (holding self.old) (left, right) policy result (holding self.new) }
     {
-        self.insert_under(left, right, policy, &mut Count::new())
+        self.insert_with_metered(left, right, policy, &mut Count::new())
     }
 
     /// [`insert`](Self::insert), counted.
@@ -61,7 +61,7 @@ impl<L: Eq + Drop, R: Eq + Drop, I: Index<L>, J: Index<R>> BijectiveMap<L, R, I,
             left: OnHeld::Overwrite,
             right: OnHeld::Overwrite,
         };
-        match self.insert_under(left, right, policy, meter) {
+        match self.insert_with_metered(left, right, policy, meter) {
             Ok(answer) => Ok(answer),
             Err(NotInsertedWith::Memory(left, right)) => Err(NoRoom { left, right }),
             Err(_) => unreachable!(),
@@ -69,7 +69,7 @@ impl<L: Eq + Drop, R: Eq + Drop, I: Index<L>, J: Index<R>> BijectiveMap<L, R, I,
     }
 
     // The one insertion.
-    pub(crate) fn insert_under<M: Meter>(
+    pub(crate) fn insert_with_metered<M: Meter>(
         &mut self,
         left: L,
         right: R,

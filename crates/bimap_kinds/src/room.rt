@@ -3,7 +3,7 @@ ghost use Rattle.bimap_base.specs.Capacity.{IsReservation, IsShrink};
 
 use crate::map::BijectiveMap;
 use bimap_base::{Count, NoMemory};
-use bimap_index::{Index, PackedIndex};
+use bimap_index::{CompactedIndex, Index};
 
 impl<L: Eq, R: Eq, I: Index<L>, J: Index<R>> BijectiveMap<L, R, I, J> {
     ghost use Rattle.bimap_kinds.specs.Held.{holding};
@@ -22,7 +22,12 @@ impl<L: Eq, R: Eq, I: Index<L>, J: Index<R>> BijectiveMap<L, R, I, J> {
     }
 }
 
-impl<L: Eq + Drop, R: Eq + Drop, I: PackedIndex<L>, J: PackedIndex<R>> BijectiveMap<L, R, I, J> {
+impl<L: Eq + Drop, R: Eq + Drop, I: CompactedIndex<L>, J: CompactedIndex<R>> BijectiveMap<
+    L,
+    R,
+    I,
+    J,
+> {
     ghost use Rattle.bimap_kinds.specs.Held.{holding};
 
     /// Shrinks the capacity to exactly `least`, or to the length if that is more. It never grows.

@@ -6,8 +6,7 @@ ghost use Rattle.bimap_base.specs.Slots.{pair_at};
 use bimap_base::{Pairs, Side};
 use bimap_index::{HashIndex, Index};
 use bimap_tree::Ordered;
-use bimap_walk::along::Iter;
-use bimap_walk::{ByPlace, Course, by_place, by_rank};
+use bimap_walk::{ByPlace, Course, Iter, by_place, by_rank};
 use std::hash::{BuildHasher, Hash};
 
 /// An index that leads an iterator through the pairs of a store.

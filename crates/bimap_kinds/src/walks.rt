@@ -12,9 +12,8 @@ use crate::walked_index::WalkedIndex;
 use bimap_base::{ByOrder, Count, LeftSide, RightSide};
 use bimap_index::{HashIndex, Index};
 use bimap_tree::Ordered;
-use bimap_walk::along::{Iter, LeftValues, RightValues};
 use bimap_walk::by_rank::{self, LeftRange, RightRange};
-use bimap_walk::{LeftPart, RightPart, Values};
+use bimap_walk::{Iter, LeftProjection, LeftValues, RightProjection, RightValues, Values};
 use std::hash::{BuildHasher, Hash};
 use std::ops::RangeBounds;
 
@@ -81,7 +80,7 @@ impl<L: Ord, R: Eq, J: Index<R>> BijectiveMap<L, R, Ordered, J> {
         by_rank::range(
             &table.pairs,
             &table.left,
-            LeftPart,
+            LeftProjection,
             &lefts,
             &range,
             &mut Count::new(),
@@ -119,7 +118,7 @@ impl<L: Eq, R: Ord, I: Index<L>> BijectiveMap<L, R, I, Ordered> {
         by_rank::range(
             &table.pairs,
             &table.right,
-            RightPart,
+            RightProjection,
             &rights,
             &range,
             &mut Count::new(),

@@ -25,7 +25,7 @@ module _ {F L R : Type 0} (g : Mut F (Bor L × (Bor R × Unit {0})) Bool) where
   apart_true same_left same_right (p ∷ ps) (false ∷ bs) h = apart_true same_left same_right ps bs (apart_tail same_left same_right p ps h)
 
   -- the pairs old were tested up to rest: f is the closure now, items the pairs that are left, kept how many of these passed
-  pub record Going (first f : F) (old items : List (L × R)) (kept : ℕ) : Type 0 where
+  pub record IsTestedUpTo (first f : F) (old items : List (L × R)) (kept : ℕ) : Type 0 where
     pub tested : List (L × R)
     pub answers : List Bool
     pub rest : List (L × R)
@@ -34,7 +34,7 @@ module _ {F L R : Type 0} (g : Mut F (Bor L × (Bor R × Unit {0})) Bool) where
     pub count : kept ≡ length (answered_true g tested answers)
     pub calls : TestsInTurn g first tested answers f
 
-  pub start : (f : F) (old : List (L × R)) → Going f f old old 0
+  pub start : (f : F) (old : List (L × R)) → IsTestedUpTo f f old old 0
   start f old = record { tested = []; answers = []; rest = old; all = refl; left = refl; count = refl; calls = refl }
 
   at_length : (xs ys : List (L × R)) (d : L × R) (k : ℕ) → k ≡ length xs → k < length (xs ++ ys) → ys ≡ get_or (xs ++ ys) k d ∷ drop (suc k) (xs ++ ys)
@@ -50,76 +50,76 @@ module _ {F L R : Type 0} (g : Mut F (Bor L × (Bor R × Unit {0})) Bool) where
   cut (x ∷ xs) ys zero e = absurd (omega arith)
   cut (x ∷ xs) ys (suc k) e = ap (λ zs. x ∷ zs) (cut xs ys k (omega arith))
 
-  module _ (first f t : F) (old items : List (L × R)) (kept : ℕ) (going : Going first f old items kept) (inside : kept < length items) (p : L × R) (value : p ≡ get_or items kept p) where
+  module _ (first f t : F) (old items : List (L × R)) (kept : ℕ) (so_far : IsTestedUpTo first f old items kept) (inside : kept < length items) (p : L × R) (value : p ≡ get_or items kept p) where
     pub tail : List (L × R)
     tail = drop (suc kept) items
 
-    rest_is : going.rest ≡ p ∷ tail
+    rest_is : so_far.rest ≡ p ∷ tail
     unfolding tail
     rest_is =
-        at_length (answered_true g going.tested going.answers) going.rest p kept going.count (subst (λ (xs : List (L × R)). kept < length xs) going.left inside)
-        ∙ ap (λ (xs : List (L × R)). get_or xs kept p ∷ drop (suc kept) xs) (sym going.left)
+        at_length (answered_true g so_far.tested so_far.answers) so_far.rest p kept so_far.count (subst (λ (xs : List (L × R)). kept < length xs) so_far.left inside)
+        ∙ ap (λ (xs : List (L × R)). get_or xs kept p ∷ drop (suc kept) xs) (sym so_far.left)
         ∙ ap (λ (q : L × R). q ∷ drop (suc kept) items) (sym value)
 
-    all_is : old ≡ (going.tested ++ p ∷ []) ++ tail
-    all_is = going.all ∙ ap (λ xs. going.tested ++ xs) rest_is ∙ sym (append_assoc going.tested (p ∷ []) tail)
+    all_is : old ≡ (so_far.tested ++ p ∷ []) ++ tail
+    all_is = so_far.all ∙ ap (λ xs. so_far.tested ++ xs) rest_is ∙ sym (append_assoc so_far.tested (p ∷ []) tail)
 
-    pub order_now : (q : L × R) → q ≡ p → IsPermutation old (going.tested ++ q ∷ tail)
-    order_now q e = subst (IsPermutation old) (going.all ∙ ap (λ xs. going.tested ++ xs) (rest_is ∙ ap (λ (x : L × R). x ∷ tail) (sym e))) (IsPermutation-refl old)
+    pub order_now : (q : L × R) → q ≡ p → IsPermutation old (so_far.tested ++ q ∷ tail)
+    order_now q e = subst (IsPermutation old) (so_far.all ∙ ap (λ xs. so_far.tested ++ xs) (rest_is ∙ ap (λ (x : L × R). x ∷ tail) (sym e))) (IsPermutation-refl old)
 
-    pub passed : TestedAt g f p true t → Going first t old items (kept + 1)
+    pub passed : TestedAt g f p true t → IsTestedUpTo first t old items (kept + 1)
     passed h = record {
-      tested = going.tested ++ p ∷ [];
-      answers = going.answers ++ true ∷ [];
+      tested = so_far.tested ++ p ∷ [];
+      answers = so_far.answers ++ true ∷ [];
       rest = tail;
       all = all_is;
-      left = going.left ∙ ap (λ xs. answered_true g going.tested going.answers ++ xs) rest_is ∙ sym (append_assoc (answered_true g going.tested going.answers) (p ∷ []) tail) ∙ ap (λ xs. xs ++ tail) (sym (true_push g first going.tested going.answers f p going.calls));
-      count = omega (arith, going.count, length-append (answered_true g going.tested going.answers) (p ∷ []), ap length (true_push g first going.tested going.answers f p going.calls));
-      calls = tests_push g first going.tested going.answers f p true t going.calls h;
+      left = so_far.left ∙ ap (λ xs. answered_true g so_far.tested so_far.answers ++ xs) rest_is ∙ sym (append_assoc (answered_true g so_far.tested so_far.answers) (p ∷ []) tail) ∙ ap (λ xs. xs ++ tail) (sym (true_push g first so_far.tested so_far.answers f p so_far.calls));
+      count = omega (arith, so_far.count, length-append (answered_true g so_far.tested so_far.answers) (p ∷ []), ap length (true_push g first so_far.tested so_far.answers f p so_far.calls));
+      calls = tests_push g first so_far.tested so_far.answers f p true t so_far.calls h;
     }
 
-    pub refused : (items' : List (L × R)) → items' ≡ take kept items ++ drop (suc kept) items → TestedAt g f p false t → Going first t old items' kept
+    pub refused : (items' : List (L × R)) → items' ≡ take kept items ++ drop (suc kept) items → TestedAt g f p false t → IsTestedUpTo first t old items' kept
     unfolding tail
     refused items' e h = record {
-      tested = going.tested ++ p ∷ [];
-      answers = going.answers ++ false ∷ [];
+      tested = so_far.tested ++ p ∷ [];
+      answers = so_far.answers ++ false ∷ [];
       rest = tail;
       all = all_is;
-      left = e ∙ ap (λ xs. xs ++ tail) (ap (take kept) going.left ∙ cut (answered_true g going.tested going.answers) going.rest kept going.count ∙ sym (false_push g first going.tested going.answers f p going.calls));
-      count = going.count ∙ ap length (sym (false_push g first going.tested going.answers f p going.calls));
-      calls = tests_push g first going.tested going.answers f p false t going.calls h;
+      left = e ∙ ap (λ xs. xs ++ tail) (ap (take kept) so_far.left ∙ cut (answered_true g so_far.tested so_far.answers) so_far.rest kept so_far.count ∙ sym (false_push g first so_far.tested so_far.answers f p so_far.calls));
+      count = so_far.count ∙ ap length (sym (false_push g first so_far.tested so_far.answers f p so_far.calls));
+      calls = tests_push g first so_far.tested so_far.answers f p false t so_far.calls h;
     }
 
-  module _ (first f : F) (old items : List (L × R)) (kept : ℕ) (going : Going first f old items kept) (end : length items ≤ kept) where
+  module _ (first f : F) (old items : List (L × R)) (kept : ℕ) (so_far : IsTestedUpTo first f old items kept) (end : length items ≤ kept) where
     none_left : (xs ys : List (L × R)) → length (xs ++ ys) ≤ length xs → ys ≡ []
     none_left xs [] h = refl
     none_left xs (y ∷ ys) h = absurd (omega (arith, length-append xs (y ∷ ys)))
 
-    rest_none : going.rest ≡ []
-    rest_none = none_left (answered_true g going.tested going.answers) going.rest (omega (arith, ap length going.left, going.count))
+    rest_none : so_far.rest ≡ []
+    rest_none = none_left (answered_true g so_far.tested so_far.answers) so_far.rest (omega (arith, ap length so_far.left, so_far.count))
 
     append_nil : (xs : List (L × R)) → xs ++ [] ≡ xs
     append_nil [] = refl
     append_nil (x ∷ xs) = ap (λ ys. x ∷ ys) (append_nil xs)
 
-    order_is : old ≡ going.tested
-    order_is = going.all ∙ ap (λ xs. going.tested ++ xs) rest_none ∙ append_nil going.tested
+    order_is : old ≡ so_far.tested
+    order_is = so_far.all ∙ ap (λ xs. so_far.tested ++ xs) rest_none ∙ append_nil so_far.tested
 
-    items_is : items ≡ answered_true g going.tested going.answers
-    items_is = going.left ∙ ap (λ xs. answered_true g going.tested going.answers ++ xs) rest_none ∙ append_nil (answered_true g going.tested going.answers)
+    items_is : items ≡ answered_true g so_far.tested so_far.answers
+    items_is = so_far.left ∙ ap (λ xs. answered_true g so_far.tested so_far.answers ++ xs) rest_none ∙ append_nil (answered_true g so_far.tested so_far.answers)
 
     pub ended : IsKept g first old items
     ended = record {
-      order = going.tested;
-      answers = going.answers;
+      order = so_far.tested;
+      answers = so_far.answers;
       last = f;
       each_once = subst (IsPermutation old) order_is (IsPermutation-refl old);
-      calls = going.calls;
+      calls = so_far.calls;
       kept = λ q. (λ m. subst (λ (xs : List (L × R)). Contains xs q) items_is m, λ m. subst (λ (xs : List (L × R)). Contains xs q) (sym items_is) m);
     }
 
     pub ended_apart : (same_left : L → L → Bool) (same_right : R → R → Bool) → IsApart same_left same_right old → IsApart same_left same_right items
-    ended_apart same_left same_right h = subst (IsApart same_left same_right) (sym items_is) (apart_true same_left same_right going.tested going.answers (subst (IsApart same_left same_right) order_is h))
+    ended_apart same_left same_right h = subst (IsApart same_left same_right) (sym items_is) (apart_true same_left same_right so_far.tested so_far.answers (subst (IsApart same_left same_right) order_is h))
 
 pub pair_at : {L R : Type 0} (p : L × R) (l : L) (r : R) → l ≡ p.0 → r ≡ p.1 → ◌≡◌ {A = L × R} (l, r) p
 pair_at {L} {R} p l r x y = ap (λ (a : L). (a, r)) x ∙ ap (λ (b : R). (p.0, b)) y

@@ -59,7 +59,7 @@ fn insert<L: Eq + Drop, R: Eq + Drop>(
 }
 
 /// Puts a pair in where the policy lets it overwrite.
-pub fn insert_under<L: Eq + Drop, R: Eq + Drop>(
+pub fn insert_with<L: Eq + Drop, R: Eq + Drop>(
     pairs: &mut Vec<(L, R)>,
     fixed: bool,
     left: L,

@@ -77,7 +77,7 @@ impl<L: Eq + Drop, R: Eq + Drop> Bijection<L, R> for Plain<L, R> {
         right: R,
         policy: Policy,
     ) -> Result<Overwritten<L, R>, NotInsertedWith<L, R>> {
-        changes::insert_under(&mut self.pairs, self.fixed, left, right, policy)
+        changes::insert_with(&mut self.pairs, self.fixed, left, right, policy)
     }
 
     fn remove_by_left(&mut self, left: &L) -> Option<(L, R)> {

@@ -2,7 +2,7 @@
 use crate::request::Step;
 use crate::word::Word;
 use bimap_tree::Ordered;
-use bimap_walk::{ByPlace, Owned, Part, Values, Walked};
+use bimap_walk::{ByPlace, IntoIter, Iter, Projection, Values};
 use std::alloc::AllocError;
 use std::fmt::Debug;
 
@@ -23,7 +23,7 @@ pub trait Walk: Sized {
     fn copy(&self) -> Result<Option<Self>, AllocError>;
 }
 
-impl<'a> Walk for Walked<'a, Word, Word, Ordered> {
+impl<'a> Walk for Iter<'a, Word, Word, Ordered> {
     type Item = (&'a Word, &'a Word);
 
     fn front(&mut self) -> Option<(&'a Word, &'a Word)> {
@@ -43,7 +43,7 @@ impl<'a> Walk for Walked<'a, Word, Word, Ordered> {
     }
 }
 
-impl<'a> Walk for Walked<'a, Word, Word, ByPlace> {
+impl<'a> Walk for Iter<'a, Word, Word, ByPlace> {
     type Item = (&'a Word, &'a Word);
 
     fn front(&mut self) -> Option<(&'a Word, &'a Word)> {
@@ -63,7 +63,7 @@ impl<'a> Walk for Walked<'a, Word, Word, ByPlace> {
     }
 }
 
-impl<'a, P: Part<Word, Word, Value = Word>> Walk for Values<'a, Word, Word, Ordered, P> {
+impl<'a, P: Projection<Word, Word, Value = Word>> Walk for Values<'a, Word, Word, Ordered, P> {
     type Item = &'a Word;
 
     fn front(&mut self) -> Option<&'a Word> {
@@ -83,7 +83,7 @@ impl<'a, P: Part<Word, Word, Value = Word>> Walk for Values<'a, Word, Word, Orde
     }
 }
 
-impl<'a, P: Part<Word, Word, Value = Word>> Walk for Values<'a, Word, Word, ByPlace, P> {
+impl<'a, P: Projection<Word, Word, Value = Word>> Walk for Values<'a, Word, Word, ByPlace, P> {
     type Item = &'a Word;
 
     fn front(&mut self) -> Option<&'a Word> {
@@ -103,7 +103,7 @@ impl<'a, P: Part<Word, Word, Value = Word>> Walk for Values<'a, Word, Word, ByPl
     }
 }
 
-impl Walk for Owned<Word, Word, Ordered> {
+impl Walk for IntoIter<Word, Word, Ordered> {
     type Item = (Word, Word);
 
     fn front(&mut self) -> Option<(Word, Word)> {
@@ -123,7 +123,7 @@ impl Walk for Owned<Word, Word, Ordered> {
     }
 }
 
-impl Walk for Owned<Word, Word, ByPlace> {
+impl Walk for IntoIter<Word, Word, ByPlace> {
     type Item = (Word, Word);
 
     fn front(&mut self) -> Option<(Word, Word)> {

@@ -1,6 +1,6 @@
 //! What a hashed left gives.
 use crate::course::follow;
-use crate::kind::{Words, copy_to, insert, told};
+use crate::kind::{Words, copy_to, insert, say};
 use crate::request::Request;
 use crate::word::Word;
 use bimap_index::{CopiedIndex, HashIndex};
@@ -38,7 +38,7 @@ pub fn call<LS: BuildHasher + Clone + Drop, J: CopiedIndex<Word> + Drop>(
     match request.call {
         "retain" => {
             let least = request.first;
-            told(
+            say(
                 bimap.retain(|_left: &Word, right: &Word| *right >= least),
                 said,
             )
@@ -53,7 +53,7 @@ pub fn call<LS: BuildHasher + Clone + Drop, J: CopiedIndex<Word> + Drop>(
             Ok(copy) => follow(copy.into_iter(), request.steps.as_slice(), said),
             Err(_) => Err(AllocError),
         },
-        "eq" => told(bimap == other, said),
+        "eq" => say(bimap == other, said),
         _ => Ok(walk(bimap, request, said)? || insert(bimap, request, said)?),
     }
 }

@@ -1,5 +1,5 @@
 //! Many pairs at once.
-use crate::kind::{ShellKind, told};
+use crate::kind::{ShellKind, say};
 use crate::request::Request;
 use crate::session::Session;
 use crate::word::Word;
@@ -15,8 +15,8 @@ pub fn call<B: CopyKind<Word, Word> + ShellKind>(
 ) -> Result<bool, AllocError> {
     let items = request.pairs.iter().copied();
     match request.call {
-        "extend" => told(session.bimap.add(request.pairs.as_slice()), said),
-        "extend_with" => told(extend_with(&mut session.bimap, items, request.policy), said),
+        "extend" => say(session.bimap.add(request.pairs.as_slice()), said),
+        "extend_with" => say(extend_with(&mut session.bimap, items, request.policy), said),
         "from_iter" => {
             let answer = B::built(session.alloc, request.pairs.as_slice());
             session.begin(answer, said)

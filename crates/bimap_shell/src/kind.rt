@@ -34,7 +34,7 @@ pub trait ShellKind: Sized {
 pub type Words<I, J> = BijectiveMap<Word, Word, I, J>;
 
 /// Writes what a call answered. It answers that there is the call.
-pub fn told<T: Debug + Drop>(answer: T, said: &mut String) -> Result<bool, AllocError> {
+pub fn say<T: Debug + Drop>(answer: T, said: &mut String) -> Result<bool, AllocError> {
     write!(said, "{answer:?}")?;
     Ok(true)
 }
@@ -65,10 +65,10 @@ pub fn insert<I: Index<Word>, J: Index<Word>>(
 ) -> Result<bool, AllocError> {
     let (left, right) = (request.first, request.second);
     match request.call {
-        "insert" => told(bimap.insert(left, right), said),
-        "insert_no_overwrite" => told(bimap.insert_no_overwrite(left, right), said),
-        "insert_with" => told(bimap.insert_with(left, right, request.policy), said),
-        "get_by_left_or_insert" => told(bimap.get_by_left_or_insert(left, right), said),
+        "insert" => say(bimap.insert(left, right), said),
+        "insert_no_overwrite" => say(bimap.insert_no_overwrite(left, right), said),
+        "insert_with" => say(bimap.insert_with(left, right, request.policy), said),
+        "get_by_left_or_insert" => say(bimap.get_by_left_or_insert(left, right), said),
         _ => Ok(false),
     }
 }
@@ -82,13 +82,13 @@ pub fn counted<I: Index<Word>, J: Index<Word>>(
 ) -> Result<bool, AllocError> {
     let (left, right) = (request.first, request.second);
     match request.call {
-        "get_by_left" => told(bimap.get_by_left_metered(&left, meter), said),
-        "get_by_right" => told(bimap.get_by_right_metered(&left, meter), said),
-        "insert" => told(bimap.insert_metered(left, right, meter), said),
-        "remove_by_left" => told(bimap.remove_by_left_metered(&left, meter), said),
-        "remove_by_right" => told(bimap.remove_by_right_metered(&left, meter), said),
+        "get_by_left" => say(bimap.get_by_left_metered(&left, meter), said),
+        "get_by_right" => say(bimap.get_by_right_metered(&left, meter), said),
+        "insert" => say(bimap.insert_metered(left, right, meter), said),
+        "remove_by_left" => say(bimap.remove_by_left_metered(&left, meter), said),
+        "remove_by_right" => say(bimap.remove_by_right_metered(&left, meter), said),
         "get_by_left_or_insert" => {
-            told(
+            say(
                 bimap.get_by_left_or_insert_metered(left, right, meter),
                 said,
             )

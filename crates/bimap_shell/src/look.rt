@@ -1,5 +1,5 @@
 //! The calls that change nothing, on any bimap.
-use crate::kind::told;
+use crate::kind::say;
 use crate::request::Request;
 use crate::word::Word;
 use bimap::Bijection;
@@ -13,14 +13,14 @@ pub fn call<B: Bijection<Word, Word>>(
 ) -> Result<bool, AllocError> {
     let word = &request.first;
     match request.call {
-        "len" => told(bimap.len(), said),
-        "is_empty" => told(bimap.is_empty(), said),
-        "capacity" => told(bimap.capacity(), said),
-        "get_by_left" => told(bimap.get_by_left(word), said),
-        "get_by_right" => told(bimap.get_by_right(word), said),
-        "contains_left" => told(bimap.contains_left(word), said),
-        "contains_right" => told(bimap.contains_right(word), said),
-        "can_undo_insert" => told(bimap.can_undo_insert(word, &request.answer), said),
+        "len" => say(bimap.len(), said),
+        "is_empty" => say(bimap.is_empty(), said),
+        "capacity" => say(bimap.capacity(), said),
+        "get_by_left" => say(bimap.get_by_left(word), said),
+        "get_by_right" => say(bimap.get_by_right(word), said),
+        "contains_left" => say(bimap.contains_left(word), said),
+        "contains_right" => say(bimap.contains_right(word), said),
+        "can_undo_insert" => say(bimap.can_undo_insert(word, &request.answer), said),
         _ => Ok(false),
     }
 }

@@ -1,5 +1,5 @@
 //! The bimap with a record.
-use crate::kind::{ShellKind, told};
+use crate::kind::{ShellKind, say};
 use crate::request::Request;
 use crate::session::Session;
 use crate::word::Word;
@@ -16,16 +16,16 @@ fn changed<B: CopyKind<Word, Word> + ShellKind>(
 ) -> Result<bool, AllocError> {
     let (left, right) = (request.first, request.second);
     match request.call {
-        "insert" => told(record.insert(left, right), said),
-        "insert_with" => told(record.insert_with(left, right, request.policy), said),
+        "insert" => say(record.insert(left, right), said),
+        "insert_with" => say(record.insert_with(left, right, request.policy), said),
         "insert_all" => {
             let items = request.pairs.iter().copied();
-            told(record.insert_all(items, request.policy), said)
+            say(record.insert_all(items, request.policy), said)
         }
-        "replace_left" => told(record.replace_left(&left, right), said),
-        "replace_right" => told(record.replace_right(&left, right), said),
-        "remove_by_left" => told(record.remove_by_left(&left), said),
-        "remove_by_right" => told(record.remove_by_right(&left), said),
+        "replace_left" => say(record.replace_left(&left, right), said),
+        "replace_right" => say(record.replace_right(&left, right), said),
+        "remove_by_left" => say(record.remove_by_left(&left), said),
+        "remove_by_right" => say(record.remove_by_right(&left), said),
         _ => Ok(false),
     }
 }
@@ -42,12 +42,12 @@ fn recorded<B: CopyKind<Word, Word> + ShellKind>(
         return Ok(true);
     }
     match request.call {
-        "mark" => told(record.mark(), said),
-        "last_change" => told(record.last_change(), said),
-        "changes_since" => told(record.changes_since(number), said),
-        "back_to" => told(record.back_to(number), said),
-        "undo_last" => told(record.undo_last(number), said),
-        "forget" => told(record.forget(), said),
+        "mark" => say(record.mark(), said),
+        "last_change" => say(record.last_change(), said),
+        "changes_since" => say(record.changes_since(number), said),
+        "back_to" => say(record.back_to(number), said),
+        "undo_last" => say(record.undo_last(number), said),
+        "forget" => say(record.forget(), said),
         _ => Ok(false),
     }
 }

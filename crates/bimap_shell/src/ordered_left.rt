@@ -1,7 +1,7 @@
 //! What an ordered left gives.
 use crate::course::follow;
 use crate::forward::forward;
-use crate::kind::{Words, copy_to, insert, told};
+use crate::kind::{Words, copy_to, insert, say};
 use crate::request::Request;
 use crate::word::Word;
 use bimap::btree::Count;
@@ -24,10 +24,10 @@ fn compare<J: CopiedIndex<Word> + Drop>(
     said: &mut String,
 ) -> Result<bool, AllocError> {
     match call {
-        "eq" => told(bimap == other, said),
-        "partial_cmp" => told(bimap.partial_cmp(other), said),
-        "cmp" => told(bimap.cmp(other), said),
-        "hash" => told(hash_of(bimap) == hash_of(other), said),
+        "eq" => say(bimap == other, said),
+        "partial_cmp" => say(bimap.partial_cmp(other), said),
+        "cmp" => say(bimap.cmp(other), said),
+        "hash" => say(hash_of(bimap) == hash_of(other), said),
         _ => Ok(false),
     }
 }
@@ -58,12 +58,12 @@ fn end<J: CopiedIndex<Word> + Drop>(
     said: &mut String,
 ) -> Result<bool, AllocError> {
     match request.call {
-        "first_by_left" => told(bimap.first_by_left(), said),
-        "last_by_left" => told(bimap.last_by_left(), said),
-        "pop_first_by_left" => told(bimap.pop_first_by_left(), said),
-        "pop_last_by_left" => told(bimap.pop_last_by_left(), said),
-        "pair_at_left_rank" => told(bimap.pair_at_left_rank(request.number), said),
-        "left_rank" => told(bimap.left_rank(&request.first), said),
+        "first_by_left" => say(bimap.first_by_left(), said),
+        "last_by_left" => say(bimap.last_by_left(), said),
+        "pop_first_by_left" => say(bimap.pop_first_by_left(), said),
+        "pop_last_by_left" => say(bimap.pop_last_by_left(), said),
+        "pair_at_left_rank" => say(bimap.pair_at_left_rank(request.number), said),
+        "left_rank" => say(bimap.left_rank(&request.first), said),
         _ => Ok(false),
     }
 }
@@ -78,7 +78,7 @@ pub fn call<J: CopiedIndex<Word> + Drop>(
     match request.call {
         "retain" => {
             let least = request.first;
-            told(
+            say(
                 bimap.retain(|_left: &Word, right: &Word| *right >= least),
                 said,
             )
@@ -111,12 +111,12 @@ pub fn count<J: CopiedIndex<Word> + Drop>(
 ) -> Result<bool, AllocError> {
     let (number, word) = (request.number, &request.first);
     match request.call {
-        "first_by_left" => told(bimap.first_by_left_metered(meter), said),
-        "last_by_left" => told(bimap.last_by_left_metered(meter), said),
-        "pop_first_by_left" => told(bimap.pop_first_by_left_metered(meter), said),
-        "pop_last_by_left" => told(bimap.pop_last_by_left_metered(meter), said),
-        "pair_at_left_rank" => told(bimap.pair_at_left_rank_metered(number, meter), said),
-        "left_rank" => told(bimap.left_rank_metered(word, meter), said),
+        "first_by_left" => say(bimap.first_by_left_metered(meter), said),
+        "last_by_left" => say(bimap.last_by_left_metered(meter), said),
+        "pop_first_by_left" => say(bimap.pop_first_by_left_metered(meter), said),
+        "pop_last_by_left" => say(bimap.pop_last_by_left_metered(meter), said),
+        "pair_at_left_rank" => say(bimap.pair_at_left_rank_metered(number, meter), said),
+        "left_rank" => say(bimap.left_rank_metered(word, meter), said),
         _ => Ok(false),
     }
 }

@@ -1,5 +1,5 @@
 //! The calls of one pair, on any bimap, beside insertions.
-use crate::kind::told;
+use crate::kind::say;
 use crate::request::Request;
 use crate::word::Word;
 use bimap::{Bijection, replace_left, replace_right};
@@ -11,7 +11,7 @@ fn undone<B: Bijection<Word, Word>>(
     said: &mut String,
 ) -> Result<bool, AllocError> {
     if bimap.can_undo_insert(&request.first, &request.answer) {
-        return told(bimap.undo_insert(&request.first, request.answer), said);
+        return say(bimap.undo_insert(&request.first, request.answer), said);
     }
     write!(said, "can't be undone")?;
     Ok(true)
@@ -23,9 +23,9 @@ fn removed<B: Bijection<Word, Word>>(
     said: &mut String,
 ) -> Result<bool, AllocError> {
     match request.call {
-        "remove_by_left" => told(bimap.remove_by_left(&request.first), said),
-        "remove_by_right" => told(bimap.remove_by_right(&request.first), said),
-        "clear" => told(bimap.clear(), said),
+        "remove_by_left" => say(bimap.remove_by_left(&request.first), said),
+        "remove_by_right" => say(bimap.remove_by_right(&request.first), said),
+        "clear" => say(bimap.clear(), said),
         _ => Ok(false),
     }
 }
@@ -38,8 +38,8 @@ pub fn call<B: Bijection<Word, Word>>(
 ) -> Result<bool, AllocError> {
     let (left, right) = (request.first, request.second);
     match request.call {
-        "replace_left" => told(replace_left(bimap, &left, right), said),
-        "replace_right" => told(replace_right(bimap, &left, right), said),
+        "replace_left" => say(replace_left(bimap, &left, right), said),
+        "replace_right" => say(replace_right(bimap, &left, right), said),
         "undo_insert" => undone(bimap, request, said),
         _ => removed(bimap, request, said),
     }

@@ -1,7 +1,7 @@
 //! What a right gives, ordered or hashed.
 use crate::course::follow;
 use crate::forward::forward;
-use crate::kind::{Words, told};
+use crate::kind::{Words, say};
 use crate::request::Request;
 use crate::word::Word;
 use bimap::btree::Count;
@@ -36,12 +36,12 @@ fn end<I: CopiedIndex<Word> + Drop>(
     said: &mut String,
 ) -> Result<bool, AllocError> {
     match request.call {
-        "first_by_right" => told(bimap.first_by_right(), said),
-        "last_by_right" => told(bimap.last_by_right(), said),
-        "pop_first_by_right" => told(bimap.pop_first_by_right(), said),
-        "pop_last_by_right" => told(bimap.pop_last_by_right(), said),
-        "pair_at_right_rank" => told(bimap.pair_at_right_rank(request.number), said),
-        "right_rank" => told(bimap.right_rank(&request.first), said),
+        "first_by_right" => say(bimap.first_by_right(), said),
+        "last_by_right" => say(bimap.last_by_right(), said),
+        "pop_first_by_right" => say(bimap.pop_first_by_right(), said),
+        "pop_last_by_right" => say(bimap.pop_last_by_right(), said),
+        "pair_at_right_rank" => say(bimap.pair_at_right_rank(request.number), said),
+        "right_rank" => say(bimap.right_rank(&request.first), said),
         _ => Ok(false),
     }
 }
@@ -64,12 +64,12 @@ pub fn count<I: CopiedIndex<Word> + Drop>(
 ) -> Result<bool, AllocError> {
     let (number, word) = (request.number, &request.first);
     match request.call {
-        "first_by_right" => told(bimap.first_by_right_metered(meter), said),
-        "last_by_right" => told(bimap.last_by_right_metered(meter), said),
-        "pop_first_by_right" => told(bimap.pop_first_by_right_metered(meter), said),
-        "pop_last_by_right" => told(bimap.pop_last_by_right_metered(meter), said),
-        "pair_at_right_rank" => told(bimap.pair_at_right_rank_metered(number, meter), said),
-        "right_rank" => told(bimap.right_rank_metered(word, meter), said),
+        "first_by_right" => say(bimap.first_by_right_metered(meter), said),
+        "last_by_right" => say(bimap.last_by_right_metered(meter), said),
+        "pop_first_by_right" => say(bimap.pop_first_by_right_metered(meter), said),
+        "pop_last_by_right" => say(bimap.pop_last_by_right_metered(meter), said),
+        "pair_at_right_rank" => say(bimap.pair_at_right_rank_metered(number, meter), said),
+        "right_rank" => say(bimap.right_rank_metered(word, meter), said),
         _ => Ok(false),
     }
 }

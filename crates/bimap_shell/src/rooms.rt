@@ -1,5 +1,5 @@
 //! Rooms, copies, and what is shown of the whole.
-use crate::kind::{ShellKind, told};
+use crate::kind::{ShellKind, say};
 use crate::request::Request;
 use crate::session::Session;
 use crate::word::Word;
@@ -15,9 +15,9 @@ fn room<B: CopyKind<Word, Word> + ShellKind>(
 ) -> Result<bool, AllocError> {
     let bimap = &mut session.bimap;
     match request.call {
-        "reserve" => told(bimap.reserve(request.number), said),
-        "shrink_to" => told(bimap.shrink_to(request.number), said),
-        "shrink_to_fit" => told(bimap.shrink_to_fit(), said),
+        "reserve" => say(bimap.reserve(request.number), said),
+        "shrink_to" => say(bimap.shrink_to(request.number), said),
+        "shrink_to_fit" => say(bimap.shrink_to_fit(), said),
         _ => Ok(false),
     }
 }
@@ -48,7 +48,7 @@ pub fn call<B: CopyKind<Word, Word> + ShellKind>(
             each(&session.bimap, said);
             write!(said, "]")?;
         }
-        "swap" => return told(mem::swap(&mut session.bimap, &mut session.other), said),
+        "swap" => return say(mem::swap(&mut session.bimap, &mut session.other), said),
         _ => return room(session, request, said),
     }
     Ok(true)

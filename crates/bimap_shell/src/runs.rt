@@ -1,5 +1,5 @@
 //! Lists of calls, and their undoing.
-use crate::kind::told;
+use crate::kind::say;
 use crate::request::Request;
 use crate::word::Word;
 use bimap::{Bijection, RunRefused, perform, run, undo_run};
@@ -16,7 +16,7 @@ fn undone<B: Bijection<Word, Word>>(
 ) -> Result<bool, AllocError> {
     let entries = insert_all(alloc, bimap, pairs)?;
     write!(said, "{entries:?} · ")?;
-    told(undo_run(bimap, entries), said)
+    say(undo_run(bimap, entries), said)
 }
 
 fn ran<B: Bijection<Word, Word>>(
@@ -54,7 +54,7 @@ fn performed<B: Bijection<Word, Word>>(
                 call,
                 &|least: &Word, _left: &Word, right: &Word| *right >= *least,
             );
-            told(reply, said)
+            say(reply, said)
         }
         None => Ok(false),
     }

@@ -3,7 +3,7 @@ use Rattle.std.proofs.Common.{◌≡◌, ℕ, ◌+◌, ◌≤◌, ◌<◌, max, 
 use Rattle.std.specs.Prelude.{slice_get, slice_set}
 use Rattle.bimap_base.specs.declared.cells.Node.{Node}
 use Rattle.bimap_tree.specs.Tree.{Tree, height, size, root_of, IsBalanced, Shows, is_at, occurs, Stands, branch, node_on, near_of, far_of}
-use Rattle.bimap_base.specs.Packed.{IsThere}
+use Rattle.bimap_base.specs.NodesInCells.{IsThere}
 use Rattle.bimap_tree.specs.Link.{Measures}
 use Rattle.bimap_tree.specs.declared.link.Subtree.{Subtree}
 use Rattle.bimap_tree.proofs.Shown.{get-written, Shows-keeps, opened, there}

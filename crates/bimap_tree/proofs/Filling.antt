@@ -24,9 +24,9 @@ behind w f old xs ys b new at n m short all h k =
 pub on : (w f : ℕ) (old xs ys b new : List ℕ) (at n m : ℕ) → f ≤ length old → f + length xs < w → IsFilled w f old xs b n → IsFilled w (n + 1) (slice_set b n at) ys new m → IsFilled w f old (xs ++ at ∷ ys) new m
 on w f old xs ys b new at n m short le h k = behind w f old xs ys b new at n m short (omega (arith, le, h.enough, h.most)) h k
 
--- what is put may be told by another list that is the same
-pub told : (w f : ℕ) (old xs ys new : List ℕ) (n : ℕ) → xs ≡ ys → IsFilled w f old xs new n → IsFilled w f old ys new n
-told w f old xs ys new n e h = subst (λ zs. IsFilled w f old zs new n) e h
+-- what is put may be said by another list that is the same
+pub IsFilled-same : (w f : ℕ) (old xs ys new : List ℕ) (n : ℕ) → xs ≡ ys → IsFilled w f old xs new n → IsFilled w f old ys new n
+IsFilled-same w f old xs ys new n e h = subst (λ zs. IsFilled w f old zs new n) e h
 
 -- low trees
 no_levels : (t : Tree) → height t ≤ 0 → t ≡ leaf
@@ -45,7 +45,7 @@ pub two_levels : (f : ℕ) (old b new : List ℕ) (node : Node) (l r : Tree) (at
 two_levels f old b new node l r at n m e hl hr few long h k =
     let el : place_in node.left ≡ reading l = ap (λ z. place_in z.left) e ∙ one_level l hl in
     let er : place_in node.right ≡ reading r = ap (λ z. place_in z.right) e ∙ one_level r hr in
-    on 64 f old (reading l) (reading r) b new at n m (omega (arith, few, long)) (omega (arith, few, one_place l hl)) (told 64 f old _ _ b n el h) (told 64 (n + 1) (slice_set b n at) _ _ new m er k)
+    on 64 f old (reading l) (reading r) b new at n m (omega (arith, few, long)) (omega (arith, few, one_place l hl)) (IsFilled-same 64 f old _ _ b n el h) (IsFilled-same 64 (n + 1) (slice_set b n at) _ _ new m er k)
 
 -- the two trees below a place
 pub parts : (ns : List Node) (at : ℕ) (node : Node) (t : Tree) → CanFill ns at node t → (l : Tree) × (r : Tree) × Opened ns at node t l r × IsBalanced l × IsBalanced r
@@ -78,4 +78,4 @@ both_sides f old b new ns at left right node left_node right_node t h el er gl g
     let last = kr r hr (omega arith) in
     let all : f + left_node.size + 1 + size r ≡ f + size t = omega arith in
     subst (λ m. IsFilled 64 f old (reading t) new m) all
-    (told 64 f old _ _ new (f + left_node.size + 1 + size r) (sym (ap reading i.is)) (on 64 f old (reading l) (reading r) b new at (f + left_node.size) (f + left_node.size + 1 + size r) (omega (arith, long)) (omega (arith, size-reading l)) first last))
+    (IsFilled-same 64 f old _ _ new (f + left_node.size + 1 + size r) (sym (ap reading i.is)) (on 64 f old (reading l) (reading r) b new at (f + left_node.size) (f + left_node.size + 1 + size r) (omega (arith, long)) (omega (arith, size-reading l)) first last))

@@ -4,7 +4,7 @@ use Rattle.std.specs.Prelude.{slice_get}
 use Rattle.bimap_base.specs.declared.cells.Node.{Node}
 use Rattle.bimap_tree.specs.Tree.{Tree, leaf, fork, height, size, Shows, Stands, root_of}
 use Rattle.bimap_tree.specs.Index.{height_at}
-use Rattle.bimap_tree.specs.Index.{tree_at, tree_in, told_left, told_right, IsIndex, IsWhole}
+use Rattle.bimap_tree.specs.Index.{tree_at, tree_in, left_in, right_in, IsIndex, IsWhole}
 use Rattle.bimap_tree.proofs.Shown.{height_told}
 
 pub tree_at-shown : (ns : List Node) (t : Tree) (levels : ℕ) → Shows ns t → height t ≤ levels → tree_at ns levels (root_of t) ≡ t
@@ -12,9 +12,9 @@ tree_at-shown ns leaf zero h le = refl
 tree_at-shown ns leaf (suc levels) h le = refl
 tree_at-shown ns (fork l p r) zero h le = absurd (omega arith)
 tree_at-shown ns (fork l p r) (suc levels) h le =
-    let a : told_left (slice_get ns p) ≡ root_of l = ap told_left h.0 in
-    let b : told_right (slice_get ns p) ≡ root_of r = ap told_right h.0 in
-    ap (λ x. fork (tree_at ns levels x) p (tree_at ns levels (told_right (slice_get ns p)))) a
+    let a : left_in (slice_get ns p) ≡ root_of l = ap left_in h.0 in
+    let b : right_in (slice_get ns p) ≡ root_of r = ap right_in h.0 in
+    ap (λ x. fork (tree_at ns levels x) p (tree_at ns levels (right_in (slice_get ns p)))) a
     ∙ ap (λ x. fork (tree_at ns levels (root_of l)) p (tree_at ns levels x)) b
     ∙ ap (λ x. fork x p (tree_at ns levels (root_of r))) (tree_at-shown ns l levels h.1 (omega arith))
     ∙ ap (λ x. fork l p x) (tree_at-shown ns r levels h.2 (omega arith))

@@ -1,7 +1,7 @@
 -- Places by their rank.
 use Rattle.std.proofs.Common.{◌≡◌, ℕ, suc, ◌+◌, ◌<◌, List, [], ◌∷◌, ◌++◌, Some, length, refl, ◌∙◌, ap, arith, zero-add}
 use Rattle.std.specs.Prelude.{slice_get}
-use Rattle.bimap_base.proofs.Packs.{get-front}
+use Rattle.bimap_base.proofs.NodesInCells.{get-front}
 use Rattle.bimap_tree.specs.Tree.{Tree, fork, reading, size}
 use Rattle.bimap_tree.proofs.Shown.{size-reading}
 

@@ -4,7 +4,7 @@ use Rattle.std.specs.Prelude.{slice_get, slice_set}
 use Rattle.std.proofs.lemmas.Option.{slice_get_within}
 use Rattle.std.proofs.lemmas.Bool.Decides.{leb_tells}
 use Rattle.bimap_base.specs.declared.cells.Node.{Node}
-use Rattle.bimap_base.specs.Packed.{IsThere, CanCount, recounted}
+use Rattle.bimap_base.specs.NodesInCells.{IsThere, CanCount, recounted}
 use Rattle.bimap_tree.specs.Tree.{Tree, leaf, fork, reading, height, size, root_of, Stands, branch, node_on, near_of, far_of}
 use Rattle.bimap_tree.specs.Link.{CanRebalance, IsRebalanced}
 use Rattle.bimap_tree.specs.Path.{Path, top, below, steps, front, back, Tells, one_if, Moves, CanRise, CanRelink, CanPut, IsRisen}

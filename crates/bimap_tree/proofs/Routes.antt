@@ -5,7 +5,7 @@ use Rattle.std.specs.List.{Contains}
 use Rattle.std.specs.declared.cmp.Ordering.{Ordering}
 use Rattle.bimap_tree.specs.Tree.{leaf, Stands}
 use Rattle.bimap_tree.specs.Index.{Index, IsIndex}
-use Rattle.bimap_tree.specs.Order.{told}
+use Rattle.bimap_tree.specs.Order.{or_greater}
 use Rattle.bimap_tree.specs.Path.{plug}
 use Rattle.bimap_tree.specs.Route.{IsRoute}
 use Rattle.bimap_tree.specs.declared.route.Route.{Route}
@@ -20,8 +20,8 @@ IsRoute-alike index first second route same r = record {
   of_index = r.of_index;
   follows = r.follows;
   depth_is = r.depth_is;
-  wants = Wants-alike (λ q. told (first q)) (λ q. told (second q)) r.path
-      (λ q n. ap told (same q (subst (λ x. Contains x q) r.of_index.in_order (occurs_contains (plug r.path leaf) q (omega (arith, occurs-plug q r.path leaf)))))) r.wants;
+  wants = Wants-alike (λ q. or_greater (first q)) (λ q. or_greater (second q)) r.path
+      (λ q n. ap or_greater (same q (subst (λ x. Contains x q) r.of_index.in_order (occurs_contains (plug r.path leaf) q (omega (arith, occurs-plug q r.path leaf)))))) r.wants;
 }
 
 -- more cells change no route

@@ -5,7 +5,7 @@ use Rattle.std.proofs.lemmas.Bool.{eq-eqb}
 use Rattle.std.proofs.lemmas.Option.{slice_get_within}
 use Rattle.std.proofs.lemmas.Bool.Decides.{eqb_tells, leb_tells}
 use Rattle.bimap_base.specs.declared.cells.Node.{Node}
-use Rattle.bimap_base.specs.Packed.{IsThere}
+use Rattle.bimap_base.specs.NodesInCells.{IsThere}
 use Rattle.bimap_tree.specs.Tree.{Tree, leaf, fork, reading, height, size, root_of, node_of, Shows, is_at, occurs, IsDistinctTree, Stands}
 use Rattle.bimap_tree.specs.Index.{height_at}
 

@@ -9,33 +9,33 @@ use Rattle.std.specs.declared.ops.Bound.{Bound}
 use Rattle.std.specs.declared.ops.Bound.TheVariants.{Included, Excluded, Unbounded}
 use Rattle.std.proofs.lemmas.Option.{get_or_from_slice_get, slice_get_within}
 use Rattle.bimap_base.specs.Keyed.{standing, Ascends}
-use Rattle.bimap_tree.specs.Order.{told, order_of, after_key, count_below, IsSplit}
+use Rattle.bimap_tree.specs.Order.{or_greater, order_of, after_key, count_below, IsSplit}
 use Rattle.bimap_tree.specs.Start.{IsStart, LetsIn}
 use Rattle.bimap_tree.proofs.Ascending.{split, split_after}
 use Rattle.bimap_tree.proofs.Found.{below_first, not_below}
 use Rattle.bimap_tree.proofs.Split.{count_length}
 
 -- a live place that is not below the key, or not above it, lets in or not
-let_in : (o : Option Ordering) → IsSome o → told o ≢ Less → (o ≡ Some Equal) ⊎ (o ≡ Some Greater)
+let_in : (o : Option Ordering) → IsSome o → or_greater o ≢ Less → (o ≡ Some Equal) ⊎ (o ≡ Some Greater)
 let_in (Some Less) some n = absurd (n refl)
 let_in (Some Equal) some n = inl refl
 let_in (Some Greater) some n = inr refl
 let_in None some n = absurd (let x : false ≡ true = some in cc)
 
-not_in : (o : Option Ordering) → told o ≡ Less → (o ≡ Some Equal) ⊎ (o ≡ Some Greater) → ⊥
+not_in : (o : Option Ordering) → or_greater o ≡ Less → (o ≡ Some Equal) ⊎ (o ≡ Some Greater) → ⊥
 not_in o h either = elim either [
-  | inl w ↦ let x : Equal ≡ Less = ap told (sym w) ∙ h in cc
-  | inr w ↦ let x : Greater ≡ Less = ap told (sym w) ∙ h in cc
+  | inl w ↦ let x : Equal ≡ Less = ap or_greater (sym w) ∙ h in cc
+  | inr w ↦ let x : Greater ≡ Less = ap or_greater (sym w) ∙ h in cc
 ]
 
-let_after : (o : Option Ordering) → IsSome o → after_key (told o) ≢ Less → o ≡ Some Greater
+let_after : (o : Option Ordering) → IsSome o → after_key (or_greater o) ≢ Less → o ≡ Some Greater
 let_after (Some Less) some n = absurd (n refl)
 let_after (Some Equal) some n = absurd (n refl)
 let_after (Some Greater) some n = refl
 let_after None some n = absurd (let x : false ≡ true = some in cc)
 
-not_after : (o : Option Ordering) → after_key (told o) ≡ Less → o ≡ Some Greater → ⊥
-not_after o h w = let x : Greater ≡ Less = ap (λ y. after_key (told y)) (sym w) ∙ h in cc
+not_after : (o : Option Ordering) → after_key (or_greater o) ≡ Less → o ≡ Some Greater → ⊥
+not_after o h w = let x : Greater ≡ Less = ap (λ y. after_key (or_greater y)) (sym w) ∙ h in cc
 
 module _ {K : Type 0} (key : ℕ → Option K) (order : K → K → Ordering) (total : IsTotalOrder order) (xs : List ℕ) (up : Ascends key order xs) where
   standing_live : (o : Option K) (k : K) → IsSome o → IsSome (option_map (λ x. order x k) o)

@@ -17,7 +17,7 @@ use Rattle.bimap_tree.specs.Descent.{IsUnderWay, levels_left}
 use Rattle.bimap_tree.specs.declared.descent.Descent.{Descent}
 use Rattle.bimap_tree.specs.declared.route.Route.{Route}
 use Rattle.bimap_tree.proofs.Descents.{here}
-use Rattle.bimap_tree.proofs.Found.{told_equal}
+use Rattle.bimap_tree.proofs.Found.{or_greater_equal}
 use Rattle.bimap_tree.proofs.Paths.{steps_within}
 use Rattle.bimap_tree.proofs.Searches.{seek_into, found_left, found_right}
 use Rattle.bimap_tree.proofs.Shown.{a_fork, height_told}
@@ -95,7 +95,7 @@ module _ (ns : List Node) (root : Option ℕ) (len : ℕ) (v : Index) (w : IsWho
   -- where it has come after a step
   found_later : (old : Route) (u : IsUnderWay v (λ q. standing key order k q) descent old) (later : Descent) → later.is_found ≡ true → (later ≡ descent) ⊎ ((place : ℕ) × (later.root ≡ Some place) × (order_of order (key place) (Some k) ≡ Equal)) → (place : ℕ) × (later.root ≡ Some place) × (standing key order k place ≡ Some Equal)
   found_later old u later y (inl same) = let (place, at, is) = u.found (sym (ap (λ d. d.is_found) same) ∙ y) in (place, ap (λ d. d.root) same ∙ at, is)
-  found_later old u later y (inr (place, at, is)) = (place, at, told_equal (standing key order k place) is)
+  found_later old u later y (inr (place, at, is)) = (place, at, or_greater_equal (standing key order k place) is)
 
   pub goes_further : (old next : Route) (u : IsUnderWay v (λ q. standing key order k q) descent old) (later : Descent) → (low : Path) × (rest : Tree) × IsFollowed (λ q. order_of order (key q) (Some k)) next.places next.turns later.depth later.root (plug u.path u.rest) low rest → (later.is_found ≡ true → (later ≡ descent) ⊎ ((place : ℕ) × (later.root ≡ Some place) × (order_of order (key place) (Some k) ≡ Equal))) → IsUnderWay v (λ q. standing key order k q) later next
   goes_further old next u later (low, rest, f) found = record {

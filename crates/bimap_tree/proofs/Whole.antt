@@ -11,7 +11,7 @@ use Rattle.bimap_base.specs.Keyed.{standing, Ascends, Adds, Drops}
 use Rattle.bimap_base.proofs.Digits.{bits-least}
 use Rattle.bimap_tree.specs.Tree.{Tree, leaf, fork, reading, height, size, occurs, is_at, IsBalanced, IsDistinctTree, Stands, Shows}
 use Rattle.bimap_tree.specs.Index.{Index, IsIndex, IsBalancedIndex, IsWhole, index_of, tree_in}
-use Rattle.bimap_tree.specs.Order.{told, order_of, after_key, first_equal, IsSplit}
+use Rattle.bimap_tree.specs.Order.{or_greater, order_of, after_key, first_equal, IsSplit}
 use Rattle.bimap_tree.specs.Path.{Path, top, plug, front, back, Wants, CanPut, IsRisen}
 use Rattle.bimap_tree.specs.Remove.{CanTake, IsTaken}
 use Rattle.bimap_tree.specs.Route.{IsRoute, CanFollow, IsFollowed}
@@ -109,7 +109,7 @@ module _ (ns : List Node) (root : Option ℕ) (len : ℕ) (v : Index) (w : IsWho
   }
 
   -- the route that a search without success leaves
-  pub route_left : (t : Tree) → IsBalancedIndex v t → (standing : ℕ → Option Ordering) (route : Route) (found : Option ℕ) → found ≡ None → (low : Path) × (s : Tree) × IsFollowed (λ q. told (standing q)) route.places route.turns route.depth found t low s → IsRoute v standing route
+  pub route_left : (t : Tree) → IsBalancedIndex v t → (standing : ℕ → Option Ordering) (route : Route) (found : Option ℕ) → found ≡ None → (low : Path) × (s : Tree) × IsFollowed (λ q. or_greater (standing q)) route.places route.turns route.depth found t low s → IsRoute v standing route
   route_left t shown standing route found none (low, s, f) =
       let no : s ≡ leaf = no_root s (f.root_is ∙ none) in
       let is : t ≡ plug low leaf = sym f.whole ∙ ap (λ x. plug low x) no in
@@ -121,7 +121,7 @@ module _ (ns : List Node) (root : Option ℕ) (len : ℕ) (v : Index) (w : IsWho
         wants = f.wants;
       }
 
-  pub route_if_none : (t : Tree) → IsBalancedIndex v t → (standing : ℕ → Option Ordering) (route : Route) (found : Option ℕ) → (found ≡ None → (low : Path) × (s : Tree) × IsFollowed (λ q. told (standing q)) route.places route.turns route.depth found t low s) → IfNone found (IsRoute v standing route)
+  pub route_if_none : (t : Tree) → IsBalancedIndex v t → (standing : ℕ → Option Ordering) (route : Route) (found : Option ℕ) → (found ≡ None → (low : Path) × (s : Tree) × IsFollowed (λ q. or_greater (standing q)) route.places route.turns route.depth found t low s) → IfNone found (IsRoute v standing route)
   route_if_none t shown standing route None f = route_left t shown standing route None refl (f refl)
   route_if_none t shown standing route (Some p) f = tt
 
@@ -216,11 +216,11 @@ module _ (ns : List Node) (root : Option ℕ) (len : ℕ) (v : Index) (w : IsWho
         pub put_cells : length ms ≡ length v.nodes
         put_cells = done.1.same_length ∙ nodes_are
 
-        pub put_ascends : {K : Type 0} (key : ℕ → Option K) (order : K → K → Ordering) → IsTotalOrder order → Ascends key order v.places → (k : K) → key place ≡ Some k → ((q : ℕ) → told (standing q) ≡ order_of order (key q) (Some k)) → Ascends key order (reading (tree_in ms last))
+        pub put_ascends : {K : Type 0} (key : ℕ → Option K) (order : K → K → Ordering) → IsTotalOrder order → Ascends key order v.places → (k : K) → key place ≡ Some k → ((q : ℕ) → or_greater (standing q) ≡ order_of order (key q) (Some k)) → Ascends key order (reading (tree_in ms last))
         put_ascends key order total up k is same =
             let parts : Ascends key order (front r.path ++ back r.path) = subst (λ x. Ascends key order x) read_before up in
             let divided : IsSplit (λ q. order_of order (key q) (Some k)) (reading (plug r.path leaf)) = split key order total k (reading (plug r.path leaf)) (subst (λ x. Ascends key order x) (sym r.of_index.in_order) up) in
-            let wants : Wants (λ q. order_of order (key q) (Some k)) r.path = Wants-alike (λ q. told (standing q)) (λ q. order_of order (key q) (Some k)) r.path (λ q n. sym (same q)) r.wants in
+            let wants : Wants (λ q. order_of order (key q) (Some k)) r.path = Wants-alike (λ q. or_greater (standing q)) (λ q. order_of order (key q) (Some k)) r.path (λ q n. sym (same q)) r.wants in
             let (less, more) = beside (λ q. order_of order (key q) (Some k)) r.path leaf divided wants in
             subst (λ x. Ascends key order x) (sym (reads ∙ read_now))
             (ascends_with key order total (front r.path) (back r.path) place k is less more parts)

@@ -5,7 +5,7 @@ use Rattle.std.specs.declared.cmp.Ordering.TheVariants.{Equal}
 use Rattle.bimap_base.specs.declared.cells.Node.{Node}
 use Rattle.bimap_tree.specs.Tree.{Tree, root_of}
 use Rattle.bimap_tree.specs.Index.{Index, IsBalancedIndex, height_at}
-use Rattle.bimap_tree.specs.Order.{told}
+use Rattle.bimap_tree.specs.Order.{or_greater}
 use Rattle.bimap_tree.specs.Path.{Path, plug, steps, Follows, Wants}
 use Rattle.bimap_tree.specs.declared.descent.Descent.{Descent}
 use Rattle.bimap_tree.specs.declared.route.Route.{Route}
@@ -23,5 +23,5 @@ pub record IsUnderWay (index : Index) (standing : ℕ → Option Ordering) (desc
   pub root_is : root_of rest ≡ descent.root
   pub follows : Follows route.places route.turns path
   pub depth_is : descent.depth ≡ steps path
-  pub wants : Wants (λ q. told (standing q)) path
+  pub wants : Wants (λ q. or_greater (standing q)) path
   pub found : descent.is_found ≡ true → (place : ℕ) × (descent.root ≡ Some place) × (standing place ≡ Some Equal)

@@ -21,29 +21,29 @@ pub record IsBalancedIndex (index : Index) (t : Tree) : Type 0 where
   pub in_order : reading t ≡ index.places
 
 -- the height that the node at this root tells
-abbrev pub told_height : Option Node → ℕ
-told_height None = 0
-told_height (Some node) = node.height
+abbrev pub height_in : Option Node → ℕ
+height_in None = 0
+height_in (Some node) = node.height
 
 -- the height of the node at a root, 0 where there is none
 abbrev pub height_at : List Node → Option ℕ → ℕ
 height_at nodes None = 0
-height_at nodes (Some place) = told_height (slice_get nodes place)
+height_at nodes (Some place) = height_in (slice_get nodes place)
 
 -- the child that a node tells, if there is a node
-abbrev pub told_left : Option Node → Option ℕ
-told_left None = None
-told_left (Some node) = node.left
+abbrev pub left_in : Option Node → Option ℕ
+left_in None = None
+left_in (Some node) = node.left
 
-abbrev pub told_right : Option Node → Option ℕ
-told_right None = None
-told_right (Some node) = node.right
+abbrev pub right_in : Option Node → Option ℕ
+right_in None = None
+right_in (Some node) = node.right
 
 -- the tree that the nodes tell at this root, down to this many levels
 abbrev pub tree_at : List Node → ℕ → Option ℕ → Tree
 tree_at nodes zero root = leaf
 tree_at nodes (suc levels) None = leaf
-tree_at nodes (suc levels) (Some place) = fork (tree_at nodes levels (told_left (slice_get nodes place))) place (tree_at nodes levels (told_right (slice_get nodes place)))
+tree_at nodes (suc levels) (Some place) = fork (tree_at nodes levels (left_in (slice_get nodes place))) place (tree_at nodes levels (right_in (slice_get nodes place)))
 
 -- the tree that the nodes tell at this root
 unfoldable pub tree_in : List Node → Option ℕ → Tree

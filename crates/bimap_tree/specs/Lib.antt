@@ -5,7 +5,7 @@ pub mod Order
 pub mod Start
 pub mod Search
 pub mod Link
-pub mod Part
+pub mod RankedSubtree
 pub mod Path
 pub mod Route
 pub mod Descent

@@ -8,8 +8,8 @@ ghost use Rattle.bimap_tree.specs.Route.{CanFollow, IsFollowed};
 ghost use Rattle.bimap_tree.specs.Tree.{Tree, reading};
 
 use crate::link::child;
-use crate::route::{Route, route_under, turns_by_branch};
-use crate::steer::Steer;
+use crate::route::{Route, route_in_tree, turns_by_branch};
+use crate::search_key::SearchKey;
 use bimap_base::{Cell, Meter, Nodes};
 
 /// A search that is under way: it has come down to a place, or to where there is none.
@@ -37,16 +37,16 @@ impl Descent {
 }
 
 // Goes down a level and notes the way, unless the search is over. Answers whether it went.
-pub fn step_under<C: Cell, S: Steer, M: Meter>(
+pub fn step_in_tree<C: Cell, S: SearchKey, M: Meter>(
     cells: &Nodes<C>,
-    steer: &S,
+    sought: &S,
     descent: &mut Descent,
     route: &mut Route,
     meter: &mut M,
 ) -> bool
-    requires { (path : Path) × (s : Tree) × CanFollow cells.now descent.old.root (S.live steer.now) (S.go steer.now) route.old.places route.old.turns descent.old.depth path s }
-    ensures goes { (path : Path) (s : Tree) → CanFollow cells.now descent.old.root (S.live steer.now) (S.go steer.now) route.old.places route.old.turns descent.old.depth path s → (low : Path) × (e : Tree) × IsFollowed (S.go steer.now) route.new.places route.new.turns descent.new.depth descent.new.root (plug path s) low e }
-    ensures found { descent.new.is_found ≡ true → (descent.new ≡ descent.old) ⊎ ((place : ℕ) × (descent.new.root ≡ Some place) × (S.go steer.now place ≡ Equal)) }
+    requires { (path : Path) × (s : Tree) × CanFollow cells.now descent.old.root (S.live sought.now) (S.go sought.now) route.old.places route.old.turns descent.old.depth path s }
+    ensures goes { (path : Path) (s : Tree) → CanFollow cells.now descent.old.root (S.live sought.now) (S.go sought.now) route.old.places route.old.turns descent.old.depth path s → (low : Path) × (e : Tree) × IsFollowed (S.go sought.now) route.new.places route.new.turns descent.new.depth descent.new.root (plug path s) low e }
+    ensures found { descent.new.is_found ≡ true → (descent.new ≡ descent.old) ⊎ ((place : ℕ) × (descent.new.root ≡ Some place) × (S.go sought.now place ≡ Equal)) }
     ensures went { result ≡ true → levels_left cells.now descent.new < levels_left cells.now descent.old }
     ensures comparisons { M.comparisons meter.new + levels_left cells.now descent.new ≤ M.comparisons meter.old + levels_left cells.now descent.old }
     ensures touches { M.touches meter.new + levels_left cells.now descent.new ≤ M.touches meter.old + levels_left cells.now descent.old }
@@ -59,7 +59,7 @@ pub fn step_under<C: Cell, S: Steer, M: Meter>(
         return false;
     };
     let node = cells.read(at, meter);
-    let side = steer.side(at, meter);
+    let side = sought.side(at, meter);
     if side.is_eq() {
         descent.is_found = true;
         return false;
@@ -72,22 +72,22 @@ pub fn step_under<C: Cell, S: Steer, M: Meter>(
 }
 
 // Goes all the way down from where the search has come, noting the way, and answers the place there.
-pub fn finish_under<C: Cell, S: Steer, M: Meter>(
+pub fn finish_in_tree<C: Cell, S: SearchKey, M: Meter>(
     cells: &Nodes<C>,
-    steer: &S,
+    sought: &S,
     descent: Descent,
     route: &mut Route,
     meter: &mut M,
 ) -> Option<usize>
-    requires follows { (path : Path) × (s : Tree) × CanFollow cells.now descent.root (S.live steer.now) (S.go steer.now) route.old.places route.old.turns descent.depth path s }
-    requires over { descent.is_found ≡ true → (place : ℕ) × (descent.root ≡ Some place) × (S.go steer.now place ≡ Equal) }
-    ensures found { (path : Path) (s : Tree) → CanFollow cells.now descent.root (S.live steer.now) (S.go steer.now) route.old.places route.old.turns descent.depth path s → result ≡ first_equal (S.go steer.now) (reading s) }
-    ensures follows { (path : Path) (s : Tree) → CanFollow cells.now descent.root (S.live steer.now) (S.go steer.now) route.old.places route.old.turns descent.depth path s → result ≡ None → (low : Path) × (e : Tree) × IsFollowed (S.go steer.now) route.new.places route.new.turns route.new.depth result (plug path s) low e }
+    requires follows { (path : Path) × (s : Tree) × CanFollow cells.now descent.root (S.live sought.now) (S.go sought.now) route.old.places route.old.turns descent.depth path s }
+    requires over { descent.is_found ≡ true → (place : ℕ) × (descent.root ≡ Some place) × (S.go sought.now place ≡ Equal) }
+    ensures found { (path : Path) (s : Tree) → CanFollow cells.now descent.root (S.live sought.now) (S.go sought.now) route.old.places route.old.turns descent.depth path s → result ≡ first_equal (S.go sought.now) (reading s) }
+    ensures follows { (path : Path) (s : Tree) → CanFollow cells.now descent.root (S.live sought.now) (S.go sought.now) route.old.places route.old.turns descent.depth path s → result ≡ None → (low : Path) × (e : Tree) × IsFollowed (S.go sought.now) route.new.places route.new.turns route.new.depth result (plug path s) low e }
     ensures comparisons { M.comparisons meter.new ≤ M.comparisons meter.old + levels_left cells.now descent }
     ensures touches { M.touches meter.new ≤ M.touches meter.old + levels_left cells.now descent }
 {
     if descent.is_found {
         return descent.root;
     }
-    route_under(cells, descent.root, descent.depth, steer, route, meter)
+    route_in_tree(cells, descent.root, descent.depth, sought, route, meter)
 }

@@ -2,16 +2,16 @@
 #![tactic(auto)]
 
 mod batch;
+mod by_width;
 mod descent;
-mod forms;
 mod link;
 mod ordered;
 mod remove;
 mod rise;
 mod route;
 mod search;
+mod search_key;
 mod span;
-mod steer;
 mod walk;
 
 pub use batch::Batch;

@@ -12,13 +12,13 @@ ghost use Rattle.bimap_tree.specs.Index.{IsBalancedIndex};
 ghost use Rattle.bimap_tree.specs.Route.{IsRoute};
 ghost use Rattle.bimap_tree.specs.Start.{IsStart};
 
-use crate::descent::Descent;
-use crate::forms::{
-    fill_around, find_under, finish_under, place_under, put_at, rank_under, route_under,
-    step_under, take_at,
+use crate::by_width::{
+    fill_around, find_in_tree, finish_in_tree, place_in_tree, put_at, rank_in_tree, route_in_tree,
+    step_in_tree, take_at,
 };
+use crate::descent::Descent;
 use crate::route::Route;
-use crate::steer::{AfterKey, ToKey, ToPlace};
+use crate::search_key::{AfterKey, ToKey, ToPlace};
 use bimap_base::{Cells, Keys, Meter, NoMemory};
 use std::alloc::Global;
 use std::marker::Model;
@@ -39,7 +39,7 @@ impl Model for Ordered {
 
     ghost Value = { Index };
 
-    ghost use Rattle.bimap_base.specs.Packed.{nodes_in};
+    ghost use Rattle.bimap_base.specs.NodesInCells.{nodes_in};
 
     ghost view = { λ o. index_of (nodes_in o.cells) o.root };
 
@@ -102,7 +102,7 @@ impl Ordered {
         ensures comparisons { M.comparisons meter.new ≤ M.comparisons meter.old + most_height (length self.now.places) }
         ensures touches { M.touches meter.new ≤ M.touches meter.old + most_height (length self.now.places) }
     {
-        find_under(&self.cells, self.root, &ToKey { keys, key }, meter)
+        find_in_tree(&self.cells, self.root, &ToKey { keys, key }, meter)
     }
 
     /// The same as `find`. Where no key is equal, the route leads to where a place with this key would stand.
@@ -147,7 +147,7 @@ impl Ordered {
         ensures comparisons { M.comparisons meter.new + levels_left self.now.nodes descent.new ≤ M.comparisons meter.old + levels_left self.now.nodes descent.old }
         ensures touches { M.touches meter.new + levels_left self.now.nodes descent.new ≤ M.touches meter.old + levels_left self.now.nodes descent.old }
     {
-        step_under(&self.cells, &ToKey { keys, key }, descent, route, meter)
+        step_in_tree(&self.cells, &ToKey { keys, key }, descent, route, meter)
     }
 
     /// Goes all the way down from where the search has come. It answers as `find_route` does.
@@ -167,7 +167,7 @@ impl Ordered {
         ensures comparisons { M.comparisons meter.new ≤ M.comparisons meter.old + levels_left self.now.nodes descent }
         ensures touches { M.touches meter.new ≤ M.touches meter.old + levels_left self.now.nodes descent }
     {
-        finish_under(&self.cells, &ToKey { keys, key }, descent, route, meter)
+        finish_in_tree(&self.cells, &ToKey { keys, key }, descent, route, meter)
     }
 
     /// Lists a place, at the end of its key's route: no comparison, time logarithmic in the length, and no memory.
@@ -212,7 +212,7 @@ impl Ordered {
     {
         let _ = self.cells.places();
         let mut route = Route::new();
-        let _ = route_under(
+        let _ = route_in_tree(
             &self.cells,
             self.root,
             0,
@@ -236,7 +236,7 @@ impl Ordered {
         ensures touches { M.touches meter.new ≤ M.touches meter.old + 64 * (most_height (length self.old.places) + 1) }
     {
         let mut route = Route::new();
-        let _ = route_under(
+        let _ = route_in_tree(
             &self.cells,
             self.root,
             0,
@@ -267,7 +267,7 @@ impl Ordered {
         ensures touches { M.touches meter.new ≤ M.touches meter.old + 64 * (most_height (length self.old.places) + 1) }
     {
         let mut route = Route::new();
-        let found = route_under(
+        let found = route_in_tree(
             &self.cells,
             self.root,
             0,
@@ -294,8 +294,13 @@ impl Ordered {
     {
         match bound {
             Bound::Unbounded => 0,
-            Bound::Included(key) => rank_under(&self.cells, self.root, &ToKey { keys, key }, meter),
-            Bound::Excluded(key) => rank_under(
+            Bound::Included(key) => rank_in_tree(
+                &self.cells,
+                self.root,
+                &ToKey { keys, key },
+                meter,
+            ),
+            Bound::Excluded(key) => rank_in_tree(
                 &self.cells,
                 self.root,
                 &AfterKey { keys, key },
@@ -311,7 +316,7 @@ impl Ordered {
         ensures comparisons { M.comparisons meter.new ≡ M.comparisons meter.old }
         ensures touches { M.touches meter.new ≤ M.touches meter.old + 2 * most_height (length self.now.places) }
     {
-        place_under(&self.cells, self.root, rank, meter)
+        place_in_tree(&self.cells, self.root, rank, meter)
     }
 
     /// Puts the places of some ranks in a row into a buffer, with this rank among them, and answers the first of these ranks and

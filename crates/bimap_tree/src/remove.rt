@@ -10,7 +10,7 @@ use crate::route::Route;
 use bimap_base::{Cell, Meter, Nodes};
 
 // Notes the way down to a tree's first place, and answers that place and its depth.
-fn first_under<C: Cell, M: Meter>(
+fn first_in_tree<C: Cell, M: Meter>(
     cells: &Nodes<C>,
     at: usize,
     depth: usize,
@@ -54,7 +54,7 @@ pub fn take_at<C: Cell, M: Meter>(
         let child = measure(cells, node.left, meter);
         return rise(cells, route, depth, child, node.height, false, meter);
     };
-    let (first, low) = first_under(cells, right, depth + 1, route, meter);
+    let (first, low) = first_in_tree(cells, right, depth + 1, route, meter);
     let last = cells.read(first, meter);
     let rest = measure(cells, last.right, meter);
     cells.write(first, node, meter);

@@ -8,7 +8,7 @@ ghost use Rattle.bimap_tree.specs.Path.{Path, plug};
 ghost use Rattle.bimap_tree.specs.Route.{CanFollow, IsFollowed, IsRoute};
 
 use crate::link::child;
-use crate::steer::Steer;
+use crate::search_key::SearchKey;
 use bimap_base::{Cell, Meter, Nodes};
 
 /// The way that a search went down an index: at each depth a place, and whether the way goes on to its right.
@@ -67,22 +67,22 @@ const FAR: usize = 16_384;
 // Whether a turn to the right is a branch with an exit, of which the compiler makes no select: in a large tree, unless a key
 // is no wider than a word. A processor guesses the turn, and reads the next node while it awaits the keys. To compare keys of
 // a word takes no pointer, and wrong guesses cost more than the wait.
-pub fn turns_by_branch<C: Cell, S: Steer>(cells: &Nodes<C>) -> bool {
+pub fn turns_by_branch<C: Cell, S: SearchKey>(cells: &Nodes<C>) -> bool {
     S::has_wide_keys() && cells.places() >= FAR
 }
 
 // Goes on down to what is sought, noting the way, and answers the place there.
-pub fn route_under<C: Cell, S: Steer, M: Meter>(
+pub fn route_in_tree<C: Cell, S: SearchKey, M: Meter>(
     cells: &Nodes<C>,
     root: Option<usize>,
     depth: usize,
-    steer: &S,
+    sought: &S,
     route: &mut Route,
     meter: &mut M,
 ) -> Option<usize>
-    requires { (path : Path) × (s : Tree) × CanFollow cells.now root (S.live steer.now) (S.go steer.now) route.old.places route.old.turns depth path s }
-    ensures found { (path : Path) (s : Tree) → CanFollow cells.now root (S.live steer.now) (S.go steer.now) route.old.places route.old.turns depth path s → result ≡ first_equal (S.go steer.now) (reading s) }
-    ensures follows { (path : Path) (s : Tree) → CanFollow cells.now root (S.live steer.now) (S.go steer.now) route.old.places route.old.turns depth path s → (low : Path) × (e : Tree) × IsFollowed (S.go steer.now) route.new.places route.new.turns route.new.depth result (plug path s) low e }
+    requires { (path : Path) × (s : Tree) × CanFollow cells.now root (S.live sought.now) (S.go sought.now) route.old.places route.old.turns depth path s }
+    ensures found { (path : Path) (s : Tree) → CanFollow cells.now root (S.live sought.now) (S.go sought.now) route.old.places route.old.turns depth path s → result ≡ first_equal (S.go sought.now) (reading s) }
+    ensures follows { (path : Path) (s : Tree) → CanFollow cells.now root (S.live sought.now) (S.go sought.now) route.old.places route.old.turns depth path s → (low : Path) × (e : Tree) × IsFollowed (S.go sought.now) route.new.places route.new.turns route.new.depth result (plug path s) low e }
     ensures comparisons { (s : Tree) → Stands cells.now root s → M.comparisons meter.new ≤ M.comparisons meter.old + height s }
     ensures touches { (s : Tree) → Stands cells.now root s → M.touches meter.new ≤ M.touches meter.old + height s }
 {
@@ -91,7 +91,7 @@ pub fn route_under<C: Cell, S: Steer, M: Meter>(
     let mut depth = depth;
     while let Some(at) = root {
         let node = cells.read(at, meter);
-        let side = steer.side(at, meter);
+        let side = sought.side(at, meter);
         if side.is_eq() {
             break;
         }

@@ -6,18 +6,18 @@ ghost use Rattle.bimap_tree.specs.Order.{first_equal, count_below};
 
 use crate::link::{child, measure};
 use crate::route::turns_by_branch;
-use crate::steer::Steer;
+use crate::search_key::SearchKey;
 use bimap_base::{Cell, Meter, Nodes};
 
 // The place with the key sought.
-pub fn find_under<C: Cell, S: Steer, M: Meter>(
+pub fn find_in_tree<C: Cell, S: SearchKey, M: Meter>(
     cells: &Nodes<C>,
     root: Option<usize>,
-    steer: &S,
+    sought: &S,
     meter: &mut M,
 ) -> Option<usize>
-    requires { (t : Tree) × CanSeek cells.now root (S.live steer.now) (S.go steer.now) t }
-    ensures found { (t : Tree) → CanSeek cells.now root (S.live steer.now) (S.go steer.now) t → result ≡ first_equal (S.go steer.now) (reading t) }
+    requires { (t : Tree) × CanSeek cells.now root (S.live sought.now) (S.go sought.now) t }
+    ensures found { (t : Tree) → CanSeek cells.now root (S.live sought.now) (S.go sought.now) t → result ≡ first_equal (S.go sought.now) (reading t) }
     ensures comparisons { (t : Tree) → Stands cells.now root t → M.comparisons meter.new ≤ M.comparisons meter.old + height t }
     ensures touches { (t : Tree) → Stands cells.now root t → M.touches meter.new ≤ M.touches meter.old + height t }
 {
@@ -25,7 +25,7 @@ pub fn find_under<C: Cell, S: Steer, M: Meter>(
     let mut root = root;
     while let Some(at) = root {
         let node = cells.read(at, meter);
-        let side = steer.side(at, meter);
+        let side = sought.side(at, meter);
         if side.is_eq() {
             return Some(at);
         }
@@ -43,7 +43,7 @@ pub fn find_under<C: Cell, S: Steer, M: Meter>(
 }
 
 // The place at a rank.
-pub fn place_under<C: Cell, M: Meter>(
+pub fn place_in_tree<C: Cell, M: Meter>(
     cells: &Nodes<C>,
     root: Option<usize>,
     rank: usize,
@@ -73,14 +73,14 @@ pub fn place_under<C: Cell, M: Meter>(
 }
 
 // How many places of the tree are below the key sought.
-pub fn rank_under<C: Cell, S: Steer, M: Meter>(
+pub fn rank_in_tree<C: Cell, S: SearchKey, M: Meter>(
     cells: &Nodes<C>,
     root: Option<usize>,
-    steer: &S,
+    sought: &S,
     meter: &mut M,
 ) -> usize
-    requires { (t : Tree) × CanSeek cells.now root (S.live steer.now) (S.go steer.now) t }
-    ensures rank { (t : Tree) → CanSeek cells.now root (S.live steer.now) (S.go steer.now) t → result ≡ count_below (S.go steer.now) (reading t) }
+    requires { (t : Tree) × CanSeek cells.now root (S.live sought.now) (S.go sought.now) t }
+    ensures rank { (t : Tree) → CanSeek cells.now root (S.live sought.now) (S.go sought.now) t → result ≡ count_below (S.go sought.now) (reading t) }
     ensures comparisons { (t : Tree) → Stands cells.now root t → M.comparisons meter.new ≤ M.comparisons meter.old + height t }
     ensures touches { (t : Tree) → Stands cells.now root t → M.touches meter.new ≤ M.touches meter.old + 2 * height t }
 {
@@ -88,7 +88,7 @@ pub fn rank_under<C: Cell, S: Steer, M: Meter>(
     let mut rank = 0;
     while let Some(at) = root {
         let node = cells.read(at, meter);
-        let is_below = steer.side(at, meter).is_lt();
+        let is_below = sought.side(at, meter).is_lt();
         if is_below {
             rank += measure(cells, node.left, meter).size + 1;
         }

@@ -2,14 +2,14 @@
 ghost use Rattle.std.specs.Prelude.{◌≡◌, ℕ, ◌+◌, ◌*◌, ◌<◌, ◌≤◌, ◌^◌, ◌++◌, ◌∷◌, Some, length};
 ghost use Rattle.bimap_base.specs.declared.cells.Node.{Node};
 ghost use Rattle.bimap_tree.specs.Filled.{CanFill, IsFilled, IsRow, place_in};
-ghost use Rattle.bimap_tree.specs.Part.{IsPart};
+ghost use Rattle.bimap_tree.specs.RankedSubtree.{IsRankedSubtree};
 ghost use Rattle.bimap_tree.specs.Tree.{Tree, Stands, IsBalanced, node_of, height, size, reading};
 
 use bimap_base::{Cell, Meter, Node, Nodes};
 
-// A tree of the index, whose first place has the rank `start`, with the place before its places and the one behind them.
+// A subtree of the index, whose first place has the rank `start`, with the place before its places and the one behind them.
 #[derive(Clone, Copy)]
-pub struct Part {
+pub struct RankedSubtree {
     start: usize,
     before: Option<usize>,
     behind: Option<usize>,
@@ -91,55 +91,55 @@ fn fill_high<C: Cell, M: Meter>(
 }
 
 // Goes down to a tree of few places, among which, with the one before it and the one behind it, is the one at a rank.
-fn part_around<C: Cell, M: Meter>(
+fn subtree_around<C: Cell, M: Meter>(
     cells: &Nodes<C>,
     root: Option<usize>,
     rank: usize,
     most: usize,
     meter: &mut M,
-) -> Part
+) -> RankedSubtree
     requires tree { (t : Tree) × Stands cells.now root t × IsBalanced t × (rank < size t) × (size t < 2 ^ 64) }
     requires most { 2 ≤ most }
-    ensures part { (t : Tree) → Stands cells.now root t → IsBalanced t → rank < size t → (s : Tree) × IsPart cells.now (reading t) rank result s × (M.touches meter.new + 2 * height s ≤ M.touches meter.old + 2 * height t + 1) }
+    ensures subtree { (t : Tree) → Stands cells.now root t → IsBalanced t → rank < size t → (s : Tree) × IsRankedSubtree cells.now (reading t) rank result s × (M.touches meter.new + 2 * height s ≤ M.touches meter.old + 2 * height t + 1) }
     ensures few { result.node.size ≤ most }
     ensures comparisons { M.comparisons meter.new ≡ M.comparisons meter.old }
 {
     let Some(at) = root else {
         unreachable!();
     };
-    let mut part = Part {
+    let mut subtree = RankedSubtree {
         start: 0,
         before: None,
         behind: None,
         at,
         node: cells.read(at, meter),
     };
-    while part.node.size > most {
-        let (Some(left), Some(right)) = (part.node.left, part.node.right) else {
+    while subtree.node.size > most {
+        let (Some(left), Some(right)) = (subtree.node.left, subtree.node.right) else {
             unreachable!();
         };
         let left_node = cells.read(left, meter);
-        let middle = part.start + left_node.size;
+        let middle = subtree.start + left_node.size;
         if rank < middle {
-            part = Part {
-                start: part.start,
-                before: part.before,
-                behind: Some(part.at),
+            subtree = RankedSubtree {
+                start: subtree.start,
+                before: subtree.before,
+                behind: Some(subtree.at),
                 at: left,
                 node: left_node,
             };
         } else {
             let right_node = cells.read(right, meter);
-            part = Part {
+            subtree = RankedSubtree {
                 start: middle + 1,
-                before: Some(part.at),
-                behind: part.behind,
+                before: Some(subtree.at),
+                behind: subtree.behind,
                 at: right,
                 node: right_node,
             };
         }
     }
-    part
+    subtree
 }
 
 // Puts the places of some ranks in a row into a buffer, this rank among them, and answers the first of these ranks and how many they are. They are those of a tree, the place before it and the one behind it, so that few branches are wrongly guessed.
@@ -159,9 +159,9 @@ pub fn fill_around<C: Cell, M: Meter>(
     ensures comparisons { M.comparisons meter.new ≡ M.comparisons meter.old }
     ensures touches { (t : Tree) → Stands cells.now root t → IsBalanced t → rank < size t → M.touches meter.new ≤ M.touches meter.old + 60 + 2 * height t }
 {
-    let part = part_around(cells, root, rank, most, meter);
-    let first = put(buffer, 0, part.before);
-    fill_tree(cells, part.at, part.node, buffer, first, meter);
-    let count = put(buffer, first + part.node.size, part.behind);
-    (part.start - first, count)
+    let subtree = subtree_around(cells, root, rank, most, meter);
+    let first = put(buffer, 0, subtree.before);
+    fill_tree(cells, subtree.at, subtree.node, buffer, first, meter);
+    let count = put(buffer, first + subtree.node.size, subtree.behind);
+    (subtree.start - first, count)
 }

@@ -3,30 +3,27 @@ ghost use Rattle.std.specs.Prelude.{◌≡◌};
 ghost use Rattle.std.specs.Map.Iter.{GivesInOrder};
 ghost use Rattle.bimap_base.specs.Places.{pairs_in};
 
-use crate::along;
-use crate::owned::Owned;
 use crate::places::{ByPlace, PlacesLeft};
-use crate::walked::Walked;
 use bimap_base::Pairs;
 
 /// An iterator over the pairs by place, each as `(&L, &R)`. A whole one takes time proportional to the number of
 /// places.
-pub type Iter<'a, L, R> = along::Iter<'a, L, R, ByPlace>;
+pub type Iter<'a, L, R> = crate::iter::Iter<'a, L, R, ByPlace>;
 
 /// An iterator over the lefts by place.
-pub type LeftValues<'a, L, R> = along::LeftValues<'a, L, R, ByPlace>;
+pub type LeftValues<'a, L, R> = crate::values::LeftValues<'a, L, R, ByPlace>;
 
 /// An iterator over the rights by place.
-pub type RightValues<'a, L, R> = along::RightValues<'a, L, R, ByPlace>;
+pub type RightValues<'a, L, R> = crate::values::RightValues<'a, L, R, ByPlace>;
 
 /// An owning iterator over the pairs by place.
-pub type IntoIter<L, R> = along::IntoIter<L, R, ByPlace>;
+pub type IntoIter<L, R> = crate::into_iter::IntoIter<L, R, ByPlace>;
 
 /// Returns an iterator over the pairs by place.
 pub fn iter<'a, L, R>(pairs: &'a Pairs<L, R>) -> Iter<'a, L, R>
     ensures { result ≡ pairs_in pairs.now }
 {
-    Walked::new(pairs, &ByPlace, PlacesLeft::new(pairs))
+    Iter::new(pairs, &ByPlace, PlacesLeft::new(pairs))
 }
 
 /// Returns an owning iterator over the pairs by place.
@@ -35,5 +32,5 @@ pub fn into_iter<L: Drop, R: Drop>(pairs: Pairs<L, R>) -> IntoIter<L, R>
     ensures runs { GivesInOrder (L × R) }
 {
     let cursor = PlacesLeft::new(&pairs);
-    Owned::new(pairs, ByPlace, cursor)
+    IntoIter::new(pairs, ByPlace, cursor)
 }

@@ -8,23 +8,20 @@ ghost use Rattle.bimap_base.specs.Keyed.{Ascends};
 ghost use Rattle.bimap_base.specs.PairsAt.{pairs_at};
 ghost use Rattle.bimap_base.specs.Slots.{IsLive, pair_at};
 
-use crate::along;
-use crate::owned::Owned;
-use crate::part::Part;
-use crate::walked::Walked;
+use crate::projection::Projection;
 use crate::window::Window;
 use bimap_base::{Keys, Meter, Pairs};
 use bimap_tree::{Ordered, Span};
 use std::ops::RangeBounds;
 
 /// An iterator over the pairs in the order of an index, each as `(&L, &R)`. A step takes one descent at most.
-pub type Iter<'a, L, R> = along::Iter<'a, L, R, Ordered>;
+pub type Iter<'a, L, R> = crate::iter::Iter<'a, L, R, Ordered>;
 
 /// An iterator over the lefts in the order of an index.
-pub type LeftValues<'a, L, R> = along::LeftValues<'a, L, R, Ordered>;
+pub type LeftValues<'a, L, R> = crate::values::LeftValues<'a, L, R, Ordered>;
 
 /// An iterator over the rights in the order of an index.
-pub type RightValues<'a, L, R> = along::RightValues<'a, L, R, Ordered>;
+pub type RightValues<'a, L, R> = crate::values::RightValues<'a, L, R, Ordered>;
 
 /// An iterator over the pairs whose left lies in a range, in the order of an index.
 pub type LeftRange<'a, L, R> = Iter<'a, L, R>;
@@ -33,23 +30,31 @@ pub type LeftRange<'a, L, R> = Iter<'a, L, R>;
 pub type RightRange<'a, L, R> = Iter<'a, L, R>;
 
 /// An owning iterator over the pairs in the order of an index.
-pub type IntoIter<L, R> = along::IntoIter<L, R, Ordered>;
+pub type IntoIter<L, R> = crate::into_iter::IntoIter<L, R, Ordered>;
 
 /// Returns an iterator over the pairs at the listed places, in the order of the index.
 pub fn iter<'a, L, R>(pairs: &'a Pairs<L, R>, index: &'a Ordered) -> Iter<'a, L, R>
     requires live { All (IsLive pairs.now) index.now.places }
     ensures { result ≡ pairs_at pairs.now index.now.places }
 {
-    Walked::new(pairs, index, Window::whole(index))
+    Iter::new(pairs, index, Window::whole(index))
 }
 
-/// Returns an iterator over the pairs of which one part lies in a range, in the order of the index that goes by it.
+/// Returns an iterator over the pairs whose projection lies in a range, in the order of the index that goes by it.
 ///
 /// It makes two searches. A range that ends before it starts has no pair.
-pub fn range<'a, L, R, P: Part<L, R>, K: Keys<Key = P::Value>, A: RangeBounds<P::Value>, M: Meter>(
+pub fn range<
+    'a,
+    L,
+    R,
+    P: Projection<L, R>,
+    K: Keys<Key = P::Value>,
+    A: RangeBounds<P::Value>,
+    M: Meter,
+>(
     pairs: &'a Pairs<L, R>,
     index: &'a Ordered,
-    _part: P,
+    _projection: P,
     keys: &K,
     range: &A,
     meter: &mut M,
@@ -64,7 +69,7 @@ pub fn range<'a, L, R, P: Part<L, R>, K: Keys<Key = P::Value>, A: RangeBounds<P:
 {
     let span = Span::of(index, keys, range, meter);
     let window = Window::new(index, span.front, span.back);
-    Walked::new(pairs, index, window)
+    Iter::new(pairs, index, window)
 }
 
 /// Returns an owning iterator over the pairs, in the order of the index.
@@ -75,5 +80,5 @@ pub fn into_iter<L: Drop, R: Drop>(pairs: Pairs<L, R>, index: Ordered) -> IntoIt
     ensures runs_back { GivesInReverse (L × R) }
 {
     let window = Window::whole(&index);
-    Owned::new(pairs, index, window)
+    IntoIter::new(pairs, index, window)
 }

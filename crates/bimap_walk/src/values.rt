@@ -5,19 +5,25 @@ ghost use Rattle.std.specs.Iterator.SizeHint.{IsWithinCount};
 ghost use Rattle.std.specs.Map.Iter.{TakesFirst, TakesLast, deref};
 
 use crate::course::{Course, CourseBack};
-use crate::part::Part;
-use crate::walked::Walked;
+use crate::iter::Iter;
+use crate::projection::{LeftProjection, Projection, RightProjection};
 use std::alloc::AllocError;
 use std::marker::{Model, PhantomData};
 
-/// An iterator over one part of each pair along a course.
+/// An iterator over the lefts or the rights of the pairs along a course.
 #[derive(Drop)]
-pub struct Values<'a, L, R, C: Course, P: Part<L, R>> {
-    pairs: Walked<'a, L, R, C>,
-    part: PhantomData<P>,
+pub struct Values<'a, L, R, C: Course, P: Projection<L, R>> {
+    pairs: Iter<'a, L, R, C>,
+    projection: PhantomData<P>,
 }
 
-impl<'a, L, R, C: Course, P: Part<L, R>> Model for Values<'a, L, R, C, P> {
+/// An iterator over the lefts along a course.
+pub type LeftValues<'a, L, R, C> = Values<'a, L, R, C, LeftProjection>;
+
+/// An iterator over the rights along a course.
+pub type RightValues<'a, L, R, C> = Values<'a, L, R, C, RightProjection>;
+
+impl<'a, L, R, C: Course, P: Projection<L, R>> Model for Values<'a, L, R, C, P> {
     ghost use Rattle.std.specs.Prelude.{List, map};
 
     ghost Value = { List P.Value };
@@ -25,14 +31,14 @@ impl<'a, L, R, C: Course, P: Part<L, R>> Model for Values<'a, L, R, C, P> {
     ghost view = { λ v. map P.of v.pairs };
 }
 
-impl<'a, L, R, C: Course, P: Part<L, R>> Values<'a, L, R, C, P> {
-    /// Returns an iterator over this part of the pairs that an iterator has left.
-    pub fn new(pairs: Walked<'a, L, R, C>) -> Self
+impl<'a, L, R, C: Course, P: Projection<L, R>> Values<'a, L, R, C, P> {
+    /// Returns an iterator over the lefts or the rights of the pairs that an iterator has left.
+    pub fn new(pairs: Iter<'a, L, R, C>) -> Self
         ensures { result ≡ map P.of pairs.entry }
     {
         Values {
             pairs,
-            part: PhantomData,
+            projection: PhantomData,
         }
     }
 
@@ -44,7 +50,7 @@ impl<'a, L, R, C: Course, P: Part<L, R>> Values<'a, L, R, C, P> {
     }
 }
 
-impl<'a, L, R, C: Course, P: Part<L, R>> Iterator for Values<'a, L, R, C, P>
+impl<'a, L, R, C: Course, P: Projection<L, R>> Iterator for Values<'a, L, R, C, P>
 where
     P::Value: 'a,
 {
@@ -68,7 +74,7 @@ where
     }
 }
 
-impl<'a, L, R, C: CourseBack, P: Part<L, R>> DoubleEndedIterator for Values<'a, L, R, C, P>
+impl<'a, L, R, C: CourseBack, P: Projection<L, R>> DoubleEndedIterator for Values<'a, L, R, C, P>
 where
     P::Value: 'a,
 {
@@ -79,7 +85,7 @@ where
     }
 }
 
-impl<'a, L, R, C: Course, P: Part<L, R>> Clone for Values<'a, L, R, C, P> {
+impl<'a, L, R, C: Course, P: Projection<L, R>> Clone for Values<'a, L, R, C, P> {
     ghost is_clone = { λ s r. r ≡ s };
 
     ghost is_infallible = { λ _. ⊤ };

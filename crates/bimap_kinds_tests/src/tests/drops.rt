@@ -75,7 +75,7 @@ fn undone<B: Bijection<Counted, Counted>>(
     Ok(())
 }
 
-// Keeps some of the pairs, packs them, clears them away and goes on.
+// Keeps some of the pairs, compacts them, clears them away and goes on.
 fn cleared<B: Kind<Counted, Counted>>(
     rt: &impl Abort,
     bimap: &mut B,

@@ -1,7 +1,7 @@
 use Rattle.std.proofs.Common.{arith, length, map, ap, ◌≤◌, ◌∙◌}
 use Rattle.std.proofs.lemmas.List.{length-map, take_all}
-use Rattle.bimap_base.specs.Packed.{narrow_node, wide_node}
-use Rattle.bimap_base.proofs.Packs.{get-mapped, get-resized}
+use Rattle.bimap_base.specs.NodesInCells.{narrow_node, wide_node}
+use Rattle.bimap_base.proofs.NodesInCells.{get-mapped, get-resized}
 use Rattle.bimap_base.proofs.cells.widened.Goals as goal
 
 pub returns-clause-kept : goal.returns-clause-kept

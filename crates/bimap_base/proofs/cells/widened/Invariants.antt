@@ -1,6 +1,6 @@
 use Rattle.std.proofs.Common.{◌≡◌, ◌≤◌, length, map, take}
 use Rattle.std.specs.Prelude.{vec_capacity}
-use Rattle.bimap_base.specs.Packed.{narrow_node, wide_node}
+use Rattle.bimap_base.specs.NodesInCells.{narrow_node, wide_node}
 use Rattle.bimap_base.proofs.cells.widened.Given as goal
 
 abbrev pub invariant-loop-cell : goal.invariant-loop-cell

@@ -1,11 +1,11 @@
 use Rattle.std.proofs.Common.{◌≡◌, ◌-◌, vec_len}
 use Rattle.std.specs.Vec.{vec_capacity}
-use Rattle.bimap_plain.proofs.Keeping.{Going}
+use Rattle.bimap_plain.proofs.Keeping.{IsTestedUpTo}
 use Rattle.bimap_plain.proofs.changes.keep.Given as goal
 
 abbrev pub invariant-loop-kept : goal.invariant-loop-kept
 invariant-loop-kept g l = record {
-  going : Going g.F.FnMut l.fn.f l.f l.fn.pairs.items l.pairs.items l.kept;
+  so_far : IsTestedUpTo g.F.FnMut l.fn.f l.f l.fn.pairs.items l.pairs.items l.kept;
   capacity : vec_capacity l.pairs ≡ vec_capacity l.fn.pairs;
 }
 

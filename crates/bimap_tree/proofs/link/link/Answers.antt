@@ -1,5 +1,5 @@
 use Rattle.std.proofs.Common.{arith, sym, subst, length}
-use Rattle.bimap_base.specs.Packed.{IsThere}
+use Rattle.bimap_base.specs.NodesInCells.{IsThere}
 use Rattle.bimap_tree.proofs.Branch.{told_there}
 use Rattle.bimap_tree.proofs.Heights.{height_below_size}
 use Rattle.bimap_tree.proofs.link.link.Goals as goal

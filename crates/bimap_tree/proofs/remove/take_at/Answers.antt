@@ -52,25 +52,25 @@ returns-in_default-clause-touches g c path l r h = omega (arith, h.depth_is, c.d
 pub overflow_add-depth : goal.overflow_add-depth
 overflow_add-depth g c = omega (arith, c.depth-depth.ensures, depth_few _ _ _ _ _ _ c.requires.3)
 
-pub first_under-first-requires : goal.first_under-first-requires
-first_under-first-requires g c = (_, can_descend _ _ _ _ _ _ c.requires.3 _ c.read-node.ensures.node _ c.in-Some.is _ c.depth-depth.ensures)
+pub first_in_tree-first-requires : goal.first_in_tree-first-requires
+first_in_tree-first-requires g c = (_, can_descend _ _ _ _ _ _ c.requires.3 _ c.read-node.ensures.node _ c.in-Some.is _ c.depth-depth.ensures)
 
 pub read-last-requires : goal.read-last-requires
 read-last-requires g c =
     let h = c.requires.3 in
-    let (lefts, rest, i) = c.first_under-first.ensures.first _ (can_descend _ _ _ _ _ _ h _ c.read-node.ensures.node _ c.in-Some.is _ c.depth-depth.ensures) in
+    let (lefts, rest, i) = c.first_in_tree-first.ensures.first _ (can_descend _ _ _ _ _ _ h _ c.read-node.ensures.node _ c.in-Some.is _ c.depth-depth.ensures) in
     first_within _ c.args.route.now c.requires.0 c.requires.1 c.args.at _ lefts rest (taking _ _ _ _ _ _ _ h i.whole)
 
 pub measure-rest-requires : goal.measure-rest-requires
 measure-rest-requires g c =
     let h = c.requires.3 in
-    let (lefts, rest, i) = c.first_under-first.ensures.first _ (can_descend _ _ _ _ _ _ h _ c.read-node.ensures.node _ c.in-Some.is _ c.depth-depth.ensures) in
+    let (lefts, rest, i) = c.first_in_tree-first.ensures.first _ (can_descend _ _ _ _ _ _ h _ c.read-node.ensures.node _ c.in-Some.is _ c.depth-depth.ensures) in
     (rest, rest_stands _ c.args.route.now c.requires.0 c.requires.1 c.args.at _ lefts rest (taking _ _ _ _ _ _ _ h i.whole) _ c.read-last.ensures.node)
 
 pub write-requires : goal.write-requires
 write-requires g c =
     let h = c.requires.3 in
-    let (lefts, rest, i) = c.first_under-first.ensures.first _ (can_descend _ _ _ _ _ _ h _ c.read-node.ensures.node _ c.in-Some.is _ c.depth-depth.ensures) in
+    let (lefts, rest, i) = c.first_in_tree-first.ensures.first _ (can_descend _ _ _ _ _ _ h _ c.read-node.ensures.node _ c.in-Some.is _ c.depth-depth.ensures) in
     let (low, few) = kept _ _ _ _ _ _ h _ c.read-node.ensures.node in
     record {
       place = first_within _ c.args.route.now c.requires.0 c.requires.1 c.args.at _ lefts rest (taking _ _ _ _ _ _ _ h i.whole);
@@ -83,13 +83,13 @@ write-requires g c =
 pub note-requires : goal.note-requires
 note-requires g c =
     let h = c.requires.3 in
-    let (lefts, rest, i) = c.first_under-first.ensures.first _ (can_descend _ _ _ _ _ _ h _ c.read-node.ensures.node _ c.in-Some.is _ c.depth-depth.ensures) in
+    let (lefts, rest, i) = c.first_in_tree-first.ensures.first _ (can_descend _ _ _ _ _ _ h _ c.read-node.ensures.node _ c.in-Some.is _ c.depth-depth.ensures) in
     omega (arith, h.depth_is, c.depth-depth.ensures, h.deep, (low_within _ _ _ _ _ _ h _ _ _ _ _ lefts rest c.depth-depth.ensures i).1)
 
 pub rise-requires-2 : goal.rise-requires-2
 rise-requires-2 g c =
     let h = c.requires.3 in
-    let (lefts, rest, i) = c.first_under-first.ensures.first _ (can_descend _ _ _ _ _ _ h _ c.read-node.ensures.node _ c.in-Some.is _ c.depth-depth.ensures) in
+    let (lefts, rest, i) = c.first_in_tree-first.ensures.first _ (can_descend _ _ _ _ _ _ h _ c.read-node.ensures.node _ c.in-Some.is _ c.depth-depth.ensures) in
     let h2 = taking _ _ _ _ _ _ _ h i.whole in
     let few = low_within _ _ _ _ _ _ h _ _ _ _ _ lefts rest c.depth-depth.ensures i in
     let is = c.depth-depth.ensures ∙ h.depth_is in
@@ -99,7 +99,7 @@ rise-requires-2 g c =
 
 pub returns-clause-tree : goal.returns-clause-tree
 returns-clause-tree g c path l r h =
-    let (lefts, rest, i) = c.first_under-first.ensures.first r (can_descend _ _ path l _ r h _ c.read-node.ensures.node _ c.in-Some.is _ c.depth-depth.ensures) in
+    let (lefts, rest, i) = c.first_in_tree-first.ensures.first r (can_descend _ _ path l _ r h _ c.read-node.ensures.node _ c.in-Some.is _ c.depth-depth.ensures) in
     let h2 = taking _ _ path l _ r _ h i.whole in
     let few = low_within _ _ path l _ r h _ _ _ _ _ lefts rest c.depth-depth.ensures i in
     let is = c.depth-depth.ensures ∙ h.depth_is in
@@ -111,6 +111,6 @@ returns-clause-tree g c path l r h =
 
 pub returns-clause-touches : goal.returns-clause-touches
 returns-clause-touches g c path l r h =
-    let (lefts, rest, i) = c.first_under-first.ensures.first r (can_descend _ _ path l _ r h _ c.read-node.ensures.node _ c.in-Some.is _ c.depth-depth.ensures) in
+    let (lefts, rest, i) = c.first_in_tree-first.ensures.first r (can_descend _ _ path l _ r h _ c.read-node.ensures.node _ c.in-Some.is _ c.depth-depth.ensures) in
     let few = low_within _ _ path l _ r h _ _ _ _ _ lefts rest c.depth-depth.ensures i in
-    omega (arith, few.0, few.1, c.first_under-first.ensures.touches r (can_descend _ _ path l _ r h _ c.read-node.ensures.node _ c.in-Some.is _ c.depth-depth.ensures))
+    omega (arith, few.0, few.1, c.first_in_tree-first.ensures.touches r (can_descend _ _ path l _ r h _ c.read-node.ensures.node _ c.in-Some.is _ c.depth-depth.ensures))

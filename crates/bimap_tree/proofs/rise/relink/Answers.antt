@@ -1,5 +1,5 @@
 use Rattle.std.proofs.Common.{ap, arith, length, not, subst, sym, ◌∙◌}
-use Rattle.bimap_base.specs.Packed.{CanCount, recounted}
+use Rattle.bimap_base.specs.NodesInCells.{CanCount, recounted}
 use Rattle.std.specs.Prelude.{slice_set}
 use Rattle.bimap_tree.specs.Tree.{branch}
 use Rattle.bimap_tree.specs.Link.{Measures}

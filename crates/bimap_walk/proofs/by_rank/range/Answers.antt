@@ -12,7 +12,7 @@ use Rattle.bimap_walk.proofs.by_rank.range.Goals as goal
 pub new-requires : goal.new-requires
 new-requires g c =
     let a = c.args in
-    let live = live_places a.pairs.now (g.K.Keys.key_at a.keys.now) g.K.Keys.order a.index.now.places (λ p. ap is_some (c.requires.keys p) ∙ is_some-map g.P.Part.of (pair_at a.pairs.now p)) c.requires.ascends in
+    let live = live_places a.pairs.now (g.K.Keys.key_at a.keys.now) g.K.Keys.order a.index.now.places (λ p. ap is_some (c.requires.keys p) ∙ is_some-map g.P.Projection.of (pair_at a.pairs.now p)) c.requires.ascends in
     record {
       stands = record {
         ranks = c.new-window.ensures.window;
@@ -25,8 +25,8 @@ returns-clause-rest g c = λ bounds.
     let a = c.args in
     let s = c.of-span in
     let test = range_contains g.K.Keys.order (g.A.RangeBounds.start_bound a.range.now) (g.A.RangeBounds.end_bound a.range.now) in
-    let span = span_of_keys test (g.K.Keys.key_at a.keys.now) (λ p. option_map g.P.Part.of (pair_at a.pairs.now p)) a.index.now.places s.result.front s.result.back c.requires.keys (s.ensures.inside bounds) in
-    c.new.ensures ∙ ap (pairs_at a.pairs.now) c.new-window.ensures.places ∙ sym (pairs_in_span g.P.Part.of test a.pairs.now a.index.now.places s.result.front s.result.back s.ensures.ordered span)
+    let span = span_of_keys test (g.K.Keys.key_at a.keys.now) (λ p. option_map g.P.Projection.of (pair_at a.pairs.now p)) a.index.now.places s.result.front s.result.back c.requires.keys (s.ensures.inside bounds) in
+    c.new.ensures ∙ ap (pairs_at a.pairs.now) c.new-window.ensures.places ∙ sym (pairs_in_span g.P.Projection.of test a.pairs.now a.index.now.places s.result.front s.result.back s.ensures.ordered span)
 
 pub returns-clause-runs : goal.returns-clause-runs
 returns-clause-runs g c = shows_in_order deref_pair

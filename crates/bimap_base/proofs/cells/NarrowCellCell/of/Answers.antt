@@ -1,5 +1,5 @@
 use Rattle.std.proofs.Common.{arith, rules}
-use Rattle.bimap_base.proofs.Packs.{low_enough}
+use Rattle.bimap_base.proofs.NodesInCells.{low_enough}
 use Rattle.bimap_base.proofs.cells.NarrowCellCell.of.Goals as goal
 
 pub overflow_mul-result : goal.overflow_mul-result

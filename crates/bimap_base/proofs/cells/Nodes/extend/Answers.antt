@@ -1,7 +1,7 @@
 use Rattle.std.proofs.Common.{arith, ℕ, length, ap, subst, ◌≡◌, ◌<◌, ◌≤◌}
 use Rattle.std.specs.Prelude.{slice_get}
 use Rattle.std.proofs.lemmas.List.{length-map}
-use Rattle.bimap_base.proofs.Packs.{get-mapped, get-resized}
+use Rattle.bimap_base.proofs.NodesInCells.{get-mapped, get-resized}
 use Rattle.bimap_base.proofs.cells.Nodes.extend.Goals as goal
 
 pub returns-clause-kept : goal.returns-clause-kept

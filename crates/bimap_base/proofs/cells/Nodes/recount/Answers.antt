@@ -1,6 +1,6 @@
 use Rattle.std.proofs.Common.{ap, ◌∙◌}
-use Rattle.bimap_base.specs.Packed.{recounted}
-use Rattle.bimap_base.proofs.Packs.{map-written, read-mapped}
+use Rattle.bimap_base.specs.NodesInCells.{recounted}
+use Rattle.bimap_base.proofs.NodesInCells.{map-written, read-mapped}
 use Rattle.bimap_base.proofs.cells.Nodes.recount.Goals as goal
 
 pub returns-clause-written : goal.returns-clause-written

@@ -1,6 +1,6 @@
 use Rattle.std.proofs.Common.{arith, length, ap, ◌<◌}
 use Rattle.std.proofs.lemmas.List.{length-map}
-use Rattle.bimap_base.proofs.Packs.{map-written}
+use Rattle.bimap_base.proofs.NodesInCells.{map-written}
 use Rattle.bimap_base.proofs.cells.Nodes.write.Goals as goal
 
 pub of-requires : goal.of-requires

@@ -1,7 +1,7 @@
 use Rattle.std.proofs.Common.{ap, map, ◌∙◌, arith}
-use Rattle.bimap_base.specs.Packed.{link_of}
+use Rattle.bimap_base.specs.NodesInCells.{link_of}
 use Rattle.bimap_chain.specs.Cells.{cell_of}
-use Rattle.bimap_chain.specs.Width.{told}
+use Rattle.bimap_chain.specs.Width.{target}
 use Rattle.bimap_chain.proofs.Kept.{as_many}
 use Rattle.bimap_chain.proofs.threads.Threads.empty.Goals as goal
 
@@ -12,5 +12,5 @@ returns-clause-cells g c =
 
 pub returns-clause-heads : goal.returns-clause-heads
 returns-clause-heads g c =
-    let place = told g.L.Link.width in
+    let place = target g.L.Link.width in
     ap (map place) c.refill-2.ensures ∙ as_many place place _ _ _ _ _ (ap (λ t. t.heads) c.self.view_is) (omega (arith, c.len-heads.ensures, c.self.inside.heads.ok)) (ap link_of c.of.ensures)

@@ -1,8 +1,8 @@
 use Rattle.std.proofs.Common.{◌≤◌, ap, map, length, replicate, ◌∙◌, arith, rules}
 use Rattle.std.proofs.lemmas.List.{length-map}
-use Rattle.bimap_base.specs.Packed.{link_of}
+use Rattle.bimap_base.specs.NodesInCells.{link_of}
 use Rattle.bimap_chain.specs.Cells.{cell_of}
-use Rattle.bimap_chain.specs.Width.{told}
+use Rattle.bimap_chain.specs.Width.{target}
 use Rattle.bimap_chain.proofs.Kept.{map-replicated}
 use Rattle.bimap_chain.proofs.Seen.{resized}
 use Rattle.bimap_chain.proofs.threads.Threads.extend.Goals as goal
@@ -17,7 +17,7 @@ returns-clause-cells g c =
 
 pub returns-clause-heads : goal.returns-clause-heads
 returns-clause-heads g c =
-    ap (map (told g.L.Link.width)) c.refill.ensures ∙ map-replicated (told g.L.Link.width) _ _ ∙ ap (λ n. replicate c.args.heads (link_of n)) c.of.ensures
+    ap (map (target g.L.Link.width)) c.refill.ensures ∙ map-replicated (target g.L.Link.width) _ _ ∙ ap (λ n. replicate c.args.heads (link_of n)) c.of.ensures
 
 pub returns-then-is_err-2-clause-err : goal.returns-then-is_err-2-clause-err
 returns-then-is_err-2-clause-err g c = search rules

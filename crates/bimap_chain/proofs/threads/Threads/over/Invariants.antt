@@ -1,5 +1,5 @@
 use Rattle.std.proofs.Common.{length}
-use Rattle.bimap_chain.specs.Packed.{numbers_of}
+use Rattle.bimap_chain.specs.Threads.{numbers_of}
 use Rattle.bimap_chain.proofs.Walk.{AtStep}
 use Rattle.bimap_chain.proofs.threads.Threads.over.Given as goal
 

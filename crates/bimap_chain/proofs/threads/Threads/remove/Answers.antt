@@ -1,5 +1,5 @@
 use Rattle.std.proofs.Common.{◌∙◌, length, arith, sym, ap, None, length-set}
-use Rattle.bimap_chain.specs.Packed.{numbers_of}
+use Rattle.bimap_chain.specs.Threads.{numbers_of}
 use Rattle.bimap_chain.proofs.Relink.{sound_again, few, over_listed, listed_within, unlisted}
 use Rattle.bimap_chain.proofs.threads.Threads.remove.Goals as goal
 

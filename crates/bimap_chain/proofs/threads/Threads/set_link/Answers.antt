@@ -1,8 +1,8 @@
 use Rattle.std.proofs.Common.{ap}
-use Rattle.bimap_base.proofs.Packs.{map-written}
+use Rattle.bimap_base.proofs.NodesInCells.{map-written}
 use Rattle.bimap_chain.specs.Cells.{cell_of}
-use Rattle.bimap_chain.specs.Packed.{links_of}
-use Rattle.bimap_chain.specs.Width.{told}
+use Rattle.bimap_chain.specs.Threads.{links_of}
+use Rattle.bimap_chain.specs.Width.{target}
 use Rattle.bimap_chain.proofs.Seen.{rewritten, numbers_left, has_one}
 use Rattle.bimap_chain.proofs.threads.Threads.set_link.Goals as goal
 
@@ -14,7 +14,7 @@ relinked-requires-clause-listed g c =
 
 pub returns-in-None-clause-links : goal.returns-in-None-clause-links
 returns-in-None-clause-links g c =
-    rw c.in-None.is (ap (λ t. links_of t) c.self.view_is, map-written (told g.L.Link.width) _ _ _ _ _ (ap (λ t. t.heads) c.self.view_is) c.link_to.ensures.told)
+    rw c.in-None.is (ap (λ t. links_of t) c.self.view_is, map-written (target g.L.Link.width) _ _ _ _ _ (ap (λ t. t.heads) c.self.view_is) c.link_to.ensures.target)
 
 pub returns-in-Some-clause-numbers : goal.returns-in-Some-clause-numbers
 returns-in-Some-clause-numbers g c =

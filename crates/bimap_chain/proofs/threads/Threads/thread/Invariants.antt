@@ -1,5 +1,5 @@
 use Rattle.std.proofs.Common.{◌≡◌, length}
-use Rattle.bimap_chain.specs.Packed.{numbers_of, links_of, IsSized}
+use Rattle.bimap_chain.specs.Threads.{numbers_of, links_of, IsSized}
 use Rattle.bimap_chain.proofs.Rethread.{ThreadedBelow}
 use Rattle.bimap_chain.proofs.threads.Threads.thread.Given as goal
 

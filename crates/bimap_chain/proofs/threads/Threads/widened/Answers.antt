@@ -2,7 +2,7 @@ use Rattle.std.proofs.lemmas.Grind.{common_steps}
 use Rattle.std.proofs.Common.{◌<◌, ◌∙◌, length, ap, sym, arith, None, Some}
 use Rattle.std.specs.Prelude.{slice_set}
 use Rattle.std.proofs.lemmas.List.{length-map}
-use Rattle.bimap_chain.specs.Packed.{numbers_of}
+use Rattle.bimap_chain.specs.Threads.{numbers_of}
 use Rattle.bimap_chain.proofs.Filling.{copied_more, left_free}
 use Rattle.bimap_chain.proofs.threads.Threads.widened.Goals as goal
 use Rattle.bimap_chain.proofs.threads.Threads.widened.Goals.{in-Some, in_default}
@@ -17,8 +17,8 @@ loop-place-preserved g c =
       | in-Some w ↦
           let n = w.in-Some.number in
           rw w.wide-is record {
-            sound = w.insert_under.ensures.sound;
-            numbers = w.insert_under.ensures.numbers ∙ ap (λ z. slice_set z place (Some n)) i.numbers ∙ copied_more numbers place inside c.args.to (Some n) (sym c.number.ensures ∙ w.in-Some.is) c.requires.above;
+            sound = w.insert_numbered.ensures.sound;
+            numbers = w.insert_numbered.ensures.numbers ∙ ap (λ z. slice_set z place (Some n)) i.numbers ∙ copied_more numbers place inside c.args.to (Some n) (sym c.number.ensures ∙ w.in-Some.is) c.requires.above;
           }
       | in_default w ↦
           rw w.wide-is record {

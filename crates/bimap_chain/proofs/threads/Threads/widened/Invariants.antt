@@ -1,5 +1,5 @@
 use Rattle.std.proofs.Common.{◌≡◌, ◌-◌, ◌++◌, take, replicate, None}
-use Rattle.bimap_chain.specs.Packed.{numbers_of, IsSound}
+use Rattle.bimap_chain.specs.Threads.{numbers_of, IsSound}
 use Rattle.bimap_chain.proofs.threads.Threads.widened.Given as goal
 
 abbrev pub invariant-loop-place : goal.invariant-loop-place

@@ -1,13 +1,13 @@
 use Rattle.std.proofs.Common.{◌∙◌, None, ap, arith, length, refl}
 use Rattle.std.proofs.lemmas.List.{length-set}
-use Rattle.bimap_base.proofs.Walked.{count_walked}
+use Rattle.bimap_base.proofs.Walk.{count_walked}
 use Rattle.bimap_core.proofs.Ascending.{order_walk, count_listed, rank_live, pair_at_rank, walked_without}
 use Rattle.bimap_core.proofs.InTurn.{start, may, passed, refused, ended}
 use Rattle.bimap_core.proofs.Retaining.{tested_at}
 use Rattle.bimap_core.proofs.retain_in_turn.Table+L+R+Ordered+J.retain_in_turn.Goals as goal
 
 pub loop-rank-init : goal.loop-rank-init
-loop-rank-init g c = record { going = start g.F.FnMut c.args.f _; room = refl; batch = c.new-batch.ensures }
+loop-rank-init g c = record { so_far = start g.F.FnMut c.args.f _; room = refl; batch = c.new-batch.ensures }
 
 pub place-place-requires-clause-listed : goal.place-place-requires-clause-listed
 place-place-requires-clause-listed g c =
@@ -21,7 +21,7 @@ keeps_at-requires g c = record {
       let t = c.loop-rank.self in
       let walk = order_walk (λ p. p.0) g.met.L.Ord.total g.met.L.Ord.matches_eq t.pairs t.left.places t.left_listing in
       let count = count_walked t.pairs t.left.places walk in
-      may g.F.FnMut c.args.f c.loop-rank.f _ _ c.loop-rank.rank c.loop-rank.invariant.going p
+      may g.F.FnMut c.args.f c.loop-rank.f _ _ c.loop-rank.rank c.loop-rank.invariant.so_far p
       (pair_at_rank t.pairs t.left.places (λ q. (walk.live q).0) c.loop-rank.rank c.place-place.result c.place-place.ensures.place p has)
       (omega arith) c.requires.may;
 }
@@ -34,7 +34,7 @@ loop-rank-preserved-then-keeps_at g c =
     let place = c.place-place.result in
     let here = rank_live t.pairs t.left.places (λ q. (walk.live q).0) c.loop-rank.rank place c.place-place.ensures.place in
     record {
-      going = passed g.F.FnMut c.args.f c.loop-rank.f _ _ c.loop-rank.rank c.loop-rank.invariant.going here.0
+      so_far = passed g.F.FnMut c.args.f c.loop-rank.f _ _ c.loop-rank.rank c.loop-rank.invariant.so_far here.0
           (pair_at_rank t.pairs t.left.places (λ q. (walk.live q).0) c.loop-rank.rank place c.place-place.ensures.place here.0 here.1)
           (omega arith) c.keeps_at.new.f (tested_at g.F.FnMut _ here.0 c.loop-rank.f _ c.keeps_at.new.f here.1 c.if-keeps_at.ensures.tested);
       room = c.loop-rank.invariant.room;
@@ -51,7 +51,7 @@ loop-rank-preserved g c =
     let p = c.take.result in
     let has = c.take.ensures.was in
     record {
-      going = refused g.F.FnMut c.args.f c.loop-rank.f _ _ c.loop-rank.rank c.loop-rank.invariant.going p
+      so_far = refused g.F.FnMut c.args.f c.loop-rank.f _ _ c.loop-rank.rank c.loop-rank.invariant.so_far p
           (pair_at_rank t.pairs t.left.places (λ q. (walk.live q).0) c.loop-rank.rank place c.place-place.ensures.place p has)
           (omega arith) c.keeps_at.new.f (tested_at g.F.FnMut _ p c.loop-rank.f _ c.keeps_at.new.f has c.if-keeps_at.ensures.tested) _
           (walked_without g.met.L.Eq.laws g.met.R.Eq.laws (λ p. p.0) g.met.L.Ord.total g.met.L.Ord.matches_eq t.pairs n.pairs t.left.places n.left.places t.left_listing n.left_listing t.apart place p has c.take.ensures.pairs);
@@ -63,4 +63,4 @@ pub returns-clause-kept : goal.returns-clause-kept
 returns-clause-kept g c =
     let t = c.loop-rank.self in
     let walk = order_walk (λ p. p.0) g.met.L.Ord.total g.met.L.Ord.matches_eq t.pairs t.left.places t.left_listing in
-    ended g.F.FnMut c.args.f c.loop-rank.f _ _ c.loop-rank.rank c.loop-rank.invariant.going (omega (arith, c.loop-rank-test.false, c.len.ensures.value, count_walked t.pairs t.left.places walk))
+    ended g.F.FnMut c.args.f c.loop-rank.f _ _ c.loop-rank.rank c.loop-rank.invariant.so_far (omega (arith, c.loop-rank-test.false, c.len.ensures.value, count_walked t.pairs t.left.places walk))

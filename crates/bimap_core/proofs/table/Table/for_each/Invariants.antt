@@ -1,5 +1,5 @@
-use Rattle.bimap_core.proofs.Visiting.{Going}
+use Rattle.bimap_core.proofs.Visiting.{IsVisitedBelow}
 use Rattle.bimap_core.proofs.table.Table.for_each.Given as goal
 
 abbrev pub invariant-loop-place : goal.invariant-loop-place
-invariant-loop-place g l = Going g.F.FnMut l.fn.f l.f l.self.pairs l.place
+invariant-loop-place g l = IsVisitedBelow g.F.FnMut l.fn.f l.f l.self.pairs l.place

@@ -10,6 +10,6 @@ returns g c =
     let table = c.args.self.now.table in
     let after = c.shrink_to.new.self in
     let walk = left_walk table g.met.I.Index.listed g.met.I.Index.distinct g.met.I.Index.settled in
-    let same = walk_kept g.met.L.Eq.laws g.met.R.Eq.laws g.I.Index.is_listing g.I.Index.places g.met.I.PackedIndex.walks_alike table.pairs after.pairs table.left after.left
+    let same = walk_kept g.met.L.Eq.laws g.met.R.Eq.laws g.I.Index.is_listing g.I.Index.places g.met.I.CompactedIndex.walks_alike table.pairs after.pairs table.left after.left
     (g.met.I.Index.settled _ _ table.left_listing) (g.met.I.Index.settled _ _ after.left_listing) walk (left_walk after g.met.I.Index.listed g.met.I.Index.distinct g.met.I.Index.settled) table.apart c.shrink_to.ensures.answer.pairs in
     shrink_walked table.pairs _ walk after.pairs _ same c.args.least c.shrink_to.result c.shrink_to.ensures.answer

@@ -1,6 +1,6 @@
 use Rattle.std.proofs.Common.{◌≡◌, Some, arith, refl}
 use Rattle.bimap_base.specs.Keyed.{standing}
-use Rattle.bimap_base.specs.Packed.{nodes_in}
+use Rattle.bimap_base.specs.NodesInCells.{nodes_in}
 use Rattle.bimap_tree.specs.Index.{tree_in}
 use Rattle.bimap_tree.specs.Path.{top}
 use Rattle.bimap_tree.specs.Route.{IsRoute}
@@ -8,45 +8,45 @@ use Rattle.bimap_tree.proofs.Ascending.{key_is}
 use Rattle.bimap_tree.proofs.Whole.{can_seek_place, can_follow, place_route, height_within, can_put, len_fits, put_whole, put_length, put_adds, put_cells, put_ascends, route_depth}
 use Rattle.bimap_tree.proofs.ordered.Ordered.insert.Given.{Over}
 use Rattle.bimap_tree.proofs.ordered.Ordered.insert.Goals as goal
-use Rattle.bimap_tree.proofs.ordered.Ordered.insert.Goals.{After-route_under-self-inside}
+use Rattle.bimap_tree.proofs.ordered.Ordered.insert.Goals.{After-route_in_tree-self-inside}
 
-pub route_under-self-inside-requires : goal.route_under-self-inside-requires
-route_under-self-inside-requires g c =
+pub route_in_tree-self-inside-requires : goal.route_in_tree-self-inside-requires
+route_in_tree-self-inside-requires g c =
     let (k, is) = key_is (g.K.Keys.key_at c.args.keys.now) g.K.Keys.order _ c.requires.live in
     (top, tree_in (nodes_in c.self.inside.cells) c.self.inside.root, can_follow _ _ _ _ c.self.invariant c.self.view_is _ _ _ _ (omega arith) (omega arith) (can_seek_place _ _ _ _ c.self.invariant c.self.view_is _ _ g.met.K.Keys.total c.requires.ascends _ k is))
 
 -- the route that the search leaves
-the_route : (g : Over) (c : After-route_under-self-inside g) → (k : _) × (g.K.Keys.key_at c.args.keys.now c.args.place ≡ Some k) × IsRoute c.args.self.now (λ q. standing (g.K.Keys.key_at c.args.keys.now) g.K.Keys.order k q) c.route_under-self-inside.new.route
+the_route : (g : Over) (c : After-route_in_tree-self-inside g) → (k : _) × (g.K.Keys.key_at c.args.keys.now c.args.place ≡ Some k) × IsRoute c.args.self.now (λ q. standing (g.K.Keys.key_at c.args.keys.now) g.K.Keys.order k q) c.route_in_tree-self-inside.new.route
 the_route g c =
     let (k, is) = key_is (g.K.Keys.key_at c.args.keys.now) g.K.Keys.order _ c.requires.live in
     let f = can_follow _ _ _ _ c.self.invariant c.self.view_is _ _ c.new-route.result.places c.new-route.result.turns (omega arith) (omega arith) (can_seek_place _ _ _ _ c.self.invariant c.self.view_is _ _ g.met.K.Keys.total c.requires.ascends c.args.place k is) in
-    (k, is, place_route _ _ _ _ c.self.invariant c.self.view_is _ _ _ k is _ (c.route_under-self-inside.ensures.found _ _ f) (λ p listed same. c.requires.unequal p k listed is same) _ (c.route_under-self-inside.ensures.follows _ _ f))
+    (k, is, place_route _ _ _ _ c.self.invariant c.self.view_is _ _ _ k is _ (c.route_in_tree-self-inside.ensures.found _ _ f) (λ p listed same. c.requires.unequal p k listed is same) _ (c.route_in_tree-self-inside.ensures.follows _ _ f))
 
 pub put_at-self-inside-requires : goal.put_at-self-inside-requires
 put_at-self-inside-requires g c =
-    let (k, is, r) = the_route g (goal.at.put_at-self-inside-requires g c).After-route_under-self-inside in
+    let (k, is, r) = the_route g (goal.at.put_at-self-inside-requires g c).After-route_in_tree-self-inside in
     (_, can_put _ _ _ _ c.self.invariant c.self.view_is _ _ r _ _ c.requires.cell c.requires.unlisted c.places.ensures (omega arith))
 
 pub overflow_add-self : goal.overflow_add-self
 overflow_add-self g c =
-    let (k, is, r) = the_route g (goal.at.overflow_add-self g c).After-route_under-self-inside in
+    let (k, is, r) = the_route g (goal.at.overflow_add-self g c).After-route_in_tree-self-inside in
     omega (arith, len_fits _ _ _ _ c.self.invariant c.self.view_is _ _ r _ _ c.requires.cell c.requires.unlisted c.places.ensures (omega arith))
 
 pub invariant_of-self : goal.invariant_of-self
 invariant_of-self g c =
-    let (k, is, r) = the_route g (goal.at.invariant_of-self g c).After-route_under-self-inside in
+    let (k, is, r) = the_route g (goal.at.invariant_of-self g c).After-route_in_tree-self-inside in
     let h = can_put _ _ _ _ c.self.invariant c.self.view_is _ _ r _ _ c.requires.cell c.requires.unlisted c.places.ensures (omega arith) in
     put_whole _ _ _ _ c.self.invariant c.self.view_is _ _ r _ _ c.requires.cell c.requires.unlisted c.places.ensures (omega arith) _ _ (c.put_at-self-inside.ensures.tree _ h)
 
 pub returns : goal.returns
 returns g c =
-    let (k, is, r) = the_route g (goal.at.returns g c).After-route_under-self-inside in
+    let (k, is, r) = the_route g (goal.at.returns g c).After-route_in_tree-self-inside in
     let done = c.put_at-self-inside.ensures.tree _ (can_put _ _ _ _ c.self.invariant c.self.view_is _ _ r _ _ c.requires.cell c.requires.unlisted c.places.ensures (omega arith)) in
     record {
       len = put_length _ _ _ _ c.self.invariant c.self.view_is _ _ r _ _ c.requires.cell c.requires.unlisted c.places.ensures (omega arith) _ _ done;
       adds = put_adds _ _ _ _ c.self.invariant c.self.view_is _ _ r _ _ c.requires.cell c.requires.unlisted c.places.ensures (omega arith) _ _ done;
       ascends = put_ascends _ _ _ _ c.self.invariant c.self.view_is _ _ r _ _ c.requires.cell c.requires.unlisted c.places.ensures (omega arith) _ _ done _ _ g.met.K.Keys.total c.requires.ascends k is (λ q. refl);
       cells = put_cells _ _ _ _ c.self.invariant c.self.view_is _ _ r _ _ c.requires.cell c.requires.unlisted c.places.ensures (omega arith) _ _ done;
-      comparisons = omega (arith, c.route_under-self-inside.ensures.comparisons _ c.self.invariant.index.tree, height_within _ _ _ _ c.self.invariant c.self.view_is);
-      touches = omega (arith, c.route_under-self-inside.ensures.touches _ c.self.invariant.index.tree, c.put_at-self-inside.ensures.touches, height_within _ _ _ _ c.self.invariant c.self.view_is, route_depth _ _ _ _ c.self.invariant c.self.view_is _ _ r);
+      comparisons = omega (arith, c.route_in_tree-self-inside.ensures.comparisons _ c.self.invariant.index.tree, height_within _ _ _ _ c.self.invariant c.self.view_is);
+      touches = omega (arith, c.route_in_tree-self-inside.ensures.touches _ c.self.invariant.index.tree, c.put_at-self-inside.ensures.touches, height_within _ _ _ _ c.self.invariant c.self.view_is, route_depth _ _ _ _ c.self.invariant c.self.view_is _ _ r);
     }

@@ -1,4 +1,4 @@
-use Rattle.bimap_base.specs.Packed.{nodes_in}
+use Rattle.bimap_base.specs.NodesInCells.{nodes_in}
 use Rattle.bimap_tree.specs.Index.{tree_in}
 use Rattle.bimap_tree.proofs.Distinct.{distinct_reading}
 use Rattle.bimap_tree.proofs.Whole.{length_is, shown_index, height_within, listed_within}

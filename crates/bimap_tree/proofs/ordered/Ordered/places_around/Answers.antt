@@ -1,5 +1,5 @@
 use Rattle.std.proofs.Common.{arith, subst}
-use Rattle.bimap_base.specs.Packed.{nodes_in}
+use Rattle.bimap_base.specs.NodesInCells.{nodes_in}
 use Rattle.bimap_tree.specs.Filled.{IsRow}
 use Rattle.bimap_tree.specs.Index.{tree_in}
 use Rattle.bimap_tree.proofs.Whole.{places_are, height_within, rank_within}

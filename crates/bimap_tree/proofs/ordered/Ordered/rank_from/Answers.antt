@@ -1,5 +1,5 @@
 use Rattle.std.proofs.Common.{arith, ap, sym, subst, ◌∙◌, Some}
-use Rattle.bimap_base.specs.Packed.{nodes_in}
+use Rattle.bimap_base.specs.NodesInCells.{nodes_in}
 use Rattle.bimap_tree.specs.Index.{tree_in}
 use Rattle.bimap_tree.specs.Order.{count_below, after_key, order_of}
 use Rattle.bimap_tree.specs.Start.{IsStart}
@@ -12,30 +12,30 @@ returns-in-Unbounded-clause-start g c =
     subst (λ b. IsStart (g.K.Keys.key_at c.args.keys.now) g.K.Keys.order b c.args.self.now.places 0) (sym c.in-Unbounded.is)
     (start_unbounded _ _ g.met.K.Keys.total _ c.requires)
 
-pub rank_under-requires : goal.rank_under-requires
-rank_under-requires g c = (tree_in (nodes_in c.self.inside.cells) c.self.inside.root, can_seek _ _ _ _ c.self.invariant c.self.view_is _ _ g.met.K.Keys.total c.requires _)
+pub rank_in_tree-requires : goal.rank_in_tree-requires
+rank_in_tree-requires g c = (tree_in (nodes_in c.self.inside.cells) c.self.inside.root, can_seek _ _ _ _ c.self.invariant c.self.view_is _ _ g.met.K.Keys.total c.requires _)
 
-pub rank_under-requires-in-Excluded : goal.rank_under-requires-in-Excluded
-rank_under-requires-in-Excluded g c = (tree_in (nodes_in c.self.inside.cells) c.self.inside.root, can_seek_after _ _ _ _ c.self.invariant c.self.view_is _ _ g.met.K.Keys.total c.requires _)
+pub rank_in_tree-requires-in-Excluded : goal.rank_in_tree-requires-in-Excluded
+rank_in_tree-requires-in-Excluded g c = (tree_in (nodes_in c.self.inside.cells) c.self.inside.root, can_seek_after _ _ _ _ c.self.invariant c.self.view_is _ _ g.met.K.Keys.total c.requires _)
 
 pub returns-in-Included : goal.returns-in-Included
 returns-in-Included g c =
     let s = can_seek _ _ _ _ c.self.invariant c.self.view_is _ _ g.met.K.Keys.total c.requires c.in-Included.key.now in
-    let rank = c.rank_under.ensures.rank _ s
+    let rank = c.rank_in_tree.ensures.rank _ s
     ∙ ap (λ x. count_below (λ q. order_of g.K.Keys.order (g.K.Keys.key_at c.args.keys.now q) (Some c.in-Included.key.now)) x) (places_are _ _ _ _ c.self.invariant c.self.view_is) in
     record {
-      start = subst (λ b. IsStart (g.K.Keys.key_at c.args.keys.now) g.K.Keys.order b c.args.self.now.places c.rank_under.result) (sym c.in-Included.is) (start_included _ _ g.met.K.Keys.total _ c.requires _ _ rank);
-      comparisons = omega (arith, c.rank_under.ensures.comparisons _ c.self.invariant.index.tree, height_within _ _ _ _ c.self.invariant c.self.view_is);
-      touches = omega (arith, c.rank_under.ensures.touches _ c.self.invariant.index.tree, height_within _ _ _ _ c.self.invariant c.self.view_is);
+      start = subst (λ b. IsStart (g.K.Keys.key_at c.args.keys.now) g.K.Keys.order b c.args.self.now.places c.rank_in_tree.result) (sym c.in-Included.is) (start_included _ _ g.met.K.Keys.total _ c.requires _ _ rank);
+      comparisons = omega (arith, c.rank_in_tree.ensures.comparisons _ c.self.invariant.index.tree, height_within _ _ _ _ c.self.invariant c.self.view_is);
+      touches = omega (arith, c.rank_in_tree.ensures.touches _ c.self.invariant.index.tree, height_within _ _ _ _ c.self.invariant c.self.view_is);
     }
 
 pub returns-in-Excluded : goal.returns-in-Excluded
 returns-in-Excluded g c =
     let s = can_seek_after _ _ _ _ c.self.invariant c.self.view_is _ _ g.met.K.Keys.total c.requires c.in-Excluded.key.now in
-    let rank = c.rank_under-in-Excluded.ensures.rank _ s
+    let rank = c.rank_in_tree-in-Excluded.ensures.rank _ s
     ∙ ap (λ x. count_below (λ q. after_key (order_of g.K.Keys.order (g.K.Keys.key_at c.args.keys.now q) (Some c.in-Excluded.key.now))) x) (places_are _ _ _ _ c.self.invariant c.self.view_is) in
     record {
-      start = subst (λ b. IsStart (g.K.Keys.key_at c.args.keys.now) g.K.Keys.order b c.args.self.now.places c.rank_under-in-Excluded.result) (sym c.in-Excluded.is) (start_excluded _ _ g.met.K.Keys.total _ c.requires _ _ rank);
-      comparisons = omega (arith, c.rank_under-in-Excluded.ensures.comparisons _ c.self.invariant.index.tree, height_within _ _ _ _ c.self.invariant c.self.view_is);
-      touches = omega (arith, c.rank_under-in-Excluded.ensures.touches _ c.self.invariant.index.tree, height_within _ _ _ _ c.self.invariant c.self.view_is);
+      start = subst (λ b. IsStart (g.K.Keys.key_at c.args.keys.now) g.K.Keys.order b c.args.self.now.places c.rank_in_tree-in-Excluded.result) (sym c.in-Excluded.is) (start_excluded _ _ g.met.K.Keys.total _ c.requires _ _ rank);
+      comparisons = omega (arith, c.rank_in_tree-in-Excluded.ensures.comparisons _ c.self.invariant.index.tree, height_within _ _ _ _ c.self.invariant c.self.view_is);
+      touches = omega (arith, c.rank_in_tree-in-Excluded.ensures.touches _ c.self.invariant.index.tree, height_within _ _ _ _ c.self.invariant c.self.view_is);
     }

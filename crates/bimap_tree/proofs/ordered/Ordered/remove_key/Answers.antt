@@ -1,6 +1,6 @@
 use Rattle.std.proofs.Common.{◌≡◌, Some, arith, ap, subst, sym, ◌∙◌}
 use Rattle.bimap_base.specs.Keyed.{standing}
-use Rattle.bimap_base.specs.Packed.{nodes_in}
+use Rattle.bimap_base.specs.NodesInCells.{nodes_in}
 use Rattle.bimap_tree.specs.Index.{tree_in}
 use Rattle.bimap_tree.specs.Order.{first_equal, order_of}
 use Rattle.bimap_tree.specs.Path.{Path, top}
@@ -10,33 +10,33 @@ use Rattle.bimap_tree.proofs.Found.{found_in, none_told}
 use Rattle.bimap_tree.proofs.Whole.{can_seek, can_follow, places_are, height_within, can_take, take_height, take_whole, take_length, take_drops, take_cells, take_ascends}
 use Rattle.bimap_tree.proofs.ordered.Ordered.remove_key.Given.{Over}
 use Rattle.bimap_tree.proofs.ordered.Ordered.remove_key.Goals as goal
-use Rattle.bimap_tree.proofs.ordered.Ordered.remove_key.Goals.{After-route_under, In_ok-found}
+use Rattle.bimap_tree.proofs.ordered.Ordered.remove_key.Goals.{After-route_in_tree, In_ok-found}
 
-pub route_under-requires : goal.route_under-requires
-route_under-requires g c =
+pub route_in_tree-requires : goal.route_in_tree-requires
+route_in_tree-requires g c =
     (top, tree_in (nodes_in c.self.inside.cells) c.self.inside.root, can_follow _ _ _ _ c.self.invariant c.self.view_is _ _ _ _ (omega arith) (omega arith) (can_seek _ _ _ _ c.self.invariant c.self.view_is _ _ g.met.K.Keys.total c.requires _))
 
 -- what the search answers is the first equal one
-first : (g : Over) (c : After-route_under g) → c.route_under.result ≡ first_equal (λ q. order_of g.K.Keys.order (g.K.Keys.key_at c.args.keys.now q) (Some c.args.key.now)) c.args.self.now.places
+first : (g : Over) (c : After-route_in_tree g) → c.route_in_tree.result ≡ first_equal (λ q. order_of g.K.Keys.order (g.K.Keys.key_at c.args.keys.now q) (Some c.args.key.now)) c.args.self.now.places
 first g c =
     let f = can_follow _ _ _ _ c.self.invariant c.self.view_is _ _ c.new-route.result.places c.new-route.result.turns (omega arith) (omega arith) (can_seek _ _ _ _ c.self.invariant c.self.view_is _ _ g.met.K.Keys.total c.requires c.args.key.now) in
-    c.route_under.ensures.found _ _ f ∙ ap (λ x. first_equal (λ q. order_of g.K.Keys.order (g.K.Keys.key_at c.args.keys.now q) (Some c.args.key.now)) x) (places_are _ _ _ _ c.self.invariant c.self.view_is)
+    c.route_in_tree.ensures.found _ _ f ∙ ap (λ x. first_equal (λ q. order_of g.K.Keys.order (g.K.Keys.key_at c.args.keys.now q) (Some c.args.key.now)) x) (places_are _ _ _ _ c.self.invariant c.self.view_is)
 
 pub returns-in_err-found-clause-none : goal.returns-in_err-found-clause-none
 returns-in_err-found-clause-none g c =
-    none_told (λ q. standing (g.K.Keys.key_at c.args.keys.now) g.K.Keys.order c.args.key.now q) _ _ _ (c.in_err-found.was) (first g (goal.at.returns-in_err-found-clause-none g c).After-route_under)
+    none_told (λ q. standing (g.K.Keys.key_at c.args.keys.now) g.K.Keys.order c.args.key.now q) _ _ _ (c.in_err-found.was) (first g (goal.at.returns-in_err-found-clause-none g c).After-route_in_tree)
 
 pub returns-in_err-found-clause-comparisons : goal.returns-in_err-found-clause-comparisons
-returns-in_err-found-clause-comparisons g c = omega (arith, c.route_under.ensures.comparisons _ c.self.invariant.index.tree, height_within _ _ _ _ c.self.invariant c.self.view_is)
+returns-in_err-found-clause-comparisons g c = omega (arith, c.route_in_tree.ensures.comparisons _ c.self.invariant.index.tree, height_within _ _ _ _ c.self.invariant c.self.view_is)
 
 pub returns-in_err-found-clause-touches : goal.returns-in_err-found-clause-touches
-returns-in_err-found-clause-touches g c = omega (arith, c.route_under.ensures.touches _ c.self.invariant.index.tree, height_within _ _ _ _ c.self.invariant c.self.view_is)
+returns-in_err-found-clause-touches g c = omega (arith, c.route_in_tree.ensures.touches _ c.self.invariant.index.tree, height_within _ _ _ _ c.self.invariant c.self.view_is)
 
 -- the way that it went, to the place found
-the_way : (g : Over) (c : In_ok-found g) → (low : Path) × (s : Tree) × IsFollowed (λ q. order_of g.K.Keys.order (g.K.Keys.key_at c.args.keys.now q) (Some c.args.key.now)) c.route_under.new.route.places c.route_under.new.route.turns c.route_under.new.route.depth (Some c.in_ok-found.found) (tree_in (nodes_in c.self.inside.cells) c.self.inside.root) low s
+the_way : (g : Over) (c : In_ok-found g) → (low : Path) × (s : Tree) × IsFollowed (λ q. order_of g.K.Keys.order (g.K.Keys.key_at c.args.keys.now q) (Some c.args.key.now)) c.route_in_tree.new.route.places c.route_in_tree.new.route.turns c.route_in_tree.new.route.depth (Some c.in_ok-found.found) (tree_in (nodes_in c.self.inside.cells) c.self.inside.root) low s
 the_way g c =
     let f = can_follow _ _ _ _ c.self.invariant c.self.view_is _ _ c.new-route.result.places c.new-route.result.turns (omega arith) (omega arith) (can_seek _ _ _ _ c.self.invariant c.self.view_is _ _ g.met.K.Keys.total c.requires c.args.key.now) in
-    subst (λ o. (low : Path) × (s : Tree) × IsFollowed (λ q. order_of g.K.Keys.order (g.K.Keys.key_at c.args.keys.now q) (Some c.args.key.now)) c.route_under.new.route.places c.route_under.new.route.turns c.route_under.new.route.depth o (tree_in (nodes_in c.self.inside.cells) c.self.inside.root) low s) c.in_ok-found.was (c.route_under.ensures.follows _ _ f)
+    subst (λ o. (low : Path) × (s : Tree) × IsFollowed (λ q. order_of g.K.Keys.order (g.K.Keys.key_at c.args.keys.now q) (Some c.args.key.now)) c.route_in_tree.new.route.places c.route_in_tree.new.route.turns c.route_in_tree.new.route.depth o (tree_in (nodes_in c.self.inside.cells) c.self.inside.root) low s) c.in_ok-found.was (c.route_in_tree.ensures.follows _ _ f)
 
 pub take_at-self-inside-requires : goal.take_at-self-inside-requires
 take_at-self-inside-requires g c =
@@ -54,13 +54,13 @@ returns g c =
     let can = can_take _ _ _ _ c.self.invariant c.self.view_is _ _ _ low s f in
     let done = c.take_at-self-inside.ensures.tree low _ _ can in
     record {
-      found = found_in (λ q. standing (g.K.Keys.key_at c.args.keys.now) g.K.Keys.order c.args.key.now q) _ (Some c.in_ok-found.found) (sym c.in_ok-found.was ∙ first g (goal.at.returns g c).After-route_under);
+      found = found_in (λ q. standing (g.K.Keys.key_at c.args.keys.now) g.K.Keys.order c.args.key.now q) _ (Some c.in_ok-found.found) (sym c.in_ok-found.was ∙ first g (goal.at.returns g c).After-route_in_tree);
       none = tt;
       unchanged = tt;
       len = take_length _ _ _ _ c.self.invariant c.self.view_is _ _ _ low s f _ _ done;
       drops = take_drops _ _ _ _ c.self.invariant c.self.view_is _ _ _ low s f _ _ done;
       ascends = take_ascends _ _ _ _ c.self.invariant c.self.view_is _ _ _ low s f _ _ done _ _ c.requires;
       cells = take_cells _ _ _ _ c.self.invariant c.self.view_is _ _ _ low s f _ _ done;
-      comparisons = omega (arith, c.route_under.ensures.comparisons _ c.self.invariant.index.tree, height_within _ _ _ _ c.self.invariant c.self.view_is);
-      touches = omega (arith, c.route_under.ensures.touches _ c.self.invariant.index.tree, height_within _ _ _ _ c.self.invariant c.self.view_is, c.take_at-self-inside.ensures.touches low _ _ can, take_height _ _ _ _ c.self.invariant c.self.view_is _ _ _ low s f);
+      comparisons = omega (arith, c.route_in_tree.ensures.comparisons _ c.self.invariant.index.tree, height_within _ _ _ _ c.self.invariant c.self.view_is);
+      touches = omega (arith, c.route_in_tree.ensures.touches _ c.self.invariant.index.tree, height_within _ _ _ _ c.self.invariant c.self.view_is, c.take_at-self-inside.ensures.touches low _ _ can, take_height _ _ _ _ c.self.invariant c.self.view_is _ _ _ low s f);
     }

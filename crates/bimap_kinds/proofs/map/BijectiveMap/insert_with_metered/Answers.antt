@@ -1,0 +1,11 @@
+use Rattle.bimap_base.proofs.HoldingsAlike.{insertion_alike}
+use Rattle.bimap_kinds.proofs.Walk.{table_alike, right_walk, table_facts, unchanged_walked}
+use Rattle.bimap_kinds.proofs.map.BijectiveMap.insert_with_metered.Goals as goal
+
+pub invariant_of-self : goal.invariant_of-self
+invariant_of-self g c = table_facts c.insert_with.new.self g.met.I.Index.listed g.met.I.Index.distinct g.met.I.Index.settled g.met.I.Index.in_order g.met.L.Eq.laws g.met.R.Eq.laws _ (right_walk c.insert_with.new.self g.met.J.Index.listed g.met.J.Index.distinct g.met.J.Index.settled)
+
+pub returns-clause-answer : goal.returns-clause-answer
+returns-clause-answer g c =
+    insertion_alike _ _ (table_alike c.args.self.now.table g.met.I.Index.listed g.met.I.Index.distinct g.met.I.Index.settled) _ _ (table_alike c.insert_with.new.self g.met.I.Index.listed g.met.I.Index.distinct g.met.I.Index.settled) g.L.PartialEq.eq g.R.PartialEq.eq (c.args.left, c.args.right) c.args.policy c.insert_with.result
+    (unchanged_walked c.insert_with.result _ _ _ _ c.insert_with.ensures.slots c.insert_with.ensures.places) c.insert_with.ensures.answer

@@ -1,0 +1,16 @@
+-- A subtree of an index that a descent has come to, with the ranks of its places.
+use Rattle.std.specs.Prelude.{◌≡◌, ℕ, ◌+◌, ◌≤◌, ◌<◌, ◌++◌, List, length}
+use Rattle.bimap_base.specs.declared.cells.Node.{Node}
+use Rattle.bimap_tree.specs.Filled.{CanFill, place_in}
+use Rattle.bimap_tree.specs.Tree.{Tree, reading, size}
+use Rattle.bimap_tree.specs.declared.walk.RankedSubtree.{RankedSubtree}
+
+-- the listed places are some, the one before the tree, the tree's, the one behind it, and others; a rank is that of one of these three
+pub record IsRankedSubtree (nodes : List Node) (places : List ℕ) (rank : ℕ) (subtree : RankedSubtree) (tree : Tree) : Type 0 where
+  pub front : List ℕ
+  pub back : List ℕ
+  pub shown : CanFill nodes subtree.at subtree.node tree
+  pub is : places ≡ front ++ (place_in subtree.before ++ (reading tree ++ (place_in subtree.behind ++ back)))
+  pub start_is : subtree.start ≡ length front + length (place_in subtree.before)
+  pub low : length front ≤ rank
+  pub high : rank < subtree.start + size tree + length (place_in subtree.behind)

@@ -1,0 +1,97 @@
+//! What a descent seeks: how a place stands to it. It knows keys through `Keys` alone, and no tree.
+ghost use Rattle.std.specs.Prelude.{◌≡◌, ℕ, ◌+◌, Some, IsSome};
+ghost use Rattle.std.specs.declared.cmp.Ordering.{Ordering};
+ghost use Rattle.bimap_tree.specs.Order.{order_of};
+ghost use Rattle.bimap_tree.specs.Order.{after_key};
+
+use bimap_base::{Keys, Meter};
+use std::cmp::Ordering;
+use std::mem::{ManuallyDrop, size_of, size_of_val};
+
+pub trait SearchKey {
+    ghost live: { Self → ℕ → Type 0 };
+
+    ghost go: { Self → ℕ → Ordering };
+
+    // How a place stands to what is sought.
+    fn side<M: Meter>(&self, place: usize, meter: &mut M) -> Ordering
+        requires { live self.now place }
+        ensures side { result ≡ go self.now place }
+        ensures comparisons { M.comparisons meter.new ≡ M.comparisons meter.old + 1 }
+        ensures touches { M.touches meter.new ≡ M.touches meter.old };
+
+    // Whether a key is wider than a word, so that a comparison most likely follows a pointer.
+    fn has_wide_keys() -> bool;
+}
+
+// A constant at each type. Its size is asked of an `Option` that holds none: `size_of` has no proof at a parameter.
+fn is_wide<K>() -> bool {
+    let no_key: Option<ManuallyDrop<K>> = None;
+    let size = size_of_val(&no_key);
+    let most = size_of::<Option<usize>>();
+    size > most
+}
+
+#[derive(Drop)]
+pub struct ToKey<'a, K: Keys> {
+    pub keys: &'a K,
+    pub key: &'a K::Key,
+}
+
+impl<K: Keys> SearchKey for ToKey<'_, K> {
+    ghost live = { λ s p. IsSome (K.key_at s.keys.now p) };
+
+    ghost go = { λ s p. order_of K.order (K.key_at s.keys.now p) (Some s.key.now) };
+
+    fn side<M: Meter>(&self, place: usize, meter: &mut M) -> Ordering {
+        self.keys.compare(place, self.key, meter)
+    }
+
+    fn has_wide_keys() -> bool {
+        is_wide::<K::Key>()
+    }
+}
+
+#[derive(Drop)]
+pub struct ToPlace<'a, K: Keys> {
+    pub keys: &'a K,
+    pub place: usize,
+}
+
+impl<K: Keys> SearchKey for ToPlace<'_, K> {
+    ghost live = { λ s p. IsSome (K.key_at s.keys.now p) × IsSome (K.key_at s.keys.now s.place) };
+
+    ghost go = { λ s p. order_of K.order (K.key_at s.keys.now p) (K.key_at s.keys.now s.place) };
+
+    fn side<M: Meter>(&self, place: usize, meter: &mut M) -> Ordering {
+        self.keys.compare_places(place, self.place, meter)
+    }
+
+    fn has_wide_keys() -> bool {
+        is_wide::<K::Key>()
+    }
+}
+
+// To the position just after a key.
+#[derive(Drop)]
+pub struct AfterKey<'a, K: Keys> {
+    pub keys: &'a K,
+    pub key: &'a K::Key,
+}
+
+impl<K: Keys> SearchKey for AfterKey<'_, K> {
+    ghost live = { λ s p. IsSome (K.key_at s.keys.now p) };
+
+    ghost go = { λ s p. after_key (order_of K.order (K.key_at s.keys.now p) (Some s.key.now)) };
+
+    fn side<M: Meter>(&self, place: usize, meter: &mut M) -> Ordering {
+        match self.keys.compare(place, self.key, meter) {
+            Ordering::Equal => Ordering::Less,
+            other => other,
+        }
+    }
+
+    fn has_wide_keys() -> bool {
+        is_wide::<K::Key>()
+    }
+}
