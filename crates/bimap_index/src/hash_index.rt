@@ -33,13 +33,6 @@ impl<B> HashIndex<B> {
             builder,
         }
     }
-
-    /// The builder that numbers the keys.
-    pub fn builder(&self) -> &B
-        ensures { result.now ≡ self.now.builder }
-    {
-        &self.builder
-    }
 }
 
 impl<K: Eq + Hash, B: BuildHasher> Index<K> for HashIndex<B> {

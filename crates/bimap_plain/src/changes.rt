@@ -11,8 +11,8 @@ ghost use Rattle.bimap_plain.specs.Plain.{shown, IsCleared};
 use crate::scan::{has_left, has_right, take_left, take_right};
 use bimap_base::{NoMemory, NoRoom, NotInsertedWith, Overwritten, Policy, UndoStopped};
 
-/// Makes a place free, where none is. It takes memory only there, and none where the room is fixed.
-fn make_place<T>(items: &mut Vec<T>, fixed: bool) -> Result<(), NoMemory>
+/// Makes a place free, where none is. It takes memory only there.
+fn make_place<T>(items: &mut Vec<T>) -> Result<(), NoMemory>
     ensures items { items.new.items ≡ items.old.items }
     ensures ok { OnOk result (vec_len items.new < vec_capacity items.new) }
     ensures full { OnErr result (vec_len items.old ≡ vec_capacity items.old) }
@@ -23,26 +23,19 @@ fn make_place<T>(items: &mut Vec<T>, fixed: bool) -> Result<(), NoMemory>
     if items.len() < items.capacity() {
         return Ok(());
     }
-    if fixed {
-        return Err(NoMemory);
-    }
     items.reserve_exact(1).map_err(|_| NoMemory)
 }
 
-/// Makes room for so many more pairs, exactly. Where it is missing and the room is fixed, it is refused.
-pub fn reserve<L, R>(pairs: &mut Vec<(L, R)>, fixed: bool, more: usize) -> Result<(), NoMemory>
+/// Makes room for so many more pairs, exactly.
+pub fn reserve<L, R>(pairs: &mut Vec<(L, R)>, more: usize) -> Result<(), NoMemory>
     ensures { IsReservation (shown pairs.old.items (vec_capacity pairs.old)) more result (shown pairs.new.items (vec_capacity pairs.new)) }
 {
-    if fixed && pairs.capacity() - pairs.len() < more {
-        return Err(NoMemory);
-    }
     pairs.reserve_exact(more).map_err(|_| NoMemory)
 }
 
 /// Puts a pair in, and takes out those that share a value with it.
 fn insert<L: Eq + Drop, R: Eq + Drop>(
     pairs: &mut Vec<(L, R)>,
-    fixed: bool,
     left: L,
     right: R,
 ) -> Result<Overwritten<L, R>, NoRoom<L, R>>
@@ -51,7 +44,7 @@ fn insert<L: Eq + Drop, R: Eq + Drop>(
     ensures apart { IsApart L.eq R.eq pairs.new.items }
 {
     let answer = strike(pairs, &left, &right);
-    if make_place(pairs, fixed).is_err() {
+    if make_place(pairs).is_err() {
         return Err(NoRoom { left, right });
     }
     pairs.push_reserved((left, right));
@@ -61,7 +54,6 @@ fn insert<L: Eq + Drop, R: Eq + Drop>(
 /// Puts a pair in where the policy lets it overwrite.
 pub fn insert_with<L: Eq + Drop, R: Eq + Drop>(
     pairs: &mut Vec<(L, R)>,
-    fixed: bool,
     left: L,
     right: R,
     policy: Policy,
@@ -76,7 +68,7 @@ pub fn insert_with<L: Eq + Drop, R: Eq + Drop>(
     if policy.right.refuses() && has_right(pairs, &right) {
         return Err(NotInsertedWith::RightHeld(left, right));
     }
-    match insert(pairs, fixed, left, right) {
+    match insert(pairs, left, right) {
         Ok(answer) => Ok(answer),
         Err(NoRoom { left, right }) => Err(NotInsertedWith::Memory(left, right)),
     }
@@ -115,7 +107,6 @@ fn strike<L: Eq + Drop, R: Eq + Drop>(
 /// Takes out the pair of the left, and puts the pairs of the answer in.
 pub fn undo<L: Eq + Drop, R: Eq + Drop>(
     pairs: &mut Vec<(L, R)>,
-    fixed: bool,
     left: &L,
     answer: Overwritten<L, R>,
 ) -> Result<(L, R), UndoStopped<L, R>>
@@ -139,7 +130,7 @@ pub fn undo<L: Eq + Drop, R: Eq + Drop>(
             }
         }
         Overwritten::Both(first, second) => {
-            let Ok(()) = make_place(pairs, fixed) else {
+            let Ok(()) = make_place(pairs) else {
                 return Err(UndoStopped {
                     answer: Overwritten::Both(first, second),
                 });

@@ -1,4 +1,4 @@
-//! A bimap for tests: a vector of pairs that is looked through one by one, with a room that may be fixed.
+//! A bimap for tests: a vector of pairs that is looked through one by one.
 #![tactic(auto)]
 
 mod changes;

@@ -1,5 +1,5 @@
 //! The bimap. It knows nothing but the vector and what scans and changes it.
-ghost use Rattle.std.specs.Prelude.{◌≡◌, ◌≤◌, [], length, Contains, IfOk, vec_capacity};
+ghost use Rattle.std.specs.Prelude.{◌≡◌, ◌≤◌, [], length, Contains, vec_capacity};
 ghost use Rattle.bimap_base.specs.Sets.{IsApart};
 ghost use Rattle.bimap_base.specs.Holding.{IsUndoing};
 ghost use Rattle.bimap_base.specs.Undoing.{IsUndoable};
@@ -15,8 +15,6 @@ use std::alloc::Global;
 #[derive(Drop)]
 pub struct Plain<L: Eq + Drop, R: Eq + Drop> {
     pairs: Vec<(L, R)>,
-    // Whether no place may be added.
-    fixed: bool,
     /// No two of the pairs held share a value.
     pub ghost apart: { IsApart L.eq R.eq pairs.items },
     /// There is a place for each pair held.
@@ -30,19 +28,7 @@ impl<L: Eq + Drop, R: Eq + Drop> Plain<L, R> {
     {
         Plain {
             pairs: Vec::new(alloc),
-            fixed: false,
         }
-    }
-
-    /// No pairs, and a room that stays.
-    pub fn with_room(alloc: Global, room: usize) -> Result<Self, NoMemory>
-        ensures empty { IfOk result (λ p. p.pairs.items ≡ []) }
-        ensures room { IfOk result (λ p. vec_capacity p.pairs ≡ room) }
-    {
-        let Ok(pairs) = Vec::with_capacity(alloc, room) else {
-            return Err(NoMemory);
-        };
-        Ok(Plain { pairs, fixed: true })
     }
 }
 
@@ -77,7 +63,7 @@ impl<L: Eq + Drop, R: Eq + Drop> Bijection<L, R> for Plain<L, R> {
         right: R,
         policy: Policy,
     ) -> Result<Overwritten<L, R>, NotInsertedWith<L, R>> {
-        changes::insert_with(&mut self.pairs, self.fixed, left, right, policy)
+        changes::insert_with(&mut self.pairs, left, right, policy)
     }
 
     fn remove_by_left(&mut self, left: &L) -> Option<(L, R)> {
@@ -101,7 +87,7 @@ impl<L: Eq + Drop, R: Eq + Drop> Bijection<L, R> for Plain<L, R> {
     }
 
     fn reserve(&mut self, more: usize) -> Result<(), NoMemory> {
-        changes::reserve(&mut self.pairs, self.fixed, more)
+        changes::reserve(&mut self.pairs, more)
     }
 
     fn undo_insert(
@@ -112,7 +98,7 @@ impl<L: Eq + Drop, R: Eq + Drop> Bijection<L, R> for Plain<L, R> {
         requires undoable { IsUndoable L.eq R.eq (Contains self.old.pairs.items) left.now answer }
         ensures { IsUndoing L.eq R.eq (shown self.old.pairs.items (vec_capacity self.old.pairs)) left.now answer result (shown self.new.pairs.items (vec_capacity self.new.pairs)) }
     {
-        changes::undo(&mut self.pairs, self.fixed, left, answer)
+        changes::undo(&mut self.pairs, left, answer)
     }
 
     ghost apart = { λ s. s.apart };

@@ -105,24 +105,6 @@ impl Ordered {
         find_in_tree(&self.cells, self.root, &ToKey { keys, key }, meter)
     }
 
-    /// The same as `find`. Where no key is equal, the route leads to where a place with this key would stand.
-    pub fn find_route<K: Keys, M: Meter>(
-        &self,
-        keys: &K,
-        key: &K::Key,
-        route: &mut Route,
-        meter: &mut M,
-    ) -> Option<usize>
-        requires { Ascends (K.key_at keys.now) K.order self.now.places }
-        ensures found { IfSome result (λ p. Contains self.now.places p × (standing (K.key_at keys.now) K.order key.now p ≡ Some Equal)) }
-        ensures none { IfNone result ((p : ℕ) → Contains self.now.places p → standing (K.key_at keys.now) K.order key.now p ≡ Some Equal → ⊥) }
-        ensures route { IfNone result (IsRoute self.now (λ q. standing (K.key_at keys.now) K.order key.now q) route.new) }
-        ensures comparisons { M.comparisons meter.new ≤ M.comparisons meter.old + most_height (length self.now.places) }
-        ensures touches { M.touches meter.new ≤ M.touches meter.old + most_height (length self.now.places) }
-    {
-        self.finish(keys, key, self.start(), route, meter)
-    }
-
     /// A search that has not gone down yet, for `step` and `finish`.
     pub fn start(&self) -> Descent
         ensures under_way { (standing : ℕ → Option Ordering) (route : Route) → IsUnderWay self.now standing result route }
@@ -150,7 +132,8 @@ impl Ordered {
         step_in_tree(&self.cells, &ToKey { keys, key }, descent, route, meter)
     }
 
-    /// Goes all the way down from where the search has come. It answers as `find_route` does.
+    /// Goes all the way down from where the search has come: the listed place whose key is equal. Where there is none, the
+    /// route leads to where a place with this key would stand.
     pub fn finish<K: Keys, M: Meter>(
         &self,
         keys: &K,

@@ -22,7 +22,7 @@ pub struct Route {
 }
 
 impl Route {
-    /// A route of no steps, for `Ordered::find_route` to write.
+    /// A route of no steps, for `Ordered::step` and `finish` to write.
     pub fn new() -> Self
         ensures { (index : Index) (standing : ℕ → Option Ordering) → IsBalancedIndex index leaf → IsRoute index standing result }
     {
