@@ -94,7 +94,8 @@ impl Hashed {
         }
     }
 
-    /// Lists the place under its present number. It takes no memory.
+    /// Lists the place under its present number, for a caller that has only the keys. (An index of a side has the number
+    /// from its search.) It takes no memory.
     pub fn insert<S: Spread>(&mut self, spread: &S, place: usize)
         requires live { IsSome (S.key_at spread.now place) }
         requires cell { place < length self.old }
@@ -129,8 +130,8 @@ impl Hashed {
         }
     }
 
-    /// Makes cells for all places below `to`, exactly, and hashes nothing. It takes memory only where some are missing,
-    /// and a refusal changes nothing.
+    /// Makes cells for all places below `to`, exactly, and hashes nothing, for a caller that hands its keys to each call. (An
+    /// index of a side has none at hand.) It takes memory only where some are missing, and a refusal changes nothing.
     pub fn grow<S: Spread>(&mut self, _spread: &S, to: usize) -> Result<(), NoMemory>
         ensures ok { OnOk result (self.new ≡ self.old ++ replicate (to - length self.old) None) }
         ensures err { OnErr result (self.new ≡ self.old) }
@@ -139,7 +140,7 @@ impl Hashed {
         self.grow_to(to)
     }
 
-    /// As `grow`, which has no use for the keys.
+    /// As `grow`, without keys, for which it has no use.
     pub fn grow_to(&mut self, to: usize) -> Result<(), NoMemory>
         ensures ok { OnOk result (self.new ≡ self.old ++ replicate (to - length self.old) None) }
         ensures err { OnErr result (self.new ≡ self.old) }
