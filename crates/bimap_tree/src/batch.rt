@@ -21,6 +21,7 @@ impl Batch {
     pub fn new(index: &Ordered) -> Batch
         ensures { IsBatch index.now.places result }
     {
+        // The contract alone names it.
         let _ = index;
         Batch {
             from: 0,

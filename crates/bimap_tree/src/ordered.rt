@@ -174,6 +174,7 @@ impl Ordered {
         ensures comparisons { M.comparisons meter.new ≡ M.comparisons meter.old }
         ensures touches { M.touches meter.new ≤ M.touches meter.old + 64 * (most_height (length self.old.places) + 1) }
     {
+        // Cells are fewer than 2^64.
         let _ = self.cells.places();
         self.root = put_at(&mut self.cells, route, place, meter);
         self.len += 1;
@@ -193,8 +194,10 @@ impl Ordered {
         ensures comparisons { M.comparisons meter.new ≤ M.comparisons meter.old + most_height (length self.old.places) }
         ensures touches { M.touches meter.new ≤ M.touches meter.old + 64 * (most_height (length self.old.places) + 1) }
     {
+        // Cells are fewer than 2^64.
         let _ = self.cells.places();
         let mut route = Route::new();
+        // No key is equal.
         let _ = route_in_tree(
             &self.cells,
             self.root,
@@ -219,6 +222,7 @@ impl Ordered {
         ensures touches { M.touches meter.new ≤ M.touches meter.old + 64 * (most_height (length self.old.places) + 1) }
     {
         let mut route = Route::new();
+        // It leads to the place.
         let _ = route_in_tree(
             &self.cells,
             self.root,

@@ -246,6 +246,7 @@ impl<B: Bijection<L, R> + Drop, L: CopyLeft + Drop, R: Eq + Drop> Undoable<B, L,
         ensures stands_for_a_set { (mark : _) → mark ≤ result → (A : _) × IsBefore L.eq R.eq self.now mark A }
         ensures for_one_set { (mark : _) (A B : _) → mark ≤ result → IsBefore L.eq R.eq self.now mark A → IsBefore L.eq R.eq self.now mark B → IsSameSet (Contains A) (Contains B) }
     {
+        // So its laws are known.
         let _bimap = &self.bimap;
         self.changes.len()
     }

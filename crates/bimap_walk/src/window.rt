@@ -49,6 +49,7 @@ impl Window {
         requires window { IsWindow index.now.places self.now }
         ensures { result ≡ length (places_in index.now.places self.now) }
     {
+        // The contract alone names it.
         let _ = index;
         self.back - self.front
     }
