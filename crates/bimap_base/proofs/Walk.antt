@@ -3,14 +3,12 @@ use Rattle.std.proofs.Common.{◌≡◌, ◌≢◌, ◌↔◌, ◌⊎◌, ℕ, z
 use Rattle.std.specs.Prelude.{slice_set}
 use Rattle.std.specs.List.{AllPairs, Contains}
 use Rattle.std.specs.Option.{option_map}
-use Rattle.std.specs.Cmp.{IsEquivalence}
-use Rattle.std.proofs.lemmas.Bool.{cases_eq, cases_lt}
-use Rattle.std.proofs.lemmas.List.{get_or_default, get_or-set_other}
+use Rattle.std.proofs.lemmas.Bool.{cases_eq}
+use Rattle.std.proofs.lemmas.List.{get_or-set_other}
 use Rattle.bimap_base.specs.Sets.{IsSameSet, shares, IsApart}
 use Rattle.bimap_base.specs.Slots.{pair_at, IsLive, pair_count}
 use Rattle.bimap_base.specs.Places.{pairs_in}
 use Rattle.bimap_base.specs.PairsAt.{pairs_at}
-use Rattle.bimap_base.proofs.Apart.{shares_symm}
 use Rattle.bimap_base.proofs.Members.{head_in, more_in, cases_in, none_in, AllPairs-head, AllPairs-tail}
 use Rattle.bimap_base.proofs.Compaction.{counted_in}
 
@@ -172,27 +170,3 @@ module _ {L R : Type 0} (same_left : L → L → Bool) (same_right : R → R →
   module _ (slots : List (Option (L × R))) (places : List ℕ) (walk : IsWalk slots places) where
     pub apart_walked : AreApartAt slots → IsApart same_left same_right (pairs_at slots places)
     apart_walked apart = pairs_walked slots places walk (λ a b. a ≢ b) (λ p q. shares same_left same_right p q ≡ false) apart walk.distinct
-
-    pub apart_at_places : IsEquivalence same_left → IsEquivalence same_right → IsApart same_left same_right (pairs_at slots places) → AreApartAt slots
-    apart_at_places lefts rights apart a b p q away first second =
-        let i = (walk.live a).1 (ap is_some first) in
-        let j = (walk.live b).1 (ap is_some second) in
-        let here = read i.0 i.1 a i.2 p first in
-        let there = read j.0 j.1 b j.2 q second in
-        elim (cases_lt i.0 j.0) [
-          | inl before ↦ told i.0 j.0 p q before j.1 here there
-          | inr after ↦ elim (cases_lt j.0 i.0) [
-            | inl before ↦ shares_symm same_left same_right lefts rights p q ∙ told j.0 i.0 q p before i.1 there here
-            | inr same ↦ let e : i.0 ≡ j.0 = omega arith in absurd (away (sym i.2 ∙ ap (λ k. get_or places k a) e ∙ get_or_default places j.0 a b j.1 ∙ j.2))
-          ]
-        ]
-      where
-        read : (i : ℕ) → i < length places → (a : ℕ) → get_or places i a ≡ a → (p : L × R) → pair_at slots a ≡ Some p → get_or (pairs_at slots places) i p ≡ p
-        read i inside a at p is =
-            let e = sym (read_at slots places (λ place. (walk.live place).0) i a p inside) ∙ ap (pair_at slots) at ∙ is in cc
-
-        told : (i j : ℕ) (p q : L × R) → i < j → j < length places → get_or (pairs_at slots places) i p ≡ p → get_or (pairs_at slots places) j q ≡ q → shares same_left same_right p q ≡ false
-        told i j p q before inside here there =
-            let long = long_at slots places (λ place. (walk.live place).0) in
-            let other = get_or_default (pairs_at slots places) i q p (omega arith) in
-            ap (λ z. shares same_left same_right z q) (sym (other ∙ here)) ∙ ap (shares same_left same_right (get_or (pairs_at slots places) i q)) (sym there) ∙ apart i j q before (omega arith)

@@ -3,7 +3,6 @@ use Rattle.std.proofs.Common.{◌≡◌, ℕ, ◌+◌, ◌%◌, ◌<◌, ◌≤�
 use Rattle.std.specs.Prelude.{slice_index_or, IsSomeAnd, IsSome, IfSome, IsTrue, nat_eq}
 use Rattle.std.specs.Option.{MatchOption, option_eq}
 use Rattle.bimap_chain.specs.Chains.{Numbers, number_at, is_of, last_below, NoneWithin, IsThreaded, GoesOver, AreNumbered, Matches, IsListed}
-use Rattle.std.proofs.lemmas.List.{get_or_past}
 use Rattle.std.proofs.lemmas.Bool.{cases_lt}
 use Rattle.bimap_chain.proofs.Below.{found, found_none}
 
@@ -95,12 +94,6 @@ module _ {Key : Type 0} (key_at : ℕ → Option Key) (test : Key → Bool) (c :
   -- a listed place whose key failed the test
   pub miss : (p : ℕ) (r : Bool) → IfSome (key_at p) (λ k. r ≡ test k) → r ≡ false → Matches key_at test c p → ⊥
   miss p r i f m = fails test (key_at p) r m.1 i f
-
-  pub begun : (links heads : List (Option ℕ)) (b : ℕ) → IsThreaded c links heads → b < length heads → Searched key_at test c (length heads) b (length c) (slice_index_or heads b None)
-  begun links heads b t l = record { at_last = t.heads_begin b l; within = omega arith; passed = λ p i m. past_end p i m }
-    where
-      past_end : (p : ℕ) → length c ≤ p → Matches key_at test c p → ⊥
-      past_end p i m = let e : number_at c p ≡ None = get_or_past c p None i in let o = m.0.1 in cc
 
 module _ {Key : Type 0} (key_at : ℕ → Option Key) (number_of : Key → ℕ) (test : Key → Bool) (c : Numbers) where
   -- a listed place has a key

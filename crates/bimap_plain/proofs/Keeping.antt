@@ -6,7 +6,7 @@ use Rattle.std.proofs.lemmas.List.Sorted.{IsPermutation-refl}
 use denote.Param.Members.{Mut}
 use denote.Ref.{Bor}
 use Rattle.bimap_base.specs.Sets.{IsApart}
-use Rattle.bimap_base.specs.Kept.{TestedAt, TestsInTurn, answered_true, IsKept}
+use Rattle.bimap_base.specs.Kept.{TestedAt, TestsInTurn, answered_true}
 use Rattle.bimap_base.proofs.Members.{head_in, more_in, cases_in}
 use Rattle.bimap_base.proofs.Testing.{tests_push, true_push, false_push}
 use Rattle.bimap_base.proofs.Apart.{apart_head, apart_tail, apart_more, apart_none}
@@ -33,9 +33,6 @@ module _ {F L R : Type 0} (g : Mut F (Bor L × (Bor R × Unit {0})) Bool) where
     pub left : items ≡ answered_true g tested answers ++ rest
     pub count : kept ≡ length (answered_true g tested answers)
     pub calls : TestsInTurn g first tested answers f
-
-  pub start : (f : F) (old : List (L × R)) → IsTestedUpTo f f old old 0
-  start f old = record { tested = []; answers = []; rest = old; all = refl; left = refl; count = refl; calls = refl }
 
   at_length : (xs ys : List (L × R)) (d : L × R) (k : ℕ) → k ≡ length xs → k < length (xs ++ ys) → ys ≡ get_or (xs ++ ys) k d ∷ drop (suc k) (xs ++ ys)
   at_length xs [] d k e h = absurd (omega (arith, length-append xs []))
@@ -107,16 +104,6 @@ module _ {F L R : Type 0} (g : Mut F (Bor L × (Bor R × Unit {0})) Bool) where
 
     items_is : items ≡ answered_true g so_far.tested so_far.answers
     items_is = so_far.left ∙ ap (λ xs. answered_true g so_far.tested so_far.answers ++ xs) rest_none ∙ append_nil (answered_true g so_far.tested so_far.answers)
-
-    pub ended : IsKept g first old items
-    ended = record {
-      order = so_far.tested;
-      answers = so_far.answers;
-      last = f;
-      each_once = subst (IsPermutation old) order_is (IsPermutation-refl old);
-      calls = so_far.calls;
-      kept = λ q. (λ m. subst (λ (xs : List (L × R)). Contains xs q) items_is m, λ m. subst (λ (xs : List (L × R)). Contains xs q) (sym items_is) m);
-    }
 
     pub ended_apart : (same_left : L → L → Bool) (same_right : R → R → Bool) → IsApart same_left same_right old → IsApart same_left same_right items
     ended_apart same_left same_right h = subst (IsApart same_left same_right) (sym items_is) (apart_true same_left same_right so_far.tested so_far.answers (subst (IsApart same_left same_right) order_is h))

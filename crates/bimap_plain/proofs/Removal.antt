@@ -159,7 +159,3 @@ module _ {L R : Type 0} (same_left : L → L → Bool) (same_right : R → R →
       by_right = f;
       only = λ s k h. only_both p q s m e ((without q).0 n).0 f k (same_left s.0 l) refl h;
     }
-
-module _ {L R : Type 0} (same_left : L → L → Bool) (same_right : R → R → Bool) where
-  pub none_shares : (xs : List (L × R)) (l : L) (r : R) → LacksLeft same_left (Contains xs) l → LacksRight same_right (Contains xs) r → NoneShares same_left same_right (Contains xs) (l, r)
-  none_shares xs l r h k q m = or_from (same_left q.0 l) (same_right q.1 r) (h q m) (k q m)

@@ -40,9 +40,6 @@ module _ {L R : Type 0} (same_left : L → L → Bool) (same_right : R → R →
   )
 
 module _ {L R : Type 0} (same_left : L → L → Bool) (same_right : R → R → Bool) (lefts : IsEquivalence same_left) (rights : IsEquivalence same_right) where
-  tie : (a b c : L) → same_left a c ≡ true → same_left b c ≡ true → same_left a b ≡ true
-  tie a b c e f = lefts.symm a b ∙ lefts.congr b c a f ∙ lefts.symm c a ∙ e
-
   module _ (old mid : List (L × R)) (left : L) (answer : Overwritten L R) (without : IsWithoutLeft same_left (Contains old) left (Contains mid)) (may : IsUndoable same_left same_right (Contains old) left answer) where
     -- a pair of the answer shares no value with those that are left
     named_free : (p q : L × R) → IsNamed answer p → Contains mid q → shares same_left same_right q p ≡ false

@@ -7,10 +7,10 @@ use Rattle.std.specs.declared.cmp.Ordering.TheVariants.{Less}
 use Rattle.std.specs.Io.KnownBytes.{Appends}
 use Rattle.std.proofs.KnownBytes.{Appends-trans}
 use Rattle.bimap_rows.specs.Lines.{Request, SaysInAll}
-use Rattle.bimap_rows.specs.Serving.{IsServed, IsReadOut, AscendsByLeft, told, tail, Stops, Ends}
+use Rattle.bimap_rows.specs.Serving.{IsServed, IsReadOut, AscendsByLeft, told, tail, Ends}
 use Rattle.bimap_rows.specs.Steps.{IsFlushed}
 use Rattle.bimap_rows.specs.declared.serve.Ending.{Ending}
-use Rattle.bimap_rows.specs.declared.serve.Ending.TheVariants.{Clean, InputFailed, OutputFailed, BadLine, NoMemory}
+use Rattle.bimap_rows.specs.declared.serve.Ending.TheVariants.{Clean}
 
 -- lefts in the order of characters ascend as numbers
 pub ascends : (pairs : List (ℕ × ℕ)) → AllPairs (λ p q. nat_cmp p.0 q.0 ≡ Less) pairs → AscendsByLeft pairs
@@ -20,18 +20,6 @@ ascends pairs up = λ i j d earlier within. ranked _ _ Less (sym (up i j d earli
 wrote_more : (Say : List ℕ → List Request → Type 0) (input o p q : Option (List ℕ)) (pairs : List (ℕ × ℕ)) (end more all : List ℕ) → IsServed Say input o p pairs end → Appends p q more → end ++ more ≡ all → IsServed Say input o q pairs all
 wrote_more Say input o p q pairs end more all s a e =
     record { history = s.history; leads = s.leads; says = s.says; wrote = subst (Appends o q) (append_assoc (told s.history) end more ∙ ap (λ l. told s.history ++ l) e) (Appends-trans o p q (told s.history ++ end) more s.wrote a) }
-
--- the lines ended early, and the output was flushed
-pub ends_stopped : (ending result : Ending) (input left o p q : Option (List ℕ)) → Stops ending input o p → IsFlushed ending result p q → Ends result input left o q
-ends_stopped ending result input left o p q s (inl e) = subst (λ k. Ends k input left o q) (sym e) tt
-ends_stopped ending result input left o p q s (inr h) = subst (λ k. Ends k input left o q) (sym h.0) (by ending s)
-  where
-    by : (k : Ending) → Stops k input o p → Ends k input left o q
-    by Clean t = absurd t
-    by OutputFailed t = tt
-    by InputFailed t = (t.0, wrote_more _ input o p q t.0 [] [] [] t.1 h.1 refl)
-    by (BadLine n) t = (t.0, wrote_more _ input o p q t.0 [] [] [] t.1 h.1 refl)
-    by NoMemory t = (t.0, wrote_more _ input o p q t.0 [] [] [] t.1 h.1 refl)
 
 -- all lines were served, and what is held was written
 pub ends_clean : (result : Ending) (input left o p q r : Option (List ℕ)) (pairs : List (ℕ × ℕ)) → AscendsByLeft pairs → IsServed SaysInAll input o p pairs [] → IsReadOut input left → Appends p q (tail pairs) → IsFlushed Clean result q r → Ends result input left o r

@@ -263,9 +263,6 @@ module _ (ns : List Node) (root : Option ℕ) (len : ℕ) (v : Index) (w : IsWho
       left_reads : reading (tree_in ms last) ≡ reading done.0
       left_reads = ap reading (tree_in-shown ms last done.0 done.1.tree)
 
-      pub some_place : 0 < len
-      some_place = omega (arith, left_size)
-
       pub take_whole : IsWhole ms last (len - 1)
       take_whole =
           whole_of ms last (len - 1) done.0

@@ -23,9 +23,6 @@ module _ {X : Type 0} (old : List X) (x : X) (xs : List X) where
       pub AllPairs-first : All (R x) xs
       AllPairs-first k d l = each_two 0 (suc k) d (omega arith) (omega (arith, l))
 
-      pub AllPairs-behind : AllPairs R xs
-      AllPairs-behind i j d before inside = each_two (suc i) (suc j) d (omega (arith, before)) (omega (arith, inside))
-
   longer : length (xs ++ x ∷ []) ≡ length xs + 1
   longer = length-append xs (x ∷ [])
 
@@ -48,8 +45,3 @@ module _ {X : Type 0} (old : List X) (x : X) (xs : List X) where
       AllPairs-last k d l =
           subst (λ y. R y x) (get_or-append xs (x ∷ []) d k l)
           (subst (R (get_or (xs ++ x ∷ []) k d)) (get_or-append_seam xs x [] d) (each_pair k (length xs) d l (omega (arith, longer))))
-
-      pub AllPairs-before : AllPairs R xs
-      AllPairs-before i j d before inside =
-          subst (λ y. R y (get_or xs j d)) (get_or-append xs (x ∷ []) d i (omega (arith, before, inside)))
-          (subst (R (get_or (xs ++ x ∷ []) i d)) (get_or-append xs (x ∷ []) d j inside) (each_pair i j d before (omega (arith, longer, inside))))
