@@ -1,7 +1,9 @@
 -- What is said of a holding is said of one with the same members, as many of them and the same room.
-use Rattle.std.proofs.Common.{◌≡◌, ◌∙◌, Bool, Option, length, sym, arith}
-use Rattle.std.specs.Prelude.{Contains, Result, OnErr}
+use Rattle.std.proofs.Common.{◌≡◌, ◌∙◌, Bool, Option, Some, None, length, sym, arith}
+use Rattle.std.specs.Prelude.{Contains, Result, OnErr, MatchOption, IfNone}
 use Rattle.std.specs.Borrow.{Bor}
+use Rattle.std.proofs.lemmas.Option.{IfSome_then}
+use Rattle.std.proofs.lemmas.Result.{IfOk-weaker, IfErr-weaker, on_ok_weaker, on_err_weaker}
 use Rattle.bimap_base.specs.Sets.{IsSameSet, HasLeft}
 use Rattle.bimap_base.specs.Holding.{Holding, IsFull, IsFoundByLeft, IsFoundByRight, IsRemovalByLeft, IsRemovalByRight, IsRoomAfter, IsInsertionUnder, IsInterning, IsUndoing}
 use Rattle.bimap_base.specs.declared.overwritten.Overwritten.{Overwritten}
@@ -9,8 +11,16 @@ use Rattle.bimap_base.specs.declared.policy.Policy.{Policy}
 use Rattle.bimap_base.specs.declared.refusal.NotInserted.{NotInserted}
 use Rattle.bimap_base.specs.declared.refusal.NotInsertedWith.{NotInsertedWith}
 use Rattle.bimap_base.specs.declared.refusal.UndoStopped.{UndoStopped}
-use Rattle.bimap_base.proofs.Results.{MatchOption-then, IfSome-then, IfNone-then, IfOk-then, IfErr-then, OnOk-then, OnErr-then}
 use Rattle.bimap_base.proofs.SetsAlike.{turned, HasLeft-same, LacksLeft-same, LacksRight-same, IsWithoutLeft-same, IsWithoutRight-same, SomeShares-back, IsAnswer-same, IsAllowed-same, IsRefusal-same, IsRefusalUnder-same, IsWithPut-same, IsUndone-same}
+
+module _ {T : Type 0} where
+  MatchOption-then : {P P' : Type 0} {Q Q' : T → Type 0} (o : Option T) → (P → P') → ((x : T) → Q x → Q' x) → MatchOption o P Q → MatchOption o P' Q'
+  MatchOption-then (Some x) none some q = some x q
+  MatchOption-then None none some p = none p
+
+  IfNone-then : {P Q : Type 0} (o : Option T) → (P → Q) → IfNone o P → IfNone o Q
+  IfNone-then (Some x) step p = p
+  IfNone-then None step p = step p
 
 module _ {L R : Type 0} where
   pub record AreAlike (h k : Holding L R) : Type 0 where
@@ -24,20 +34,20 @@ module _ {L R : Type 0} where
 
     pub found_left_alike : (same : L → L → Bool) (left : L) (result : Option (Bor R)) → IsFoundByLeft same h left result → IsFoundByLeft same k left result
     found_left_alike same left result f = record {
-      found = IfSome-then result (λ right w. (w.0, (like.members (w.0, right.now)).0 w.1, w.2)) f.found;
+      found = IfSome_then result f.found (λ right w. (w.0, (like.members (w.0, right.now)).0 w.1, w.2));
       none = IfNone-then result (LacksLeft-same (Contains h.pairs) (Contains k.pairs) like.members same left) f.none;
     }
 
     pub found_right_alike : (same : R → R → Bool) (right : R) (result : Option (Bor L)) → IsFoundByRight same h right result → IsFoundByRight same k right result
     found_right_alike same right result f = record {
-      found = IfSome-then result (λ left w. (w.0, (like.members (left.now, w.0)).0 w.1, w.2)) f.found;
+      found = IfSome_then result f.found (λ left w. (w.0, (like.members (left.now, w.0)).0 w.1, w.2));
       none = IfNone-then result (LacksRight-same (Contains h.pairs) (Contains k.pairs) like.members same right) f.none;
     }
 
     module _ (h' k' : Holding L R) (after : AreAlike h' k') where
       pub removal_left_alike : (same : L → L → Bool) (left : L) (result : Option (L × R)) → IsRemovalByLeft same h left result h' → IsRemovalByLeft same k left result k'
       removal_left_alike same left result r = record {
-        removed = IfSome-then result (λ p w. ((like.members p).0 w.0, w.1)) r.removed;
+        removed = IfSome_then result r.removed (λ p w. ((like.members p).0 w.0, w.1));
         none = IfNone-then result (LacksLeft-same (Contains h.pairs) (Contains k.pairs) like.members same left) r.none;
         without = IsWithoutLeft-same (Contains h.pairs) (Contains k.pairs) like.members same (Contains h'.pairs) (Contains k'.pairs) left after.members r.without;
         count = MatchOption-then result (λ e. after.long ∙ e ∙ sym like.long) (λ p e. omega (arith, after.long, e, like.long)) r.count;
@@ -46,7 +56,7 @@ module _ {L R : Type 0} where
 
       pub removal_right_alike : (same : R → R → Bool) (right : R) (result : Option (L × R)) → IsRemovalByRight same h right result h' → IsRemovalByRight same k right result k'
       removal_right_alike same right result r = record {
-        removed = IfSome-then result (λ p w. ((like.members p).0 w.0, w.1)) r.removed;
+        removed = IfSome_then result r.removed (λ p w. ((like.members p).0 w.0, w.1));
         none = IfNone-then result (LacksRight-same (Contains h.pairs) (Contains k.pairs) like.members same right) r.none;
         without = IsWithoutRight-same (Contains h.pairs) (Contains k.pairs) like.members same (Contains h'.pairs) (Contains k'.pairs) right after.members r.without;
         count = MatchOption-then result (λ e. after.long ∙ e ∙ sym like.long) (λ p e. omega (arith, after.long, e, like.long)) r.count;
@@ -64,11 +74,11 @@ module _ {L R : Type 0} where
         -- where an `Err` left the very holding, it left the very other
         pub insertion_alike : (pair : L × R) (policy : Policy) (result : Result (Overwritten L R) (NotInsertedWith L R)) → OnErr result (k' ≡ k) → IsInsertionUnder same_left same_right h pair policy result h' → IsInsertionUnder same_left same_right k pair policy result k'
         insertion_alike pair policy result unchanged i = record {
-          allowed = OnOk-then result (IsAllowed-same (Contains h.pairs) (Contains k.pairs) like.members same_left same_right pair policy) i.allowed;
-          answer = IfOk-then result (IsAnswer-same (Contains h.pairs) (Contains k.pairs) like.members same_left same_right pair) i.answer;
-          put = OnOk-then result (IsWithPut-same (Contains h.pairs) (Contains k.pairs) like.members same_left same_right (Contains h'.pairs) (Contains k'.pairs) pair after.members) i.put;
-          count = IfOk-then result (λ answer e. omega (arith, after.long, e, like.long)) i.count;
-          refused = IfErr-then result (λ e. IsRefusalUnder-same (Contains h.pairs) (Contains k.pairs) like.members same_left same_right (IsFull h) (IsFull k) pair policy e full_alike) i.refused;
+          allowed = on_ok_weaker result (IsAllowed-same (Contains h.pairs) (Contains k.pairs) like.members same_left same_right pair policy) i.allowed;
+          answer = IfOk-weaker result _ _ (IsAnswer-same (Contains h.pairs) (Contains k.pairs) like.members same_left same_right pair) i.answer;
+          put = on_ok_weaker result (IsWithPut-same (Contains h.pairs) (Contains k.pairs) like.members same_left same_right (Contains h'.pairs) (Contains k'.pairs) pair after.members) i.put;
+          count = IfOk-weaker result _ _ (λ answer e. omega (arith, after.long, e, like.long)) i.count;
+          refused = IfErr-weaker result _ _ (λ e. IsRefusalUnder-same (Contains h.pairs) (Contains k.pairs) like.members same_left same_right (IsFull h) (IsFull k) pair policy e full_alike) i.refused;
           unchanged = unchanged;
           room = room_alike pair i.room;
         }
@@ -78,24 +88,24 @@ module _ {L R : Type 0} where
         interning_alike pair result held unchanged i =
             let back = turned (Contains h.pairs) (Contains k.pairs) like.members in
             record {
-              answer = IfOk-then result (λ right w. (w.0, (after.members (w.0, right)).0 w.1, w.2)) i.answer;
+              answer = IfOk-weaker result _ _ (λ right w. (w.0, (after.members (w.0, right)).0 w.1, w.2)) i.answer;
               held = λ has. let was = HasLeft-same (Contains k.pairs) (Contains h.pairs) back same_left pair.0 has in ((i.held was).0, held was);
-              put = λ lacks. OnOk-then result (IsWithPut-same (Contains h.pairs) (Contains k.pairs) like.members same_left same_right (Contains h'.pairs) (Contains k'.pairs) pair after.members) (i.put (LacksLeft-same (Contains k.pairs) (Contains h.pairs) back same_left pair.0 lacks));
-              count = λ lacks. OnOk-then result (λ e. omega (arith, after.long, e, like.long)) (i.count (LacksLeft-same (Contains k.pairs) (Contains h.pairs) back same_left pair.0 lacks));
+              put = λ lacks. on_ok_weaker result (IsWithPut-same (Contains h.pairs) (Contains k.pairs) like.members same_left same_right (Contains h'.pairs) (Contains k'.pairs) pair after.members) (i.put (LacksLeft-same (Contains k.pairs) (Contains h.pairs) back same_left pair.0 lacks));
+              count = λ lacks. on_ok_weaker result (λ e. omega (arith, after.long, e, like.long)) (i.count (LacksLeft-same (Contains k.pairs) (Contains h.pairs) back same_left pair.0 lacks));
               kept = λ p was. (after.members p).0 (i.kept p ((like.members p).1 was));
-              refused = IfErr-then result (λ e. IsRefusal-same (Contains h.pairs) (Contains k.pairs) like.members same_left same_right (IsFull h) (IsFull k) pair e full_alike) i.refused;
+              refused = IfErr-weaker result _ _ (λ e. IsRefusal-same (Contains h.pairs) (Contains k.pairs) like.members same_left same_right (IsFull h) (IsFull k) pair e full_alike) i.refused;
               unchanged = unchanged;
               room = room_alike pair i.room;
             }
 
         pub undoing_alike : (left : L) (answer : Overwritten L R) (result : Result (L × R) (UndoStopped L R)) → OnErr result (k' ≡ k) → IsUndoing same_left same_right h left answer result h' → IsUndoing same_left same_right k left answer result k'
         undoing_alike left answer result unchanged u = record {
-          taken = IfOk-then result (λ p w. ((like.members p).0 w.0, w.1)) u.taken;
-          undone = OnOk-then result (IsUndone-same (Contains h.pairs) (Contains k.pairs) like.members same_left same_right (Contains h'.pairs) (Contains k'.pairs) left answer after.members) u.undone;
-          count = OnOk-then result (λ e. omega (arith, after.long, e, like.long)) u.count;
+          taken = IfOk-weaker result _ _ (λ p w. ((like.members p).0 w.0, w.1)) u.taken;
+          undone = on_ok_weaker result (IsUndone-same (Contains h.pairs) (Contains k.pairs) like.members same_left same_right (Contains h'.pairs) (Contains k'.pairs) left answer after.members) u.undone;
+          count = on_ok_weaker result (λ e. omega (arith, after.long, e, like.long)) u.count;
           handed_back = u.handed_back;
           both = u.both;
-          full = OnErr-then result full_alike u.full;
+          full = on_err_weaker result full_alike u.full;
           unchanged = unchanged;
           not_lower = rw (like.room, after.room) u.not_lower;
           had_place = λ free. after.room ∙ u.had_place (rw (sym like.room, sym like.long) free) ∙ sym like.room;

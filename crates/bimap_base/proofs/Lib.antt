@@ -15,7 +15,6 @@ pub mod NodesInCells
 pub mod Passing
 pub mod Removals
 pub mod Replacing
-pub mod Results
 pub mod SameAscending
 pub mod SameSets
 pub mod SetsAlike

@@ -1,13 +1,14 @@
 -- Equality of sets of pairs that share no value is an equivalence.
 use Rattle.std.proofs.Common.{◌≡◌, ◌&&◌, ℕ, ◌<◌, Bool, true, List, [], ◌∷◌, length, get_or, refl, sym, ap, ◌∙◌, inl, inr, arith, nat_eq, true≢false}
-use Rattle.std.specs.List.{Contains, list_any, list_all}
+use Rattle.std.specs.List.{Contains, list_any, list_all, remove}
 use Rattle.std.specs.Bool.{Decides}
 use Rattle.std.specs.Cmp.{IsPartialEquivalence, IsEquivalence, first_so, second_so, both_ways, and_per, on_per, equiv, partial_equiv_from_equiv, unsigned_Decides}
 use Rattle.std.proofs.lemmas.Bool.{or_left}
+use Rattle.std.proofs.lemmas.List.Edits.{length-remove}
 use Rattle.bimap_base.specs.Sets.{IsApart}
 use Rattle.bimap_base.specs.Same.{pair_eq, same, IsSame}
 use Rattle.bimap_base.proofs.Apart.{apart_head, apart_tail}
-use Rattle.bimap_base.proofs.Members.{head_in, more_in, any_in, in_any, all_in, in_all, without, length-without, in_without}
+use Rattle.bimap_base.proofs.Members.{head_in, more_in, any_in, in_any, all_in, in_all, in_removed}
 
 module _ {L R : Type 0} (eql : L → L → Bool) (eqr : R → R → Bool) where
   pub same_decides : (xs ys : List (L × R)) → Decides (same eql eqr xs ys) (IsSame eql eqr xs ys)
@@ -28,12 +29,12 @@ module _ {L R : Type 0} (eql : L → L → Bool) (eqr : R → R → Bool) where
     met [] ys apart long sub q c = absurd (omega (arith, long, c.1))
     met (x ∷ xs) ys apart long sub q c =
         let m = sub x (head_in x xs) in
-        go m.0 m.1.0 m.1.1 m.1.2 m.2 (λ k inside below w. met xs (without ys k) (apart_tail eql eqr x xs apart) (omega (arith, long, length-without ys k inside)) below q w)
+        go m.0 m.1.0 m.1.1 m.1.2 m.2 (λ k inside below w. met xs (remove ys k) (apart_tail eql eqr x xs apart) (omega (arith, long, length-remove ys k inside)) below q w)
       where
-        below : (r : L × R) (k : ℕ) → k < length ys → get_or ys k r ≡ r → pair_eq eql eqr x r ≡ true → Sub xs (without ys k)
+        below : (r : L × R) (k : ℕ) → k < length ys → get_or ys k r ≡ r → pair_eq eql eqr x r ≡ true → Sub xs (remove ys k)
         below r k inside here e p d =
             let n = sub p (more_in x xs p d) in
-            elim (in_without ys k r n.0 inside n.1) [
+            elim (in_removed ys k r n.0 inside n.1) [
               | inl at ↦
                   let f : pair_eq eql eqr r p ≡ true = pairs_per.symm r p ∙ ap (pair_eq eql eqr p) (sym here ∙ at) ∙ n.2 in
                   let g : pair_eq eql eqr x p ≡ true = pairs_per.trans x r p e f in
@@ -41,9 +42,9 @@ module _ {L R : Type 0} (eql : L → L → Bool) (eqr : R → R → Bool) where
               | inr w ↦ (n.0, w, n.2)
             ]
 
-        go : (r : L × R) (k : ℕ) → k < length ys → get_or ys k r ≡ r → pair_eq eql eqr x r ≡ true → ((k : ℕ) → k < length ys → Sub xs (without ys k) → Contains (without ys k) q → (p : L × R) × Contains xs p × (pair_eq eql eqr p q ≡ true)) → (p : L × R) × Contains (x ∷ xs) p × (pair_eq eql eqr p q ≡ true)
+        go : (r : L × R) (k : ℕ) → k < length ys → get_or ys k r ≡ r → pair_eq eql eqr x r ≡ true → ((k : ℕ) → k < length ys → Sub xs (remove ys k) → Contains (remove ys k) q → (p : L × R) × Contains xs p × (pair_eq eql eqr p q ≡ true)) → (p : L × R) × Contains (x ∷ xs) p × (pair_eq eql eqr p q ≡ true)
         go r k inside here e later =
-            elim (in_without ys k r q inside c) [
+            elim (in_removed ys k r q inside c) [
               | inl at ↦ (x, head_in x xs, ap (pair_eq eql eqr x) (sym at ∙ here) ∙ e)
               | inr w ↦ let n = later k inside (below r k inside here e) w in (n.0, more_in x xs n.0 n.1, n.2)
             ]

@@ -5,6 +5,7 @@ use denote.Param.Members.{Mut}
 use denote.Ref.{Bor}
 use Rattle.std.proofs.lemmas.List.{get_or_default}
 use Rattle.std.proofs.lemmas.List.Sorted.{IsPermutation-trans}
+use Rattle.std.proofs.lemmas.Result.{on_err_weaker}
 use Rattle.std.specs.List.{All, AllPairs}
 use Rattle.std.specs.Option.{option_map}
 use Rattle.std.specs.Cmp.{IsEquivalence, IsTotalOrder}
@@ -23,7 +24,6 @@ use Rattle.bimap_base.specs.Sets.{IsApart}
 use Rattle.bimap_base.specs.Slots.{pair_at, left_at, right_at, IsLive}
 use Rattle.bimap_base.proofs.HoldingsAlike.{AreAlike}
 use Rattle.bimap_base.proofs.Walk.{IsWalk, walk_of, walked, long_walked, fits_walked, listed_long, pairs_walked}
-use Rattle.bimap_base.proofs.Results.{OnErr-then}
 use Rattle.bimap_index.specs.ByOrder.{ListsByOrder}
 use Rattle.bimap_index.specs.ByHash.{ListsByHash, places_from}
 use Rattle.bimap_index.specs.HashLaws.{hash_settled, hash_listed, hash_distinct, hash_by_place, pairs_by_place}
@@ -82,7 +82,7 @@ module _ {L R : Type 0} (slots : List (Option (L × R))) (places : List ℕ) (wa
           ok = subst (λ n. OnOk r (length slots' ≡ max (length slots) (n + more))) (sym long) h.ok;
           pairs = same;
           had_room = λ fits. h.had_room (subst (λ n. n + more ≤ length slots) long fits);
-          unchanged = OnErr-then r same_but_room h.unchanged;
+          unchanged = on_err_weaker r same_but_room h.unchanged;
         }
 
     pub shrink_walked : (least : ℕ) (r : Result (Unit {0}) NoMemory) → IsShrink (holding_of slots) least r (holding_of slots') → IsShrink (walked_by slots places) least r (walked_by slots' places')
@@ -92,7 +92,7 @@ module _ {L R : Type 0} (slots : List (Option (L × R))) (places : List ℕ) (wa
           ok = subst (λ n. OnOk r (length slots' ≡ max n (min least (length slots)))) (sym long) h.ok;
           pairs = same;
           was_so = λ so. h.was_so (subst (λ n. max n (min least (length slots)) ≡ length slots) long so);
-          unchanged = OnErr-then r same_but_room h.unchanged;
+          unchanged = on_err_weaker r same_but_room h.unchanged;
         }
 
   -- where the store has no pair, a walk gives none
