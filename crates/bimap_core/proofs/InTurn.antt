@@ -4,7 +4,7 @@ use Rattle.std.proofs.lemmas.List.{append-nil}
 use denote.Param.Members.{Mut}
 use denote.Ref.{Bor}
 use Rattle.bimap_base.specs.Kept.{TestedAt, TestsInTurn, MayTestPair, MayTestInTurn, answered_true, IsKeptInTurn}
-use Rattle.bimap_core.proofs.Retaining.{tests_push, true_push, false_push, same_pair}
+use Rattle.bimap_core.proofs.Retaining.{tests_push, true_push, false_push, same_pair, none_left}
 
 -- what follows a prefix of a list begins with the element there
 at_end : {P : Type 0} (xs ys : List P) (k : ℕ) (p : P) → k ≡ length xs → k < length (xs ++ ys) → p ≡ get_or (xs ++ ys) k p → (zs : List P) × (ys ≡ p ∷ zs)
@@ -84,7 +84,3 @@ module _ {F L R : Type 0} (g : Mut F (Bor L × (Bor R × Unit {0})) Bool) where
         calls = subst (λ xs. TestsInTurn g first xs so_far.answers f) (sym order) so_far.calls;
         kept = so_far.left ∙ ap (λ xs. kept_ones ++ xs) none ∙ append-nil kept_ones ∙ ap (λ xs. answered_true g xs so_far.answers) (sym order);
       }
-    where
-      none_left : (xs ys : List (L × R)) → length (xs ++ ys) ≤ length xs → ys ≡ []
-      none_left xs [] h = refl
-      none_left xs (y ∷ ys) h = absurd (omega (arith, length-append xs (y ∷ ys)))

@@ -12,7 +12,7 @@ use Rattle.bimap_base.specs.Places.{pairs_in}
 use Rattle.bimap_base.specs.Slots.{pair_at}
 use Rattle.bimap_base.specs.Visited.{VisitsInTurn, MayVisit, IsVisited}
 use Rattle.bimap_base.proofs.Compaction.{pairs_in-append}
-use Rattle.bimap_core.proofs.Retaining.{pairs_in-none, head_at}
+use Rattle.bimap_core.proofs.Retaining.{pairs_in-none, head_at, none_left}
 
 module _ {F L R : Type 0} (g : Mut F (Bor L × (Bor R × Unit {0})) (Unit {0})) where
   -- the places below `place` were visited, and f is the closure now
@@ -64,7 +64,3 @@ module _ {F L R : Type 0} (g : Mut F (Bor L × (Bor R × Unit {0})) (Unit {0})) 
         each_once = subst (IsPermutation (pairs_in slots)) order (IsPermutation-refl (pairs_in slots));
         calls = so_far.calls;
       }
-    where
-      none_left : (xs ys : List (Option (L × R))) → length (xs ++ ys) ≤ length xs → ys ≡ []
-      none_left xs [] h = refl
-      none_left xs (y ∷ ys) h = absurd (omega (arith, length-append xs (y ∷ ys)))

@@ -3,14 +3,14 @@ use Rattle.std.proofs.Common.{get_or, ◌≡◌, ◌≢◌, ℕ, zero, suc, ◌<
 use Rattle.std.specs.Prelude.{Result, Ok, Err, IfOk}
 use Rattle.std.specs.Option.{option_map}
 use Rattle.std.specs.Cmp.{IsEquivalence}
-use Rattle.std.specs.List.{AllPairs, Contains}
+use Rattle.std.specs.List.{AllPairs}
 use Rattle.std.proofs.lemmas.Bool.{cases_lt}
 use Rattle.std.proofs.lemmas.List.{get_or_default}
 use Rattle.std.proofs.lemmas.List.Kept.{AllPairs-cons}
 use Rattle.bimap_base.specs.Slots.{pair_at}
 use Rattle.bimap_base.specs.Places.{pairs_in, compacted}
-use Rattle.bimap_base.proofs.Members.{cases_in, none_in}
 use Rattle.bimap_base.proofs.Compaction.{length-compacted}
+use Rattle.bimap_base.proofs.Walk.{nothing_in, place_of}
 use Rattle.bimap_chain.specs.Chains.{number_at}
 use Rattle.bimap_index.specs.Listed.{IsCompactedSide}
 use Rattle.bimap_index.specs.ByHash.{ListsByHash, places_from}
@@ -21,12 +21,6 @@ module _ {P : Type 0} where
   length-places_from [] first = refl
   length-places_from (None ∷ slots) first = length-places_from slots (suc first)
   length-places_from (Some x ∷ slots) first = ap suc (length-places_from slots (suc first))
-
-  place_of : (slots : List (Option P)) (p : P) → Contains (pairs_in slots) p → (place : ℕ) × (pair_at slots place ≡ Some p)
-  place_of [] p c = none_in p c
-  place_of (None ∷ slots) p c = let r = place_of slots p c in (suc r.0, r.1)
-  place_of (Some q ∷ slots) p c =
-      elim (cases_in q (pairs_in slots) p c) [ inl e ↦ (0, ap Some e) | inr d ↦ let r = place_of slots p d in (suc r.0, r.1) ]
 
   -- what holds of each two by their places holds of each two in their order
   in_turn : (R : P → P → Type 0) (slots : List (Option P)) → ((a b : ℕ) (p q : P) → a < b → pair_at slots a ≡ Some p → pair_at slots b ≡ Some q → R p q) → AllPairs R (pairs_in slots)
@@ -85,18 +79,10 @@ module _ {K : Type 0} (number : K → ℕ) where
   free_at None e = refl
   free_at (Some k) e = absurd (cc)
 
-  none_numbered : (keys : List (Option K)) → ((place : ℕ) → pair_at keys place ≡ None) → pairs_in keys ≡ []
-  none_numbered [] h = refl
-  none_numbered (x ∷ keys) h = subst (λ z. pairs_in (z ∷ keys) ≡ []) (sym (h 0)) (none_numbered keys (λ place. h (suc place)))
-
   -- an index tells the numbers of the keys, in their order
   numbers_in : (keys : List (Option K)) (numbers : List (Option ℕ)) → ((place : ℕ) → number_at numbers place ≡ option_map number (pair_at keys place)) → pairs_in numbers ≡ map number (pairs_in keys)
-  numbers_in [] numbers h = by numbers h
-    where
-      by : (numbers : List (Option ℕ)) → ((place : ℕ) → number_at numbers place ≡ None) → pairs_in numbers ≡ []
-      by [] h = refl
-      by (x ∷ numbers) h = subst (λ z. pairs_in (z ∷ numbers) ≡ []) (sym (h 0)) (by numbers (λ place. h (suc place)))
-  numbers_in (x ∷ keys) [] h = sym (ap (map number) (none_numbered (x ∷ keys) (λ place. free_at (pair_at (x ∷ keys) place) (sym (h place)))))
+  numbers_in [] numbers h = nothing_in numbers h
+  numbers_in (x ∷ keys) [] h = sym (ap (map number) (nothing_in (x ∷ keys) (λ place. free_at (pair_at (x ∷ keys) place) (sym (h place)))))
   numbers_in (x ∷ keys) (y ∷ numbers) h = by x y (h 0) (numbers_in keys numbers (λ place. h (suc place)))
     where
       by : (x : Option K) (y : Option ℕ) → y ≡ option_map number x → pairs_in numbers ≡ map number (pairs_in keys) → pairs_in (y ∷ numbers) ≡ map number (pairs_in (x ∷ keys))

@@ -1,5 +1,5 @@
 -- Pairs that are tested one after another.
-use Rattle.std.proofs.Common.{◌≡◌, inl, inr, ℕ, suc, zero, ◌+◌, ◌<◌, ◌≤◌, Bool, true, false, List, [], ◌∷◌, ◌++◌, length, take, drop, get_or, refl, sym, ap, ◌∙◌, subst, arith, length-append, append_assoc}
+use Rattle.std.proofs.Common.{◌≡◌, inl, inr, ℕ, suc, zero, ◌+◌, ◌<◌, ◌≤◌, Bool, true, false, List, [], ◌∷◌, ◌++◌, length, take, drop, get_or, refl, sym, ap, ◌∙◌, subst, arith, length-append, append-nil, append_assoc}
 use Rattle.std.specs.Prelude.{Contains}
 use Rattle.std.specs.List.Sorted.{IsPermutation}
 use Rattle.std.proofs.lemmas.List.Sorted.{IsPermutation-refl}
@@ -95,15 +95,11 @@ module _ {F L R : Type 0} (g : Mut F (Bor L × (Bor R × Unit {0})) Bool) where
     rest_none : so_far.rest ≡ []
     rest_none = none_left (answered_true g so_far.tested so_far.answers) so_far.rest (omega (arith, ap length so_far.left, so_far.count))
 
-    append_nil : (xs : List (L × R)) → xs ++ [] ≡ xs
-    append_nil [] = refl
-    append_nil (x ∷ xs) = ap (λ ys. x ∷ ys) (append_nil xs)
-
     order_is : old ≡ so_far.tested
-    order_is = so_far.all ∙ ap (λ xs. so_far.tested ++ xs) rest_none ∙ append_nil so_far.tested
+    order_is = so_far.all ∙ ap (λ xs. so_far.tested ++ xs) rest_none ∙ append-nil so_far.tested
 
     items_is : items ≡ answered_true g so_far.tested so_far.answers
-    items_is = so_far.left ∙ ap (λ xs. answered_true g so_far.tested so_far.answers ++ xs) rest_none ∙ append_nil (answered_true g so_far.tested so_far.answers)
+    items_is = so_far.left ∙ ap (λ xs. answered_true g so_far.tested so_far.answers ++ xs) rest_none ∙ append-nil (answered_true g so_far.tested so_far.answers)
 
     pub ended_apart : (same_left : L → L → Bool) (same_right : R → R → Bool) → IsApart same_left same_right old → IsApart same_left same_right items
     ended_apart same_left same_right h = subst (IsApart same_left same_right) (sym items_is) (apart_true same_left same_right so_far.tested so_far.answers (subst (IsApart same_left same_right) order_is h))

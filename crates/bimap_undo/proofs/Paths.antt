@@ -1,12 +1,12 @@
 -- Records that grow and shrink at their end.
-use Rattle.std.proofs.Common.{◌≡◌, ◌⊎◌, inl, inr, ℕ, ◌≤◌, Bool, List, [], ◌∷◌, ◌++◌, length, drop, sym, ap, ◌∙◌, subst, arith, true≢false, length-append, ◌↔◌, take, refl}
+use Rattle.std.proofs.Common.{◌≡◌, inl, inr, ℕ, ◌≤◌, Bool, List, [], ◌∷◌, ◌++◌, length, drop, sym, ap, ◌∙◌, subst, arith, true≢false, length-append, ◌↔◌, take, refl}
 use Rattle.std.specs.Prelude.{Contains, IsTrue}
 use Rattle.std.specs.Cmp.{IsEquivalence}
 use Rattle.std.proofs.lemmas.Bool.{cases_lt, cases_Bool, or_parts, or_left, or_right}
 use Rattle.std.proofs.lemmas.List.{drop-append-le, take-take, take-append-le}
 use Rattle.std.proofs.Math.Seq.{drop-length, drop-append_seam}
 use Rattle.bimap.specs.Sets.{shares, IsApart, IsSameSet, SomeShares}
-use Rattle.bimap.specs.Answer.{IsAnswer, IsBoth, overwrites}
+use Rattle.bimap.specs.Answer.{IsAnswer, overwrites}
 use Rattle.bimap.specs.Exchange.{IsExchanged}
 use Rattle.bimap.specs.Undoing.{IsInserting, IsUndone}
 use Rattle.bimap.specs.declared.Overwritten.{Overwritten}
@@ -17,13 +17,6 @@ use Rattle.bimap_undo.specs.declared.entry.Entry.TheVariants.{Inserted, LeftRepl
 use Rattle.bimap_undo.specs.Marks.{Marked, IsReplacing, IsChange, IsPath, IsBefore, KeepsMarks, HasMarks}
 use Rattle.bimap.proofs.Removals.{removing_from_one}
 use Rattle.bimap_undo.proofs.Replacing.{replacing_from_one, left_close, right_close}
-
-pub both_or_not : {L R : Type 0} (answer : Overwritten L R) → IsBoth answer ⊎ (IsBoth answer → ⊥)
-both_or_not (Both p q) = inl tt
-both_or_not Neither = inr (λ b. b)
-both_or_not (Left l r) = inr (λ b. b)
-both_or_not (Right l r) = inr (λ b. b)
-both_or_not (Pair l r) = inr (λ b. b)
 
 module _ {X : Type 0} where
   pub same_set : (S : X → Type 0) → IsSameSet S S

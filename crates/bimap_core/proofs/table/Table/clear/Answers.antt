@@ -1,6 +1,6 @@
 use Rattle.std.proofs.Common.{subst, arith}
 use Rattle.std.proofs.lemmas.Grind.{merely}
-use Rattle.bimap_core.proofs.Places.{pairs_none, fits_in}
+use Rattle.bimap_core.proofs.Places.{nothing_in, fits_in}
 use Rattle.bimap_core.proofs.Removing.{apart_none}
 use Rattle.bimap_core.proofs.Linking.{no_keys}
 use Rattle.bimap_core.proofs.table.Table.clear.Goals as goal
@@ -20,7 +20,7 @@ invariant_of-self g c =
     }
 
 pub returns-clause-pairs : goal.returns-clause-pairs
-returns-clause-pairs g c = pairs_none c.clear-3.new.self c.clear-3.ensures.free
+returns-clause-pairs g c = nothing_in c.clear-3.new.self c.clear-3.ensures.free
 
 pub returns-clause-room : goal.returns-clause-room
 returns-clause-room g c = search
