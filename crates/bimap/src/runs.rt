@@ -24,10 +24,13 @@ pub fn perform<L: Eq + Drop, R: Eq + Drop, K: Drop, B: Bijection<L, R>, F: Fn(&K
 ) -> Reply<L, R>
     requires may { MayRetain (IsDecided F.Fn test.now) (Contains (B.holding bimap.old).pairs) call }
     ensures right { IsRight L.eq R.eq (Contains (B.holding bimap.old).pairs) (call, result) }
-    ensures step { IsStep L.eq R.eq (Answers F.Fn test.now) (Contains (B.holding bimap.old).pairs) (call, result) (Contains (B.holding bimap.new).pairs) }
+    ensures step { IsStep L.eq R.eq (Answers F.Fn test.now) (Contains (B.holding bimap.old).pairs)
+        (call, result) (Contains (B.holding bimap.new).pairs) }
     ensures not_lower { (B.holding bimap.old).room ≤ (B.holding bimap.new).room }
-    ensures room { IsRoomAfterCall L.eq R.eq (B.holding bimap.old) (call, result) (B.holding bimap.new) }
-    ensures full { IsNoRoom (call, result) → (B.holding bimap.old).room ≤ length (B.holding bimap.old).pairs }
+    ensures room { IsRoomAfterCall L.eq R.eq (B.holding bimap.old) (call, result)
+        (B.holding bimap.new) }
+    ensures full { IsNoRoom (call, result) →
+        (B.holding bimap.old).room ≤ length (B.holding bimap.old).pairs }
 {
     match call {
         Call::Insert(left, right) => match bimap.insert(left, right) {
@@ -83,8 +86,11 @@ pub fn run<L: Eq + Drop, R: Eq + Drop, K: Drop, B: Bijection<L, R>, F: Fn(&K, &L
 ) -> Result<Vec<Reply<L, R>>, RunRefused<L, R, K>>
     requires test { IsTestOf F.Fn test (B.holding bimap.old).pairs calls.items }
     ensures one_each { IfOk result (λ replies. vec_len replies ≡ vec_len calls) }
-    ensures history { IfOk result (λ replies. IsHistory L.eq R.eq (Answers F.Fn test) (B.holding bimap.old) (zip calls.items replies.items) (B.holding bimap.new)) }
-    ensures from_empty { IfOk result (λ replies. (B.holding bimap.old).pairs ≡ [] → IsWholeHistory L.eq R.eq (Answers F.Fn test) (zip calls.items replies.items) (B.holding bimap.new)) }
+    ensures history { IfOk result (λ replies. IsHistory L.eq R.eq (Answers F.Fn test)
+        (B.holding bimap.old) (zip calls.items replies.items) (B.holding bimap.new)) }
+    ensures from_empty { IfOk result (λ replies. (B.holding bimap.old).pairs ≡ [] →
+        IsWholeHistory L.eq R.eq (Answers F.Fn test) (zip calls.items replies.items)
+        (B.holding bimap.new)) }
     ensures handed_back { IfErr result (λ e. e.calls.items ≡ calls.items) }
     ensures unchanged { OnErr result (B.holding bimap.new ≡ B.holding bimap.old) }
 {

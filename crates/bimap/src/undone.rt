@@ -26,13 +26,20 @@ pub fn undo_run<L: Eq + Drop, R: Eq + Drop, B: Bijection<L, R>>(
     bimap: &mut B,
     mut entries: Vec<(L, Overwritten<L, R>)>,
 ) -> Result<(), UndoRunStopped<L, R>>
-    requires leads { (first : List (L × R)) × Leads L.eq R.eq first entries.items (B.holding bimap.old).pairs }
-    ensures undone { OnOk result ((first : List (L × R)) → Leads L.eq R.eq first entries.items (B.holding bimap.old).pairs → IsSameSet (Contains first) (Contains (B.holding bimap.new).pairs)) }
-    ensures stopped { IfErr result (λ e. IsStopped L.eq R.eq (B.holding bimap.old) entries.items e.rest.items (B.holding bimap.new)) }
+    requires leads { (first : List (L × R)) × Leads L.eq R.eq first entries.items
+        (B.holding bimap.old).pairs }
+    ensures undone { OnOk result ((first : List (L × R)) →
+        Leads L.eq R.eq first entries.items (B.holding bimap.old).pairs →
+        IsSameSet (Contains first) (Contains (B.holding bimap.new).pairs)) }
+    ensures stopped { IfErr result (λ e. IsStopped L.eq R.eq
+        (B.holding bimap.old) entries.items e.rest.items (B.holding bimap.new)) }
     ensures not_lower { (B.holding bimap.old).room ≤ (B.holding bimap.new).room }
 
     // Where no set on the way back needs another place, all is undone in the places that are there.
-    ensures fits { (first : List (L × R)) → LeadsWithin L.eq R.eq (B.holding bimap.old).room first entries.items (B.holding bimap.old).pairs → IsOk result × ((B.holding bimap.new).room ≡ (B.holding bimap.old).room) }
+    ensures fits { (first : List (L × R)) →
+        LeadsWithin L.eq R.eq (B.holding bimap.old).room first entries.items
+        (B.holding bimap.old).pairs →
+        IsOk result × ((B.holding bimap.new).room ≡ (B.holding bimap.old).room) }
 {
     while let Some((left, answer)) = entries.pop() {
         match bimap.undo_insert(&left, answer) {

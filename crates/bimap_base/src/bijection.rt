@@ -45,7 +45,8 @@ pub trait Bijection<L: Eq + Drop, R: Eq + Drop> {
         right: R,
         policy: Policy,
     ) -> Result<Overwritten<L, R>, NotInsertedWith<L, R>>
-        ensures { IsInsertionUnder L.eq R.eq (holding self.old) (left, right) policy result (holding self.new) };
+        ensures { IsInsertionUnder L.eq R.eq (holding self.old) (left, right) policy result
+            (holding self.new) };
 
     /// Removes the pair of a left and returns it, or `None` if the bimap doesn't contain the left.
     fn remove_by_left(&mut self, left: &L) -> Option<(L, R)>
@@ -89,8 +90,10 @@ pub trait Bijection<L: Eq + Drop, R: Eq + Drop> {
         left: &L,
         answer: Overwritten<L, R>,
     ) -> Result<(L, R), UndoStopped<L, R>>
-        requires undoable { IsUndoable L.eq R.eq (Contains (holding self.old).pairs) left.now answer }
-        ensures { IsUndoing L.eq R.eq (holding self.old) left.now answer result (holding self.new) };
+        requires undoable { IsUndoable L.eq R.eq (Contains (holding self.old).pairs)
+            left.now answer }
+        ensures { IsUndoing L.eq R.eq (holding self.old) left.now answer result
+            (holding self.new) };
 
     /// Returns whether the bimap contains no pairs.
     final fn is_empty(&self) -> bool
@@ -130,7 +133,8 @@ pub trait Bijection<L: Eq + Drop, R: Eq + Drop> {
 
     /// Inserts a pair if the bimap contains neither of its values.
     final fn insert_no_overwrite(&mut self, left: L, right: R) -> Result<(), NotInserted<L, R>>
-        ensures { IsInsertionWithoutOverwriting L.eq R.eq (holding self.old) (left, right) result (holding self.new) }
+        ensures { IsInsertionWithoutOverwriting L.eq R.eq (holding self.old) (left, right) result
+            (holding self.new) }
     {
         let policy = Policy {
             left: OnHeld::Refuse,
@@ -147,7 +151,8 @@ pub trait Bijection<L: Eq + Drop, R: Eq + Drop> {
     /// Returns whether `undo_insert` may be called with these: a pair has the left, and the pairs of the answer share
     /// no value with any other, nor with each other.
     final fn can_undo_insert(&self, left: &L, answer: &Overwritten<L, R>) -> bool
-        ensures { IsTrue result ↔ IsUndoable L.eq R.eq (Contains (holding self.now).pairs) left.now answer.now }
+        ensures { IsTrue result ↔ IsUndoable L.eq R.eq
+            (Contains (holding self.now).pairs) left.now answer.now }
     {
         if !self.contains_left(left) {
             return false;
@@ -167,7 +172,8 @@ pub trait Bijection<L: Eq + Drop, R: Eq + Drop> {
 
     /// Returns whether a pair shares a value with none but that of `left`.
     final fn fits_beside(&self, left: &L, l: &L, r: &R) -> bool
-        ensures { IsTrue result ↔ Fits L.eq R.eq (Contains (holding self.now).pairs) left.now (l.now, r.now) }
+        ensures { IsTrue result ↔ Fits L.eq R.eq (Contains (holding self.now).pairs) left.now
+            (l.now, r.now) }
     {
         self.fits_left(left, l) && self.fits_right(left, r)
     }
@@ -181,7 +187,8 @@ pub trait Bijection<L: Eq + Drop, R: Eq + Drop> {
 
     /// Returns whether no pair but that of `left` has the right `r`.
     final fn fits_right(&self, left: &L, r: &R) -> bool
-        ensures { IsTrue result ↔ FitsRight L.eq R.eq (Contains (holding self.now).pairs) left.now r.now }
+        ensures { IsTrue result ↔ FitsRight L.eq R.eq
+            (Contains (holding self.now).pairs) left.now r.now }
     {
         match self.get_by_right(r) {
             None => true,

@@ -215,7 +215,8 @@ impl<C: Cell> Nodes<C> {
         requires more { length self.old ≤ to }
         requires few { to < C.most }
         ensures ok { OnOk result (length self.new ≡ to) }
-        ensures kept { (place : ℕ) → place < length self.old → slice_get self.new place ≡ slice_get self.old place }
+        ensures kept { (place : ℕ) → place < length self.old →
+            slice_get self.new place ≡ slice_get self.old place }
         ensures err { OnErr result (self.new ≡ self.old) }
     {
         if self.cells.try_reserve_exact(to - self.cells.len()).is_err() {
@@ -270,8 +271,10 @@ impl<C: Cell> Nodes<C> {
         meter: &mut M,
     )
         requires child { IsThere (length self.old) child }
-        requires count { (n : Node) × (slice_get self.old place ≡ Some n) × CanCount (length self.old) grew n }
-        ensures written { (n : Node) → slice_get self.old place ≡ Some n → self.new ≡ slice_set self.old place (recounted turn child grew n) }
+        requires count { (n : Node) × (slice_get self.old place ≡ Some n)
+            × CanCount (length self.old) grew n }
+        ensures written { (n : Node) → slice_get self.old place ≡ Some n →
+            self.new ≡ slice_set self.old place (recounted turn child grew n) }
         ensures comparisons { M.comparisons meter.new ≡ M.comparisons meter.old }
         ensures touches { M.touches meter.new ≡ M.touches meter.old + 1 }
     {
@@ -285,7 +288,8 @@ impl<C: Cell> Nodes<C> {
 fn widened(narrow: &Nodes<NarrowCell>, to: usize) -> Result<Nodes<WideCell>, NoMemory>
     requires { length narrow.now ≤ to }
     ensures len { IfOk result (λ wide. length wide ≡ to) }
-    ensures kept { IfOk result (λ wide. (place : ℕ) → place < length narrow.now → slice_get wide place ≡ slice_get narrow.now place) }
+    ensures kept { IfOk result (λ wide. (place : ℕ) → place < length narrow.now →
+        slice_get wide place ≡ slice_get narrow.now place) }
 {
     let narrow = &narrow.cells;
     let Ok(mut wide) = Vec::with_capacity(*narrow.allocator(), to) else {
@@ -320,8 +324,10 @@ impl Cells {
 
     /// Makes nodes for each place below `to`, in time of their number. It takes memory only where some are missing, and a refusal changes nothing. Where they become 2^26, all nodes move to wider cells.
     pub fn grow(&mut self, to: usize) -> Result<(), NoMemory>
-        ensures ok { OnOk result (length (nodes_in self.new) ≡ max (length (nodes_in self.old)) to) }
-        ensures kept { (place : ℕ) → place < length (nodes_in self.old) → slice_get (nodes_in self.new) place ≡ slice_get (nodes_in self.old) place }
+        ensures ok { OnOk result (length (nodes_in self.new)
+            ≡ max (length (nodes_in self.old)) to) }
+        ensures kept { (place : ℕ) → place < length (nodes_in self.old) →
+            slice_get (nodes_in self.new) place ≡ slice_get (nodes_in self.old) place }
         ensures err { OnErr result (nodes_in self.new ≡ nodes_in self.old) }
         ensures enough { to ≤ length (nodes_in self.old) → IsOk result }
         ensures unchanged { to ≤ length (nodes_in self.old) → self.new ≡ self.old }

@@ -16,9 +16,14 @@ pub fn extend<L: Eq + Drop, R: Eq + Drop, B: Bijection<L, R>, I: IntoIterator<It
     bimap: &mut B,
     items: I,
 ) -> Result<(), ExtendStopped<L, R>>
-    requires ends { IsFiniteIterable I.into_iter_gives I.IntoIter.can_next I.IntoIter.remaining items }
-    ensures extended { OnOk result (IsExtension L.eq R.eq (I.into_iter_gives items) I.IntoIter.next_gives (B.holding bimap.old) (B.holding bimap.new)) }
-    ensures stopped { IfErr result (λ e. IsExtensionStopped L.eq R.eq (I.into_iter_gives items) I.IntoIter.next_gives (B.holding bimap.old) e (B.holding bimap.new)) }
+    requires ends { IsFiniteIterable I.into_iter_gives I.IntoIter.can_next
+        I.IntoIter.remaining items }
+    ensures extended { OnOk result (IsExtension L.eq R.eq
+        (I.into_iter_gives items) I.IntoIter.next_gives (B.holding bimap.old)
+        (B.holding bimap.new)) }
+    ensures stopped { IfErr result (λ e. IsExtensionStopped L.eq R.eq
+        (I.into_iter_gives items) I.IntoIter.next_gives (B.holding bimap.old) e
+        (B.holding bimap.new)) }
 {
     let policy = Policy {
         left: OnHeld::Overwrite,
@@ -49,9 +54,14 @@ pub fn extend_with<L: Eq + Drop, R: Eq + Drop, B: Bijection<L, R>, I: IntoIterat
     items: I,
     policy: Policy,
 ) -> Result<(), ItemRefused<L, R>>
-    requires ends { IsFiniteIterable I.into_iter_gives I.IntoIter.can_next I.IntoIter.remaining items }
-    ensures extended { OnOk result (IsExtensionUnder L.eq R.eq (I.into_iter_gives items) I.IntoIter.next_gives (B.holding bimap.old) policy (B.holding bimap.new)) }
-    ensures stopped { IfErr result (λ e. IsExtensionStoppedUnder L.eq R.eq (I.into_iter_gives items) I.IntoIter.next_gives (B.holding bimap.old) policy e (B.holding bimap.new)) }
+    requires ends { IsFiniteIterable I.into_iter_gives I.IntoIter.can_next
+        I.IntoIter.remaining items }
+    ensures extended { OnOk result (IsExtensionUnder L.eq R.eq
+        (I.into_iter_gives items) I.IntoIter.next_gives (B.holding bimap.old) policy
+        (B.holding bimap.new)) }
+    ensures stopped { IfErr result (λ e. IsExtensionStoppedUnder L.eq R.eq
+        (I.into_iter_gives items) I.IntoIter.next_gives (B.holding bimap.old) policy e
+        (B.holding bimap.new)) }
 {
     let mut taken = 0usize;
     for (left, right) in items {
@@ -76,9 +86,13 @@ pub fn from_iter<
     I: IntoIterator<Item = (L, R)>,
 >(empty: B, items: I) -> Result<B, ExtendStopped<L, R>>
     requires empty { (B.holding empty).pairs ≡ [] }
-    requires ends { IsFiniteIterable I.into_iter_gives I.IntoIter.can_next I.IntoIter.remaining items }
-    ensures extended { IfOk result (λ bimap. IsExtension L.eq R.eq (I.into_iter_gives items) I.IntoIter.next_gives (B.holding empty) (B.holding bimap)) }
-    ensures stopped { IfErr result (λ e. (taken : List (L × R)) × IsRefusedNext L.eq R.eq (I.into_iter_gives items) I.IntoIter.next_gives (Contains []) taken e) }
+    requires ends { IsFiniteIterable I.into_iter_gives I.IntoIter.can_next
+        I.IntoIter.remaining items }
+    ensures extended { IfOk result (λ bimap. IsExtension L.eq R.eq
+        (I.into_iter_gives items) I.IntoIter.next_gives (B.holding empty) (B.holding bimap)) }
+    ensures stopped { IfErr result (λ e. (taken : List (L × R))
+        × IsRefusedNext L.eq R.eq (I.into_iter_gives items) I.IntoIter.next_gives
+        (Contains []) taken e) }
 {
     let mut bimap = empty;
     match extend(&mut bimap, items) {
@@ -99,9 +113,14 @@ pub fn from_iter_with<
     I: IntoIterator<Item = (L, R)>,
 >(empty: B, items: I, policy: Policy) -> Result<B, ItemRefused<L, R>>
     requires empty { (B.holding empty).pairs ≡ [] }
-    requires ends { IsFiniteIterable I.into_iter_gives I.IntoIter.can_next I.IntoIter.remaining items }
-    ensures extended { IfOk result (λ bimap. IsExtensionUnder L.eq R.eq (I.into_iter_gives items) I.IntoIter.next_gives (B.holding empty) policy (B.holding bimap)) }
-    ensures stopped { IfErr result (λ e. (taken : List (L × R)) × IsRefusedNextUnder L.eq R.eq (I.into_iter_gives items) I.IntoIter.next_gives (Contains []) ((B.holding empty).room ≤ length taken) taken policy e) }
+    requires ends { IsFiniteIterable I.into_iter_gives I.IntoIter.can_next
+        I.IntoIter.remaining items }
+    ensures extended { IfOk result (λ bimap. IsExtensionUnder L.eq R.eq
+        (I.into_iter_gives items) I.IntoIter.next_gives (B.holding empty) policy
+        (B.holding bimap)) }
+    ensures stopped { IfErr result (λ e. (taken : List (L × R))
+        × IsRefusedNextUnder L.eq R.eq (I.into_iter_gives items) I.IntoIter.next_gives (Contains [])
+        ((B.holding empty).room ≤ length taken) taken policy e) }
 {
     let mut made = empty;
     match extend_with(&mut made, items, policy) {

@@ -14,7 +14,8 @@ pub trait Interning<L: Eq + Drop, R: Copy + Eq + Drop>: Bijection<L, R> {
     ///     // the number of a name: the one that it has, or else the next
     ///     let number = numbers.get_by_left_or_insert("ann", next)?;
     fn get_by_left_or_insert(&mut self, left: L, right: R) -> Result<R, NotInserted<L, R>>
-        ensures { IsInterning L.eq R.eq (Self.holding self.old) (left, right) result (Self.holding self.new) }
+        ensures { IsInterning L.eq R.eq (Self.holding self.old) (left, right) result
+            (Self.holding self.new) }
     {
         if let Some(held) = self.get_by_left(&left) {
             return Ok(*held);

@@ -6,7 +6,8 @@ use std::hash::{BuildHasher, Hash};
 
 /// The low half of the hash that the builder gives the key.
 pub fn hash_number<K: Hash, B: BuildHasher>(builder: &B, key: &K) -> u32
-    ensures { result ≡ number_by B.Hasher.finish B.Hasher.write B.build_hasher K.hash_input builder.now key.now }
+    ensures { result ≡ number_by B.Hasher.finish B.Hasher.write B.build_hasher K.hash_input
+        builder.now key.now }
 {
     (builder.hash_one(key) % 4_294_967_296) as u32
 }

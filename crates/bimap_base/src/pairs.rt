@@ -43,7 +43,8 @@ impl<L, R> Model for Pairs<L, R> {
 fn push_free<L, R>(slots: &mut Vec<Slot<L, R>>, to: usize)
     requires room { to ≤ vec_capacity slots.old }
     requires fits { vec_len slots.old ≤ to }
-    ensures grown { (len next : ℕ) → IsSound slots.old.items len next → IsGrown slots.old.items slots.new.items len next }
+    ensures grown { (len next : ℕ) → IsSound slots.old.items len next →
+        IsGrown slots.old.items slots.new.items len next }
     ensures long { vec_len slots.new ≡ to }
 {
     while slots.len() < to {

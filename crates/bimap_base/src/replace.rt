@@ -35,7 +35,8 @@ pub fn replace_left<L: Eq + Drop, R: Eq + Drop, B: Bijection<L, R>>(
     from: &L,
     to: L,
 ) -> Result<L, NotReplaced<L>>
-    ensures { IsReplacementOfLeft L.eq (B.holding bimap.old) from.now to result (B.holding bimap.new) }
+    ensures { IsReplacementOfLeft L.eq (B.holding bimap.old) from.now to result
+        (B.holding bimap.new) }
 {
     replaced!(bimap, from => to; contains_left, remove_by_left; left, right => left, to, right)
 }
@@ -49,7 +50,8 @@ pub fn replace_right<L: Eq + Drop, R: Eq + Drop, B: Bijection<L, R>>(
     from: &R,
     to: R,
 ) -> Result<R, NotReplaced<R>>
-    ensures { IsReplacementOfRight R.eq (B.holding bimap.old) from.now to result (B.holding bimap.new) }
+    ensures { IsReplacementOfRight R.eq (B.holding bimap.old) from.now to result
+        (B.holding bimap.new) }
 {
     replaced!(bimap, from => to; contains_right, remove_by_right; left, right => right, left, to)
 }

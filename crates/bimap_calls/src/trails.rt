@@ -13,7 +13,8 @@ pub fn insert_all<L: Copy + Eq + Drop, R: Copy + Eq + Drop, B: Bijection<L, R>>(
     bimap: &mut B,
     pairs: &[(L, R)],
 ) -> Result<Vec<(L, Overwritten<L, R>)>, AllocError>
-    ensures { IfOk result (λ entries. Leads L.eq R.eq (B.holding bimap.old).pairs entries.items (B.holding bimap.new).pairs) }
+    ensures { IfOk result (λ entries. Leads L.eq R.eq (B.holding bimap.old).pairs entries.items
+        (B.holding bimap.new).pairs) }
 {
     let mut entries = Vec::with_capacity(alloc, pairs.len())?;
     for &(left, right) in pairs {

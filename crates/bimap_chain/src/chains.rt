@@ -83,10 +83,13 @@ impl<L: Link> Threads<L> {
         key: &S::Key,
     ) -> Option<usize>
         requires sound { IsSound self.now }
-        requires numbered { AreNumbered (S.key_at spread.now) (S.number_of spread.now) (numbers_of self.now) }
+        requires numbered { AreNumbered (S.key_at spread.now) (S.number_of spread.now)
+            (numbers_of self.now) }
         requires number { number ≡ S.number_of spread.now key.now }
-        ensures found { IfSome result (Matches (S.key_at spread.now) (λ k. S.same_key k key.now) (numbers_of self.now)) }
-        ensures absent { IfNone result ((p : ℕ) → ¬ Matches (S.key_at spread.now) (λ k. S.same_key k key.now) (numbers_of self.now) p) }
+        ensures found { IfSome result (Matches (S.key_at spread.now) (λ k. S.same_key k key.now)
+            (numbers_of self.now)) }
+        ensures absent { IfNone result ((p : ℕ) →
+            ¬ Matches (S.key_at spread.now) (λ k. S.same_key k key.now) (numbers_of self.now) p) }
     {
         if self.buckets() == 0 {
             return None;
@@ -111,7 +114,8 @@ impl<L: Link> Threads<L> {
         requires cell { place < length (numbers_of self.old) }
         requires free { number_at (numbers_of self.old) place ≡ None }
         ensures sound { IsSound self.new }
-        ensures numbers { numbers_of self.new ≡ slice_set (numbers_of self.old) place (Some number) }
+        ensures numbers { numbers_of self.new ≡ slice_set
+            (numbers_of self.old) place (Some number) }
     {
         let bucket = self.bucket(number);
         let over = self.over(bucket, place);
@@ -145,7 +149,8 @@ impl<L: Link> Threads<L> {
         requires most { to ≤ 2 ^ 62 }
         requires few { to < L.width.free }
         ensures sound { IsSound self.new }
-        ensures ok { OnOk result (numbers_of self.new ≡ numbers_of self.old ++ replicate (to - length (numbers_of self.old)) None) }
+        ensures ok { OnOk result (numbers_of self.new ≡ numbers_of self.old
+            ++ replicate (to - length (numbers_of self.old)) None) }
         ensures err { OnErr result (numbers_of self.new ≡ numbers_of self.old) }
     {
         let heads = heads_for(self.buckets(), to);
@@ -160,7 +165,8 @@ impl<L: Link> Threads<L> {
         requires most { to ≤ 2 ^ 62 }
         requires few { to < M.width.free }
         ensures sound { IfOk result (λ t. IsSound t) }
-        ensures numbers { IfOk result (λ t. numbers_of t ≡ numbers_of self.now ++ replicate (to - length (numbers_of self.now)) None) }
+        ensures numbers { IfOk result (λ t. numbers_of t ≡ numbers_of self.now
+            ++ replicate (to - length (numbers_of self.now)) None) }
     {
         let mut wide: Threads<M> = Threads::new(self.allocator());
         wide.grow(to)?;
@@ -180,7 +186,8 @@ impl<L: Link> Threads<L> {
         requires most { to ≤ 2 ^ 62 }
         requires few { to < M.width.free }
         ensures sound { IfOk result (λ t. IsSound t) }
-        ensures numbers { IfOk result (λ t. numbers_of t ≡ compacted (pairs_in (numbers_of self.now)) to) }
+        ensures numbers { IfOk result (λ t. numbers_of t
+            ≡ compacted (pairs_in (numbers_of self.now)) to) }
     {
         let mut kept: Threads<M> = Threads::new(self.allocator());
         kept.grow(to)?;

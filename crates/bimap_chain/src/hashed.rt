@@ -74,8 +74,10 @@ impl Hashed {
     #[inline(always)]
     pub fn find<S: Spread>(&self, spread: &S, key: &S::Key) -> Option<usize>
         requires { AreNumbered (S.key_at spread.now) (S.number_of spread.now) self.now }
-        ensures found { IfSome result (Matches (S.key_at spread.now) (λ k. S.same_key k key.now) self.now) }
-        ensures absent { IfNone result ((p : ℕ) → ¬ Matches (S.key_at spread.now) (λ k. S.same_key k key.now) self.now p) }
+        ensures found { IfSome result (Matches (S.key_at spread.now)
+            (λ k. S.same_key k key.now) self.now) }
+        ensures absent { IfNone result ((p : ℕ) →
+            ¬ Matches (S.key_at spread.now) (λ k. S.same_key k key.now) self.now p) }
     {
         self.find_numbered(spread, spread.hash_key(key), key)
     }
@@ -85,8 +87,10 @@ impl Hashed {
     pub fn find_numbered<S: Spread>(&self, spread: &S, number: u32, key: &S::Key) -> Option<usize>
         requires numbered { AreNumbered (S.key_at spread.now) (S.number_of spread.now) self.now }
         requires number { number ≡ S.number_of spread.now key.now }
-        ensures found { IfSome result (Matches (S.key_at spread.now) (λ k. S.same_key k key.now) self.now) }
-        ensures absent { IfNone result ((p : ℕ) → ¬ Matches (S.key_at spread.now) (λ k. S.same_key k key.now) self.now p) }
+        ensures found { IfSome result (Matches (S.key_at spread.now)
+            (λ k. S.same_key k key.now) self.now) }
+        ensures absent { IfNone result ((p : ℕ) →
+            ¬ Matches (S.key_at spread.now) (λ k. S.same_key k key.now) self.now p) }
     {
         match &self.by_width {
             ByWidth::Narrow(threads) => threads.find_numbered(spread, number, key),
@@ -100,7 +104,8 @@ impl Hashed {
         requires live { IsSome (S.key_at spread.now place) }
         requires cell { place < length self.old }
         requires free { number_at self.old place ≡ None }
-        ensures { IfSome (S.key_at spread.now place) (λ k. self.new ≡ slice_set self.old place (Some (S.number_of spread.now k))) }
+        ensures { IfSome (S.key_at spread.now place)
+            (λ k. self.new ≡ slice_set self.old place (Some (S.number_of spread.now k))) }
     {
         self.insert_numbered(place, spread.hash_place(place));
     }

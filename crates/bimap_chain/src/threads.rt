@@ -123,7 +123,8 @@ impl<L: Link> Threads<L> {
         requires listed { IfSome over (λ p. IsListed (numbers_of self.old) p) }
         requires to { IfSome to (λ p. p < length (numbers_of self.old)) }
         ensures numbers { numbers_of self.new ≡ numbers_of self.old }
-        ensures links { Links bucket over to (links_of self.old) self.old.heads (links_of self.new) self.new.heads }
+        ensures links { Links bucket over to (links_of self.old) self.old.heads
+            (links_of self.new) self.new.heads }
         ensures cells { length self.new.cells ≡ length self.old.cells }
         ensures heads { length self.new.heads ≡ length self.old.heads }
     {
@@ -138,7 +139,8 @@ impl<L: Link> Threads<L> {
     pub(crate) fn list(&mut self, place: usize, number: u32, next: Option<usize>)
         requires place { place < length (numbers_of self.old) }
         requires next { IfSome next (λ p. p < length (numbers_of self.old)) }
-        ensures numbers { numbers_of self.new ≡ slice_set (numbers_of self.old) place (Some number) }
+        ensures numbers { numbers_of self.new ≡ slice_set
+            (numbers_of self.old) place (Some number) }
         ensures links { links_of self.new ≡ slice_set (links_of self.old) place next }
         ensures cells { length self.new.cells ≡ length self.old.cells }
         ensures heads { self.new.heads ≡ self.old.heads }
@@ -165,7 +167,8 @@ impl<L: Link> Threads<L> {
         requires cells { length self.old.cells ≤ cells }
         requires few { cells < L.width.free }
         requires heads { length self.old.heads ≤ heads }
-        ensures cells { OnOk result (self.new.cells ≡ self.old.cells ++ replicate (cells - length self.old.cells) free_cell) }
+        ensures cells { OnOk result (self.new.cells ≡ self.old.cells
+            ++ replicate (cells - length self.old.cells) free_cell) }
         ensures heads { OnOk result (self.new.heads ≡ replicate heads None) }
         ensures err { OnErr result (self.new ≡ self.old) }
     {

@@ -30,7 +30,8 @@ pub fn read_codes<L: JsonKey + Ord + Drop, R: JsonValue + Eq + Hash + Drop>(
     alloc: Global,
     object: &Value,
 ) -> Result<BiBTreeHashMap<L, R>, JsonFault>
-    ensures { ReadsObjectUnder L.reads_key R.reads L.eq R.eq holding 0 (view object.now) (record { left = OnHeld.Refuse; right = OnHeld.Refuse }) result }
+    ensures { ReadsObjectUnder L.reads_key R.reads L.eq R.eq holding 0 (view object.now)
+        (record { left = OnHeld.Refuse; right = OnHeld.Refuse }) result }
 {
     read_into_with(alloc, BiBTreeHashMap::new(alloc), object, ONCE)
 }
@@ -44,9 +45,15 @@ pub fn collect_codes<L: Ord + Drop, R: Eq + Hash + Drop, I: IntoIterator<Item = 
     items: I,
 ) -> Result<BiBTreeHashMap<L, R>, ItemRefused<L, R>>
     requires empty { (holding empty).pairs ≡ [] }
-    requires ends { IsFiniteIterable I.into_iter_gives I.IntoIter.can_next I.IntoIter.remaining items }
-    ensures table { IfOk result (λ codes. IsExtensionUnder L.eq R.eq (I.into_iter_gives items) I.IntoIter.next_gives (holding empty) (record { left = OnHeld.Refuse; right = OnHeld.Refuse }) (holding codes)) }
-    ensures refused { IfErr result (λ e. (taken : List (L × R)) × IsRefusedNextUnder L.eq R.eq (I.into_iter_gives items) I.IntoIter.next_gives (Contains []) ((holding empty).room ≤ length taken) taken (record { left = OnHeld.Refuse; right = OnHeld.Refuse }) e) }
+    requires ends { IsFiniteIterable I.into_iter_gives I.IntoIter.can_next
+        I.IntoIter.remaining items }
+    ensures table { IfOk result (λ codes. IsExtensionUnder L.eq R.eq
+        (I.into_iter_gives items) I.IntoIter.next_gives (holding empty)
+        (record { left = OnHeld.Refuse; right = OnHeld.Refuse }) (holding codes)) }
+    ensures refused { IfErr result (λ e. (taken : List (L × R))
+        × IsRefusedNextUnder L.eq R.eq (I.into_iter_gives items) I.IntoIter.next_gives (Contains [])
+        ((holding empty).room ≤ length taken) taken
+        (record { left = OnHeld.Refuse; right = OnHeld.Refuse }) e) }
 {
     from_iter_with(empty, items, ONCE)
 }
@@ -58,8 +65,10 @@ pub fn written<L: JsonKey + Ord + Drop, R: JsonValue + Eq + Hash + Drop>(
     alloc: Global,
     codes: &BiBTreeHashMap<L, R>,
 ) -> Result<Value, NoMemory>
-    ensures object { IfOk result (λ object. IsObjectOf (IsEntryOf L.writes_key R.writes (Contains (holding codes.now).pairs)) (view object)) }
-    ensures reads_back { OnOk result (EachReadsBack L.writes_key R.writes L.reads_key R.reads L.eq R.eq (holding codes.now).pairs) }
+    ensures object { IfOk result (λ object. IsObjectOf
+        (IsEntryOf L.writes_key R.writes (Contains (holding codes.now).pairs)) (view object)) }
+    ensures reads_back { OnOk result (EachReadsBack L.writes_key R.writes L.reads_key R.reads L.eq
+        R.eq (holding codes.now).pairs) }
 {
     codes.to_value(alloc)
 }
@@ -86,8 +95,10 @@ pub fn assign<L: Ord + Drop, R: Eq + Hash + Drop>(
 ) -> Result<(), NotInserted<L, R>>
     ensures was_new { OnOk result (LacksLeft L.eq (Contains (holding codes.old).pairs) name) }
     ensures was_free { OnOk result (LacksRight R.eq (Contains (holding codes.old).pairs) code) }
-    ensures assigned { OnOk result (IsWithPut L.eq R.eq (Contains (holding codes.old).pairs) (name, code) (Contains (holding codes.new).pairs)) }
-    ensures refused { IfErr result (IsRefusal L.eq R.eq (Contains (holding codes.old).pairs) (IsFull (holding codes.old)) (name, code)) }
+    ensures assigned { OnOk result (IsWithPut L.eq R.eq (Contains (holding codes.old).pairs)
+        (name, code) (Contains (holding codes.new).pairs)) }
+    ensures refused { IfErr result (IsRefusal L.eq R.eq (Contains (holding codes.old).pairs)
+        (IsFull (holding codes.old)) (name, code)) }
     ensures unchanged { OnErr result (holding codes.new ≡ holding codes.old) }
 {
     codes.insert_no_overwrite(name, code)
@@ -100,9 +111,14 @@ pub fn assign_all<L: Ord + Drop, R: Eq + Hash + Drop, I: IntoIterator<Item = (L,
     codes: &mut BiBTreeHashMap<L, R>,
     items: I,
 ) -> Result<(), ItemRefused<L, R>>
-    requires ends { IsFiniteIterable I.into_iter_gives I.IntoIter.can_next I.IntoIter.remaining items }
-    ensures assigned { OnOk result (IsExtensionUnder L.eq R.eq (I.into_iter_gives items) I.IntoIter.next_gives (holding codes.old) (record { left = OnHeld.Refuse; right = OnHeld.Refuse }) (holding codes.new)) }
-    ensures stopped { IfErr result (λ e. IsExtensionStoppedUnder L.eq R.eq (I.into_iter_gives items) I.IntoIter.next_gives (holding codes.old) (record { left = OnHeld.Refuse; right = OnHeld.Refuse }) e (holding codes.new)) }
+    requires ends { IsFiniteIterable I.into_iter_gives I.IntoIter.can_next
+        I.IntoIter.remaining items }
+    ensures assigned { OnOk result (IsExtensionUnder L.eq R.eq
+        (I.into_iter_gives items) I.IntoIter.next_gives (holding codes.old)
+        (record { left = OnHeld.Refuse; right = OnHeld.Refuse }) (holding codes.new)) }
+    ensures stopped { IfErr result (λ e. IsExtensionStoppedUnder L.eq R.eq
+        (I.into_iter_gives items) I.IntoIter.next_gives (holding codes.old)
+        (record { left = OnHeld.Refuse; right = OnHeld.Refuse }) e (holding codes.new)) }
 {
     extend_with(codes, items, ONCE)
 }

@@ -17,9 +17,16 @@ impl<L: Eq, R: Eq, I: CompactedIndex<L>, J: CompactedIndex<R>> Table<L, R, I, J>
     where
         L: Drop,
         R: Drop,
-        ensures answer { IsShrink (holding_of self.old.pairs) least result (holding_of self.new.pairs) }
-        ensures comparisons { let lefts = length (I.places self.old.left) in let rights = length (J.places self.old.right) in M.comparisons meter.new ≤ M.comparisons meter.old + lefts * I.effort lefts + rights * J.effort rights }
-        ensures touches { let lefts = length (I.places self.old.left) in let rights = length (J.places self.old.right) in M.touches meter.new ≤ M.touches meter.old + lefts * (64 * (I.effort lefts + 1)) + rights * (64 * (J.effort rights + 1)) }
+        ensures answer { IsShrink (holding_of self.old.pairs) least result
+            (holding_of self.new.pairs) }
+        ensures comparisons { let lefts = length (I.places self.old.left) in
+            let rights = length (J.places self.old.right) in
+            M.comparisons meter.new ≤ M.comparisons meter.old + lefts * I.effort lefts
+            + rights * J.effort rights }
+        ensures touches { let lefts = length (I.places self.old.left) in
+            let rights = length (J.places self.old.right) in
+            M.touches meter.new ≤ M.touches meter.old + lefts * (64 * (I.effort lefts + 1))
+            + rights * (64 * (J.effort rights + 1)) }
     {
         let room = self.room();
         let to = self.len().max(least.min(room));
@@ -39,8 +46,14 @@ impl<L: Eq, R: Eq, I: CompactedIndex<L>, J: CompactedIndex<R>> Table<L, R, I, J>
         ensures ok { OnOk result (length self.new.pairs ≡ to) }
         ensures pairs { pairs_in self.new.pairs ≡ pairs_in self.old.pairs }
         ensures err { OnErr result (self.new.pairs ≡ self.old.pairs) }
-        ensures comparisons { let lefts = length (I.places self.old.left) in let rights = length (J.places self.old.right) in M.comparisons meter.new ≤ M.comparisons meter.old + lefts * I.effort lefts + rights * J.effort rights }
-        ensures touches { let lefts = length (I.places self.old.left) in let rights = length (J.places self.old.right) in M.touches meter.new ≤ M.touches meter.old + lefts * (64 * (I.effort lefts + 1)) + rights * (64 * (J.effort rights + 1)) }
+        ensures comparisons { let lefts = length (I.places self.old.left) in
+            let rights = length (J.places self.old.right) in
+            M.comparisons meter.new ≤ M.comparisons meter.old + lefts * I.effort lefts
+            + rights * J.effort rights }
+        ensures touches { let lefts = length (I.places self.old.left) in
+            let rights = length (J.places self.old.right) in
+            M.touches meter.new ≤ M.touches meter.old + lefts * (64 * (I.effort lefts + 1))
+            + rights * (64 * (J.effort rights + 1)) }
     {
         let alloc = self.pairs.allocator();
         let left = self.left.compacted(alloc, to)?;

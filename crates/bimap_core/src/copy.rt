@@ -27,8 +27,10 @@ where
     where
         L: Clone,
         R: Clone,
-        requires equal { AreClonesEqual L.is_clone R.is_clone L.eq R.eq (holding_of self.now.pairs).pairs }
-        ensures pairs { IfOk result (λ copy. IsCopy L.is_clone R.is_clone L.eq R.eq (holding_of self.now.pairs).pairs (holding_of copy.pairs).pairs) }
+        requires equal { AreClonesEqual L.is_clone R.is_clone L.eq R.eq
+            (holding_of self.now.pairs).pairs }
+        ensures pairs { IfOk result (λ copy. IsCopy L.is_clone R.is_clone L.eq R.eq
+            (holding_of self.now.pairs).pairs (holding_of copy.pairs).pairs) }
         ensures room { IfOk result (λ copy. length copy.pairs ≡ length self.now.pairs) }
     {
         let alloc = self.pairs.allocator();
@@ -47,9 +49,12 @@ where
 
     // Puts a pair in, and drops those that share a value with it.
     fn add<M: Meter>(&mut self, left: L, right: R, meter: &mut M) -> Result<(), NoMemory>
-        ensures put { OnOk result (IsWithPut L.eq R.eq (Contains (pairs_in self.old.pairs)) (left, right) (Contains (pairs_in self.new.pairs))) }
-        ensures count { OnOk result (length (pairs_in self.new.pairs) ≤ length (pairs_in self.old.pairs) + 1) }
-        ensures room { length (pairs_in self.old.pairs) < length self.old.pairs → length self.new.pairs ≡ length self.old.pairs }
+        ensures put { OnOk result (IsWithPut L.eq R.eq (Contains (pairs_in self.old.pairs))
+            (left, right) (Contains (pairs_in self.new.pairs))) }
+        ensures count { OnOk result (length (pairs_in self.new.pairs)
+            ≤ length (pairs_in self.old.pairs) + 1) }
+        ensures room { length (pairs_in self.old.pairs) < length self.old.pairs →
+            length self.new.pairs ≡ length self.old.pairs }
     {
         let policy = Policy {
             left: OnHeld::Overwrite,

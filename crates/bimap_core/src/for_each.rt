@@ -12,8 +12,10 @@ impl<L: Eq, R: Eq, I: Index<L>, J: Index<R>> Table<L, R, I, J> {
 
     // Calls the closure on the pair of a place, if it has one.
     fn visit_at<F: FnMut(&L, &R)>(&self, place: usize, f: &mut F)
-        requires may { (p : _) → pair_at self.now.pairs place ≡ Some p → MayTestPair F.FnMut f.old p }
-        ensures visited { IfSome (pair_at self.now.pairs place) (λ p. TestedAt F.FnMut f.old p tt f.new) }
+        requires may { (p : _) → pair_at self.now.pairs place ≡ Some p →
+            MayTestPair F.FnMut f.old p }
+        ensures visited { IfSome (pair_at self.now.pairs place)
+            (λ p. TestedAt F.FnMut f.old p tt f.new) }
         ensures none { IfNone (pair_at self.now.pairs place) (f.new ≡ f.old) }
     {
         match self.pairs.at(place) {

@@ -8,7 +8,8 @@ use bimap_index::Index;
 
 // Whether a value is held, and the policy keeps it.
 fn keeps(held: Option<usize>, side: OnHeld) -> bool
-    ensures { MatchBool result (IsSome held × (side ≡ OnHeld.Refuse)) (side ≡ OnHeld.Refuse → held ≡ None) }
+    ensures { MatchBool result (IsSome held × (side ≡ OnHeld.Refuse))
+        (side ≡ OnHeld.Refuse → held ≡ None) }
 {
     held.is_some() && side.refuses()
 }
@@ -27,11 +28,16 @@ impl<L: Eq, R: Eq, I: Index<L>, J: Index<R>> Table<L, R, I, J> {
         policy: Policy,
         meter: &mut M,
     ) -> Result<Overwritten<L, R>, NotInsertedWith<L, R>>
-        ensures answer { IsInsertionUnder L.eq R.eq (holding_of self.old.pairs) (left, right) policy result (holding_of self.new.pairs) }
+        ensures answer { IsInsertionUnder L.eq R.eq (holding_of self.old.pairs)
+            (left, right) policy result (holding_of self.new.pairs) }
         ensures slots { OnErr result (self.new.pairs ≡ self.old.pairs) }
         ensures places { OnErr result (I.places self.new.left ≡ I.places self.old.left) }
-        ensures comparisons { M.comparisons meter.new ≤ M.comparisons meter.old + 3 * I.effort (length (I.places self.old.left)) + 5 * J.effort (length (J.places self.old.right)) }
-        ensures touches { M.touches meter.new ≤ M.touches meter.old + 200 * (I.effort (length (I.places self.old.left)) + 1) + 200 * (J.effort (length (J.places self.old.right)) + 1) }
+        ensures comparisons { M.comparisons meter.new ≤ M.comparisons meter.old
+            + 3 * I.effort (length (I.places self.old.left))
+            + 5 * J.effort (length (J.places self.old.right)) }
+        ensures touches { M.touches meter.new ≤ M.touches meter.old
+            + 200 * (I.effort (length (I.places self.old.left)) + 1)
+            + 200 * (J.effort (length (J.places self.old.right)) + 1) }
     {
         let mut left_spot = self.left.spot();
         let mut right_spot = self.right.spot();

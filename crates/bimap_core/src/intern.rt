@@ -22,13 +22,20 @@ impl<L: Eq + Drop, R: Copy + Eq + Drop, I: Index<L>, J: Index<R>> Table<L, R, I,
         right: R,
         meter: &mut M,
     ) -> Result<R, NotInserted<L, R>>
-        ensures answer { IsInterning L.eq R.eq (holding_of self.old.pairs) (left, right) result (holding_of self.new.pairs) }
-        ensures held_slots { HasLeft L.eq (Contains (pairs_in self.old.pairs)) left → self.new.pairs ≡ self.old.pairs }
-        ensures held_places { HasLeft L.eq (Contains (pairs_in self.old.pairs)) left → I.places self.new.left ≡ I.places self.old.left }
+        ensures answer { IsInterning L.eq R.eq (holding_of self.old.pairs) (left, right) result
+            (holding_of self.new.pairs) }
+        ensures held_slots { HasLeft L.eq (Contains (pairs_in self.old.pairs)) left →
+            self.new.pairs ≡ self.old.pairs }
+        ensures held_places { HasLeft L.eq (Contains (pairs_in self.old.pairs)) left →
+            I.places self.new.left ≡ I.places self.old.left }
         ensures slots { OnErr result (self.new.pairs ≡ self.old.pairs) }
         ensures places { OnErr result (I.places self.new.left ≡ I.places self.old.left) }
-        ensures comparisons { M.comparisons meter.new ≤ M.comparisons meter.old + I.effort (length (I.places self.old.left)) + J.effort (length (J.places self.old.right)) }
-        ensures touches { M.touches meter.new ≤ M.touches meter.old + 65 * (I.effort (length (I.places self.old.left)) + 1) + 65 * (J.effort (length (J.places self.old.right)) + 1) }
+        ensures comparisons { M.comparisons meter.new ≤ M.comparisons meter.old
+            + I.effort (length (I.places self.old.left))
+            + J.effort (length (J.places self.old.right)) }
+        ensures touches { M.touches meter.new ≤ M.touches meter.old
+            + 65 * (I.effort (length (I.places self.old.left)) + 1)
+            + 65 * (J.effort (length (J.places self.old.right)) + 1) }
     {
         let mut left_spot = self.left.spot();
         if let Some(place) = self.finish_left(self.left.start(), &left, &mut left_spot, meter) {

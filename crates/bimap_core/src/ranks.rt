@@ -13,7 +13,8 @@ use bimap_tree::Ordered;
 fn place_at<M: Meter>(index: &Ordered, rank: usize, meter: &mut M) -> Option<usize>
     ensures place { result ≡ slice_get index.now.places rank }
     ensures comparisons { M.comparisons meter.new ≡ M.comparisons meter.old }
-    ensures touches { M.touches meter.new ≤ M.touches meter.old + 2 * most_height (length index.now.places) }
+    ensures touches { M.touches meter.new ≤ M.touches meter.old
+        + 2 * most_height (length index.now.places) }
 {
     if rank < index.len() {
         Some(index.place_at(rank, meter))
@@ -30,9 +31,11 @@ pub fn pair_at_rank<'a, L, R, M: Meter>(
     meter: &mut M,
 ) -> Option<(&'a L, &'a R)>
     requires live { All (IsLive pairs.now) index.now.places }
-    ensures pair { option_map (λ p. (p.0.now, p.1.now)) result ≡ slice_get (pairs_at pairs.now index.now.places) rank }
+    ensures pair { option_map (λ p. (p.0.now, p.1.now)) result
+        ≡ slice_get (pairs_at pairs.now index.now.places) rank }
     ensures comparisons { M.comparisons meter.new ≡ M.comparisons meter.old }
-    ensures touches { M.touches meter.new ≤ M.touches meter.old + 2 * most_height (length index.now.places) }
+    ensures touches { M.touches meter.new ≤ M.touches meter.old
+        + 2 * most_height (length index.now.places) }
 {
     let place = place_at(index, rank, meter)?;
     Some(pairs.held(place))
@@ -44,9 +47,14 @@ impl<L: Ord, R: Eq, J: Index<R>> Table<L, R, Ordered, J> {
     /// Takes out the pair with exactly so many lefts below its left, or answers `None` from the length on. It takes no
     /// memory.
     pub fn take_at_left_rank<M: Meter>(&mut self, rank: usize, meter: &mut M) -> Option<(L, R)>
-        ensures taken { IsTakenAtRank self.old.pairs self.old.left.places rank result self.new.pairs self.new.left.places }
-        ensures comparisons { M.comparisons meter.new ≤ M.comparisons meter.old + most_height (length self.old.left.places) + J.effort (length (J.places self.old.right)) }
-        ensures touches { M.touches meter.new ≤ M.touches meter.old + 66 * (most_height (length self.old.left.places) + 1) + 64 * (J.effort (length (J.places self.old.right)) + 1) }
+        ensures taken { IsTakenAtRank self.old.pairs self.old.left.places rank result self.new.pairs
+            self.new.left.places }
+        ensures comparisons { M.comparisons meter.new ≤ M.comparisons meter.old
+            + most_height (length self.old.left.places)
+            + J.effort (length (J.places self.old.right)) }
+        ensures touches { M.touches meter.new ≤ M.touches meter.old
+            + 66 * (most_height (length self.old.left.places) + 1)
+            + 64 * (J.effort (length (J.places self.old.right)) + 1) }
     {
         let taken = place_at(&self.left, rank, meter)?;
         Some(self.take(taken, meter))
@@ -58,9 +66,14 @@ impl<L: Eq, R: Ord, I: Index<L>> Table<L, R, I, Ordered> {
 
     /// The same with exactly so many rights below its right.
     pub fn take_at_right_rank<M: Meter>(&mut self, rank: usize, meter: &mut M) -> Option<(L, R)>
-        ensures taken { IsTakenAtRank self.old.pairs self.old.right.places rank result self.new.pairs self.new.right.places }
-        ensures comparisons { M.comparisons meter.new ≤ M.comparisons meter.old + I.effort (length (I.places self.old.left)) + most_height (length self.old.right.places) }
-        ensures touches { M.touches meter.new ≤ M.touches meter.old + 64 * (I.effort (length (I.places self.old.left)) + 1) + 66 * (most_height (length self.old.right.places) + 1) }
+        ensures taken { IsTakenAtRank self.old.pairs self.old.right.places rank result
+            self.new.pairs self.new.right.places }
+        ensures comparisons { M.comparisons meter.new ≤ M.comparisons meter.old
+            + I.effort (length (I.places self.old.left))
+            + most_height (length self.old.right.places) }
+        ensures touches { M.touches meter.new ≤ M.touches meter.old
+            + 64 * (I.effort (length (I.places self.old.left)) + 1)
+            + 66 * (most_height (length self.old.right.places) + 1) }
     {
         let taken = place_at(&self.right, rank, meter)?;
         Some(self.take(taken, meter))

@@ -11,9 +11,14 @@ impl<L: Eq, R: Eq, I: Index<L>, J: Index<R>> Table<L, R, I, J> {
 
     /// Takes out the pair of a left, or answers `None` where it is not held. The room stays.
     pub fn remove_by_left<M: Meter>(&mut self, left: &L, meter: &mut M) -> Option<(L, R)>
-        ensures answer { IsRemovalByLeft L.eq (holding_of self.old.pairs) left.now result (holding_of self.new.pairs) }
-        ensures comparisons { M.comparisons meter.new ≤ M.comparisons meter.old + I.effort (length (I.places self.old.left)) + J.effort (length (J.places self.old.right)) }
-        ensures touches { M.touches meter.new ≤ M.touches meter.old + 64 * (I.effort (length (I.places self.old.left)) + 1) + 64 * (J.effort (length (J.places self.old.right)) + 1) }
+        ensures answer { IsRemovalByLeft L.eq (holding_of self.old.pairs) left.now result
+            (holding_of self.new.pairs) }
+        ensures comparisons { M.comparisons meter.new ≤ M.comparisons meter.old
+            + I.effort (length (I.places self.old.left))
+            + J.effort (length (J.places self.old.right)) }
+        ensures touches { M.touches meter.new ≤ M.touches meter.old
+            + 64 * (I.effort (length (I.places self.old.left)) + 1)
+            + 64 * (J.effort (length (J.places self.old.right)) + 1) }
     {
         let place = self
             .left
@@ -24,9 +29,14 @@ impl<L: Eq, R: Eq, I: Index<L>, J: Index<R>> Table<L, R, I, J> {
 
     /// Takes out the pair of a right, or answers `None` where it is not held. The room stays.
     pub fn remove_by_right<M: Meter>(&mut self, right: &R, meter: &mut M) -> Option<(L, R)>
-        ensures answer { IsRemovalByRight R.eq (holding_of self.old.pairs) right.now result (holding_of self.new.pairs) }
-        ensures comparisons { M.comparisons meter.new ≤ M.comparisons meter.old + I.effort (length (I.places self.old.left)) + J.effort (length (J.places self.old.right)) }
-        ensures touches { M.touches meter.new ≤ M.touches meter.old + 64 * (I.effort (length (I.places self.old.left)) + 1) + 64 * (J.effort (length (J.places self.old.right)) + 1) }
+        ensures answer { IsRemovalByRight R.eq (holding_of self.old.pairs) right.now result
+            (holding_of self.new.pairs) }
+        ensures comparisons { M.comparisons meter.new ≤ M.comparisons meter.old
+            + I.effort (length (I.places self.old.left))
+            + J.effort (length (J.places self.old.right)) }
+        ensures touches { M.touches meter.new ≤ M.touches meter.old
+            + 64 * (I.effort (length (I.places self.old.left)) + 1)
+            + 64 * (J.effort (length (J.places self.old.right)) + 1) }
     {
         let place = self
             .right

@@ -15,7 +15,8 @@ impl<L: Ord + Drop, R: Eq + Drop, J: Index<R>> Table<L, R, Ordered, J> {
     /// pair that is taken out that of a removal and a descent more.
     pub fn retain_in_turn<F: FnMut(&L, &R) -> bool, M: Meter>(&mut self, mut f: F, meter: &mut M)
         requires may { MayTestInTurn F.FnMut f (pairs_at self.old.pairs self.old.left.places) }
-        ensures kept { IsKeptInTurn F.FnMut f (pairs_at self.old.pairs self.old.left.places) (pairs_at self.new.pairs self.new.left.places) }
+        ensures kept { IsKeptInTurn F.FnMut f (pairs_at self.old.pairs self.old.left.places)
+            (pairs_at self.new.pairs self.new.left.places) }
         ensures room { length self.new.pairs ≡ length self.old.pairs }
     {
         let mut rank = 0;

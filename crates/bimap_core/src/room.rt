@@ -13,7 +13,8 @@ impl<L: Eq, R: Eq, I: Index<L>, J: Index<R>> Table<L, R, I, J> {
     /// Makes places for so many more pairs, exactly. Where they are there, nothing changes and no memory is taken. A refusal
     /// changes nothing, but an index may keep the cells that it got.
     pub fn reserve(&mut self, more: usize) -> Result<(), NoMemory>
-        ensures answer { IsReservation (holding_of self.old.pairs) more result (holding_of self.new.pairs) }
+        ensures answer { IsReservation (holding_of self.old.pairs) more result
+            (holding_of self.new.pairs) }
         ensures kept { (place : _) → pair_at self.new.pairs place ≡ pair_at self.old.pairs place }
         ensures left_places { I.places self.new.left ≡ I.places self.old.left }
         ensures right_places { J.places self.new.right ≡ J.places self.old.right }

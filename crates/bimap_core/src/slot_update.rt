@@ -15,8 +15,10 @@ pub(crate) fn renew<K: Eq, I: Index<K>, S: Side<K>, M: Meter>(
 ) -> (bool, I::Spot)
     requires listing { I.is_listing index.now (S.key_at side) }
     requires live { IsSome (S.key_at side place) }
-    ensures is_for { MatchBool result.0 (I.is_for index.now key.now result.1) (IsSomeAnd (S.key_at side place) (λ k. K.eq k key.now ≡ true)) }
-    ensures comparisons { M.comparisons meter.new ≤ M.comparisons meter.old + I.effort (length (I.places index.now)) }
+    ensures is_for { MatchBool result.0 (I.is_for index.now key.now result.1)
+        (IsSomeAnd (S.key_at side place) (λ k. K.eq k key.now ≡ true)) }
+    ensures comparisons { M.comparisons meter.new ≤ M.comparisons meter.old
+        + I.effort (length (I.places index.now)) }
     ensures touches { M.touches meter.new ≡ M.touches meter.old }
 {
     if index.is_known(side, place, key, meter) {
@@ -36,12 +38,17 @@ pub(crate) fn unlist<K: Eq, I: Index<K>, S: Side<K>, M: Meter>(
 )
     requires listing { I.is_listing index.old (S.key_at side) }
     requires live { IsSome (S.key_at side place) }
-    ensures listing { MatchBool is_new ((f : ℕ → Option K) → IsWithout f (S.key_at side) place → I.is_listing index.new f) (I.is_listing index.new (S.key_at side)) }
-    ensures is_for { (key : K) (spot : I.Spot) → I.is_for index.old key spot → I.is_for index.new key spot }
+    ensures listing { MatchBool is_new ((f : ℕ → Option K) → IsWithout f (S.key_at side) place →
+        I.is_listing index.new f) (I.is_listing index.new (S.key_at side)) }
+    ensures is_for { (key : K) (spot : I.Spot) → I.is_for index.old key spot →
+        I.is_for index.new key spot }
     ensures cells { I.cells index.new ≡ I.cells index.old }
-    ensures effort { I.effort (length (I.places index.new)) ≤ I.effort (length (I.places index.old)) }
-    ensures comparisons { M.comparisons meter.new ≤ M.comparisons meter.old + (if is_new then I.effort (length (I.places index.old)) else 0) }
-    ensures touches { M.touches meter.new ≤ M.touches meter.old + (if is_new then 64 * (I.effort (length (I.places index.old)) + 1) else 0) }
+    ensures effort { I.effort (length (I.places index.new))
+        ≤ I.effort (length (I.places index.old)) }
+    ensures comparisons { M.comparisons meter.new ≤ M.comparisons meter.old
+        + (if is_new then I.effort (length (I.places index.old)) else 0) }
+    ensures touches { M.touches meter.new ≤ M.touches meter.old
+        + (if is_new then 64 * (I.effort (length (I.places index.old)) + 1) else 0) }
 {
     if is_new {
         index.unlink(side, place, meter);
@@ -57,12 +64,16 @@ pub(crate) fn relist<K: Eq, I: Index<K>, S: Side<K>, M: Meter>(
     spot: &I::Spot,
     meter: &mut M,
 )
-    requires may { MatchBool is_new ((key : K) × MayLink I.is_listing K.eq index.old (S.key_at side) place key × I.is_for index.old key spot.now) (I.is_listing index.old (S.key_at side)) }
+    requires may { MatchBool is_new ((key : K)
+        × MayLink I.is_listing K.eq index.old (S.key_at side) place key
+        × I.is_for index.old key spot.now) (I.is_listing index.old (S.key_at side)) }
     requires cell { place < I.cells index.old }
     ensures listing { I.is_listing index.new (S.key_at side) }
     ensures cells { I.cells index.new ≡ I.cells index.old }
-    ensures comparisons { M.comparisons meter.new ≤ M.comparisons meter.old + (if is_new then I.effort (length (I.places index.old)) else 0) }
-    ensures touches { M.touches meter.new ≤ M.touches meter.old + (if is_new then 64 * (I.effort (length (I.places index.old)) + 1) else 0) }
+    ensures comparisons { M.comparisons meter.new ≤ M.comparisons meter.old
+        + (if is_new then I.effort (length (I.places index.old)) else 0) }
+    ensures touches { M.touches meter.new ≤ M.touches meter.old
+        + (if is_new then 64 * (I.effort (length (I.places index.old)) + 1) else 0) }
 {
     if is_new {
         index.relink(side, place, spot, meter);

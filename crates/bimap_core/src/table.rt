@@ -63,8 +63,10 @@ impl<L: Eq, R: Eq, I: Index<L>, J: Index<R>> Table<L, R, I, J> {
     /// The partner of a left, or `None` where it is not held.
     pub fn get_by_left<M: Meter>(&self, left: &L, meter: &mut M) -> Option<&R>
         ensures answer { IsFoundByLeft L.eq (holding_of self.now.pairs) left.now result }
-        ensures comparisons { M.comparisons meter.new ≤ M.comparisons meter.old + I.effort (length (I.places self.now.left)) }
-        ensures touches { M.touches meter.new ≤ M.touches meter.old + I.effort (length (I.places self.now.left)) }
+        ensures comparisons { M.comparisons meter.new ≤ M.comparisons meter.old
+            + I.effort (length (I.places self.now.left)) }
+        ensures touches { M.touches meter.new ≤ M.touches meter.old
+            + I.effort (length (I.places self.now.left)) }
     {
         let place = self.left.find(LeftSide::new(&self.pairs), left, meter)?;
         let (_, right) = self.pairs.held(place);
@@ -74,8 +76,10 @@ impl<L: Eq, R: Eq, I: Index<L>, J: Index<R>> Table<L, R, I, J> {
     /// The partner of a right, or `None` where it is not held.
     pub fn get_by_right<M: Meter>(&self, right: &R, meter: &mut M) -> Option<&L>
         ensures answer { IsFoundByRight R.eq (holding_of self.now.pairs) right.now result }
-        ensures comparisons { M.comparisons meter.new ≤ M.comparisons meter.old + J.effort (length (J.places self.now.right)) }
-        ensures touches { M.touches meter.new ≤ M.touches meter.old + J.effort (length (J.places self.now.right)) }
+        ensures comparisons { M.comparisons meter.new ≤ M.comparisons meter.old
+            + J.effort (length (J.places self.now.right)) }
+        ensures touches { M.touches meter.new ≤ M.touches meter.old
+            + J.effort (length (J.places self.now.right)) }
     {
         let place = self.right.find(RightSide::new(&self.pairs), right, meter)?;
         let (left, _) = self.pairs.held(place);
@@ -92,10 +96,18 @@ impl<L: Eq, R: Eq, I: Index<L>, J: Index<R>> Table<L, R, I, J> {
         right_spot: &mut J::Spot,
         meter: &mut M,
     ) -> (I::Search, J::Search)
-        ensures left { I.under_way self.now.left (left_at self.now.pairs) left.now result.0 left_spot.new }
-        ensures right { J.under_way self.now.right (right_at self.now.pairs) right.now result.1 right_spot.new }
-        ensures comparisons { M.comparisons meter.new + I.ahead self.now.left result.0 + J.ahead self.now.right result.1 ≤ M.comparisons meter.old + I.effort (length (I.places self.now.left)) + J.effort (length (J.places self.now.right)) }
-        ensures touches { M.touches meter.new + I.ahead self.now.left result.0 + J.ahead self.now.right result.1 ≤ M.touches meter.old + I.effort (length (I.places self.now.left)) + J.effort (length (J.places self.now.right)) }
+        ensures left { I.under_way self.now.left
+            (left_at self.now.pairs) left.now result.0 left_spot.new }
+        ensures right { J.under_way self.now.right
+            (right_at self.now.pairs) right.now result.1 right_spot.new }
+        ensures comparisons { M.comparisons meter.new + I.ahead self.now.left result.0
+            + J.ahead self.now.right result.1 ≤ M.comparisons meter.old
+            + I.effort (length (I.places self.now.left))
+            + J.effort (length (J.places self.now.right)) }
+        ensures touches { M.touches meter.new + I.ahead self.now.left result.0
+            + J.ahead self.now.right result.1 ≤ M.touches meter.old
+            + I.effort (length (I.places self.now.left))
+            + J.effort (length (J.places self.now.right)) }
     {
         let mut to_left = self.left.start();
         let mut to_right = self.right.start();
@@ -130,11 +142,14 @@ impl<L: Eq, R: Eq, I: Index<L>, J: Index<R>> Table<L, R, I, J> {
         spot: &mut I::Spot,
         meter: &mut M,
     ) -> Option<usize>
-        requires under_way { I.under_way self.now.left (left_at self.now.pairs) left.now search spot.old }
+        requires under_way { I.under_way self.now.left
+            (left_at self.now.pairs) left.now search spot.old }
         ensures found { IsFoundAt (λ p. p.0) L.eq self.now.pairs left.now result }
-        ensures leads { IfNone result (I.leads self.now.left (left_at self.now.pairs) left.now spot.new) }
+        ensures leads { IfNone result (I.leads self.now.left
+            (left_at self.now.pairs) left.now spot.new) }
         ensures is_for { I.is_for self.now.left left.now spot.new }
-        ensures comparisons { M.comparisons meter.new ≤ M.comparisons meter.old + I.ahead self.now.left search }
+        ensures comparisons { M.comparisons meter.new ≤ M.comparisons meter.old
+            + I.ahead self.now.left search }
         ensures touches { M.touches meter.new ≤ M.touches meter.old + I.ahead self.now.left search }
     {
         self.left
@@ -151,13 +166,18 @@ impl<L: Eq, R: Eq, I: Index<L>, J: Index<R>> Table<L, R, I, J> {
         meter: &mut M,
     ) -> Option<usize>
         requires live { IfSome by_left (IsLive self.now.pairs) }
-        requires under_way { J.under_way self.now.right (right_at self.now.pairs) right.now search spot.old }
+        requires under_way { J.under_way self.now.right
+            (right_at self.now.pairs) right.now search spot.old }
         ensures found { IsFoundAt (λ p. p.1) R.eq self.now.pairs right.now result }
-        ensures leads { IfNone result (J.leads self.now.right (right_at self.now.pairs) right.now spot.new) }
+        ensures leads { IfNone result (J.leads self.now.right
+            (right_at self.now.pairs) right.now spot.new) }
         ensures is_for { (result ≡ by_left → ⊥) → J.is_for self.now.right right.now spot.new }
-        ensures comparisons { M.comparisons meter.new ≤ M.comparisons meter.old + J.ahead self.now.right search + J.effort (length (J.places self.now.right)) }
-        ensures unasked { IfNone by_left (M.comparisons meter.new ≤ M.comparisons meter.old + J.ahead self.now.right search) }
-        ensures touches { M.touches meter.new ≤ M.touches meter.old + J.ahead self.now.right search }
+        ensures comparisons { M.comparisons meter.new ≤ M.comparisons meter.old
+            + J.ahead self.now.right search + J.effort (length (J.places self.now.right)) }
+        ensures unasked { IfNone by_left (M.comparisons meter.new ≤ M.comparisons meter.old
+            + J.ahead self.now.right search) }
+        ensures touches { M.touches meter.new ≤ M.touches meter.old
+            + J.ahead self.now.right search }
     {
         if let Some(place) = by_left {
             if self

@@ -23,8 +23,10 @@ impl<L: Eq, R: Eq, I: Index<L>, J: Index<R>> Table<L, R, I, J> {
         answer: Overwritten<L, R>,
         meter: &mut M,
     ) -> Result<(L, R), UndoStopped<L, R>>
-        requires undoable { IsUndoable L.eq R.eq (Contains (holding_of self.old.pairs).pairs) left.now answer }
-        ensures answer { IsUndoing L.eq R.eq (holding_of self.old.pairs) left.now answer result (holding_of self.new.pairs) }
+        requires undoable { IsUndoable L.eq R.eq (Contains (holding_of self.old.pairs).pairs)
+            left.now answer }
+        ensures answer { IsUndoing L.eq R.eq (holding_of self.old.pairs) left.now answer result
+            (holding_of self.new.pairs) }
         ensures slots { OnErr result (self.new.pairs ≡ self.old.pairs) }
         ensures places { OnErr result (I.places self.new.left ≡ I.places self.old.left) }
     {
@@ -52,8 +54,10 @@ impl<L: Eq, R: Eq, I: Index<L>, J: Index<R>> Table<L, R, I, J> {
     // The place of an equal left.
     fn left_place<M: Meter>(&self, left: &L, meter: &mut M) -> Option<usize>
         ensures found { IsFoundAt (λ p. p.0) L.eq self.now.pairs left.now result }
-        ensures comparisons { M.comparisons meter.new ≤ M.comparisons meter.old + I.effort (length (I.places self.now.left)) }
-        ensures touches { M.touches meter.new ≤ M.touches meter.old + I.effort (length (I.places self.now.left)) }
+        ensures comparisons { M.comparisons meter.new ≤ M.comparisons meter.old
+            + I.effort (length (I.places self.now.left)) }
+        ensures touches { M.touches meter.new ≤ M.touches meter.old
+            + I.effort (length (I.places self.now.left)) }
     {
         self.left.find(LeftSide::new(&self.pairs), left, meter)
     }
@@ -65,8 +69,12 @@ impl<L: Eq, R: Eq, I: Index<L>, J: Index<R>> Table<L, R, I, J> {
         ensures was { pair_at self.old.pairs place ≡ Some result }
         ensures pairs { self.new.pairs ≡ slice_set self.old.pairs place (Some (left, right)) }
         ensures count { pair_count self.new.pairs ≡ pair_count self.old.pairs }
-        ensures comparisons { M.comparisons meter.new ≤ M.comparisons meter.old + 3 * I.effort (length (I.places self.old.left)) + 3 * J.effort (length (J.places self.old.right)) }
-        ensures touches { M.touches meter.new ≤ M.touches meter.old + 128 * (I.effort (length (I.places self.old.left)) + 1) + 128 * (J.effort (length (J.places self.old.right)) + 1) }
+        ensures comparisons { M.comparisons meter.new ≤ M.comparisons meter.old
+            + 3 * I.effort (length (I.places self.old.left))
+            + 3 * J.effort (length (J.places self.old.right)) }
+        ensures touches { M.touches meter.new ≤ M.touches meter.old
+            + 128 * (I.effort (length (I.places self.old.left)) + 1)
+            + 128 * (J.effort (length (J.places self.old.right)) + 1) }
     {
         let lefts = LeftSide::new(&self.pairs);
         let (new_left, left_spot) = renew(&self.left, lefts, place, &left, meter);
@@ -79,12 +87,17 @@ impl<L: Eq, R: Eq, I: Index<L>, J: Index<R>> Table<L, R, I, J> {
     // Puts a pair that shares with none into a free place, and answers which.
     fn put_new<M: Meter>(&mut self, left: L, right: R, meter: &mut M) -> usize
         requires free { pair_count self.old.pairs < length self.old.pairs }
-        requires alone { (place : ℕ) → pair_at self.old.pairs place ≡ None → IsAloneAt L.eq R.eq self.old.pairs place (left, right) }
+        requires alone { (place : ℕ) → pair_at self.old.pairs place ≡ None →
+            IsAloneAt L.eq R.eq self.old.pairs place (left, right) }
         ensures there { result < length self.old.pairs }
         ensures was_free { pair_at self.old.pairs result ≡ None }
         ensures pairs { self.new.pairs ≡ slice_set self.old.pairs result (Some (left, right)) }
-        ensures comparisons { M.comparisons meter.new ≤ M.comparisons meter.old + I.effort (length (I.places self.old.left)) + J.effort (length (J.places self.old.right)) }
-        ensures touches { M.touches meter.new ≤ M.touches meter.old + 64 * (I.effort (length (I.places self.old.left)) + 1) + 64 * (J.effort (length (J.places self.old.right)) + 1) }
+        ensures comparisons { M.comparisons meter.new ≤ M.comparisons meter.old
+            + I.effort (length (I.places self.old.left))
+            + J.effort (length (J.places self.old.right)) }
+        ensures touches { M.touches meter.new ≤ M.touches meter.old
+            + 64 * (I.effort (length (I.places self.old.left)) + 1)
+            + 64 * (J.effort (length (J.places self.old.right)) + 1) }
     {
         let left_spot = self.left.spot_for(&left);
         let right_spot = self.right.spot_for(&right);

@@ -22,13 +22,19 @@ impl<L: Eq, R: Eq, I: Index<L>, J: Index<R>> Table<L, R, I, J> {
         meter: &mut M,
     ) -> (L, R)
         requires live { IsLive self.old.pairs place }
-        requires left { MatchBool is_new.0 (I.is_for self.old.left left spots.0.now) (IsSomeAnd (pair_at self.old.pairs place) (λ p. L.eq p.0 left ≡ true)) }
-        requires right { MatchBool is_new.1 (J.is_for self.old.right right spots.1.now) (IsSomeAnd (pair_at self.old.pairs place) (λ p. R.eq p.1 right ≡ true)) }
+        requires left { MatchBool is_new.0 (I.is_for self.old.left left spots.0.now)
+            (IsSomeAnd (pair_at self.old.pairs place) (λ p. L.eq p.0 left ≡ true)) }
+        requires right { MatchBool is_new.1 (J.is_for self.old.right right spots.1.now)
+            (IsSomeAnd (pair_at self.old.pairs place) (λ p. R.eq p.1 right ≡ true)) }
         requires alone { IsAloneAt L.eq R.eq self.old.pairs place (left, right) }
         ensures was { pair_at self.old.pairs place ≡ Some result }
         ensures pairs { self.new.pairs ≡ slice_set self.old.pairs place (Some (left, right)) }
-        ensures comparisons { M.comparisons meter.new ≤ M.comparisons meter.old + 2 * (if is_new.0 then I.effort (length (I.places self.old.left)) else 0) + 2 * (if is_new.1 then J.effort (length (J.places self.old.right)) else 0) }
-        ensures touches { M.touches meter.new ≤ M.touches meter.old + 2 * (if is_new.0 then 64 * (I.effort (length (I.places self.old.left)) + 1) else 0) + 2 * (if is_new.1 then 64 * (J.effort (length (J.places self.old.right)) + 1) else 0) }
+        ensures comparisons { M.comparisons meter.new ≤ M.comparisons meter.old
+            + 2 * (if is_new.0 then I.effort (length (I.places self.old.left)) else 0)
+            + 2 * (if is_new.1 then J.effort (length (J.places self.old.right)) else 0) }
+        ensures touches { M.touches meter.new ≤ M.touches meter.old
+            + 2 * (if is_new.0 then 64 * (I.effort (length (I.places self.old.left)) + 1) else 0)
+            + 2 * (if is_new.1 then 64 * (J.effort (length (J.places self.old.right)) + 1) else 0) }
     {
         let lefts = LeftSide::new(&self.pairs);
         unlist(&mut self.left, is_new.0, lefts, place, meter);
@@ -47,10 +53,16 @@ impl<L: Eq, R: Eq, I: Index<L>, J: Index<R>> Table<L, R, I, J> {
         requires live { IsLive self.old.pairs place }
         ensures was { pair_at self.old.pairs place ≡ Some result }
         ensures pairs { self.new.pairs ≡ slice_set self.old.pairs place None }
-        ensures right_spots { (key : R) (spot : J.Spot) → J.is_for self.old.right key spot → J.is_for self.new.right key spot }
-        ensures right_effort { J.effort (length (J.places self.new.right)) ≤ J.effort (length (J.places self.old.right)) }
-        ensures comparisons { M.comparisons meter.new ≤ M.comparisons meter.old + I.effort (length (I.places self.old.left)) + J.effort (length (J.places self.old.right)) }
-        ensures touches { M.touches meter.new ≤ M.touches meter.old + 64 * (I.effort (length (I.places self.old.left)) + 1) + 64 * (J.effort (length (J.places self.old.right)) + 1) }
+        ensures right_spots { (key : R) (spot : J.Spot) → J.is_for self.old.right key spot →
+            J.is_for self.new.right key spot }
+        ensures right_effort { J.effort (length (J.places self.new.right))
+            ≤ J.effort (length (J.places self.old.right)) }
+        ensures comparisons { M.comparisons meter.new ≤ M.comparisons meter.old
+            + I.effort (length (I.places self.old.left))
+            + J.effort (length (J.places self.old.right)) }
+        ensures touches { M.touches meter.new ≤ M.touches meter.old
+            + 64 * (I.effort (length (I.places self.old.left)) + 1)
+            + 64 * (J.effort (length (J.places self.old.right)) + 1) }
     {
         self.left.unlink(LeftSide::new(&self.pairs), place, meter);
         self.right.unlink(RightSide::new(&self.pairs), place, meter);
@@ -69,12 +81,15 @@ impl<L: Eq, R: Eq, I: Index<L>, J: Index<R>> Table<L, R, I, J> {
         requires free { pair_count self.old.pairs < length self.old.pairs }
         requires left { I.leads self.old.left (left_at self.old.pairs) left left_spot.now }
         requires right { J.leads self.old.right (right_at self.old.pairs) right right_spot.now }
-        requires alone { (place : ℕ) → pair_at self.old.pairs place ≡ None → IsAloneAt L.eq R.eq self.old.pairs place (left, right) }
+        requires alone { (place : ℕ) → pair_at self.old.pairs place ≡ None →
+            IsAloneAt L.eq R.eq self.old.pairs place (left, right) }
         ensures there { result < length self.old.pairs }
         ensures was_free { pair_at self.old.pairs result ≡ None }
         ensures pairs { self.new.pairs ≡ slice_set self.old.pairs result (Some (left, right)) }
         ensures comparisons { M.comparisons meter.new ≡ M.comparisons meter.old }
-        ensures touches { M.touches meter.new ≤ M.touches meter.old + 64 * (I.effort (length (I.places self.old.left)) + 1) + 64 * (J.effort (length (J.places self.old.right)) + 1) }
+        ensures touches { M.touches meter.new ≤ M.touches meter.old
+            + 64 * (I.effort (length (I.places self.old.left)) + 1)
+            + 64 * (J.effort (length (J.places self.old.right)) + 1) }
     {
         let place = self.pairs.put(left, right);
         self.left
@@ -90,8 +105,12 @@ impl<L: Eq, R: Eq, I: Index<L>, J: Index<R>> Table<L, R, I, J> {
         ensures grows { length self.old.pairs ≤ length self.new.pairs }
         ensures kept { (place : ℕ) → pair_at self.new.pairs place ≡ pair_at self.old.pairs place }
         ensures count { pair_count self.new.pairs ≡ pair_count self.old.pairs }
-        ensures left_spots { (key : L) (spot : I.Spot) → I.leads self.old.left (left_at self.old.pairs) key spot → I.leads self.new.left (left_at self.new.pairs) key spot }
-        ensures right_spots { (key : R) (spot : J.Spot) → J.leads self.old.right (right_at self.old.pairs) key spot → J.leads self.new.right (right_at self.new.pairs) key spot }
+        ensures left_spots { (key : L) (spot : I.Spot) →
+            I.leads self.old.left (left_at self.old.pairs) key spot →
+            I.leads self.new.left (left_at self.new.pairs) key spot }
+        ensures right_spots { (key : R) (spot : J.Spot) →
+            J.leads self.old.right (right_at self.old.pairs) key spot →
+            J.leads self.new.right (right_at self.new.pairs) key spot }
         ensures left_places { I.places self.new.left ≡ I.places self.old.left }
         ensures right_places { J.places self.new.right ≡ J.places self.old.right }
         ensures err { OnErr result (self.new.pairs ≡ self.old.pairs) }
@@ -105,11 +124,16 @@ impl<L: Eq, R: Eq, I: Index<L>, J: Index<R>> Table<L, R, I, J> {
     pub(crate) fn make_room(&mut self) -> Result<(), NoMemory>
         ensures ok { OnOk result (pair_count self.new.pairs < length self.new.pairs) }
         ensures grows { length self.old.pairs ≤ length self.new.pairs }
-        ensures had_place { pair_count self.old.pairs < length self.old.pairs → self.new.pairs ≡ self.old.pairs }
+        ensures had_place { pair_count self.old.pairs < length self.old.pairs →
+            self.new.pairs ≡ self.old.pairs }
         ensures kept { (place : ℕ) → pair_at self.new.pairs place ≡ pair_at self.old.pairs place }
         ensures count { pair_count self.new.pairs ≡ pair_count self.old.pairs }
-        ensures left_spots { (key : L) (spot : I.Spot) → I.leads self.old.left (left_at self.old.pairs) key spot → I.leads self.new.left (left_at self.new.pairs) key spot }
-        ensures right_spots { (key : R) (spot : J.Spot) → J.leads self.old.right (right_at self.old.pairs) key spot → J.leads self.new.right (right_at self.new.pairs) key spot }
+        ensures left_spots { (key : L) (spot : I.Spot) →
+            I.leads self.old.left (left_at self.old.pairs) key spot →
+            I.leads self.new.left (left_at self.new.pairs) key spot }
+        ensures right_spots { (key : R) (spot : J.Spot) →
+            J.leads self.old.right (right_at self.old.pairs) key spot →
+            J.leads self.new.right (right_at self.new.pairs) key spot }
         ensures left_places { I.places self.new.left ≡ I.places self.old.left }
         ensures right_places { J.places self.new.right ≡ J.places self.old.right }
         ensures full { OnErr result (pair_count self.old.pairs ≡ length self.old.pairs) }

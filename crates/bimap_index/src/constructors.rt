@@ -56,11 +56,15 @@ pub trait CompactedIndex<K: Eq>: Index<K> {
 
     /// Lists the places of the compacted side, in place of what it lists. It takes no memory.
     fn adopt<S: Side<K>, M: Meter>(&mut self, compacted: Self::Compacted, side: S, meter: &mut M)
-        requires from { (to : ℕ) × (f : ℕ → Option K) × is_compacted self.old to compacted × Self.is_listing self.old f × IsCompactedSide f (S.key_at side) to }
+        requires from { (to : ℕ) × (f : ℕ → Option K) × is_compacted self.old to compacted
+            × Self.is_listing self.old f × IsCompactedSide f (S.key_at side) to }
         ensures listing { Self.is_listing self.new (S.key_at side) }
         ensures cells { (to : ℕ) → is_compacted self.old to compacted → Self.cells self.new ≡ to }
-        ensures comparisons { M.comparisons meter.new ≤ M.comparisons meter.old + length (Self.places self.old) * Self.effort (length (Self.places self.old)) }
-        ensures touches { M.touches meter.new ≤ M.touches meter.old + length (Self.places self.old) * (64 * (Self.effort (length (Self.places self.old)) + 1)) };
+        ensures comparisons { M.comparisons meter.new ≤ M.comparisons meter.old
+            + length (Self.places self.old) * Self.effort (length (Self.places self.old)) }
+        ensures touches { M.touches meter.new ≤ M.touches meter.old
+            + length (Self.places self.old)
+            * (64 * (Self.effort (length (Self.places self.old)) + 1)) };
 
     /// The keys and the order of their places decide the order of a walk.
     ghost walks_alike: { (index other : Self) (keys moved : List (Option K)) → Self.is_listing index (pair_at keys) → Self.is_listing other (pair_at moved) → pairs_in moved ≡ pairs_in keys → pairs_at moved (Self.places other) ≡ pairs_at keys (Self.places index) };

@@ -57,12 +57,15 @@ pub trait Index<K: Eq> {
     fn find<S: Side<K>, M: Meter>(&self, side: S, key: &K, meter: &mut M) -> Option<usize>
         requires listing { is_listing self.now (S.key_at side) }
         ensures found { IsFoundBy (S.key_at side) K.eq key.now result }
-        ensures comparisons { M.comparisons meter.new ≤ M.comparisons meter.old + effort (length (places self.now)) }
-        ensures touches { M.touches meter.new ≤ M.touches meter.old + effort (length (places self.now)) };
+        ensures comparisons { M.comparisons meter.new ≤ M.comparisons meter.old
+            + effort (length (places self.now)) }
+        ensures touches { M.touches meter.new ≤ M.touches meter.old
+            + effort (length (places self.now)) };
 
     /// A search that has not begun, for `step` and `finish`. It looks at no key.
     fn start(&self) -> Self::Search
-        ensures under_way { (f : ℕ → Option K) (key : K) (spot : Self.Spot) → is_listing self.now f → under_way self.now f key result spot }
+        ensures under_way { (f : ℕ → Option K) (key : K) (spot : Self.Spot) →
+            is_listing self.now f → under_way self.now f key result spot }
         ensures ahead { ahead self.now result ≤ effort (length (places self.now)) };
 
     /// Goes a step on, unless the search is at its end or has no step before it. Answers whether it went.
@@ -80,8 +83,10 @@ pub trait Index<K: Eq> {
         requires under_way { under_way self.now (S.key_at side) key.now search.old spot.old }
         ensures under_way { under_way self.now (S.key_at side) key.now search.new spot.new }
         ensures went { result ≡ true → ahead self.now search.new < ahead self.now search.old }
-        ensures comparisons { M.comparisons meter.new + ahead self.now search.new ≤ M.comparisons meter.old + ahead self.now search.old }
-        ensures touches { M.touches meter.new + ahead self.now search.new ≤ M.touches meter.old + ahead self.now search.old }
+        ensures comparisons { M.comparisons meter.new
+            + ahead self.now search.new ≤ M.comparisons meter.old + ahead self.now search.old }
+        ensures touches { M.touches meter.new + ahead self.now search.new ≤ M.touches meter.old
+            + ahead self.now search.old }
     {
         false
     }
@@ -100,7 +105,8 @@ pub trait Index<K: Eq> {
         ensures found { IsFoundBy (S.key_at side) K.eq key.now result }
         ensures leads { IfNone result (leads self.now (S.key_at side) key.now spot.new) }
         ensures is_for { is_for self.now key.now spot.new }
-        ensures comparisons { M.comparisons meter.new ≤ M.comparisons meter.old + ahead self.now search }
+        ensures comparisons { M.comparisons meter.new ≤ M.comparisons meter.old
+            + ahead self.now search }
         ensures touches { M.touches meter.new ≤ M.touches meter.old + ahead self.now search };
 
     /// Whether the key of a place is known to be equal without a search. It may answer false where it is equal.
@@ -108,7 +114,8 @@ pub trait Index<K: Eq> {
         requires listing { is_listing self.now (S.key_at side) }
         requires live { IsSome (S.key_at side place) }
         ensures found { result ≡ true → IsFoundBy (S.key_at side) K.eq key.now (Some place) }
-        ensures comparisons { M.comparisons meter.new ≤ M.comparisons meter.old + effort (length (places self.now)) }
+        ensures comparisons { M.comparisons meter.new ≤ M.comparisons meter.old
+            + effort (length (places self.now)) }
         ensures touches { M.touches meter.new ≡ M.touches meter.old };
 
     /// Lists a place at the spot of its key, with no comparison. It takes no memory.
@@ -119,12 +126,14 @@ pub trait Index<K: Eq> {
         spot: &Self::Spot,
         meter: &mut M,
     )
-        requires may { (key : K) × (m : MayLink is_listing K.eq self.old (S.key_at side) place key) × leads self.old m.f key spot.now }
+        requires may { (key : K) × (m : MayLink is_listing K.eq self.old (S.key_at side) place key)
+            × leads self.old m.f key spot.now }
         requires cell { place < cells self.old }
         ensures listing { is_listing self.new (S.key_at side) }
         ensures cells { cells self.new ≡ cells self.old }
         ensures comparisons { M.comparisons meter.new ≡ M.comparisons meter.old }
-        ensures touches { M.touches meter.new ≤ M.touches meter.old + 64 * (effort (length (places self.old)) + 1) };
+        ensures touches { M.touches meter.new ≤ M.touches meter.old
+            + 64 * (effort (length (places self.old)) + 1) };
 
     /// Lists a place, by a spot of its key that may be older than the last change of the index. It takes no memory.
     fn relink<S: Side<K>, M: Meter>(
@@ -134,39 +143,51 @@ pub trait Index<K: Eq> {
         spot: &Self::Spot,
         meter: &mut M,
     )
-        requires may { (key : K) × MayLink is_listing K.eq self.old (S.key_at side) place key × is_for self.old key spot.now }
+        requires may { (key : K) × MayLink is_listing K.eq self.old (S.key_at side) place key
+            × is_for self.old key spot.now }
         requires cell { place < cells self.old }
         ensures listing { is_listing self.new (S.key_at side) }
         ensures cells { cells self.new ≡ cells self.old }
-        ensures comparisons { M.comparisons meter.new ≤ M.comparisons meter.old + effort (length (places self.old)) }
-        ensures touches { M.touches meter.new ≤ M.touches meter.old + 64 * (effort (length (places self.old)) + 1) };
+        ensures comparisons { M.comparisons meter.new ≤ M.comparisons meter.old
+            + effort (length (places self.old)) }
+        ensures touches { M.touches meter.new ≤ M.touches meter.old
+            + 64 * (effort (length (places self.old)) + 1) };
 
     /// Takes a place off the list. It takes no memory.
     fn unlink<S: Side<K>, M: Meter>(&mut self, side: S, place: usize, meter: &mut M)
         requires listing { is_listing self.old (S.key_at side) }
         requires live { IsSome (S.key_at side place) }
-        ensures listing { (f : ℕ → Option K) → IsWithout f (S.key_at side) place → is_listing self.new f }
-        ensures is_for { (key : K) (spot : Self.Spot) → is_for self.old key spot → is_for self.new key spot }
+        ensures listing { (f : ℕ → Option K) → IsWithout f (S.key_at side) place →
+            is_listing self.new f }
+        ensures is_for { (key : K) (spot : Self.Spot) → is_for self.old key spot →
+            is_for self.new key spot }
         ensures cells { cells self.new ≡ cells self.old }
         ensures effort { effort (length (places self.new)) ≤ effort (length (places self.old)) }
-        ensures comparisons { M.comparisons meter.new ≤ M.comparisons meter.old + effort (length (places self.old)) }
-        ensures touches { M.touches meter.new ≤ M.touches meter.old + 64 * (effort (length (places self.old)) + 1) };
+        ensures comparisons { M.comparisons meter.new ≤ M.comparisons meter.old
+            + effort (length (places self.old)) }
+        ensures touches { M.touches meter.new ≤ M.touches meter.old
+            + 64 * (effort (length (places self.old)) + 1) };
 
     /// Takes the place with an equal key off the list, and answers it. Where there is none, nothing changes.
     fn unlink_key<S: Side<K>, M: Meter>(&mut self, side: S, key: &K, meter: &mut M) -> Option<usize>
         requires listing { is_listing self.old (S.key_at side) }
         ensures found { IsFoundBy (S.key_at side) K.eq key.now result }
-        ensures listing { IfSome result (λ place. (f : ℕ → Option K) → IsWithout f (S.key_at side) place → is_listing self.new f) }
+        ensures listing { IfSome result (λ place. (f : ℕ → Option K) →
+            IsWithout f (S.key_at side) place → is_listing self.new f) }
         ensures unchanged { IfNone result (self.new ≡ self.old) }
         ensures cells { cells self.new ≡ cells self.old }
-        ensures comparisons { M.comparisons meter.new ≤ M.comparisons meter.old + effort (length (places self.old)) }
-        ensures touches { M.touches meter.new ≤ M.touches meter.old + 64 * (effort (length (places self.old)) + 1) };
+        ensures comparisons { M.comparisons meter.new ≤ M.comparisons meter.old
+            + effort (length (places self.old)) }
+        ensures touches { M.touches meter.new ≤ M.touches meter.old
+            + 64 * (effort (length (places self.old)) + 1) };
 
     /// Makes cells for each place below `to`. It takes memory only where some are missing, and a refusal changes nothing.
     fn grow(&mut self, to: usize) -> Result<(), NoMemory>
         ensures listing { (f : ℕ → Option K) → is_listing self.old f → is_listing self.new f }
-        ensures leads { (f : ℕ → Option K) (key : K) (spot : Self.Spot) → leads self.old f key spot → leads self.new f key spot }
-        ensures is_for { (key : K) (spot : Self.Spot) → is_for self.old key spot → is_for self.new key spot }
+        ensures leads { (f : ℕ → Option K) (key : K) (spot : Self.Spot) →
+            leads self.old f key spot → leads self.new f key spot }
+        ensures is_for { (key : K) (spot : Self.Spot) → is_for self.old key spot →
+            is_for self.new key spot }
         ensures places { places self.new ≡ places self.old }
         ensures cells { cells self.old ≤ cells self.new }
         ensures ok { OnOk result (to ≤ cells self.new) }

@@ -73,7 +73,8 @@ impl<L: Eq + Drop, R: Eq + Drop, I: Index<L>, J: Index<R>> Bijection<L, R>
         left: &L,
         answer: Overwritten<L, R>,
     ) -> Result<(L, R), UndoStopped<L, R>>
-        requires undoable { IsUndoable L.eq R.eq (Contains (holding self.old).pairs) left.now answer }
+        requires undoable { IsUndoable L.eq R.eq (Contains (holding self.old).pairs)
+            left.now answer }
         ensures { IsUndoing L.eq R.eq (holding self.old) left.now answer result (holding self.new) }
     {
         BijectiveMap::undo_insert(self, left, answer)

@@ -22,9 +22,13 @@ impl<L: Eq + Drop, R: Eq + Drop, I: Index<L>, J: Index<R>> BijectiveMap<L, R, I,
         &mut self,
         items: A,
     ) -> Result<(), ExtendStopped<L, R>>
-        requires ends { IsFiniteIterable A.into_iter_gives A.IntoIter.can_next A.IntoIter.remaining items }
-        ensures extended { OnOk result (IsExtension L.eq R.eq (A.into_iter_gives items) A.IntoIter.next_gives (holding self.old) (holding self.new)) }
-        ensures stopped { IfErr result (λ e. IsExtensionStopped L.eq R.eq (A.into_iter_gives items) A.IntoIter.next_gives (holding self.old) e (holding self.new)) }
+        requires ends { IsFiniteIterable A.into_iter_gives A.IntoIter.can_next
+            A.IntoIter.remaining items }
+        ensures extended { OnOk result (IsExtension L.eq R.eq
+            (A.into_iter_gives items) A.IntoIter.next_gives (holding self.old) (holding self.new)) }
+        ensures stopped { IfErr result (λ e. IsExtensionStopped L.eq R.eq
+            (A.into_iter_gives items) A.IntoIter.next_gives (holding self.old) e
+            (holding self.new)) }
     {
         bimap_base::extend(self, items)
     }
@@ -45,9 +49,14 @@ impl<L: Eq + Drop, R: Eq + Drop, I: EmptyIndex<L> + Drop, J: EmptyIndex<R> + Dro
         alloc: Global,
         items: A,
     ) -> Result<Self, ExtendStopped<L, R>>
-        requires ends { IsFiniteIterable A.into_iter_gives A.IntoIter.can_next A.IntoIter.remaining items }
-        ensures extended { IfOk result (λ bimap. IsExtension L.eq R.eq (A.into_iter_gives items) A.IntoIter.next_gives (record { pairs = []; room = 0 }) (holding bimap)) }
-        ensures stopped { IfErr result (λ e. (taken : List (L × R)) × IsRefusedNext L.eq R.eq (A.into_iter_gives items) A.IntoIter.next_gives (Contains []) taken e) }
+        requires ends { IsFiniteIterable A.into_iter_gives A.IntoIter.can_next
+            A.IntoIter.remaining items }
+        ensures extended { IfOk result (λ bimap. IsExtension L.eq R.eq
+            (A.into_iter_gives items) A.IntoIter.next_gives (record { pairs = []; room = 0 })
+            (holding bimap)) }
+        ensures stopped { IfErr result (λ e. (taken : List (L × R))
+            × IsRefusedNext L.eq R.eq (A.into_iter_gives items) A.IntoIter.next_gives
+            (Contains []) taken e) }
     {
         bimap_base::from_iter(BijectiveMap::empty(alloc), items)
     }

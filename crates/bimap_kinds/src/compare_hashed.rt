@@ -37,7 +37,8 @@ impl<L: Eq + Hash, R: Eq, LS: BuildHasher, J: Index<R>> Eq
 impl<L: Eq, R: Eq, I: Index<L>, J: Index<R>> BijectiveMap<L, R, I, J> {
     // Whether a pair is held that equals this one on both sides.
     fn has_equal(&self, left: &L, right: &R) -> bool
-        ensures { IsTrue result ↔ HasEqual L.eq R.eq (Contains (holding self.now).pairs) (left.now, right.now) }
+        ensures { IsTrue result ↔ HasEqual L.eq R.eq (Contains (holding self.now).pairs)
+            (left.now, right.now) }
     {
         match self.get_by_left(left) {
             Some(held) => *right == *held,

@@ -76,7 +76,8 @@ impl<L: Ord + Hash + Drop, R: Ord + Hash + Drop, J: Index<R>> Hash
 
 // Whether two pairs are equal on both sides.
 fn is_equal_pair<L: PartialEq, R: PartialEq>(first: (&L, &R), second: (&L, &R)) -> bool
-    ensures { result ≡ pair_eq L.eq R.eq (first.entry.0.now, first.entry.1.now) (second.entry.0.now, second.entry.1.now) }
+    ensures { result ≡ pair_eq L.eq R.eq (first.entry.0.now, first.entry.1.now)
+        (second.entry.0.now, second.entry.1.now) }
 {
     first.0 == second.0 && first.1 == second.1
 }
@@ -103,7 +104,8 @@ fn are_equal<L: PartialEq + Drop, R: PartialEq + Drop>(
 
 // How one pair stands to another.
 fn order_of_pair<L: Ord, R: Ord>(first: (&L, &R), second: (&L, &R)) -> Ordering
-    ensures { result ≡ pair_cmp L.cmp R.cmp (first.entry.0.now, first.entry.1.now) (second.entry.0.now, second.entry.1.now) }
+    ensures { result ≡ pair_cmp L.cmp R.cmp (first.entry.0.now, first.entry.1.now)
+        (second.entry.0.now, second.entry.1.now) }
 {
     first.0.cmp(second.0).then_with(|| first.1.cmp(second.1))
 }
@@ -133,7 +135,8 @@ fn order_of<L: Ord + Drop, R: Ord + Drop>(
 
 // Hashes the pairs of a walk in turn.
 fn feed<L: Hash + Drop, R: Hash + Drop, H: Hasher>(pairs: Iter<'_, L, R>, state: &mut H)
-    ensures { state.new ≡ fold H.write state.old (flat_map (λ p. L.hash_input p.0 ++ R.hash_input p.1) pairs.entry) }
+    ensures { state.new ≡ fold H.write state.old
+        (flat_map (λ p. L.hash_input p.0 ++ R.hash_input p.1) pairs.entry) }
 {
     for (left, right) in pairs {
         left.hash(state);

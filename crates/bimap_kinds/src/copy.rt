@@ -22,7 +22,8 @@ impl<
     ///     seats.clone()? == seats; // true
     pub fn clone(&self) -> Result<Self, NoMemory>
         requires equal { AreClonesEqual L.is_clone R.is_clone L.eq R.eq (holding self.now).pairs }
-        ensures pairs { IfOk result (λ copy. IsCopy L.is_clone R.is_clone L.eq R.eq (holding self.now).pairs (holding copy).pairs) }
+        ensures pairs { IfOk result (λ copy. IsCopy L.is_clone R.is_clone L.eq R.eq
+            (holding self.now).pairs (holding copy).pairs) }
         ensures room { IfOk result (λ copy. (holding copy).room ≡ (holding self.now).room) }
     {
         let table = self.table.clone(&mut Count::new())?;

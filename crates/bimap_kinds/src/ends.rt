@@ -28,7 +28,8 @@ impl<L: Ord, R: Eq, J: Index<R>> BijectiveMap<L, R, Ordered, J> {
     ///
     ///     seats.last_by_left(); // Some((&'c', &2))
     pub fn last_by_left(&self) -> Option<(&L, &R)>
-        ensures { option_map deref_pair result ≡ slice_get (holding self.now).pairs (length (holding self.now).pairs - 1) }
+        ensures { option_map deref_pair result
+            ≡ slice_get (holding self.now).pairs (length (holding self.now).pairs - 1) }
     {
         self.last_by_left_metered(&mut Count::new())
     }
@@ -55,7 +56,8 @@ impl<L: Ord, R: Eq, J: Index<R>> BijectiveMap<L, R, Ordered, J> {
     ///
     ///     seats.pop_first_by_left(); // Some(('a', 3))
     pub fn pop_first_by_left(&mut self) -> Option<(L, R)>
-        ensures taken { TakesFirst (λ p. p) (holding self.old).pairs result (holding self.new).pairs }
+        ensures taken { TakesFirst (λ p. p) (holding self.old).pairs result
+            (holding self.new).pairs }
         ensures room { (holding self.new).room ≡ (holding self.old).room }
     {
         self.pop_first_by_left_metered(&mut Count::new())
@@ -65,7 +67,8 @@ impl<L: Ord, R: Eq, J: Index<R>> BijectiveMap<L, R, Ordered, J> {
     ///
     ///     seats.pop_last_by_left(); // Some(('c', 2))
     pub fn pop_last_by_left(&mut self) -> Option<(L, R)>
-        ensures taken { TakesLast (λ p. p) (holding self.old).pairs result (holding self.new).pairs }
+        ensures taken { TakesLast (λ p. p) (holding self.old).pairs result
+            (holding self.new).pairs }
         ensures room { (holding self.new).room ≡ (holding self.old).room }
     {
         self.pop_last_by_left_metered(&mut Count::new())
@@ -75,16 +78,19 @@ impl<L: Ord, R: Eq, J: Index<R>> BijectiveMap<L, R, Ordered, J> {
     pub fn first_by_left_metered<M: Meter>(&self, meter: &mut M) -> Option<(&L, &R)>
         ensures pair { option_map deref_pair result ≡ slice_get (holding self.now).pairs 0 }
         ensures comparisons { M.comparisons meter.new ≡ M.comparisons meter.old }
-        ensures touches { M.touches meter.new ≤ M.touches meter.old + 2 * most_height (length (holding self.now).pairs) }
+        ensures touches { M.touches meter.new ≤ M.touches meter.old
+            + 2 * most_height (length (holding self.now).pairs) }
     {
         self.pair_at_left_rank_metered(0, meter)
     }
 
     /// [`last_by_left`](Self::last_by_left), counted. It compares nothing.
     pub fn last_by_left_metered<M: Meter>(&self, meter: &mut M) -> Option<(&L, &R)>
-        ensures pair { option_map deref_pair result ≡ slice_get (holding self.now).pairs (length (holding self.now).pairs - 1) }
+        ensures pair { option_map deref_pair result
+            ≡ slice_get (holding self.now).pairs (length (holding self.now).pairs - 1) }
         ensures comparisons { M.comparisons meter.new ≡ M.comparisons meter.old }
-        ensures touches { M.touches meter.new ≤ M.touches meter.old + 2 * most_height (length (holding self.now).pairs) }
+        ensures touches { M.touches meter.new ≤ M.touches meter.old
+            + 2 * most_height (length (holding self.now).pairs) }
     {
         self.pair_at_left_rank_metered(self.len().saturating_sub(1), meter)
     }
@@ -97,16 +103,20 @@ impl<L: Ord, R: Eq, J: Index<R>> BijectiveMap<L, R, Ordered, J> {
     ) -> Option<(&L, &R)>
         ensures pair { option_map deref_pair result ≡ slice_get (holding self.now).pairs rank }
         ensures comparisons { M.comparisons meter.new ≡ M.comparisons meter.old }
-        ensures touches { M.touches meter.new ≤ M.touches meter.old + 2 * most_height (length (holding self.now).pairs) }
+        ensures touches { M.touches meter.new ≤ M.touches meter.old
+            + 2 * most_height (length (holding self.now).pairs) }
     {
         pair_at_rank(&self.table.pairs, &self.table.left, rank, meter)
     }
 
     /// [`left_rank`](Self::left_rank), counted.
     pub fn left_rank_metered<M: Meter>(&self, left: &L, meter: &mut M) -> usize
-        ensures rank { result ≡ count_by (λ p. is_lt (L.cmp p.0 left.now)) (holding self.now).pairs }
-        ensures comparisons { M.comparisons meter.new ≤ M.comparisons meter.old + most_height (length (holding self.now).pairs) }
-        ensures touches { M.touches meter.new ≤ M.touches meter.old + 2 * most_height (length (holding self.now).pairs) }
+        ensures rank { result ≡ count_by (λ p. is_lt (L.cmp p.0 left.now))
+            (holding self.now).pairs }
+        ensures comparisons { M.comparisons meter.new ≤ M.comparisons meter.old
+            + most_height (length (holding self.now).pairs) }
+        ensures touches { M.touches meter.new ≤ M.touches meter.old
+            + 2 * most_height (length (holding self.now).pairs) }
     {
         let lefts = ByOrder::new(LeftSide::new(&self.table.pairs));
         self.table
@@ -116,20 +126,28 @@ impl<L: Ord, R: Eq, J: Index<R>> BijectiveMap<L, R, Ordered, J> {
 
     /// [`pop_first_by_left`](Self::pop_first_by_left), counted.
     pub fn pop_first_by_left_metered<M: Meter>(&mut self, meter: &mut M) -> Option<(L, R)>
-        ensures taken { TakesFirst (λ p. p) (holding self.old).pairs result (holding self.new).pairs }
+        ensures taken { TakesFirst (λ p. p) (holding self.old).pairs result
+            (holding self.new).pairs }
         ensures room { (holding self.new).room ≡ (holding self.old).room }
-        ensures comparisons { let n = length (holding self.old).pairs in M.comparisons meter.new ≤ M.comparisons meter.old + most_height n + J.effort n }
-        ensures touches { let n = length (holding self.old).pairs in M.touches meter.new ≤ M.touches meter.old + 66 * (most_height n + 1) + 64 * (J.effort n + 1) }
+        ensures comparisons { let n = length (holding self.old).pairs in
+            M.comparisons meter.new ≤ M.comparisons meter.old + most_height n + J.effort n }
+        ensures touches { let n = length (holding self.old).pairs in
+            M.touches meter.new ≤ M.touches meter.old + 66 * (most_height n + 1)
+            + 64 * (J.effort n + 1) }
     {
         self.take_at_left_rank(0, meter)
     }
 
     /// [`pop_last_by_left`](Self::pop_last_by_left), counted.
     pub fn pop_last_by_left_metered<M: Meter>(&mut self, meter: &mut M) -> Option<(L, R)>
-        ensures taken { TakesLast (λ p. p) (holding self.old).pairs result (holding self.new).pairs }
+        ensures taken { TakesLast (λ p. p) (holding self.old).pairs result
+            (holding self.new).pairs }
         ensures room { (holding self.new).room ≡ (holding self.old).room }
-        ensures comparisons { let n = length (holding self.old).pairs in M.comparisons meter.new ≤ M.comparisons meter.old + most_height n + J.effort n }
-        ensures touches { let n = length (holding self.old).pairs in M.touches meter.new ≤ M.touches meter.old + 66 * (most_height n + 1) + 64 * (J.effort n + 1) }
+        ensures comparisons { let n = length (holding self.old).pairs in
+            M.comparisons meter.new ≤ M.comparisons meter.old + most_height n + J.effort n }
+        ensures touches { let n = length (holding self.old).pairs in
+            M.touches meter.new ≤ M.touches meter.old + 66 * (most_height n + 1)
+            + 64 * (J.effort n + 1) }
     {
         let last = self.len().saturating_sub(1);
         self.take_at_left_rank(last, meter)
@@ -138,10 +156,14 @@ impl<L: Ord, R: Eq, J: Index<R>> BijectiveMap<L, R, Ordered, J> {
     // Takes out the pair of a rank, or answers `None` from the length on.
     fn take_at_left_rank<M: Meter>(&mut self, rank: usize, meter: &mut M) -> Option<(L, R)>
         ensures pair { result ≡ slice_get (holding self.old).pairs rank }
-        ensures rest { (holding self.new).pairs ≡ take rank (holding self.old).pairs ++ drop (suc rank) (holding self.old).pairs }
+        ensures rest { (holding self.new).pairs ≡ take rank (holding self.old).pairs
+            ++ drop (suc rank) (holding self.old).pairs }
         ensures room { (holding self.new).room ≡ (holding self.old).room }
-        ensures comparisons { let n = length (holding self.old).pairs in M.comparisons meter.new ≤ M.comparisons meter.old + most_height n + J.effort n }
-        ensures touches { let n = length (holding self.old).pairs in M.touches meter.new ≤ M.touches meter.old + 66 * (most_height n + 1) + 64 * (J.effort n + 1) }
+        ensures comparisons { let n = length (holding self.old).pairs in
+            M.comparisons meter.new ≤ M.comparisons meter.old + most_height n + J.effort n }
+        ensures touches { let n = length (holding self.old).pairs in
+            M.touches meter.new ≤ M.touches meter.old + 66 * (most_height n + 1)
+            + 64 * (J.effort n + 1) }
     {
         self.table.take_at_left_rank(rank, meter)
     }
@@ -165,7 +187,8 @@ impl<L: Eq, R: Ord, I: Index<L>> BijectiveMap<L, R, I, Ordered> {
     ///
     ///     seats.last_by_right(); // Some((&'a', &3))
     pub fn last_by_right(&self) -> Option<(&L, &R)>
-        ensures pair { option_map deref_pair result ≡ slice_get (by_right self.now) (length (by_right self.now) - 1) }
+        ensures pair { option_map deref_pair result
+            ≡ slice_get (by_right self.now) (length (by_right self.now) - 1) }
         ensures sorted { IsByRight R.cmp (holding self.now).pairs (by_right self.now) }
     {
         self.last_by_right_metered(&mut Count::new())
@@ -197,7 +220,8 @@ impl<L: Eq, R: Ord, I: Index<L>> BijectiveMap<L, R, I, Ordered> {
     pub fn pop_first_by_right(&mut self) -> Option<(L, R)>
         ensures taken { TakesFirst (λ p. p) (by_right self.old) result (by_right self.new) }
         ensures sorted { IsByRight R.cmp (holding self.old).pairs (by_right self.old) }
-        ensures removed { IfSome result (λ p. IsRemoving (holding self.old).pairs p (holding self.new).pairs) }
+        ensures removed { IfSome result (λ p. IsRemoving (holding self.old).pairs p
+            (holding self.new).pairs) }
         ensures room { (holding self.new).room ≡ (holding self.old).room }
     {
         self.pop_first_by_right_metered(&mut Count::new())
@@ -209,7 +233,8 @@ impl<L: Eq, R: Ord, I: Index<L>> BijectiveMap<L, R, I, Ordered> {
     pub fn pop_last_by_right(&mut self) -> Option<(L, R)>
         ensures taken { TakesLast (λ p. p) (by_right self.old) result (by_right self.new) }
         ensures sorted { IsByRight R.cmp (holding self.old).pairs (by_right self.old) }
-        ensures removed { IfSome result (λ p. IsRemoving (holding self.old).pairs p (holding self.new).pairs) }
+        ensures removed { IfSome result (λ p. IsRemoving (holding self.old).pairs p
+            (holding self.new).pairs) }
         ensures room { (holding self.new).room ≡ (holding self.old).room }
     {
         self.pop_last_by_right_metered(&mut Count::new())
@@ -220,17 +245,20 @@ impl<L: Eq, R: Ord, I: Index<L>> BijectiveMap<L, R, I, Ordered> {
         ensures pair { option_map deref_pair result ≡ slice_get (by_right self.now) 0 }
         ensures sorted { IsByRight R.cmp (holding self.now).pairs (by_right self.now) }
         ensures comparisons { M.comparisons meter.new ≡ M.comparisons meter.old }
-        ensures touches { M.touches meter.new ≤ M.touches meter.old + 2 * most_height (length (holding self.now).pairs) }
+        ensures touches { M.touches meter.new ≤ M.touches meter.old
+            + 2 * most_height (length (holding self.now).pairs) }
     {
         self.pair_at_right_rank_metered(0, meter)
     }
 
     /// [`last_by_right`](Self::last_by_right), counted. It compares nothing.
     pub fn last_by_right_metered<M: Meter>(&self, meter: &mut M) -> Option<(&L, &R)>
-        ensures pair { option_map deref_pair result ≡ slice_get (by_right self.now) (length (by_right self.now) - 1) }
+        ensures pair { option_map deref_pair result
+            ≡ slice_get (by_right self.now) (length (by_right self.now) - 1) }
         ensures sorted { IsByRight R.cmp (holding self.now).pairs (by_right self.now) }
         ensures comparisons { M.comparisons meter.new ≡ M.comparisons meter.old }
-        ensures touches { M.touches meter.new ≤ M.touches meter.old + 2 * most_height (length (holding self.now).pairs) }
+        ensures touches { M.touches meter.new ≤ M.touches meter.old
+            + 2 * most_height (length (holding self.now).pairs) }
     {
         self.pair_at_right_rank_metered(self.len().saturating_sub(1), meter)
     }
@@ -244,7 +272,8 @@ impl<L: Eq, R: Ord, I: Index<L>> BijectiveMap<L, R, I, Ordered> {
         ensures pair { option_map deref_pair result ≡ slice_get (by_right self.now) rank }
         ensures sorted { IsByRight R.cmp (holding self.now).pairs (by_right self.now) }
         ensures comparisons { M.comparisons meter.new ≡ M.comparisons meter.old }
-        ensures touches { M.touches meter.new ≤ M.touches meter.old + 2 * most_height (length (holding self.now).pairs) }
+        ensures touches { M.touches meter.new ≤ M.touches meter.old
+            + 2 * most_height (length (holding self.now).pairs) }
     {
         pair_at_rank(&self.table.pairs, &self.table.right, rank, meter)
     }
@@ -253,8 +282,10 @@ impl<L: Eq, R: Ord, I: Index<L>> BijectiveMap<L, R, I, Ordered> {
     pub fn right_rank_metered<M: Meter>(&self, right: &R, meter: &mut M) -> usize
         ensures rank { result ≡ count_by (λ p. is_lt (R.cmp p.1 right.now)) (by_right self.now) }
         ensures sorted { IsByRight R.cmp (holding self.now).pairs (by_right self.now) }
-        ensures comparisons { M.comparisons meter.new ≤ M.comparisons meter.old + most_height (length (holding self.now).pairs) }
-        ensures touches { M.touches meter.new ≤ M.touches meter.old + 2 * most_height (length (holding self.now).pairs) }
+        ensures comparisons { M.comparisons meter.new ≤ M.comparisons meter.old
+            + most_height (length (holding self.now).pairs) }
+        ensures touches { M.touches meter.new ≤ M.touches meter.old
+            + 2 * most_height (length (holding self.now).pairs) }
     {
         let rights = ByOrder::new(RightSide::new(&self.table.pairs));
         self.table
@@ -266,10 +297,14 @@ impl<L: Eq, R: Ord, I: Index<L>> BijectiveMap<L, R, I, Ordered> {
     pub fn pop_first_by_right_metered<M: Meter>(&mut self, meter: &mut M) -> Option<(L, R)>
         ensures taken { TakesFirst (λ p. p) (by_right self.old) result (by_right self.new) }
         ensures sorted { IsByRight R.cmp (holding self.old).pairs (by_right self.old) }
-        ensures removed { IfSome result (λ p. IsRemoving (holding self.old).pairs p (holding self.new).pairs) }
+        ensures removed { IfSome result (λ p. IsRemoving (holding self.old).pairs p
+            (holding self.new).pairs) }
         ensures room { (holding self.new).room ≡ (holding self.old).room }
-        ensures comparisons { let n = length (holding self.old).pairs in M.comparisons meter.new ≤ M.comparisons meter.old + I.effort n + most_height n }
-        ensures touches { let n = length (holding self.old).pairs in M.touches meter.new ≤ M.touches meter.old + 64 * (I.effort n + 1) + 66 * (most_height n + 1) }
+        ensures comparisons { let n = length (holding self.old).pairs in
+            M.comparisons meter.new ≤ M.comparisons meter.old + I.effort n + most_height n }
+        ensures touches { let n = length (holding self.old).pairs in
+            M.touches meter.new ≤ M.touches meter.old + 64 * (I.effort n + 1)
+            + 66 * (most_height n + 1) }
     {
         self.take_at_right_rank(0, meter)
     }
@@ -278,10 +313,14 @@ impl<L: Eq, R: Ord, I: Index<L>> BijectiveMap<L, R, I, Ordered> {
     pub fn pop_last_by_right_metered<M: Meter>(&mut self, meter: &mut M) -> Option<(L, R)>
         ensures taken { TakesLast (λ p. p) (by_right self.old) result (by_right self.new) }
         ensures sorted { IsByRight R.cmp (holding self.old).pairs (by_right self.old) }
-        ensures removed { IfSome result (λ p. IsRemoving (holding self.old).pairs p (holding self.new).pairs) }
+        ensures removed { IfSome result (λ p. IsRemoving (holding self.old).pairs p
+            (holding self.new).pairs) }
         ensures room { (holding self.new).room ≡ (holding self.old).room }
-        ensures comparisons { let n = length (holding self.old).pairs in M.comparisons meter.new ≤ M.comparisons meter.old + I.effort n + most_height n }
-        ensures touches { let n = length (holding self.old).pairs in M.touches meter.new ≤ M.touches meter.old + 64 * (I.effort n + 1) + 66 * (most_height n + 1) }
+        ensures comparisons { let n = length (holding self.old).pairs in
+            M.comparisons meter.new ≤ M.comparisons meter.old + I.effort n + most_height n }
+        ensures touches { let n = length (holding self.old).pairs in
+            M.touches meter.new ≤ M.touches meter.old + 64 * (I.effort n + 1)
+            + 66 * (most_height n + 1) }
     {
         let last = self.len().saturating_sub(1);
         self.take_at_right_rank(last, meter)
@@ -290,12 +329,17 @@ impl<L: Eq, R: Ord, I: Index<L>> BijectiveMap<L, R, I, Ordered> {
     // Takes out the pair of a rank, or answers `None` from the length on.
     fn take_at_right_rank<M: Meter>(&mut self, rank: usize, meter: &mut M) -> Option<(L, R)>
         ensures pair { result ≡ slice_get (by_right self.old) rank }
-        ensures rest { (by_right self.new) ≡ take rank (by_right self.old) ++ drop (suc rank) (by_right self.old) }
+        ensures rest { (by_right self.new) ≡ take rank (by_right self.old)
+            ++ drop (suc rank) (by_right self.old) }
         ensures sorted { IsByRight R.cmp (holding self.old).pairs (by_right self.old) }
-        ensures removed { IfSome result (λ p. IsRemoving (holding self.old).pairs p (holding self.new).pairs) }
+        ensures removed { IfSome result (λ p. IsRemoving (holding self.old).pairs p
+            (holding self.new).pairs) }
         ensures room { (holding self.new).room ≡ (holding self.old).room }
-        ensures comparisons { let n = length (holding self.old).pairs in M.comparisons meter.new ≤ M.comparisons meter.old + I.effort n + most_height n }
-        ensures touches { let n = length (holding self.old).pairs in M.touches meter.new ≤ M.touches meter.old + 64 * (I.effort n + 1) + 66 * (most_height n + 1) }
+        ensures comparisons { let n = length (holding self.old).pairs in
+            M.comparisons meter.new ≤ M.comparisons meter.old + I.effort n + most_height n }
+        ensures touches { let n = length (holding self.old).pairs in
+            M.touches meter.new ≤ M.touches meter.old + 64 * (I.effort n + 1)
+            + 66 * (most_height n + 1) }
     {
         self.table.take_at_right_rank(rank, meter)
     }

@@ -67,9 +67,14 @@ impl<L: Eq + Hash, R: Eq + Hash, LS: BuildHasher, RS: BuildHasher> BiHashMap<L, 
         R: Drop,
         LS: Drop,
         RS: Drop,
-        requires ends { IsFiniteIterable A.into_iter_gives A.IntoIter.can_next A.IntoIter.remaining items }
-        ensures extended { IfOk result (λ bimap. IsExtension L.eq R.eq (A.into_iter_gives items) A.IntoIter.next_gives (record { pairs = []; room = 0 }) (holding bimap)) }
-        ensures stopped { IfErr result (λ e. (taken : List (L × R)) × IsRefusedNext L.eq R.eq (A.into_iter_gives items) A.IntoIter.next_gives (Contains []) taken e) }
+        requires ends { IsFiniteIterable A.into_iter_gives A.IntoIter.can_next
+            A.IntoIter.remaining items }
+        ensures extended { IfOk result (λ bimap. IsExtension L.eq R.eq
+            (A.into_iter_gives items) A.IntoIter.next_gives (record { pairs = []; room = 0 })
+            (holding bimap)) }
+        ensures stopped { IfErr result (λ e. (taken : List (L × R))
+            × IsRefusedNext L.eq R.eq (A.into_iter_gives items) A.IntoIter.next_gives
+            (Contains []) taken e) }
     {
         let empty = BiHashMap::with_hashers(alloc, left_builder, right_builder);
         bimap_base::from_iter(empty, items)

@@ -25,7 +25,8 @@ impl<L: Eq + Drop, R: Eq + Drop, I: Index<L>, J: Index<R>> BijectiveMap<L, R, I,
     ///
     ///     seats.insert_no_overwrite('d', 3); // Err(NotInserted::Occupied('d', 3))
     pub fn insert_no_overwrite(&mut self, left: L, right: R) -> Result<(), NotInserted<L, R>>
-        ensures { IsInsertionWithoutOverwriting L.eq R.eq (holding self.old) (left, right) result (holding self.new) }
+        ensures { IsInsertionWithoutOverwriting L.eq R.eq (holding self.old) (left, right) result
+            (holding self.new) }
     {
         Bijection::insert_no_overwrite(self, left, right)
     }
@@ -41,7 +42,8 @@ impl<L: Eq + Drop, R: Eq + Drop, I: Index<L>, J: Index<R>> BijectiveMap<L, R, I,
         right: R,
         policy: Policy,
     ) -> Result<Overwritten<L, R>, NotInsertedWith<L, R>>
-        ensures { IsInsertionUnder L.eq R.eq (holding self.old) (left, right) policy result (holding self.new) }
+        ensures { IsInsertionUnder L.eq R.eq (holding self.old) (left, right) policy result
+            (holding self.new) }
     {
         self.insert_with_metered(left, right, policy, &mut Count::new())
     }
@@ -53,9 +55,13 @@ impl<L: Eq + Drop, R: Eq + Drop, I: Index<L>, J: Index<R>> BijectiveMap<L, R, I,
         right: R,
         meter: &mut M,
     ) -> Result<Overwritten<L, R>, NoRoom<L, R>>
-        ensures answer { IsInsertion L.eq R.eq (holding self.old) (left, right) result (holding self.new) }
-        ensures comparisons { let n = length (holding self.old).pairs in M.comparisons meter.new ≤ M.comparisons meter.old + 3 * I.effort n + 5 * J.effort n }
-        ensures touches { let n = length (holding self.old).pairs in M.touches meter.new ≤ M.touches meter.old + 200 * (I.effort n + 1) + 200 * (J.effort n + 1) }
+        ensures answer { IsInsertion L.eq R.eq (holding self.old) (left, right) result
+            (holding self.new) }
+        ensures comparisons { let n = length (holding self.old).pairs in
+            M.comparisons meter.new ≤ M.comparisons meter.old + 3 * I.effort n + 5 * J.effort n }
+        ensures touches { let n = length (holding self.old).pairs in
+            M.touches meter.new ≤ M.touches meter.old + 200 * (I.effort n + 1)
+            + 200 * (J.effort n + 1) }
     {
         let policy = Policy {
             left: OnHeld::Overwrite,
@@ -76,9 +82,13 @@ impl<L: Eq + Drop, R: Eq + Drop, I: Index<L>, J: Index<R>> BijectiveMap<L, R, I,
         policy: Policy,
         meter: &mut M,
     ) -> Result<Overwritten<L, R>, NotInsertedWith<L, R>>
-        ensures answer { IsInsertionUnder L.eq R.eq (holding self.old) (left, right) policy result (holding self.new) }
-        ensures comparisons { let n = length (holding self.old).pairs in M.comparisons meter.new ≤ M.comparisons meter.old + 3 * I.effort n + 5 * J.effort n }
-        ensures touches { let n = length (holding self.old).pairs in M.touches meter.new ≤ M.touches meter.old + 200 * (I.effort n + 1) + 200 * (J.effort n + 1) }
+        ensures answer { IsInsertionUnder L.eq R.eq (holding self.old) (left, right) policy result
+            (holding self.new) }
+        ensures comparisons { let n = length (holding self.old).pairs in
+            M.comparisons meter.new ≤ M.comparisons meter.old + 3 * I.effort n + 5 * J.effort n }
+        ensures touches { let n = length (holding self.old).pairs in
+            M.touches meter.new ≤ M.touches meter.old + 200 * (I.effort n + 1)
+            + 200 * (J.effort n + 1) }
     {
         self.table.insert_with(left, right, policy, meter)
     }
@@ -108,9 +118,13 @@ impl<L: Eq + Drop, R: Copy + Eq + Drop, I: Index<L>, J: Index<R>> BijectiveMap<L
         right: R,
         meter: &mut M,
     ) -> Result<R, NotInserted<L, R>>
-        ensures answer { IsInterning L.eq R.eq (holding self.old) (left, right) result (holding self.new) }
-        ensures comparisons { let n = length (holding self.old).pairs in M.comparisons meter.new ≤ M.comparisons meter.old + I.effort n + J.effort n }
-        ensures touches { let n = length (holding self.old).pairs in M.touches meter.new ≤ M.touches meter.old + 65 * (I.effort n + 1) + 65 * (J.effort n + 1) }
+        ensures answer { IsInterning L.eq R.eq (holding self.old) (left, right) result
+            (holding self.new) }
+        ensures comparisons { let n = length (holding self.old).pairs in
+            M.comparisons meter.new ≤ M.comparisons meter.old + I.effort n + J.effort n }
+        ensures touches { let n = length (holding self.old).pairs in
+            M.touches meter.new ≤ M.touches meter.old + 65 * (I.effort n + 1)
+            + 65 * (J.effort n + 1) }
     {
         self.table.get_by_left_or_insert(left, right, meter)
     }

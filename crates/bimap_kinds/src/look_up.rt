@@ -58,8 +58,10 @@ impl<L: Eq, R: Eq, I: Index<L>, J: Index<R>> BijectiveMap<L, R, I, J> {
     /// [`get_by_left`](Self::get_by_left), counted.
     pub fn get_by_left_metered<M: Meter>(&self, left: &L, meter: &mut M) -> Option<&R>
         ensures answer { IsFoundByLeft L.eq (holding self.now) left.now result }
-        ensures comparisons { M.comparisons meter.new ≤ M.comparisons meter.old + I.effort (length (holding self.now).pairs) }
-        ensures touches { M.touches meter.new ≤ M.touches meter.old + I.effort (length (holding self.now).pairs) }
+        ensures comparisons { M.comparisons meter.new ≤ M.comparisons meter.old
+            + I.effort (length (holding self.now).pairs) }
+        ensures touches { M.touches meter.new ≤ M.touches meter.old
+            + I.effort (length (holding self.now).pairs) }
     {
         self.table.get_by_left(left, meter)
     }
@@ -67,8 +69,10 @@ impl<L: Eq, R: Eq, I: Index<L>, J: Index<R>> BijectiveMap<L, R, I, J> {
     /// [`get_by_right`](Self::get_by_right), counted.
     pub fn get_by_right_metered<M: Meter>(&self, right: &R, meter: &mut M) -> Option<&L>
         ensures answer { IsFoundByRight R.eq (holding self.now) right.now result }
-        ensures comparisons { M.comparisons meter.new ≤ M.comparisons meter.old + J.effort (length (holding self.now).pairs) }
-        ensures touches { M.touches meter.new ≤ M.touches meter.old + J.effort (length (holding self.now).pairs) }
+        ensures comparisons { M.comparisons meter.new ≤ M.comparisons meter.old
+            + J.effort (length (holding self.now).pairs) }
+        ensures touches { M.touches meter.new ≤ M.touches meter.old
+            + J.effort (length (holding self.now).pairs) }
     {
         self.table.get_by_right(right, meter)
     }

@@ -43,18 +43,26 @@ impl<L: Eq, R: Eq, I: Index<L>, J: Index<R>> BijectiveMap<L, R, I, J> {
 
     /// [`remove_by_left`](Self::remove_by_left), counted.
     pub fn remove_by_left_metered<M: Meter>(&mut self, left: &L, meter: &mut M) -> Option<(L, R)>
-        ensures answer { IsRemovalByLeft L.eq (holding self.old) left.now result (holding self.new) }
-        ensures comparisons { let n = length (holding self.old).pairs in M.comparisons meter.new ≤ M.comparisons meter.old + I.effort n + J.effort n }
-        ensures touches { let n = length (holding self.old).pairs in M.touches meter.new ≤ M.touches meter.old + 64 * (I.effort n + 1) + 64 * (J.effort n + 1) }
+        ensures answer { IsRemovalByLeft L.eq (holding self.old) left.now result
+            (holding self.new) }
+        ensures comparisons { let n = length (holding self.old).pairs in
+            M.comparisons meter.new ≤ M.comparisons meter.old + I.effort n + J.effort n }
+        ensures touches { let n = length (holding self.old).pairs in
+            M.touches meter.new ≤ M.touches meter.old + 64 * (I.effort n + 1)
+            + 64 * (J.effort n + 1) }
     {
         self.table.remove_by_left(left, meter)
     }
 
     /// [`remove_by_right`](Self::remove_by_right), counted.
     pub fn remove_by_right_metered<M: Meter>(&mut self, right: &R, meter: &mut M) -> Option<(L, R)>
-        ensures answer { IsRemovalByRight R.eq (holding self.old) right.now result (holding self.new) }
-        ensures comparisons { let n = length (holding self.old).pairs in M.comparisons meter.new ≤ M.comparisons meter.old + I.effort n + J.effort n }
-        ensures touches { let n = length (holding self.old).pairs in M.touches meter.new ≤ M.touches meter.old + 64 * (I.effort n + 1) + 64 * (J.effort n + 1) }
+        ensures answer { IsRemovalByRight R.eq (holding self.old) right.now result
+            (holding self.new) }
+        ensures comparisons { let n = length (holding self.old).pairs in
+            M.comparisons meter.new ≤ M.comparisons meter.old + I.effort n + J.effort n }
+        ensures touches { let n = length (holding self.old).pairs in
+            M.touches meter.new ≤ M.touches meter.old + 64 * (I.effort n + 1)
+            + 64 * (J.effort n + 1) }
     {
         self.table.remove_by_right(right, meter)
     }

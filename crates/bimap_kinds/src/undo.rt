@@ -21,7 +21,8 @@ impl<L: Eq + Drop, R: Eq + Drop, I: Index<L>, J: Index<R>> BijectiveMap<L, R, I,
         left: &L,
         answer: Overwritten<L, R>,
     ) -> Result<(L, R), UndoStopped<L, R>>
-        requires undoable { IsUndoable L.eq R.eq (Contains (holding self.old).pairs) left.now answer }
+        requires undoable { IsUndoable L.eq R.eq (Contains (holding self.old).pairs)
+            left.now answer }
         ensures { IsUndoing L.eq R.eq (holding self.old) left.now answer result (holding self.new) }
     {
         self.table.undo_insert(left, answer, &mut Count::new())
@@ -32,7 +33,8 @@ impl<L: Eq + Drop, R: Eq + Drop, I: Index<L>, J: Index<R>> BijectiveMap<L, R, I,
     ///
     ///     seats.can_undo_insert(&'c', &Overwritten::Left('c', 3)); // false
     pub fn can_undo_insert(&self, left: &L, answer: &Overwritten<L, R>) -> bool
-        ensures { IsTrue result ↔ IsUndoable L.eq R.eq (Contains (holding self.now).pairs) left.now answer.now }
+        ensures { IsTrue result ↔ IsUndoable L.eq R.eq
+            (Contains (holding self.now).pairs) left.now answer.now }
     {
         Bijection::can_undo_insert(self, left, answer)
     }

@@ -20,7 +20,8 @@ pub trait WalkedIndex<K: Eq>: Index<K> {
         pairs: &'a Pairs<L, R>,
     ) -> Iter<'a, L, R, Self::Way>
         requires listing { Self.is_listing self.now (S.key_at side) }
-        requires of_store { (place : ℕ) → is_some (S.key_at side place) ≡ is_some (pair_at pairs.now place) }
+        requires of_store { (place : ℕ) → is_some (S.key_at side place)
+            ≡ is_some (pair_at pairs.now place) }
         ensures { result ≡ pairs_at pairs.now (Self.places self.now) };
 }
 

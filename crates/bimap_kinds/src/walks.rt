@@ -71,7 +71,9 @@ impl<L: Ord, R: Eq, J: Index<R>> BijectiveMap<L, R, Ordered, J> {
     ///     seats.left_range('b'..).next(); // Some((&'b', &1))
     pub fn left_range<A: RangeBounds<L>>(&self, range: A) -> LeftRange<'_, L, R>
         requires forward { A.is_forward range (IsLeBy L.cmp) (IsLtBy L.cmp) }
-        ensures rest { A.has_bounds range → result ≡ filter (λ p. range_contains L.cmp (A.start_bound range) (A.end_bound range) p.0) (holding self.now).pairs }
+        ensures rest { A.has_bounds range → result
+            ≡ filter (λ p. range_contains L.cmp (A.start_bound range) (A.end_bound range) p.0)
+            (holding self.now).pairs }
         ensures runs { ShowsInOrder (deref_pair {K = L} {X = R}) }
         ensures runs_back { ShowsInReverse (deref_pair {K = L} {X = R}) }
     {
@@ -108,7 +110,9 @@ impl<L: Eq, R: Ord, I: Index<L>> BijectiveMap<L, R, I, Ordered> {
     ///     seats.right_range(2..).next(); // Some((&'c', &2))
     pub fn right_range<A: RangeBounds<R>>(&self, range: A) -> RightRange<'_, L, R>
         requires forward { A.is_forward range (IsLeBy R.cmp) (IsLtBy R.cmp) }
-        ensures rest { A.has_bounds range → result ≡ filter (λ p. range_contains R.cmp (A.start_bound range) (A.end_bound range) p.1) (by_right self.now) }
+        ensures rest { A.has_bounds range → result
+            ≡ filter (λ p. range_contains R.cmp (A.start_bound range) (A.end_bound range) p.1)
+            (by_right self.now) }
         ensures sorted { IsByRight R.cmp (holding self.now).pairs (by_right self.now) }
         ensures runs { ShowsInOrder (deref_pair {K = L} {X = R}) }
         ensures runs_back { ShowsInReverse (deref_pair {K = L} {X = R}) }

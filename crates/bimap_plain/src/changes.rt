@@ -18,7 +18,8 @@ fn make_place<T>(items: &mut Vec<T>) -> Result<(), NoMemory>
     ensures full { OnErr result (vec_len items.old ≡ vec_capacity items.old) }
     ensures unchanged { OnErr result (vec_capacity items.new ≡ vec_capacity items.old) }
     ensures not_lower { vec_capacity items.old ≤ vec_capacity items.new }
-    ensures had_place { vec_len items.old < vec_capacity items.old → vec_capacity items.new ≡ vec_capacity items.old }
+    ensures had_place { vec_len items.old < vec_capacity items.old →
+        vec_capacity items.new ≡ vec_capacity items.old }
 {
     if items.len() < items.capacity() {
         return Ok(());
@@ -28,7 +29,8 @@ fn make_place<T>(items: &mut Vec<T>) -> Result<(), NoMemory>
 
 /// Makes room for so many more pairs, exactly.
 pub fn reserve<L, R>(pairs: &mut Vec<(L, R)>, more: usize) -> Result<(), NoMemory>
-    ensures { IsReservation (shown pairs.old.items (vec_capacity pairs.old)) more result (shown pairs.new.items (vec_capacity pairs.new)) }
+    ensures { IsReservation (shown pairs.old.items (vec_capacity pairs.old)) more result
+        (shown pairs.new.items (vec_capacity pairs.new)) }
 {
     pairs.reserve_exact(more).map_err(|_| NoMemory)
 }
@@ -40,7 +42,8 @@ fn insert<L: Eq + Drop, R: Eq + Drop>(
     right: R,
 ) -> Result<Overwritten<L, R>, NoRoom<L, R>>
     requires { IsApart L.eq R.eq pairs.old.items }
-    ensures insertion { IsInsertion L.eq R.eq (shown pairs.old.items (vec_capacity pairs.old)) (left, right) result (shown pairs.new.items (vec_capacity pairs.new)) }
+    ensures insertion { IsInsertion L.eq R.eq (shown pairs.old.items (vec_capacity pairs.old))
+        (left, right) result (shown pairs.new.items (vec_capacity pairs.new)) }
     ensures apart { IsApart L.eq R.eq pairs.new.items }
 {
     let answer = strike(pairs, &left, &right);
@@ -59,7 +62,8 @@ pub fn insert_with<L: Eq + Drop, R: Eq + Drop>(
     policy: Policy,
 ) -> Result<Overwritten<L, R>, NotInsertedWith<L, R>>
     requires { IsApart L.eq R.eq pairs.old.items }
-    ensures insertion { IsInsertionUnder L.eq R.eq (shown pairs.old.items (vec_capacity pairs.old)) (left, right) policy result (shown pairs.new.items (vec_capacity pairs.new)) }
+    ensures insertion { IsInsertionUnder L.eq R.eq (shown pairs.old.items (vec_capacity pairs.old))
+        (left, right) policy result (shown pairs.new.items (vec_capacity pairs.new)) }
     ensures apart { IsApart L.eq R.eq pairs.new.items }
 {
     if policy.left.refuses() && has_left(pairs, &left) {
@@ -85,7 +89,8 @@ fn strike<L: Eq + Drop, R: Eq + Drop>(
     ensures cleared { IsCleared L.eq R.eq pairs.old.items (left.now, right.now) pairs.new.items }
     ensures count { vec_len pairs.new + named_count result ≡ vec_len pairs.old }
     ensures apart { IsApart L.eq R.eq pairs.new.items }
-    ensures spare { (vec_len pairs.new < vec_capacity pairs.new) ⊎ ((result ≡ Overwritten.Neither) × (pairs.new.items ≡ pairs.old.items)) }
+    ensures spare { (vec_len pairs.new < vec_capacity pairs.new)
+        ⊎ ((result ≡ Overwritten.Neither) × (pairs.new.items ≡ pairs.old.items)) }
     ensures capacity { vec_capacity pairs.new ≡ vec_capacity pairs.old }
 {
     let by_left = take_left(pairs, left);
@@ -112,7 +117,8 @@ pub fn undo<L: Eq + Drop, R: Eq + Drop>(
 ) -> Result<(L, R), UndoStopped<L, R>>
     requires apart { IsApart L.eq R.eq pairs.old.items }
     requires undoable { IsUndoable L.eq R.eq (Contains pairs.old.items) left.now answer }
-    ensures undoing { IsUndoing L.eq R.eq (shown pairs.old.items (vec_capacity pairs.old)) left.now answer result (shown pairs.new.items (vec_capacity pairs.new)) }
+    ensures undoing { IsUndoing L.eq R.eq (shown pairs.old.items (vec_capacity pairs.old)) left.now
+        answer result (shown pairs.new.items (vec_capacity pairs.new)) }
     ensures apart { IsApart L.eq R.eq pairs.new.items }
 {
     match answer {

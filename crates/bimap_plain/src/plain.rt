@@ -96,7 +96,8 @@ impl<L: Eq + Drop, R: Eq + Drop> Bijection<L, R> for Plain<L, R> {
         answer: Overwritten<L, R>,
     ) -> Result<(L, R), UndoStopped<L, R>>
         requires undoable { IsUndoable L.eq R.eq (Contains self.old.pairs.items) left.now answer }
-        ensures { IsUndoing L.eq R.eq (shown self.old.pairs.items (vec_capacity self.old.pairs)) left.now answer result (shown self.new.pairs.items (vec_capacity self.new.pairs)) }
+        ensures { IsUndoing L.eq R.eq (shown self.old.pairs.items (vec_capacity self.old.pairs))
+            left.now answer result (shown self.new.pairs.items (vec_capacity self.new.pairs)) }
     {
         changes::undo(&mut self.pairs, left, answer)
     }

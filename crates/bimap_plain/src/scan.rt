@@ -6,7 +6,8 @@ ghost use Rattle.bimap_base.specs.Sets.{IsApart, HasLeft, LacksLeft, HasRight, L
 ghost use Rattle.bimap_plain.specs.Plain.{IsTaken};
 
 pub fn has_left<L: Eq, R>(pairs: &[(L, R)], left: &L) -> bool
-    ensures { MatchBool result (HasLeft L.eq (Contains pairs.now) left.now) (LacksLeft L.eq (Contains pairs.now) left.now) }
+    ensures { MatchBool result (HasLeft L.eq (Contains pairs.now) left.now)
+        (LacksLeft L.eq (Contains pairs.now) left.now) }
 {
     match find_left(pairs, left) {
         None => false,
@@ -15,7 +16,8 @@ pub fn has_left<L: Eq, R>(pairs: &[(L, R)], left: &L) -> bool
 }
 
 pub fn has_right<L, R: Eq>(pairs: &[(L, R)], right: &R) -> bool
-    ensures { MatchBool result (HasRight R.eq (Contains pairs.now) right.now) (LacksRight R.eq (Contains pairs.now) right.now) }
+    ensures { MatchBool result (HasRight R.eq (Contains pairs.now) right.now)
+        (LacksRight R.eq (Contains pairs.now) right.now) }
 {
     match find_right(pairs, right) {
         None => false,
@@ -24,7 +26,8 @@ pub fn has_right<L, R: Eq>(pairs: &[(L, R)], right: &R) -> bool
 }
 
 pub fn find_left<'a, L: Eq, R>(pairs: &'a [(L, R)], left: &L) -> Option<&'a (L, R)>
-    ensures { MatchOption result (LacksLeft L.eq (Contains pairs.now) left.now) (λ p. Contains pairs.now p.now × (L.eq p.now.0 left.now ≡ true)) }
+    ensures { MatchOption result (LacksLeft L.eq (Contains pairs.now) left.now)
+        (λ p. Contains pairs.now p.now × (L.eq p.now.0 left.now ≡ true)) }
 {
     for pair in pairs {
         if pair.0 == *left {
@@ -35,7 +38,8 @@ pub fn find_left<'a, L: Eq, R>(pairs: &'a [(L, R)], left: &L) -> Option<&'a (L, 
 }
 
 pub fn find_right<'a, L, R: Eq>(pairs: &'a [(L, R)], right: &R) -> Option<&'a (L, R)>
-    ensures { MatchOption result (LacksRight R.eq (Contains pairs.now) right.now) (λ p. Contains pairs.now p.now × (R.eq p.now.1 right.now ≡ true)) }
+    ensures { MatchOption result (LacksRight R.eq (Contains pairs.now) right.now)
+        (λ p. Contains pairs.now p.now × (R.eq p.now.1 right.now ≡ true)) }
 {
     for pair in pairs {
         if pair.1 == *right {

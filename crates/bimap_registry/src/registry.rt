@@ -55,7 +55,8 @@ pub fn register(
     id: u32,
     name: String,
 ) -> Result<(), NotInserted<u32, String>>
-    ensures { IsInsertionWithoutOverwriting nat_eq string_eq (holding registry.old) (id, name) result (holding registry.new) }
+    ensures { IsInsertionWithoutOverwriting nat_eq string_eq (holding registry.old)
+        (id, name) result (holding registry.new) }
 {
     registry.insert_no_overwrite(id, name)
 }
@@ -68,14 +69,16 @@ pub fn rename(
     from: &String,
     to: String,
 ) -> Result<String, NotReplaced<String>>
-    ensures { IsReplacementOfRight string_eq (holding registry.old) from.now to result (holding registry.new) }
+    ensures { IsReplacementOfRight string_eq (holding registry.old) from.now to result
+        (holding registry.new) }
 {
     replace_right(registry, from, to)
 }
 
 /// Gives the name of an id another id, and answers the old one, at the cost of `rename`.
 pub fn renumber(registry: &mut Registry, from: &u32, to: u32) -> Result<u32, NotReplaced<u32>>
-    ensures { IsReplacementOfLeft nat_eq (holding registry.old) from.now to result (holding registry.new) }
+    ensures { IsReplacementOfLeft nat_eq (holding registry.old) from.now to result
+        (holding registry.new) }
 {
     replace_left(registry, from, to)
 }
@@ -98,10 +101,16 @@ pub fn register_recorded<I: IntoIterator<Item = (u32, String)>>(
     registry: &mut Undoable<Registry, u32, String>,
     members: I,
 ) -> Result<(), ItemRefused<u32, String>>
-    requires ends { IsFiniteIterable I.into_iter_gives I.IntoIter.can_next I.IntoIter.remaining members }
-    ensures all { OnOk result (AreAllRecorded nat_eq string_eq (I.into_iter_gives members) I.IntoIter.next_gives registry.old (record { left = OnHeld.Refuse; right = OnHeld.Refuse }) registry.new) }
-    ensures none { IfErr result (λ e. AreNoneRecorded nat_eq string_eq (I.into_iter_gives members) I.IntoIter.next_gives registry.old (record { left = OnHeld.Refuse; right = OnHeld.Refuse }) e registry.new) }
-    ensures same { IfErr result (λ e. IsSameSet (Contains registry.old.held.pairs) (Contains registry.new.held.pairs)) }
+    requires ends { IsFiniteIterable I.into_iter_gives I.IntoIter.can_next
+        I.IntoIter.remaining members }
+    ensures all { OnOk result (AreAllRecorded nat_eq string_eq
+        (I.into_iter_gives members) I.IntoIter.next_gives registry.old
+        (record { left = OnHeld.Refuse; right = OnHeld.Refuse }) registry.new) }
+    ensures none { IfErr result (λ e. AreNoneRecorded nat_eq string_eq
+        (I.into_iter_gives members) I.IntoIter.next_gives registry.old
+        (record { left = OnHeld.Refuse; right = OnHeld.Refuse }) e registry.new) }
+    ensures same { IfErr result (λ e. IsSameSet (Contains registry.old.held.pairs)
+        (Contains registry.new.held.pairs)) }
 {
     let keep = Policy {
         left: OnHeld::Refuse,
@@ -119,9 +128,14 @@ pub fn register_all<I: IntoIterator<Item = (u32, String)>>(
     registry: &mut Registry,
     members: I,
 ) -> Result<(), ItemRefused<u32, String>>
-    requires ends { IsFiniteIterable I.into_iter_gives I.IntoIter.can_next I.IntoIter.remaining members }
-    ensures all { OnOk result (IsExtensionUnder nat_eq string_eq (I.into_iter_gives members) I.IntoIter.next_gives (holding registry.old) (record { left = OnHeld.Refuse; right = OnHeld.Refuse }) (holding registry.new)) }
-    ensures none { IfErr result (λ e. IsTakenBack nat_eq string_eq (I.into_iter_gives members) I.IntoIter.next_gives (holding registry.old) (record { left = OnHeld.Refuse; right = OnHeld.Refuse }) e (holding registry.new)) }
+    requires ends { IsFiniteIterable I.into_iter_gives I.IntoIter.can_next
+        I.IntoIter.remaining members }
+    ensures all { OnOk result (IsExtensionUnder nat_eq string_eq
+        (I.into_iter_gives members) I.IntoIter.next_gives (holding registry.old)
+        (record { left = OnHeld.Refuse; right = OnHeld.Refuse }) (holding registry.new)) }
+    ensures none { IfErr result (λ e. IsTakenBack nat_eq string_eq
+        (I.into_iter_gives members) I.IntoIter.next_gives (holding registry.old)
+        (record { left = OnHeld.Refuse; right = OnHeld.Refuse }) e (holding registry.new)) }
 {
     let registered = mem::replace(registry, BiBTreeMap::new(alloc));
     let mut recorded = Undoable::new(alloc, registered);

@@ -12,7 +12,8 @@ pub type Held = BiBTreeMap<char, u32>;
 
 /// Writes the number of the pairs held, and a line for each, by ascending left.
 pub fn write_held<W: Write>(output: &mut W, held: &Held) -> io::Result<()>
-    ensures { OnOk result (Appends (W.contents output.old) (W.contents output.new) (tail (holding held.now).pairs)) }
+    ensures { OnOk result (Appends (W.contents output.old) (W.contents output.new)
+        (tail (holding held.now).pairs)) }
 {
     writeln!(output, "held {}", held.len())?;
     for (left, right) in held.iter() {

@@ -7,7 +7,8 @@ use std::io::{self, BufRead};
 
 /// Reads up to the next line feed, which it drops, and tells whether there was one. Memory is asked for a long line.
 pub fn read_line<I: BufRead>(input: &mut I, line: &mut Vec<u8>) -> io::Result<bool>
-    ensures { IfOk result (λ ended. IfSome (I.remaining input.old) (λ bytes. IsNextLine bytes line.new.items ended (I.remaining input.new))) }
+    ensures { IfOk result (λ ended. IfSome (I.remaining input.old)
+        (λ bytes. IsNextLine bytes line.new.items ended (I.remaining input.new))) }
 {
     line.clear();
     input.read_until(b'\n', line)?;

@@ -31,7 +31,8 @@ enum Command {
 
 // The command that a text begins with, and what follows it.
 fn split_command(text: &str) -> Option<(Command, &str)>
-    ensures { MatchOption result ((command : Command) (rest : List ℕ) → text.now ≢ command_text command ++ rest) (λ p. text.now ≡ command_text p.0 ++ p.1.now) }
+    ensures { MatchOption result ((command : Command) (rest : List ℕ) →
+        text.now ≢ command_text command ++ rest) (λ p. text.now ≡ command_text p.0 ++ p.1.now) }
 {
     if let Some(rest) = text.strip_prefix("insert ") {
         return Some((Command::Insert, rest));
@@ -75,7 +76,8 @@ fn parse_number(word: &str) -> Option<u32>
 
 // The two values that a text of two words names.
 fn parse_pair(text: &str) -> Option<(char, u32)>
-    ensures { MatchOption result ((c n : ℕ) → IsPairText text.now c n → ⊥) (λ p. IsPairText text.now p.0 p.1) }
+    ensures { MatchOption result ((c n : ℕ) → IsPairText text.now c n → ⊥)
+        (λ p. IsPairText text.now p.0 p.1) }
 {
     let (word, digits) = text.split_once(' ')?;
     Some((parse_symbol(word)?, parse_number(digits)?))
@@ -83,7 +85,8 @@ fn parse_pair(text: &str) -> Option<(char, u32)>
 
 // What a letter makes of a held value, and what follows it.
 fn parse_letter(text: &str) -> Option<(OnHeld, &str)>
-    ensures { MatchOption result ((held : _) (rest : List ℕ) → text.now ≢ letter held ∷ rest) (λ p. text.now ≡ letter p.0 ∷ p.1.now) }
+    ensures { MatchOption result ((held : _) (rest : List ℕ) → text.now ≢ letter held ∷ rest)
+        (λ p. text.now ≡ letter p.0 ∷ p.1.now) }
 {
     if let Some(rest) = text.strip_prefix('o') {
         return Some((OnHeld::Overwrite, rest));
@@ -94,7 +97,8 @@ fn parse_letter(text: &str) -> Option<(OnHeld, &str)>
 
 // The policy that the first word of a text names, and what follows the space after it.
 fn parse_policy(text: &str) -> Option<(Policy, &str)>
-    ensures { MatchOption result ((policy : _) (rest : List ℕ) → text.now ≢ policy_text policy ++ rest) (λ p. text.now ≡ policy_text p.0 ++ p.1.now) }
+    ensures { MatchOption result ((policy : _) (rest : List ℕ) →
+        text.now ≢ policy_text policy ++ rest) (λ p. text.now ≡ policy_text p.0 ++ p.1.now) }
 {
     let (left, rest) = parse_letter(text)?;
     let (right, rest) = parse_letter(rest)?;
@@ -104,7 +108,8 @@ fn parse_policy(text: &str) -> Option<(Policy, &str)>
 
 // The call that a command makes with the rest of its line.
 fn parse_arguments(command: Command, rest: &str) -> Option<Request>
-    ensures { MatchOption result ((call : _) → IsArguments command rest.now call → ⊥) (λ call. IsArguments command rest.now call) }
+    ensures { MatchOption result ((call : _) → IsArguments command rest.now call → ⊥)
+        (λ call. IsArguments command rest.now call) }
 {
     match command {
         Command::Insert => {
@@ -128,7 +133,8 @@ fn parse_arguments(command: Command, rest: &str) -> Option<Request>
 
 // The call that a text says.
 fn parse_call(text: &str) -> Option<Request>
-    ensures { MatchOption result ((call : _) → SaysCall text.now call → ⊥) (λ call. SaysCall text.now call) }
+    ensures { MatchOption result ((call : _) → SaysCall text.now call → ⊥)
+        (λ call. SaysCall text.now call) }
 {
     let (command, rest) = split_command(text)?;
     parse_arguments(command, rest)

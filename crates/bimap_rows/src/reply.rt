@@ -8,7 +8,8 @@ use std::io::{self, Write};
 
 // Writes which pairs an insertion struck out.
 fn write_answer<W: Write>(output: &mut W, answer: Overwritten<char, u32>) -> io::Result<()>
-    ensures { OnOk result (Appends (W.contents output.old) (W.contents output.new) (answer_line answer)) }
+    ensures { OnOk result (Appends (W.contents output.old) (W.contents output.new)
+        (answer_line answer)) }
 {
     match answer {
         Overwritten::Neither => writeln!(output, "Neither"),
@@ -23,7 +24,8 @@ fn write_answer<W: Write>(output: &mut W, answer: Overwritten<char, u32>) -> io:
 
 /// Writes the line of a reply. Want of memory, and whether a value is held, have none.
 pub fn write_reply<W: Write>(output: &mut W, reply: Reply<char, u32>) -> io::Result<()>
-    ensures { OnOk result (Appends (W.contents output.old) (W.contents output.new) (reply_line reply)) }
+    ensures { OnOk result (Appends (W.contents output.old) (W.contents output.new)
+        (reply_line reply)) }
 {
     match reply {
         Reply::Inserted(answer) => write_answer(output, answer),

@@ -36,8 +36,10 @@ fn take_line<B: Bijection<char, u32>, W: Write>(
     line: &[u8],
     number: u64,
 ) -> Result<(), Ending>
-    ensures ok { OnOk result (TakesLine line.now (B.holding held.old).pairs (B.holding held.new).pairs (W.contents output.old) (W.contents output.new)) }
-    ensures err { IfErr result (λ ending. StopsAtLine line.now number ending (W.contents output.old) (W.contents output.new)) }
+    ensures ok { OnOk result (TakesLine line.now (B.holding held.old).pairs
+        (B.holding held.new).pairs (W.contents output.old) (W.contents output.new)) }
+    ensures err { IfErr result (λ ending. StopsAtLine line.now number ending (W.contents output.old)
+        (W.contents output.new)) }
 {
     let call = match parse_line(without_return(line)) {
         Line::Empty => return Ok(()),
@@ -72,8 +74,10 @@ fn serve_lines<B: Bijection<char, u32>, I: BufRead, W: Write>(
 ) -> Result<(), Ending>
     requires empty { (B.holding held.old).pairs ≡ [] }
     ensures end { OnOk result (IsReadOut (I.remaining input.old) (I.remaining input.new)) }
-    ensures ok { OnOk result (IsServed SaysInAll (I.remaining input.old) (W.contents output.old) (W.contents output.new) (B.holding held.new).pairs []) }
-    ensures err { IfErr result (λ ending. Stops ending (I.remaining input.old) (W.contents output.old) (W.contents output.new)) }
+    ensures ok { OnOk result (IsServed SaysInAll (I.remaining input.old) (W.contents output.old)
+        (W.contents output.new) (B.holding held.new).pairs []) }
+    ensures err { IfErr result (λ ending. Stops ending (I.remaining input.old)
+        (W.contents output.old) (W.contents output.new)) }
 {
     let mut line = Vec::new(alloc);
     for taken in 0..u64::MAX {
@@ -99,7 +103,8 @@ fn finish<W: Write>(output: &mut W, ending: Ending) -> Ending
 /// lines before have been written then, and what is held has not. It flushes the output before it ends, unless the
 /// output has failed. Each line takes memory for its own bytes, and what its call takes.
 pub fn serve<I: BufRead, W: Write>(alloc: Global, input: &mut I, output: &mut W) -> Ending
-    ensures { Ends result (I.remaining input.old) (I.remaining input.new) (W.contents output.old) (W.contents output.new) }
+    ensures { Ends result (I.remaining input.old) (I.remaining input.new) (W.contents output.old)
+        (W.contents output.new) }
 {
     let mut held = Held::new(alloc);
     match serve_lines(alloc, &mut held, input, output) {

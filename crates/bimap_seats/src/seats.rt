@@ -33,9 +33,13 @@ pub fn move_to<G: Eq + Hash + Drop, S: Ord + Drop>(
     seat: S,
 ) -> Result<Overwritten<G, S>, NotInsertedWith<G, S>>
     ensures was_free { OnOk result (LacksRight S.eq (Contains (holding seats.old).pairs) seat) }
-    ensures left { IfOk result (IsAnswer G.eq S.eq (Contains (holding seats.old).pairs) (guest, seat)) }
-    ensures seated { OnOk result (IsWithPut G.eq S.eq (Contains (holding seats.old).pairs) (guest, seat) (Contains (holding seats.new).pairs)) }
-    ensures refused { IfErr result (IsRefusalUnder G.eq S.eq (Contains (holding seats.old).pairs) (IsFull (holding seats.old)) (guest, seat) (record { left = OnHeld.Overwrite; right = OnHeld.Refuse })) }
+    ensures left { IfOk result (IsAnswer G.eq S.eq (Contains (holding seats.old).pairs)
+        (guest, seat)) }
+    ensures seated { OnOk result (IsWithPut G.eq S.eq (Contains (holding seats.old).pairs)
+        (guest, seat) (Contains (holding seats.new).pairs)) }
+    ensures refused { IfErr result (IsRefusalUnder G.eq S.eq (Contains (holding seats.old).pairs)
+        (IsFull (holding seats.old)) (guest, seat)
+        (record { left = OnHeld.Overwrite; right = OnHeld.Refuse })) }
     ensures unchanged { OnErr result (holding seats.new ≡ holding seats.old) }
 {
     let free = Policy {
@@ -97,7 +101,8 @@ pub fn first_taken<G: Eq + Hash, S: Ord>(seats: &BiHashBTreeMap<G, S>) -> Option
 
 /// The guest on the last seat that is taken, and the seat. It takes logarithmic time, and no memory.
 pub fn last_taken<G: Eq + Hash, S: Ord>(seats: &BiHashBTreeMap<G, S>) -> Option<(&G, &S)>
-    ensures pair { option_map deref_pair result ≡ slice_get (by_right seats.now) (length (by_right seats.now) - 1) }
+    ensures pair { option_map deref_pair result
+        ≡ slice_get (by_right seats.now) (length (by_right seats.now) - 1) }
     ensures sorted { IsByRight S.cmp (holding seats.now).pairs (by_right seats.now) }
 {
     seats.last_by_right()

@@ -66,11 +66,20 @@ impl Symbols {
     /// Costs one search for a known name, which takes no memory; else an insertion too, which takes memory for the pair and
     /// its record. An `Err` drops the name, and changes nothing.
     pub fn intern(&mut self, name: String) -> Result<u32, NotInterned>
-        ensures known { IfOk result (λ number. HasLeft string_eq (Contains self.old.table.held.pairs) name → (l : _) × Contains self.old.table.held.pairs (l, number) × (string_eq l name ≡ true)) }
-        ensures kept { HasLeft string_eq (Contains self.old.table.held.pairs) name → self.new ≡ self.old }
-        ensures fresh { IfOk result (λ number. LacksLeft string_eq (Contains self.old.table.held.pairs) name → LacksRight nat_eq (Contains self.old.table.held.pairs) number) }
-        ensures put { IfOk result (λ number. LacksLeft string_eq (Contains self.old.table.held.pairs) name → IsWithPut string_eq nat_eq (Contains self.old.table.held.pairs) (name, number) (Contains self.new.table.held.pairs)) }
-        ensures marks { KeepsMarks string_eq nat_eq self.old.table (length self.old.table.entries) self.new.table }
+        ensures known { IfOk result (λ number. HasLeft string_eq
+            (Contains self.old.table.held.pairs) name →
+            (l : _) × Contains self.old.table.held.pairs (l, number) × (string_eq l name ≡ true)) }
+        ensures kept { HasLeft string_eq (Contains self.old.table.held.pairs) name →
+            self.new ≡ self.old }
+        ensures fresh { IfOk result (λ number. LacksLeft string_eq
+            (Contains self.old.table.held.pairs) name →
+            LacksRight nat_eq (Contains self.old.table.held.pairs) number) }
+        ensures put { IfOk result (λ number. LacksLeft string_eq
+            (Contains self.old.table.held.pairs) name →
+            IsWithPut string_eq nat_eq (Contains self.old.table.held.pairs) (name, number)
+            (Contains self.new.table.held.pairs)) }
+        ensures marks { KeepsMarks string_eq nat_eq self.old.table
+            (length self.old.table.entries) self.new.table }
         ensures scopes { self.new.scopes ≡ self.old.scopes }
         ensures unchanged { OnErr result (self.new ≡ self.old) }
     {
@@ -96,7 +105,8 @@ impl Symbols {
     ///
     /// Costs one insertion, and takes memory for the pair and its record. An `Err` hands both back, and changes nothing.
     pub fn define(&mut self, name: String, number: u32) -> Result<bool, NoRoom<String, u32>>
-        ensures defined { IsRecordedInsertion string_eq nat_eq self.old.table (name, number) result self.new.table }
+        ensures defined { IsRecordedInsertion string_eq nat_eq self.old.table
+            (name, number) result self.new.table }
         ensures scopes { self.new.scopes ≡ self.old.scopes }
     {
         self.table.insert(name, number)
@@ -104,8 +114,10 @@ impl Symbols {
 
     /// Opens a scope: its mark stands for what has a meaning now. Takes memory for the mark; an `Err` opens none.
     pub fn open(&mut self) -> Result<(), AllocError>
-        ensures opened { OnOk result (self.new.scopes.items ≡ self.old.scopes.items ++ length self.old.table.entries ∷ []) }
-        ensures outer { IsBefore string_eq nat_eq self.new.table (length self.new.table.entries) self.new.table.held.pairs }
+        ensures opened { OnOk result (self.new.scopes.items ≡ self.old.scopes.items
+            ++ length self.old.table.entries ∷ []) }
+        ensures outer { IsBefore string_eq nat_eq self.new.table
+            (length self.new.table.entries) self.new.table.held.pairs }
         ensures table { self.new.table ≡ self.old.table }
         ensures unchanged { OnErr result (self.new.scopes.items ≡ self.old.scopes.items) }
     {
@@ -117,8 +129,12 @@ impl Symbols {
     /// Closes the innermost scope, where one is open: what its mark stands for has its meaning again. Costs one undoing a
     /// change since, and takes no memory.
     pub fn close(&mut self) -> bool
-        ensures closed { OnTrue result ((mark : _) × (self.old.scopes.items ≡ self.new.scopes.items ++ mark ∷ []) × IsReturn string_eq nat_eq self.old.table mark self.new.table) }
-        ensures none_open { OnFalse result ((self.old.scopes.items ≡ []) ⊎ ((mark : _) × (self.old.scopes.items ≡ self.new.scopes.items ++ mark ∷ []) × (length self.old.table.entries < mark))) }
+        ensures closed { OnTrue result ((mark : _)
+            × (self.old.scopes.items ≡ self.new.scopes.items ++ mark ∷ [])
+            × IsReturn string_eq nat_eq self.old.table mark self.new.table) }
+        ensures none_open { OnFalse result ((self.old.scopes.items ≡ [])
+            ⊎ ((mark : _) × (self.old.scopes.items ≡ self.new.scopes.items ++ mark ∷ [])
+            × (length self.old.table.entries < mark))) }
         ensures unchanged { OnFalse result (self.new.table ≡ self.old.table) }
     {
         let Some(mark) = self.scopes.pop() else {

@@ -52,7 +52,8 @@ impl Batch {
         ensures batch { IsBatch index.now.places self.new }
         ensures has { HasRank self.new rank }
         ensures comparisons { M.comparisons meter.new ≡ M.comparisons meter.old }
-        ensures touches { M.touches meter.new ≤ M.touches meter.old + 60 + 2 * most_height (length index.now.places) }
+        ensures touches { M.touches meter.new ≤ M.touches meter.old + 60
+            + 2 * most_height (length index.now.places) }
     {
         let (from, count) = index.places_around(rank, self.wanted(), &mut self.places, meter);
         self.from = from;
@@ -67,7 +68,8 @@ impl Batch {
         ensures place { slice_get index.now.places rank ≡ Some result }
         ensures batch { IsBatch index.now.places self.new }
         ensures comparisons { M.comparisons meter.new ≡ M.comparisons meter.old }
-        ensures touches { M.touches meter.new ≤ M.touches meter.old + 60 + 2 * most_height (length index.now.places) }
+        ensures touches { M.touches meter.new ≤ M.touches meter.old + 60
+            + 2 * most_height (length index.now.places) }
         ensures has { HasRank self.new rank }
         ensures kept { HasRank self.old rank → self.new ≡ self.old }
         ensures held { HasRank self.old rank → M.touches meter.new ≡ M.touches meter.old }

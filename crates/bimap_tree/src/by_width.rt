@@ -24,10 +24,14 @@ pub fn find_in_tree<S: SearchKey, M: Meter>(
     sought: &S,
     meter: &mut M,
 ) -> Option<usize>
-    requires { (t : Tree) × CanSeek (nodes_in cells.now) root (S.live sought.now) (S.go sought.now) t }
-    ensures found { (t : Tree) → CanSeek (nodes_in cells.now) root (S.live sought.now) (S.go sought.now) t → result ≡ first_equal (S.go sought.now) (reading t) }
-    ensures comparisons { (t : Tree) → Stands (nodes_in cells.now) root t → M.comparisons meter.new ≤ M.comparisons meter.old + height t }
-    ensures touches { (t : Tree) → Stands (nodes_in cells.now) root t → M.touches meter.new ≤ M.touches meter.old + height t }
+    requires { (t : Tree) × CanSeek (nodes_in cells.now) root (S.live sought.now)
+        (S.go sought.now) t }
+    ensures found { (t : Tree) → CanSeek (nodes_in cells.now) root (S.live sought.now)
+        (S.go sought.now) t → result ≡ first_equal (S.go sought.now) (reading t) }
+    ensures comparisons { (t : Tree) → Stands (nodes_in cells.now) root t →
+        M.comparisons meter.new ≤ M.comparisons meter.old + height t }
+    ensures touches { (t : Tree) → Stands (nodes_in cells.now) root t →
+        M.touches meter.new ≤ M.touches meter.old + height t }
 {
     match cells {
         Cells::Narrow(nodes) => search::find_in_tree(nodes, root, sought, meter),
@@ -44,11 +48,23 @@ pub fn route_in_tree<S: SearchKey, M: Meter>(
     route: &mut Route,
     meter: &mut M,
 ) -> Option<usize>
-    requires { (path : Path) × (s : Tree) × CanFollow (nodes_in cells.now) root (S.live sought.now) (S.go sought.now) route.old.places route.old.turns depth path s }
-    ensures found { (path : Path) (s : Tree) → CanFollow (nodes_in cells.now) root (S.live sought.now) (S.go sought.now) route.old.places route.old.turns depth path s → result ≡ first_equal (S.go sought.now) (reading s) }
-    ensures follows { (path : Path) (s : Tree) → CanFollow (nodes_in cells.now) root (S.live sought.now) (S.go sought.now) route.old.places route.old.turns depth path s → (low : Path) × (e : Tree) × IsFollowed (S.go sought.now) route.new.places route.new.turns route.new.depth result (plug path s) low e }
-    ensures comparisons { (s : Tree) → Stands (nodes_in cells.now) root s → M.comparisons meter.new ≤ M.comparisons meter.old + height s }
-    ensures touches { (s : Tree) → Stands (nodes_in cells.now) root s → M.touches meter.new ≤ M.touches meter.old + height s }
+    requires { (path : Path) × (s : Tree)
+        × CanFollow (nodes_in cells.now) root (S.live sought.now)
+        (S.go sought.now) route.old.places route.old.turns depth path s }
+    ensures found { (path : Path) (s : Tree) →
+        CanFollow (nodes_in cells.now) root (S.live sought.now)
+        (S.go sought.now) route.old.places route.old.turns depth path s →
+        result ≡ first_equal (S.go sought.now) (reading s) }
+    ensures follows { (path : Path) (s : Tree) →
+        CanFollow (nodes_in cells.now) root (S.live sought.now)
+        (S.go sought.now) route.old.places route.old.turns depth path s →
+        (low : Path) × (e : Tree)
+        × IsFollowed (S.go sought.now) route.new.places route.new.turns route.new.depth result
+        (plug path s) low e }
+    ensures comparisons { (s : Tree) → Stands (nodes_in cells.now) root s →
+        M.comparisons meter.new ≤ M.comparisons meter.old + height s }
+    ensures touches { (s : Tree) → Stands (nodes_in cells.now) root s →
+        M.touches meter.new ≤ M.touches meter.old + height s }
 {
     match cells {
         Cells::Narrow(nodes) => route::route_in_tree(nodes, root, depth, sought, route, meter),
@@ -64,12 +80,25 @@ pub fn step_in_tree<S: SearchKey, M: Meter>(
     route: &mut Route,
     meter: &mut M,
 ) -> bool
-    requires { (path : Path) × (s : Tree) × CanFollow (nodes_in cells.now) descent.old.root (S.live sought.now) (S.go sought.now) route.old.places route.old.turns descent.old.depth path s }
-    ensures goes { (path : Path) (s : Tree) → CanFollow (nodes_in cells.now) descent.old.root (S.live sought.now) (S.go sought.now) route.old.places route.old.turns descent.old.depth path s → (low : Path) × (e : Tree) × IsFollowed (S.go sought.now) route.new.places route.new.turns descent.new.depth descent.new.root (plug path s) low e }
-    ensures found { descent.new.is_found ≡ true → (descent.new ≡ descent.old) ⊎ ((place : ℕ) × (descent.new.root ≡ Some place) × (S.go sought.now place ≡ Equal)) }
-    ensures went { result ≡ true → levels_left (nodes_in cells.now) descent.new < levels_left (nodes_in cells.now) descent.old }
-    ensures comparisons { M.comparisons meter.new + levels_left (nodes_in cells.now) descent.new ≤ M.comparisons meter.old + levels_left (nodes_in cells.now) descent.old }
-    ensures touches { M.touches meter.new + levels_left (nodes_in cells.now) descent.new ≤ M.touches meter.old + levels_left (nodes_in cells.now) descent.old }
+    requires { (path : Path) × (s : Tree)
+        × CanFollow (nodes_in cells.now) descent.old.root (S.live sought.now)
+        (S.go sought.now) route.old.places route.old.turns descent.old.depth path s }
+    ensures goes { (path : Path) (s : Tree) →
+        CanFollow (nodes_in cells.now) descent.old.root (S.live sought.now)
+        (S.go sought.now) route.old.places route.old.turns descent.old.depth path s →
+        (low : Path) × (e : Tree)
+        × IsFollowed (S.go sought.now) route.new.places route.new.turns descent.new.depth
+        descent.new.root (plug path s) low e }
+    ensures found { descent.new.is_found ≡ true →
+        (descent.new ≡ descent.old)
+        ⊎ ((place : ℕ) × (descent.new.root ≡ Some place) × (S.go sought.now place ≡ Equal)) }
+    ensures went { result ≡ true → levels_left (nodes_in cells.now) descent.new
+        < levels_left (nodes_in cells.now) descent.old }
+    ensures comparisons { M.comparisons meter.new
+        + levels_left (nodes_in cells.now) descent.new ≤ M.comparisons meter.old
+        + levels_left (nodes_in cells.now) descent.old }
+    ensures touches { M.touches meter.new + levels_left (nodes_in cells.now) descent.new
+        ≤ M.touches meter.old + levels_left (nodes_in cells.now) descent.old }
 {
     match cells {
         Cells::Narrow(nodes) => descent::step_in_tree(nodes, sought, descent, route, meter),
@@ -85,12 +114,25 @@ pub fn finish_in_tree<S: SearchKey, M: Meter>(
     route: &mut Route,
     meter: &mut M,
 ) -> Option<usize>
-    requires follows { (path : Path) × (s : Tree) × CanFollow (nodes_in cells.now) descent.root (S.live sought.now) (S.go sought.now) route.old.places route.old.turns descent.depth path s }
-    requires over { descent.is_found ≡ true → (place : ℕ) × (descent.root ≡ Some place) × (S.go sought.now place ≡ Equal) }
-    ensures found { (path : Path) (s : Tree) → CanFollow (nodes_in cells.now) descent.root (S.live sought.now) (S.go sought.now) route.old.places route.old.turns descent.depth path s → result ≡ first_equal (S.go sought.now) (reading s) }
-    ensures follows { (path : Path) (s : Tree) → CanFollow (nodes_in cells.now) descent.root (S.live sought.now) (S.go sought.now) route.old.places route.old.turns descent.depth path s → result ≡ None → (low : Path) × (e : Tree) × IsFollowed (S.go sought.now) route.new.places route.new.turns route.new.depth result (plug path s) low e }
-    ensures comparisons { M.comparisons meter.new ≤ M.comparisons meter.old + levels_left (nodes_in cells.now) descent }
-    ensures touches { M.touches meter.new ≤ M.touches meter.old + levels_left (nodes_in cells.now) descent }
+    requires follows { (path : Path) × (s : Tree)
+        × CanFollow (nodes_in cells.now) descent.root (S.live sought.now)
+        (S.go sought.now) route.old.places route.old.turns descent.depth path s }
+    requires over { descent.is_found ≡ true →
+        (place : ℕ) × (descent.root ≡ Some place) × (S.go sought.now place ≡ Equal) }
+    ensures found { (path : Path) (s : Tree) →
+        CanFollow (nodes_in cells.now) descent.root (S.live sought.now)
+        (S.go sought.now) route.old.places route.old.turns descent.depth path s →
+        result ≡ first_equal (S.go sought.now) (reading s) }
+    ensures follows { (path : Path) (s : Tree) →
+        CanFollow (nodes_in cells.now) descent.root (S.live sought.now)
+        (S.go sought.now) route.old.places route.old.turns descent.depth path s → result ≡ None →
+        (low : Path) × (e : Tree)
+        × IsFollowed (S.go sought.now) route.new.places route.new.turns route.new.depth result
+        (plug path s) low e }
+    ensures comparisons { M.comparisons meter.new ≤ M.comparisons meter.old
+        + levels_left (nodes_in cells.now) descent }
+    ensures touches { M.touches meter.new ≤ M.touches meter.old
+        + levels_left (nodes_in cells.now) descent }
 {
     match cells {
         Cells::Narrow(nodes) => descent::finish_in_tree(nodes, sought, descent, route, meter),
@@ -106,9 +148,11 @@ pub fn place_in_tree<M: Meter>(
     meter: &mut M,
 ) -> usize
     requires { (t : Tree) × Stands (nodes_in cells.now) root t × (rank < size t) }
-    ensures place { (t : Tree) → Stands (nodes_in cells.now) root t → rank < size t → slice_get (reading t) rank ≡ Some result }
+    ensures place { (t : Tree) → Stands (nodes_in cells.now) root t → rank < size t →
+        slice_get (reading t) rank ≡ Some result }
     ensures comparisons { M.comparisons meter.new ≡ M.comparisons meter.old }
-    ensures touches { (t : Tree) → Stands (nodes_in cells.now) root t → M.touches meter.new ≤ M.touches meter.old + 2 * height t }
+    ensures touches { (t : Tree) → Stands (nodes_in cells.now) root t →
+        M.touches meter.new ≤ M.touches meter.old + 2 * height t }
 {
     match cells {
         Cells::Narrow(nodes) => search::place_in_tree(nodes, root, rank, meter),
@@ -123,10 +167,14 @@ pub fn rank_in_tree<S: SearchKey, M: Meter>(
     sought: &S,
     meter: &mut M,
 ) -> usize
-    requires { (t : Tree) × CanSeek (nodes_in cells.now) root (S.live sought.now) (S.go sought.now) t }
-    ensures rank { (t : Tree) → CanSeek (nodes_in cells.now) root (S.live sought.now) (S.go sought.now) t → result ≡ count_below (S.go sought.now) (reading t) }
-    ensures comparisons { (t : Tree) → Stands (nodes_in cells.now) root t → M.comparisons meter.new ≤ M.comparisons meter.old + height t }
-    ensures touches { (t : Tree) → Stands (nodes_in cells.now) root t → M.touches meter.new ≤ M.touches meter.old + 2 * height t }
+    requires { (t : Tree) × CanSeek (nodes_in cells.now) root (S.live sought.now)
+        (S.go sought.now) t }
+    ensures rank { (t : Tree) → CanSeek (nodes_in cells.now) root (S.live sought.now)
+        (S.go sought.now) t → result ≡ count_below (S.go sought.now) (reading t) }
+    ensures comparisons { (t : Tree) → Stands (nodes_in cells.now) root t →
+        M.comparisons meter.new ≤ M.comparisons meter.old + height t }
+    ensures touches { (t : Tree) → Stands (nodes_in cells.now) root t →
+        M.touches meter.new ≤ M.touches meter.old + 2 * height t }
 {
     match cells {
         Cells::Narrow(nodes) => search::rank_in_tree(nodes, root, sought, meter),
@@ -143,13 +191,16 @@ pub fn fill_around<M: Meter>(
     buffer: &mut [usize; 64],
     meter: &mut M,
 ) -> (usize, usize)
-    requires tree { (t : Tree) × Stands (nodes_in cells.now) root t × IsBalanced t × (rank < size t) × (size t < 2 ^ 64) }
+    requires tree { (t : Tree) × Stands (nodes_in cells.now) root t × IsBalanced t × (rank < size t)
+        × (size t < 2 ^ 64) }
     requires least { 2 ≤ most }
     requires most { most ≤ 60 }
     requires long { length buffer.old ≡ 64 }
-    ensures row { (t : Tree) → Stands (nodes_in cells.now) root t → IsBalanced t → rank < size t → IsRow (reading t) rank buffer.new result.0 result.1 }
+    ensures row { (t : Tree) → Stands (nodes_in cells.now) root t → IsBalanced t → rank < size t →
+        IsRow (reading t) rank buffer.new result.0 result.1 }
     ensures comparisons { M.comparisons meter.new ≡ M.comparisons meter.old }
-    ensures touches { (t : Tree) → Stands (nodes_in cells.now) root t → IsBalanced t → rank < size t → M.touches meter.new ≤ M.touches meter.old + 60 + 2 * height t }
+    ensures touches { (t : Tree) → Stands (nodes_in cells.now) root t → IsBalanced t →
+        rank < size t → M.touches meter.new ≤ M.touches meter.old + 60 + 2 * height t }
 {
     match cells {
         Cells::Narrow(nodes) => walk::fill_around(nodes, root, rank, most, buffer, meter),
@@ -164,8 +215,12 @@ pub fn put_at<M: Meter>(
     place: usize,
     meter: &mut M,
 ) -> Option<usize>
-    requires { (path : Path) × CanPut (nodes_in cells.old) route.now.places route.now.turns route.now.depth path place }
-    ensures tree { (path : Path) → CanPut (nodes_in cells.old) route.now.places route.now.turns route.now.depth path place → (v : Tree) × IsRisen (nodes_in cells.old) (nodes_in cells.new) path (fork leaf place leaf) result v }
+    requires { (path : Path) × CanPut (nodes_in cells.old) route.now.places route.now.turns
+        route.now.depth path place }
+    ensures tree { (path : Path) → CanPut (nodes_in cells.old) route.now.places route.now.turns
+        route.now.depth path place →
+        (v : Tree) × IsRisen (nodes_in cells.old) (nodes_in cells.new) path
+        (fork leaf place leaf) result v }
     ensures comparisons { M.comparisons meter.new ≡ M.comparisons meter.old }
     ensures touches { M.touches meter.new ≤ M.touches meter.old + 11 * route.now.depth + 1 }
 {
@@ -182,10 +237,14 @@ pub fn take_at<M: Meter>(
     at: usize,
     meter: &mut M,
 ) -> Option<usize>
-    requires { (path : Path) × (l : Tree) × (r : Tree) × CanTake (nodes_in cells.old) route.old path l at r }
-    ensures tree { (path : Path) (l r : Tree) → CanTake (nodes_in cells.old) route.old path l at r → (v : Tree) × IsTaken (nodes_in cells.old) (nodes_in cells.new) path l r result v }
+    requires { (path : Path) × (l : Tree) × (r : Tree)
+        × CanTake (nodes_in cells.old) route.old path l at r }
+    ensures tree { (path : Path) (l r : Tree) → CanTake (nodes_in cells.old) route.old path l at r →
+        (v : Tree) × IsTaken (nodes_in cells.old) (nodes_in cells.new) path l r result v }
     ensures comparisons { M.comparisons meter.new ≡ M.comparisons meter.old }
-    ensures touches { (path : Path) (l r : Tree) → CanTake (nodes_in cells.old) route.old path l at r → M.touches meter.new ≤ M.touches meter.old + 12 * height (plug path (fork l at r)) + 4 }
+    ensures touches { (path : Path) (l r : Tree) →
+        CanTake (nodes_in cells.old) route.old path l at r →
+        M.touches meter.new ≤ M.touches meter.old + 12 * height (plug path (fork l at r)) + 4 }
 {
     match cells {
         Cells::Narrow(nodes) => remove::take_at(nodes, route, at, meter),

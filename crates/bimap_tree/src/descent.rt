@@ -44,12 +44,25 @@ pub fn step_in_tree<C: Cell, S: SearchKey, M: Meter>(
     route: &mut Route,
     meter: &mut M,
 ) -> bool
-    requires { (path : Path) × (s : Tree) × CanFollow cells.now descent.old.root (S.live sought.now) (S.go sought.now) route.old.places route.old.turns descent.old.depth path s }
-    ensures goes { (path : Path) (s : Tree) → CanFollow cells.now descent.old.root (S.live sought.now) (S.go sought.now) route.old.places route.old.turns descent.old.depth path s → (low : Path) × (e : Tree) × IsFollowed (S.go sought.now) route.new.places route.new.turns descent.new.depth descent.new.root (plug path s) low e }
-    ensures found { descent.new.is_found ≡ true → (descent.new ≡ descent.old) ⊎ ((place : ℕ) × (descent.new.root ≡ Some place) × (S.go sought.now place ≡ Equal)) }
-    ensures went { result ≡ true → levels_left cells.now descent.new < levels_left cells.now descent.old }
-    ensures comparisons { M.comparisons meter.new + levels_left cells.now descent.new ≤ M.comparisons meter.old + levels_left cells.now descent.old }
-    ensures touches { M.touches meter.new + levels_left cells.now descent.new ≤ M.touches meter.old + levels_left cells.now descent.old }
+    requires { (path : Path) × (s : Tree)
+        × CanFollow cells.now descent.old.root (S.live sought.now)
+        (S.go sought.now) route.old.places route.old.turns descent.old.depth path s }
+    ensures goes { (path : Path) (s : Tree) →
+        CanFollow cells.now descent.old.root (S.live sought.now)
+        (S.go sought.now) route.old.places route.old.turns descent.old.depth path s →
+        (low : Path) × (e : Tree)
+        × IsFollowed (S.go sought.now) route.new.places route.new.turns descent.new.depth
+        descent.new.root (plug path s) low e }
+    ensures found { descent.new.is_found ≡ true →
+        (descent.new ≡ descent.old)
+        ⊎ ((place : ℕ) × (descent.new.root ≡ Some place) × (S.go sought.now place ≡ Equal)) }
+    ensures went { result ≡ true → levels_left cells.now descent.new
+        < levels_left cells.now descent.old }
+    ensures comparisons { M.comparisons meter.new
+        + levels_left cells.now descent.new ≤ M.comparisons meter.old
+        + levels_left cells.now descent.old }
+    ensures touches { M.touches meter.new + levels_left cells.now descent.new ≤ M.touches meter.old
+        + levels_left cells.now descent.old }
 {
     // Where turns are guessed, a wrong guess would undo what the other search has done meanwhile.
     if turns_by_branch::<C, S>(cells) {
@@ -79,11 +92,23 @@ pub fn finish_in_tree<C: Cell, S: SearchKey, M: Meter>(
     route: &mut Route,
     meter: &mut M,
 ) -> Option<usize>
-    requires follows { (path : Path) × (s : Tree) × CanFollow cells.now descent.root (S.live sought.now) (S.go sought.now) route.old.places route.old.turns descent.depth path s }
-    requires over { descent.is_found ≡ true → (place : ℕ) × (descent.root ≡ Some place) × (S.go sought.now place ≡ Equal) }
-    ensures found { (path : Path) (s : Tree) → CanFollow cells.now descent.root (S.live sought.now) (S.go sought.now) route.old.places route.old.turns descent.depth path s → result ≡ first_equal (S.go sought.now) (reading s) }
-    ensures follows { (path : Path) (s : Tree) → CanFollow cells.now descent.root (S.live sought.now) (S.go sought.now) route.old.places route.old.turns descent.depth path s → result ≡ None → (low : Path) × (e : Tree) × IsFollowed (S.go sought.now) route.new.places route.new.turns route.new.depth result (plug path s) low e }
-    ensures comparisons { M.comparisons meter.new ≤ M.comparisons meter.old + levels_left cells.now descent }
+    requires follows { (path : Path) × (s : Tree)
+        × CanFollow cells.now descent.root (S.live sought.now)
+        (S.go sought.now) route.old.places route.old.turns descent.depth path s }
+    requires over { descent.is_found ≡ true →
+        (place : ℕ) × (descent.root ≡ Some place) × (S.go sought.now place ≡ Equal) }
+    ensures found { (path : Path) (s : Tree) →
+        CanFollow cells.now descent.root (S.live sought.now)
+        (S.go sought.now) route.old.places route.old.turns descent.depth path s →
+        result ≡ first_equal (S.go sought.now) (reading s) }
+    ensures follows { (path : Path) (s : Tree) →
+        CanFollow cells.now descent.root (S.live sought.now)
+        (S.go sought.now) route.old.places route.old.turns descent.depth path s → result ≡ None →
+        (low : Path) × (e : Tree)
+        × IsFollowed (S.go sought.now) route.new.places route.new.turns route.new.depth result
+        (plug path s) low e }
+    ensures comparisons { M.comparisons meter.new ≤ M.comparisons meter.old
+        + levels_left cells.now descent }
     ensures touches { M.touches meter.new ≤ M.touches meter.old + levels_left cells.now descent }
 {
     if descent.is_found {

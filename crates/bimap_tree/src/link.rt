@@ -65,9 +65,12 @@ pub fn link<C: Cell, M: Meter>(
     far: Subtree,
     meter: &mut M,
 ) -> Subtree
-    requires { (n : Tree) × (f : Tree) × CanLink cells.old place n f × Measures near n × Measures far f }
-    ensures linked { (n f : Tree) → Measures near n → Measures far f → cells.new ≡ slice_set cells.old place (node_on turn n f) }
-    ensures measured { (n f : Tree) → Measures near n → Measures far f → Measures result (branch turn n place f) }
+    requires { (n : Tree) × (f : Tree) × CanLink cells.old place n f × Measures near n
+        × Measures far f }
+    ensures linked { (n f : Tree) → Measures near n → Measures far f →
+        cells.new ≡ slice_set cells.old place (node_on turn n f) }
+    ensures measured { (n f : Tree) → Measures near n → Measures far f →
+        Measures result (branch turn n place f) }
     ensures comparisons { M.comparisons meter.new ≡ M.comparisons meter.old }
     ensures touches { M.touches meter.new ≡ M.touches meter.old + 1 }
 {
@@ -109,8 +112,11 @@ pub fn rotate<C: Cell, M: Meter>(
     light: Subtree,
     meter: &mut M,
 ) -> Subtree
-    requires { (n : Tree) × (f : Tree) × CanRebalance cells.old place n f × (root_of n ≡ Some heavy) × Measures light f × (height n ≡ height f + 2) }
-    ensures tree { (n f : Tree) → CanRebalance cells.old place n f → root_of n ≡ Some heavy → Measures light f → height n ≡ height f + 2 → (t : Tree) × Measures result t × IsRebalanced cells.old cells.new turn place n f t }
+    requires { (n : Tree) × (f : Tree) × CanRebalance cells.old place n f × (root_of n ≡ Some heavy)
+        × Measures light f × (height n ≡ height f + 2) }
+    ensures tree { (n f : Tree) → CanRebalance cells.old place n f → root_of n ≡ Some heavy →
+        Measures light f → height n ≡ height f + 2 →
+        (t : Tree) × Measures result t × IsRebalanced cells.old cells.new turn place n f t }
     ensures comparisons { M.comparisons meter.new ≡ M.comparisons meter.old }
     ensures touches { M.touches meter.new ≤ M.touches meter.old + 9 }
 {
@@ -143,8 +149,11 @@ pub fn rebalance<C: Cell, M: Meter>(
     far: Subtree,
     meter: &mut M,
 ) -> Subtree
-    requires { (n : Tree) × (f : Tree) × CanRebalance cells.old place n f × Measures near n × Measures far f }
-    ensures tree { (n f : Tree) → CanRebalance cells.old place n f → Measures near n → Measures far f → (t : Tree) × Measures result t × IsRebalanced cells.old cells.new turn place n f t }
+    requires { (n : Tree) × (f : Tree) × CanRebalance cells.old place n f × Measures near n
+        × Measures far f }
+    ensures tree { (n f : Tree) → CanRebalance cells.old place n f → Measures near n →
+        Measures far f → (t : Tree) × Measures result t
+        × IsRebalanced cells.old cells.new turn place n f t }
     ensures comparisons { M.comparisons meter.new ≡ M.comparisons meter.old }
     ensures touches { M.touches meter.new ≤ M.touches meter.old + 9 }
 {

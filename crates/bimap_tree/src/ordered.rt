@@ -65,7 +65,8 @@ impl Ordered {
         ensures len { result ≡ length self.now.places }
 
         // What is true of each index.
-        ensures balanced { (t : Tree) × IsBalancedIndex self.now t × (height t ≤ most_height (length self.now.places)) }
+        ensures balanced { (t : Tree) × IsBalancedIndex self.now t
+            × (height t ≤ most_height (length self.now.places)) }
         ensures distinct { AllPairs (λ a b. a ≢ b) self.now.places }
         ensures cells { (p : ℕ) → Contains self.now.places p → p < length self.now.nodes }
     {
@@ -80,7 +81,8 @@ impl Ordered {
         ensures enough { to ≤ length self.old.nodes → IsOk result }
         ensures unchanged { to ≤ length self.old.nodes → self.new ≡ self.old }
         ensures err { OnErr result (self.new ≡ self.old) }
-        ensures routes { (standing : _) (route : _) → IsRoute self.old standing route → IsRoute self.new standing route }
+        ensures routes { (standing : _) (route : _) → IsRoute self.old standing route →
+            IsRoute self.new standing route }
     {
         self.cells.grow(to)
     }
@@ -97,17 +99,22 @@ impl Ordered {
     /// The listed place whose key is equal, in time logarithmic in the length.
     pub fn find<K: Keys, M: Meter>(&self, keys: &K, key: &K::Key, meter: &mut M) -> Option<usize>
         requires { Ascends (K.key_at keys.now) K.order self.now.places }
-        ensures found { IfSome result (λ p. Contains self.now.places p × (standing (K.key_at keys.now) K.order key.now p ≡ Some Equal)) }
-        ensures none { IfNone result ((p : ℕ) → Contains self.now.places p → standing (K.key_at keys.now) K.order key.now p ≡ Some Equal → ⊥) }
-        ensures comparisons { M.comparisons meter.new ≤ M.comparisons meter.old + most_height (length self.now.places) }
-        ensures touches { M.touches meter.new ≤ M.touches meter.old + most_height (length self.now.places) }
+        ensures found { IfSome result (λ p. Contains self.now.places p
+            × (standing (K.key_at keys.now) K.order key.now p ≡ Some Equal)) }
+        ensures none { IfNone result ((p : ℕ) → Contains self.now.places p →
+            standing (K.key_at keys.now) K.order key.now p ≡ Some Equal → ⊥) }
+        ensures comparisons { M.comparisons meter.new ≤ M.comparisons meter.old
+            + most_height (length self.now.places) }
+        ensures touches { M.touches meter.new ≤ M.touches meter.old
+            + most_height (length self.now.places) }
     {
         find_in_tree(&self.cells, self.root, &ToKey { keys, key }, meter)
     }
 
     /// A search that has not gone down yet, for `step` and `finish`.
     pub fn start(&self) -> Descent
-        ensures under_way { (standing : ℕ → Option Ordering) (route : Route) → IsUnderWay self.now standing result route }
+        ensures under_way { (standing : ℕ → Option Ordering) (route : Route) →
+            IsUnderWay self.now standing result route }
         ensures left { levels_left self.now.nodes result ≤ most_height (length self.now.places) }
     {
         Descent::new(self.root)
@@ -123,11 +130,17 @@ impl Ordered {
         meter: &mut M,
     ) -> bool
         requires ascends { Ascends (K.key_at keys.now) K.order self.now.places }
-        requires under_way { IsUnderWay self.now (λ q. standing (K.key_at keys.now) K.order key.now q) descent.old route.old }
-        ensures under_way { IsUnderWay self.now (λ q. standing (K.key_at keys.now) K.order key.now q) descent.new route.new }
-        ensures went { result ≡ true → levels_left self.now.nodes descent.new < levels_left self.now.nodes descent.old }
-        ensures comparisons { M.comparisons meter.new + levels_left self.now.nodes descent.new ≤ M.comparisons meter.old + levels_left self.now.nodes descent.old }
-        ensures touches { M.touches meter.new + levels_left self.now.nodes descent.new ≤ M.touches meter.old + levels_left self.now.nodes descent.old }
+        requires under_way { IsUnderWay self.now (λ q. standing
+            (K.key_at keys.now) K.order key.now q) descent.old route.old }
+        ensures under_way { IsUnderWay self.now (λ q. standing
+            (K.key_at keys.now) K.order key.now q) descent.new route.new }
+        ensures went { result ≡ true → levels_left self.now.nodes descent.new
+            < levels_left self.now.nodes descent.old }
+        ensures comparisons { M.comparisons meter.new
+            + levels_left self.now.nodes descent.new ≤ M.comparisons meter.old
+            + levels_left self.now.nodes descent.old }
+        ensures touches { M.touches meter.new + levels_left self.now.nodes descent.new
+            ≤ M.touches meter.old + levels_left self.now.nodes descent.old }
     {
         step_in_tree(&self.cells, &ToKey { keys, key }, descent, route, meter)
     }
@@ -143,12 +156,18 @@ impl Ordered {
         meter: &mut M,
     ) -> Option<usize>
         requires ascends { Ascends (K.key_at keys.now) K.order self.now.places }
-        requires under_way { IsUnderWay self.now (λ q. standing (K.key_at keys.now) K.order key.now q) descent route.old }
-        ensures found { IfSome result (λ p. Contains self.now.places p × (standing (K.key_at keys.now) K.order key.now p ≡ Some Equal)) }
-        ensures none { IfNone result ((p : ℕ) → Contains self.now.places p → standing (K.key_at keys.now) K.order key.now p ≡ Some Equal → ⊥) }
-        ensures route { IfNone result (IsRoute self.now (λ q. standing (K.key_at keys.now) K.order key.now q) route.new) }
-        ensures comparisons { M.comparisons meter.new ≤ M.comparisons meter.old + levels_left self.now.nodes descent }
-        ensures touches { M.touches meter.new ≤ M.touches meter.old + levels_left self.now.nodes descent }
+        requires under_way { IsUnderWay self.now (λ q. standing
+            (K.key_at keys.now) K.order key.now q) descent route.old }
+        ensures found { IfSome result (λ p. Contains self.now.places p
+            × (standing (K.key_at keys.now) K.order key.now p ≡ Some Equal)) }
+        ensures none { IfNone result ((p : ℕ) → Contains self.now.places p →
+            standing (K.key_at keys.now) K.order key.now p ≡ Some Equal → ⊥) }
+        ensures route { IfNone result (IsRoute self.now
+            (λ q. standing (K.key_at keys.now) K.order key.now q) route.new) }
+        ensures comparisons { M.comparisons meter.new ≤ M.comparisons meter.old
+            + levels_left self.now.nodes descent }
+        ensures touches { M.touches meter.new ≤ M.touches meter.old
+            + levels_left self.now.nodes descent }
     {
         finish_in_tree(&self.cells, &ToKey { keys, key }, descent, route, meter)
     }
@@ -165,14 +184,18 @@ impl Ordered {
         requires live { IsSome (K.key_at keys.now place) }
         requires cell { place < length self.old.nodes }
         requires unlisted { Contains self.old.places place → ⊥ }
-        requires unequal { (p : ℕ) (k : _) → Contains self.old.places p → K.key_at keys.now place ≡ Some k → standing (K.key_at keys.now) K.order k p ≡ Some Equal → ⊥ }
-        requires route { (k : _) → K.key_at keys.now place ≡ Some k → IsRoute self.old (λ q. standing (K.key_at keys.now) K.order k q) route.now }
+        requires unequal { (p : ℕ) (k : _) → Contains self.old.places p →
+            K.key_at keys.now place ≡ Some k →
+            standing (K.key_at keys.now) K.order k p ≡ Some Equal → ⊥ }
+        requires route { (k : _) → K.key_at keys.now place ≡ Some k →
+            IsRoute self.old (λ q. standing (K.key_at keys.now) K.order k q) route.now }
         ensures len { length self.new.places ≡ length self.old.places + 1 }
         ensures adds { Adds self.old.places place self.new.places }
         ensures ascends { Ascends (K.key_at keys.now) K.order self.new.places }
         ensures cells { length self.new.nodes ≡ length self.old.nodes }
         ensures comparisons { M.comparisons meter.new ≡ M.comparisons meter.old }
-        ensures touches { M.touches meter.new ≤ M.touches meter.old + 64 * (most_height (length self.old.places) + 1) }
+        ensures touches { M.touches meter.new ≤ M.touches meter.old
+            + 64 * (most_height (length self.old.places) + 1) }
     {
         // Cells are fewer than 2^64.
         let _ = self.cells.places();
@@ -186,13 +209,17 @@ impl Ordered {
         requires live { IsSome (K.key_at keys.now place) }
         requires cell { place < length self.old.nodes }
         requires unlisted { Contains self.old.places place → ⊥ }
-        requires unequal { (p : ℕ) (k : _) → Contains self.old.places p → K.key_at keys.now place ≡ Some k → standing (K.key_at keys.now) K.order k p ≡ Some Equal → ⊥ }
+        requires unequal { (p : ℕ) (k : _) → Contains self.old.places p →
+            K.key_at keys.now place ≡ Some k →
+            standing (K.key_at keys.now) K.order k p ≡ Some Equal → ⊥ }
         ensures len { length self.new.places ≡ length self.old.places + 1 }
         ensures adds { Adds self.old.places place self.new.places }
         ensures ascends { Ascends (K.key_at keys.now) K.order self.new.places }
         ensures cells { length self.new.nodes ≡ length self.old.nodes }
-        ensures comparisons { M.comparisons meter.new ≤ M.comparisons meter.old + most_height (length self.old.places) }
-        ensures touches { M.touches meter.new ≤ M.touches meter.old + 64 * (most_height (length self.old.places) + 1) }
+        ensures comparisons { M.comparisons meter.new ≤ M.comparisons meter.old
+            + most_height (length self.old.places) }
+        ensures touches { M.touches meter.new ≤ M.touches meter.old
+            + 64 * (most_height (length self.old.places) + 1) }
     {
         // Cells are fewer than 2^64.
         let _ = self.cells.places();
@@ -218,8 +245,10 @@ impl Ordered {
         ensures drops { Drops self.old.places place self.new.places }
         ensures ascends { Ascends (K.key_at keys.now) K.order self.new.places }
         ensures cells { length self.new.nodes ≡ length self.old.nodes }
-        ensures comparisons { M.comparisons meter.new ≤ M.comparisons meter.old + most_height (length self.old.places) }
-        ensures touches { M.touches meter.new ≤ M.touches meter.old + 64 * (most_height (length self.old.places) + 1) }
+        ensures comparisons { M.comparisons meter.new ≤ M.comparisons meter.old
+            + most_height (length self.old.places) }
+        ensures touches { M.touches meter.new ≤ M.touches meter.old
+            + 64 * (most_height (length self.old.places) + 1) }
     {
         let mut route = Route::new();
         // It leads to the place.
@@ -243,15 +272,19 @@ impl Ordered {
         meter: &mut M,
     ) -> Option<usize>
         requires { Ascends (K.key_at keys.now) K.order self.old.places }
-        ensures found { IfSome result (λ p. Contains self.old.places p × (standing (K.key_at keys.now) K.order key.now p ≡ Some Equal)) }
-        ensures none { IfNone result ((p : ℕ) → Contains self.old.places p → standing (K.key_at keys.now) K.order key.now p ≡ Some Equal → ⊥) }
+        ensures found { IfSome result (λ p. Contains self.old.places p
+            × (standing (K.key_at keys.now) K.order key.now p ≡ Some Equal)) }
+        ensures none { IfNone result ((p : ℕ) → Contains self.old.places p →
+            standing (K.key_at keys.now) K.order key.now p ≡ Some Equal → ⊥) }
         ensures len { IfSome result (λ _. length self.new.places + 1 ≡ length self.old.places) }
         ensures drops { IfSome result (λ p. Drops self.old.places p self.new.places) }
         ensures unchanged { IfNone result (self.new ≡ self.old) }
         ensures ascends { Ascends (K.key_at keys.now) K.order self.new.places }
         ensures cells { length self.new.nodes ≡ length self.old.nodes }
-        ensures comparisons { M.comparisons meter.new ≤ M.comparisons meter.old + most_height (length self.old.places) }
-        ensures touches { M.touches meter.new ≤ M.touches meter.old + 64 * (most_height (length self.old.places) + 1) }
+        ensures comparisons { M.comparisons meter.new ≤ M.comparisons meter.old
+            + most_height (length self.old.places) }
+        ensures touches { M.touches meter.new ≤ M.touches meter.old
+            + 64 * (most_height (length self.old.places) + 1) }
     {
         let mut route = Route::new();
         let found = route_in_tree(
@@ -276,8 +309,10 @@ impl Ordered {
     ) -> usize
         requires { Ascends (K.key_at keys.now) K.order self.now.places }
         ensures start { IsStart (K.key_at keys.now) K.order bound.entry self.now.places result }
-        ensures comparisons { M.comparisons meter.new ≤ M.comparisons meter.old + most_height (length self.now.places) }
-        ensures touches { M.touches meter.new ≤ M.touches meter.old + 2 * most_height (length self.now.places) }
+        ensures comparisons { M.comparisons meter.new ≤ M.comparisons meter.old
+            + most_height (length self.now.places) }
+        ensures touches { M.touches meter.new ≤ M.touches meter.old
+            + 2 * most_height (length self.now.places) }
     {
         match bound {
             Bound::Unbounded => 0,
@@ -301,7 +336,8 @@ impl Ordered {
         requires { rank < length self.now.places }
         ensures place { slice_get self.now.places rank ≡ Some result }
         ensures comparisons { M.comparisons meter.new ≡ M.comparisons meter.old }
-        ensures touches { M.touches meter.new ≤ M.touches meter.old + 2 * most_height (length self.now.places) }
+        ensures touches { M.touches meter.new ≤ M.touches meter.old
+            + 2 * most_height (length self.now.places) }
     {
         place_in_tree(&self.cells, self.root, rank, meter)
     }
@@ -321,7 +357,8 @@ impl Ordered {
         requires most { most ≤ 60 }
         ensures row { IsRow self.now.places rank buffer.new result.0 result.1 }
         ensures comparisons { M.comparisons meter.new ≡ M.comparisons meter.old }
-        ensures touches { M.touches meter.new ≤ M.touches meter.old + 60 + 2 * most_height (length self.now.places) }
+        ensures touches { M.touches meter.new ≤ M.touches meter.old + 60
+            + 2 * most_height (length self.now.places) }
     {
         fill_around(&self.cells, self.root, rank, most, buffer, meter)
     }

@@ -18,9 +18,12 @@ fn first_in_tree<C: Cell, M: Meter>(
     meter: &mut M,
 ) -> (usize, usize)
     requires { (s : Tree) × CanDescend cells.now at depth s }
-    ensures first { (s : Tree) → CanDescend cells.now at depth s → (lefts : List (ℕ × Tree)) × (rest : Tree) × IsFirst route.old route.new depth s result.0 result.1 lefts rest }
+    ensures first { (s : Tree) → CanDescend cells.now at depth s →
+        (lefts : List (ℕ × Tree)) × (rest : Tree)
+        × IsFirst route.old route.new depth s result.0 result.1 lefts rest }
     ensures comparisons { M.comparisons meter.new ≡ M.comparisons meter.old }
-    ensures touches { (s : Tree) → CanDescend cells.now at depth s → M.touches meter.new ≤ M.touches meter.old + height s }
+    ensures touches { (s : Tree) → CanDescend cells.now at depth s →
+        M.touches meter.new ≤ M.touches meter.old + height s }
 {
     let mut at = at;
     let mut depth = depth;
@@ -40,9 +43,11 @@ pub fn take_at<C: Cell, M: Meter>(
     meter: &mut M,
 ) -> Option<usize>
     requires { (path : Path) × (l : Tree) × (r : Tree) × CanTake cells.old route.old path l at r }
-    ensures tree { (path : Path) (l r : Tree) → CanTake cells.old route.old path l at r → (v : Tree) × IsTaken cells.old cells.new path l r result v }
+    ensures tree { (path : Path) (l r : Tree) → CanTake cells.old route.old path l at r →
+        (v : Tree) × IsTaken cells.old cells.new path l r result v }
     ensures comparisons { M.comparisons meter.new ≡ M.comparisons meter.old }
-    ensures touches { (path : Path) (l r : Tree) → CanTake cells.old route.old path l at r → M.touches meter.new ≤ M.touches meter.old + 12 * height (plug path (fork l at r)) + 4 }
+    ensures touches { (path : Path) (l r : Tree) → CanTake cells.old route.old path l at r →
+        M.touches meter.new ≤ M.touches meter.old + 12 * height (plug path (fork l at r)) + 4 }
 {
     let node = cells.read(at, meter);
     let depth = route.depth();

@@ -18,8 +18,12 @@ fn relink<C: Cell, M: Meter>(
     grew: bool,
     meter: &mut M,
 ) -> Subtree
-    requires { (sister : Tree) × (s : Tree) × (u : Tree) × CanRelink cells.old at turn grew node sister s u × Measures child u }
-    ensures tree { (sister s u : Tree) → CanRelink cells.old at turn grew node sister s u → Measures child u → (t : Tree) × Measures result t × IsRebalanced cells.old cells.new turn at u sister t × Moves grew (branch turn s at sister) t }
+    requires { (sister : Tree) × (s : Tree) × (u : Tree)
+        × CanRelink cells.old at turn grew node sister s u × Measures child u }
+    ensures tree { (sister s u : Tree) → CanRelink cells.old at turn grew node sister s u →
+        Measures child u → (t : Tree) × Measures result t
+        × IsRebalanced cells.old cells.new turn at u sister t
+        × Moves grew (branch turn s at sister) t }
     ensures comparisons { M.comparisons meter.new ≡ M.comparisons meter.old }
     ensures touches { M.touches meter.new ≤ M.touches meter.old + 10 }
 {
@@ -45,8 +49,13 @@ fn recount<C: Cell, M: Meter>(
     grew: bool,
     meter: &mut M,
 ) -> Option<usize>
-    requires { (path : Path) × (s : Tree) × (u : Tree) × CanRise cells.old route.now.places route.now.turns path grew s u × (depth ≡ steps path) × (depth ≤ 128) × (root_of u ≡ child) × (height u ≡ height s) }
-    ensures tree { (path : Path) (s u : Tree) → CanRise cells.old route.now.places route.now.turns path grew s u → depth ≡ steps path → root_of u ≡ child → height u ≡ height s → (v : Tree) × IsRisen cells.old cells.new path u result v }
+    requires { (path : Path) × (s : Tree) × (u : Tree)
+        × CanRise cells.old route.now.places route.now.turns path grew s u × (depth ≡ steps path)
+        × (depth ≤ 128) × (root_of u ≡ child) × (height u ≡ height s) }
+    ensures tree { (path : Path) (s u : Tree) →
+        CanRise cells.old route.now.places route.now.turns path grew s u → depth ≡ steps path →
+        root_of u ≡ child → height u ≡ height s →
+        (v : Tree) × IsRisen cells.old cells.new path u result v }
     ensures comparisons { M.comparisons meter.new ≡ M.comparisons meter.old }
     ensures touches { M.touches meter.new ≤ M.touches meter.old + depth }
 {
@@ -71,8 +80,13 @@ pub fn rise<C: Cell, M: Meter>(
     grew: bool,
     meter: &mut M,
 ) -> Option<usize>
-    requires { (path : Path) × (s : Tree) × (u : Tree) × CanRise cells.old route.now.places route.now.turns path grew s u × (depth ≡ steps path) × (depth ≤ 128) × Measures child u × (was ≡ height s) }
-    ensures tree { (path : Path) (s u : Tree) → CanRise cells.old route.now.places route.now.turns path grew s u → depth ≡ steps path → Measures child u → was ≡ height s → (v : Tree) × IsRisen cells.old cells.new path u result v }
+    requires { (path : Path) × (s : Tree) × (u : Tree)
+        × CanRise cells.old route.now.places route.now.turns path grew s u × (depth ≡ steps path)
+        × (depth ≤ 128) × Measures child u × (was ≡ height s) }
+    ensures tree { (path : Path) (s u : Tree) →
+        CanRise cells.old route.now.places route.now.turns path grew s u → depth ≡ steps path →
+        Measures child u → was ≡ height s →
+        (v : Tree) × IsRisen cells.old cells.new path u result v }
     ensures comparisons { M.comparisons meter.new ≡ M.comparisons meter.old }
     ensures touches { M.touches meter.new ≤ M.touches meter.old + 11 * depth }
 {
@@ -99,8 +113,10 @@ pub fn put_at<C: Cell, M: Meter>(
     place: usize,
     meter: &mut M,
 ) -> Option<usize>
-    requires { (path : Path) × CanPut cells.old route.now.places route.now.turns route.now.depth path place }
-    ensures tree { (path : Path) → CanPut cells.old route.now.places route.now.turns route.now.depth path place → (v : Tree) × IsRisen cells.old cells.new path (fork leaf place leaf) result v }
+    requires { (path : Path) × CanPut cells.old route.now.places route.now.turns
+        route.now.depth path place }
+    ensures tree { (path : Path) → CanPut cells.old route.now.places route.now.turns route.now.depth
+        path place → (v : Tree) × IsRisen cells.old cells.new path (fork leaf place leaf) result v }
     ensures comparisons { M.comparisons meter.new ≡ M.comparisons meter.old }
     ensures touches { M.touches meter.new ≤ M.touches meter.old + 11 * route.now.depth + 1 }
 {

@@ -24,7 +24,8 @@ pub struct Route {
 impl Route {
     /// A route of no steps, for `Ordered::step` and `finish` to write.
     pub fn new() -> Self
-        ensures { (index : Index) (standing : ℕ → Option Ordering) → IsBalancedIndex index leaf → IsRoute index standing result }
+        ensures { (index : Index) (standing : ℕ → Option Ordering) → IsBalancedIndex index leaf →
+            IsRoute index standing result }
     {
         Route {
             places: [0; 128],
@@ -80,11 +81,23 @@ pub fn route_in_tree<C: Cell, S: SearchKey, M: Meter>(
     route: &mut Route,
     meter: &mut M,
 ) -> Option<usize>
-    requires { (path : Path) × (s : Tree) × CanFollow cells.now root (S.live sought.now) (S.go sought.now) route.old.places route.old.turns depth path s }
-    ensures found { (path : Path) (s : Tree) → CanFollow cells.now root (S.live sought.now) (S.go sought.now) route.old.places route.old.turns depth path s → result ≡ first_equal (S.go sought.now) (reading s) }
-    ensures follows { (path : Path) (s : Tree) → CanFollow cells.now root (S.live sought.now) (S.go sought.now) route.old.places route.old.turns depth path s → (low : Path) × (e : Tree) × IsFollowed (S.go sought.now) route.new.places route.new.turns route.new.depth result (plug path s) low e }
-    ensures comparisons { (s : Tree) → Stands cells.now root s → M.comparisons meter.new ≤ M.comparisons meter.old + height s }
-    ensures touches { (s : Tree) → Stands cells.now root s → M.touches meter.new ≤ M.touches meter.old + height s }
+    requires { (path : Path) × (s : Tree)
+        × CanFollow cells.now root (S.live sought.now)
+        (S.go sought.now) route.old.places route.old.turns depth path s }
+    ensures found { (path : Path) (s : Tree) →
+        CanFollow cells.now root (S.live sought.now)
+        (S.go sought.now) route.old.places route.old.turns depth path s →
+        result ≡ first_equal (S.go sought.now) (reading s) }
+    ensures follows { (path : Path) (s : Tree) →
+        CanFollow cells.now root (S.live sought.now)
+        (S.go sought.now) route.old.places route.old.turns depth path s →
+        (low : Path) × (e : Tree)
+        × IsFollowed (S.go sought.now) route.new.places route.new.turns route.new.depth result
+        (plug path s) low e }
+    ensures comparisons { (s : Tree) → Stands cells.now root s →
+        M.comparisons meter.new ≤ M.comparisons meter.old + height s }
+    ensures touches { (s : Tree) → Stands cells.now root s →
+        M.touches meter.new ≤ M.touches meter.old + height s }
 {
     let is_far = turns_by_branch::<C, S>(cells);
     let mut root = root;

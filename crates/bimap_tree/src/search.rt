@@ -17,9 +17,12 @@ pub fn find_in_tree<C: Cell, S: SearchKey, M: Meter>(
     meter: &mut M,
 ) -> Option<usize>
     requires { (t : Tree) × CanSeek cells.now root (S.live sought.now) (S.go sought.now) t }
-    ensures found { (t : Tree) → CanSeek cells.now root (S.live sought.now) (S.go sought.now) t → result ≡ first_equal (S.go sought.now) (reading t) }
-    ensures comparisons { (t : Tree) → Stands cells.now root t → M.comparisons meter.new ≤ M.comparisons meter.old + height t }
-    ensures touches { (t : Tree) → Stands cells.now root t → M.touches meter.new ≤ M.touches meter.old + height t }
+    ensures found { (t : Tree) → CanSeek cells.now root (S.live sought.now) (S.go sought.now) t →
+        result ≡ first_equal (S.go sought.now) (reading t) }
+    ensures comparisons { (t : Tree) → Stands cells.now root t →
+        M.comparisons meter.new ≤ M.comparisons meter.old + height t }
+    ensures touches { (t : Tree) → Stands cells.now root t →
+        M.touches meter.new ≤ M.touches meter.old + height t }
 {
     let is_far = turns_by_branch::<C, S>(cells);
     let mut root = root;
@@ -50,9 +53,11 @@ pub fn place_in_tree<C: Cell, M: Meter>(
     meter: &mut M,
 ) -> usize
     requires { (t : Tree) × Stands cells.now root t × (rank < size t) }
-    ensures place { (t : Tree) → Stands cells.now root t → rank < size t → slice_get (reading t) rank ≡ Some result }
+    ensures place { (t : Tree) → Stands cells.now root t → rank < size t →
+        slice_get (reading t) rank ≡ Some result }
     ensures comparisons { M.comparisons meter.new ≡ M.comparisons meter.old }
-    ensures touches { (t : Tree) → Stands cells.now root t → M.touches meter.new ≤ M.touches meter.old + 2 * height t }
+    ensures touches { (t : Tree) → Stands cells.now root t →
+        M.touches meter.new ≤ M.touches meter.old + 2 * height t }
 {
     let mut root = root;
     let mut rank = rank;
@@ -80,9 +85,12 @@ pub fn rank_in_tree<C: Cell, S: SearchKey, M: Meter>(
     meter: &mut M,
 ) -> usize
     requires { (t : Tree) × CanSeek cells.now root (S.live sought.now) (S.go sought.now) t }
-    ensures rank { (t : Tree) → CanSeek cells.now root (S.live sought.now) (S.go sought.now) t → result ≡ count_below (S.go sought.now) (reading t) }
-    ensures comparisons { (t : Tree) → Stands cells.now root t → M.comparisons meter.new ≤ M.comparisons meter.old + height t }
-    ensures touches { (t : Tree) → Stands cells.now root t → M.touches meter.new ≤ M.touches meter.old + 2 * height t }
+    ensures rank { (t : Tree) → CanSeek cells.now root (S.live sought.now) (S.go sought.now) t →
+        result ≡ count_below (S.go sought.now) (reading t) }
+    ensures comparisons { (t : Tree) → Stands cells.now root t →
+        M.comparisons meter.new ≤ M.comparisons meter.old + height t }
+    ensures touches { (t : Tree) → Stands cells.now root t →
+        M.touches meter.new ≤ M.touches meter.old + 2 * height t }
 {
     let mut root = root;
     let mut rank = 0;

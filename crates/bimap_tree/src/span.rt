@@ -25,9 +25,12 @@ fn rank_of_start<K: Keys, M: Meter>(
     meter: &mut M,
 ) -> usize
     requires { Ascends (K.key_at keys.now) K.order index.now.places }
-    ensures cut { IsCut (is_from_start K.order (bound_map (λ x. x.now) start.entry)) (K.key_at keys.now) index.now.places result }
-    ensures comparisons { M.comparisons meter.new ≤ M.comparisons meter.old + most_height (length index.now.places) }
-    ensures touches { M.touches meter.new ≤ M.touches meter.old + 2 * most_height (length index.now.places) }
+    ensures cut { IsCut (is_from_start K.order (bound_map (λ x. x.now) start.entry))
+        (K.key_at keys.now) index.now.places result }
+    ensures comparisons { M.comparisons meter.new ≤ M.comparisons meter.old
+        + most_height (length index.now.places) }
+    ensures touches { M.touches meter.new ≤ M.touches meter.old
+        + 2 * most_height (length index.now.places) }
 {
     index.rank_from(keys, start, meter)
 }
@@ -40,9 +43,12 @@ fn rank_of_end<K: Keys, M: Meter>(
     meter: &mut M,
 ) -> usize
     requires { Ascends (K.key_at keys.now) K.order index.now.places }
-    ensures cut { IsCut (is_past_end K.order (bound_map (λ x. x.now) end.entry)) (K.key_at keys.now) index.now.places result }
-    ensures comparisons { M.comparisons meter.new ≤ M.comparisons meter.old + most_height (length index.now.places) }
-    ensures touches { M.touches meter.new ≤ M.touches meter.old + 2 * most_height (length index.now.places) }
+    ensures cut { IsCut (is_past_end K.order (bound_map (λ x. x.now) end.entry))
+        (K.key_at keys.now) index.now.places result }
+    ensures comparisons { M.comparisons meter.new ≤ M.comparisons meter.old
+        + most_height (length index.now.places) }
+    ensures touches { M.touches meter.new ≤ M.touches meter.old
+        + 2 * most_height (length index.now.places) }
 {
     match end {
         Bound::Unbounded => index.len(),
@@ -63,9 +69,13 @@ impl Span {
         requires { Ascends (K.key_at keys.now) K.order index.now.places }
         ensures ordered { result.front ≤ result.back }
         ensures within { result.back ≤ length index.now.places }
-        ensures inside { A.has_bounds range.now → IsSpan (range_contains K.order (A.start_bound range.now) (A.end_bound range.now)) (K.key_at keys.now) index.now.places result.front result.back }
-        ensures comparisons { M.comparisons meter.new ≤ M.comparisons meter.old + 2 * most_height (length index.now.places) }
-        ensures touches { M.touches meter.new ≤ M.touches meter.old + 4 * most_height (length index.now.places) }
+        ensures inside { A.has_bounds range.now →
+            IsSpan (range_contains K.order (A.start_bound range.now) (A.end_bound range.now))
+            (K.key_at keys.now) index.now.places result.front result.back }
+        ensures comparisons { M.comparisons meter.new ≤ M.comparisons meter.old
+            + 2 * most_height (length index.now.places) }
+        ensures touches { M.touches meter.new ≤ M.touches meter.old
+            + 4 * most_height (length index.now.places) }
     {
         let front = rank_of_start(index, keys, range.start_bound(), meter);
         let back = rank_of_end(index, keys, range.end_bound(), meter);

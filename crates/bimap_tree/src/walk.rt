@@ -31,7 +31,8 @@ fn put(buffer: &mut [usize; 64], filled: usize, place: Option<usize>) -> usize
 fn fill_two_levels(buffer: &mut [usize; 64], filled: usize, at: usize, node: Node) -> usize
     requires room { filled < 61 }
     requires long { length buffer.old ≡ 64 }
-    ensures { (l r : Tree) → node ≡ node_of l r → height l ≤ 1 → height r ≤ 1 → IsFilled 64 filled buffer.old (reading l ++ at ∷ reading r) buffer.new result }
+    ensures { (l r : Tree) → node ≡ node_of l r → height l ≤ 1 → height r ≤ 1 →
+        IsFilled 64 filled buffer.old (reading l ++ at ∷ reading r) buffer.new result }
 {
     let before = put(buffer, filled, node.left);
     buffer[before] = at;
@@ -51,9 +52,11 @@ fn fill_tree<C: Cell, M: Meter>(
 )
     requires tree { (t : Tree) × CanFill cells.now at node t × (filled + size t < 62) }
     requires long { length buffer.old ≡ 64 }
-    ensures filled { (t : Tree) → CanFill cells.now at node t → filled + size t < 62 → IsFilled 64 filled buffer.old (reading t) buffer.new (filled + size t) }
+    ensures filled { (t : Tree) → CanFill cells.now at node t → filled + size t < 62 →
+        IsFilled 64 filled buffer.old (reading t) buffer.new (filled + size t) }
     ensures comparisons { M.comparisons meter.new ≡ M.comparisons meter.old }
-    ensures touches { (t : Tree) → CanFill cells.now at node t → M.touches meter.new + 1 ≤ M.touches meter.old + size t }
+    ensures touches { (t : Tree) → CanFill cells.now at node t →
+        M.touches meter.new + 1 ≤ M.touches meter.old + size t }
 {
     if node.height < 3 {
         fill_two_levels(buffer, filled, at, node);
@@ -76,11 +79,16 @@ fn fill_high<C: Cell, M: Meter>(
     filled: usize,
     meter: &mut M,
 )
-    requires tree { (node : Node) × (t : Tree) × CanFill cells.now at node t × (node.left ≡ Some left) × (node.right ≡ Some right) × (filled + size t < 62) }
+    requires tree { (node : Node) × (t : Tree) × CanFill cells.now at node t
+        × (node.left ≡ Some left) × (node.right ≡ Some right) × (filled + size t < 62) }
     requires long { length buffer.old ≡ 64 }
-    ensures filled { (node : Node) (t : Tree) → CanFill cells.now at node t → node.left ≡ Some left → node.right ≡ Some right → filled + size t < 62 → IsFilled 64 filled buffer.old (reading t) buffer.new (filled + size t) }
+    ensures filled { (node : Node) (t : Tree) → CanFill cells.now at node t →
+        node.left ≡ Some left → node.right ≡ Some right → filled + size t < 62 →
+        IsFilled 64 filled buffer.old (reading t) buffer.new (filled + size t) }
     ensures comparisons { M.comparisons meter.new ≡ M.comparisons meter.old }
-    ensures touches { (node : Node) (t : Tree) → CanFill cells.now at node t → node.left ≡ Some left → node.right ≡ Some right → M.touches meter.new + 1 ≤ M.touches meter.old + size t }
+    ensures touches { (node : Node) (t : Tree) → CanFill cells.now at node t →
+        node.left ≡ Some left → node.right ≡ Some right →
+        M.touches meter.new + 1 ≤ M.touches meter.old + size t }
 {
     let left_node = cells.read(left, meter);
     let right_node = cells.read(right, meter);
@@ -98,9 +106,12 @@ fn subtree_around<C: Cell, M: Meter>(
     most: usize,
     meter: &mut M,
 ) -> RankedSubtree
-    requires tree { (t : Tree) × Stands cells.now root t × IsBalanced t × (rank < size t) × (size t < 2 ^ 64) }
+    requires tree { (t : Tree) × Stands cells.now root t × IsBalanced t × (rank < size t)
+        × (size t < 2 ^ 64) }
     requires most { 2 ≤ most }
-    ensures subtree { (t : Tree) → Stands cells.now root t → IsBalanced t → rank < size t → (s : Tree) × IsRankedSubtree cells.now (reading t) rank result s × (M.touches meter.new + 2 * height s ≤ M.touches meter.old + 2 * height t + 1) }
+    ensures subtree { (t : Tree) → Stands cells.now root t → IsBalanced t → rank < size t →
+        (s : Tree) × IsRankedSubtree cells.now (reading t) rank result s
+        × (M.touches meter.new + 2 * height s ≤ M.touches meter.old + 2 * height t + 1) }
     ensures few { result.node.size ≤ most }
     ensures comparisons { M.comparisons meter.new ≡ M.comparisons meter.old }
 {
@@ -151,13 +162,16 @@ pub fn fill_around<C: Cell, M: Meter>(
     buffer: &mut [usize; 64],
     meter: &mut M,
 ) -> (usize, usize)
-    requires tree { (t : Tree) × Stands cells.now root t × IsBalanced t × (rank < size t) × (size t < 2 ^ 64) }
+    requires tree { (t : Tree) × Stands cells.now root t × IsBalanced t × (rank < size t)
+        × (size t < 2 ^ 64) }
     requires least { 2 ≤ most }
     requires most { most ≤ 60 }
     requires long { length buffer.old ≡ 64 }
-    ensures row { (t : Tree) → Stands cells.now root t → IsBalanced t → rank < size t → IsRow (reading t) rank buffer.new result.0 result.1 }
+    ensures row { (t : Tree) → Stands cells.now root t → IsBalanced t → rank < size t →
+        IsRow (reading t) rank buffer.new result.0 result.1 }
     ensures comparisons { M.comparisons meter.new ≡ M.comparisons meter.old }
-    ensures touches { (t : Tree) → Stands cells.now root t → IsBalanced t → rank < size t → M.touches meter.new ≤ M.touches meter.old + 60 + 2 * height t }
+    ensures touches { (t : Tree) → Stands cells.now root t → IsBalanced t → rank < size t →
+        M.touches meter.new ≤ M.touches meter.old + 60 + 2 * height t }
 {
     let subtree = subtree_around(cells, root, rank, most, meter);
     let first = put(buffer, 0, subtree.before);

@@ -72,7 +72,8 @@ pub fn there_and_back<B: Bijection<L, R> + Drop, L: CopyLeft + Drop, R: Eq + Dro
     operations: Vec<Operation<L, R>>,
 )
     requires recorded { mark ≤ length undoable.old.entries }
-    requires above { (operation : Operation L R) → Contains operations.items operation → StaysAbove mark operation }
+    requires above { (operation : Operation L R) → Contains operations.items operation →
+        StaysAbove mark operation }
     ensures gone_back { IsReturn L.eq R.eq undoable.old mark undoable.new }
     ensures room { undoable.old.held.room ≤ undoable.new.held.room }
 {

@@ -135,9 +135,12 @@ impl<B: Bijection<L, R> + Drop, L: CopyLeft + Drop, R: Eq + Drop> Undoable<B, L,
         items: I,
         policy: Policy,
     ) -> Result<(), ItemRefused<L, R>>
-        requires ends { IsFiniteIterable I.into_iter_gives I.IntoIter.can_next I.IntoIter.remaining items }
-        ensures all { OnOk result (AreAllRecorded L.eq R.eq (I.into_iter_gives items) I.IntoIter.next_gives self.old policy self.new) }
-        ensures none { IfErr result (λ e. AreNoneRecorded L.eq R.eq (I.into_iter_gives items) I.IntoIter.next_gives self.old policy e self.new) }
+        requires ends { IsFiniteIterable I.into_iter_gives I.IntoIter.can_next
+            I.IntoIter.remaining items }
+        ensures all { OnOk result (AreAllRecorded L.eq R.eq
+            (I.into_iter_gives items) I.IntoIter.next_gives self.old policy self.new) }
+        ensures none { IfErr result (λ e. AreNoneRecorded L.eq R.eq
+            (I.into_iter_gives items) I.IntoIter.next_gives self.old policy e self.new) }
     {
         let mark = self.mark();
         let mut taken = 0usize;
@@ -243,8 +246,11 @@ impl<B: Bijection<L, R> + Drop, L: CopyLeft + Drop, R: Eq + Drop> Undoable<B, L,
     pub fn mark(&self) -> usize
         ensures recorded { result ≡ length self.now.entries }
         ensures stands_for_what_is_held { IsBefore L.eq R.eq self.now result self.now.held.pairs }
-        ensures stands_for_a_set { (mark : _) → mark ≤ result → (A : _) × IsBefore L.eq R.eq self.now mark A }
-        ensures for_one_set { (mark : _) (A B : _) → mark ≤ result → IsBefore L.eq R.eq self.now mark A → IsBefore L.eq R.eq self.now mark B → IsSameSet (Contains A) (Contains B) }
+        ensures stands_for_a_set { (mark : _) → mark ≤ result →
+            (A : _) × IsBefore L.eq R.eq self.now mark A }
+        ensures for_one_set { (mark : _) (A B : _) → mark ≤ result →
+            IsBefore L.eq R.eq self.now mark A → IsBefore L.eq R.eq self.now mark B →
+            IsSameSet (Contains A) (Contains B) }
     {
         // So its laws are known.
         let _bimap = &self.bimap;
@@ -351,8 +357,11 @@ impl<
 
 // Takes one change back. The bimap has a place for each pair before it, so no memory is asked for.
 fn take_back<B: Bijection<L, R>, L: Eq + Drop, R: Eq + Drop>(bimap: &mut B, entry: Entry<L, R>)
-    requires { (A : List (L × R)) × IsApart L.eq R.eq A × (length A ≤ (B.holding bimap.old).room) × IsChange L.eq R.eq A entry (B.holding bimap.old).pairs }
-    ensures taken_back { (A : List (L × R)) → IsApart L.eq R.eq A → IsChange L.eq R.eq A entry (B.holding bimap.old).pairs → IsSameSet (Contains A) (Contains (B.holding bimap.new).pairs) }
+    requires { (A : List (L × R)) × IsApart L.eq R.eq A × (length A ≤ (B.holding bimap.old).room)
+        × IsChange L.eq R.eq A entry (B.holding bimap.old).pairs }
+    ensures taken_back { (A : List (L × R)) → IsApart L.eq R.eq A →
+        IsChange L.eq R.eq A entry (B.holding bimap.old).pairs →
+        IsSameSet (Contains A) (Contains (B.holding bimap.new).pairs) }
     ensures room { (B.holding bimap.new).room ≡ (B.holding bimap.old).room }
 {
     match entry {

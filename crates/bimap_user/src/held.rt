@@ -16,9 +16,11 @@ pub fn seat_new<G: Eq + Drop, S: Eq + Drop, B: Bijection<G, S>>(
     seat: S,
 ) -> Result<(), NotInserted<G, S>>
     ensures seated { OnOk result (Contains (B.holding ledger.new).pairs (guest, seat)) }
-    ensures refused { IfErr result (IsRefusal G.eq S.eq (Contains (B.holding ledger.old).pairs) (IsFull (B.holding ledger.old)) (guest, seat)) }
+    ensures refused { IfErr result (IsRefusal G.eq S.eq (Contains (B.holding ledger.old).pairs)
+        (IsFull (B.holding ledger.old)) (guest, seat)) }
     ensures unchanged { OnErr result (B.holding ledger.new ≡ B.holding ledger.old) }
-    ensures count { OnOk result (length (B.holding ledger.new).pairs ≡ length (B.holding ledger.old).pairs + 1) }
+    ensures count { OnOk result (length (B.holding ledger.new).pairs
+        ≡ length (B.holding ledger.old).pairs + 1) }
 {
     ledger.insert_no_overwrite(guest, seat)
 }

@@ -14,9 +14,13 @@ pub fn seat_guest<G: Eq + Drop, S: Eq + Drop, B: Bijection<G, S>>(
     seat: S,
 ) -> Result<Overwritten<G, S>, NotInsertedWith<G, S>>
     ensures was_free { OnOk result (LacksRight S.eq (Contains (B.holding ledger.old).pairs) seat) }
-    ensures left { IfOk result (IsAnswer G.eq S.eq (Contains (B.holding ledger.old).pairs) (guest, seat)) }
-    ensures seated { OnOk result (IsWithPut G.eq S.eq (Contains (B.holding ledger.old).pairs) (guest, seat) (Contains (B.holding ledger.new).pairs)) }
-    ensures refused { IfErr result (IsRefusalUnder G.eq S.eq (Contains (B.holding ledger.old).pairs) (IsFull (B.holding ledger.old)) (guest, seat) (record { left = OnHeld.Overwrite; right = OnHeld.Refuse })) }
+    ensures left { IfOk result (IsAnswer G.eq S.eq (Contains (B.holding ledger.old).pairs)
+        (guest, seat)) }
+    ensures seated { OnOk result (IsWithPut G.eq S.eq (Contains (B.holding ledger.old).pairs)
+        (guest, seat) (Contains (B.holding ledger.new).pairs)) }
+    ensures refused { IfErr result (IsRefusalUnder G.eq S.eq (Contains (B.holding ledger.old).pairs)
+        (IsFull (B.holding ledger.old)) (guest, seat)
+        (record { left = OnHeld.Overwrite; right = OnHeld.Refuse })) }
     ensures unchanged { OnErr result (B.holding ledger.new ≡ B.holding ledger.old) }
 {
     let policy = Policy {
@@ -53,7 +57,8 @@ pub fn seat_in_free_place<G: Eq + Drop, S: Eq + Drop, B: Bijection<G, S>>(
 ) -> Overwritten<G, S>
     requires room { length (B.holding ledger.old).pairs < (B.holding ledger.old).room }
     ensures left { IsAnswer G.eq S.eq (Contains (B.holding ledger.old).pairs) (guest, seat) result }
-    ensures seated { IsWithPut G.eq S.eq (Contains (B.holding ledger.old).pairs) (guest, seat) (Contains (B.holding ledger.new).pairs) }
+    ensures seated { IsWithPut G.eq S.eq (Contains (B.holding ledger.old).pairs) (guest, seat)
+        (Contains (B.holding ledger.new).pairs) }
     ensures count { length (B.holding ledger.new).pairs ≤ length (B.holding ledger.old).pairs + 1 }
     ensures room { (B.holding ledger.new).room ≡ (B.holding ledger.old).room }
 {
@@ -73,8 +78,11 @@ fn seat_both_in_free_places<G: Eq + Drop, S: Eq + Drop, B: Bijection<G, S>>(
     requires room { length (B.holding ledger.old).pairs + 2 ≤ (B.holding ledger.old).room }
     ensures room { (B.holding ledger.new).room ≡ (B.holding ledger.old).room }
     ensures second { Contains (B.holding ledger.new).pairs second }
-    ensures first { shares G.eq S.eq first second ≡ false → Contains (B.holding ledger.new).pairs first }
-    ensures others { (p : G × S) → Contains (B.holding ledger.old).pairs p → shares G.eq S.eq p first ≡ false → shares G.eq S.eq p second ≡ false → Contains (B.holding ledger.new).pairs p }
+    ensures first { shares G.eq S.eq first second ≡ false →
+        Contains (B.holding ledger.new).pairs first }
+    ensures others { (p : G × S) → Contains (B.holding ledger.old).pairs p →
+        shares G.eq S.eq p first ≡ false → shares G.eq S.eq p second ≡ false →
+        Contains (B.holding ledger.new).pairs p }
 {
     let _ = seat_in_free_place(ledger, first.0, first.1);
     let _ = seat_in_free_place(ledger, second.0, second.1);
@@ -89,10 +97,14 @@ pub fn seat_both<G: Eq + Drop, S: Eq + Drop, B: Bijection<G, S>>(
     first: (G, S),
     second: (G, S),
 ) -> Result<(), NoMemory>
-    ensures room { OnOk result ((B.holding ledger.new).room ≡ max (B.holding ledger.old).room (length (B.holding ledger.old).pairs + 2)) }
+    ensures room { OnOk result ((B.holding ledger.new).room
+        ≡ max (B.holding ledger.old).room (length (B.holding ledger.old).pairs + 2)) }
     ensures second { OnOk result (Contains (B.holding ledger.new).pairs second) }
-    ensures first { OnOk result (shares G.eq S.eq first second ≡ false → Contains (B.holding ledger.new).pairs first) }
-    ensures others { OnOk result ((p : G × S) → Contains (B.holding ledger.old).pairs p → shares G.eq S.eq p first ≡ false → shares G.eq S.eq p second ≡ false → Contains (B.holding ledger.new).pairs p) }
+    ensures first { OnOk result (shares G.eq S.eq first second ≡ false →
+        Contains (B.holding ledger.new).pairs first) }
+    ensures others { OnOk result ((p : G × S) → Contains (B.holding ledger.old).pairs p →
+        shares G.eq S.eq p first ≡ false → shares G.eq S.eq p second ≡ false →
+        Contains (B.holding ledger.new).pairs p) }
     ensures unchanged { OnErr result (B.holding ledger.new ≡ B.holding ledger.old) }
 {
     ledger.reserve(2)?;

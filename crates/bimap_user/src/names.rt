@@ -15,10 +15,15 @@ pub fn number_of<L: Eq + Drop, B: Interning<L, u32>>(
     name: L,
     fresh: u32,
 ) -> Result<u32, NotInserted<L, u32>>
-    ensures has { IfOk result (λ number. (l : L) × Contains (B.holding names.new).pairs (l, number) × (L.eq l name ≡ true)) }
-    ensures put { LacksLeft L.eq (Contains (B.holding names.old).pairs) name → OnOk result (IsWithPut L.eq nat_eq (Contains (B.holding names.old).pairs) (name, fresh) (Contains (B.holding names.new).pairs)) }
-    ensures kept { (p : _) → Contains (B.holding names.old).pairs p → Contains (B.holding names.new).pairs p }
-    ensures refused { IfErr result (IsRefusal L.eq nat_eq (Contains (B.holding names.old).pairs) (IsFull (B.holding names.old)) (name, fresh)) }
+    ensures has { IfOk result (λ number. (l : L) × Contains (B.holding names.new).pairs (l, number)
+        × (L.eq l name ≡ true)) }
+    ensures put { LacksLeft L.eq (Contains (B.holding names.old).pairs) name →
+        OnOk result (IsWithPut L.eq nat_eq (Contains (B.holding names.old).pairs) (name, fresh)
+        (Contains (B.holding names.new).pairs)) }
+    ensures kept { (p : _) → Contains (B.holding names.old).pairs p →
+        Contains (B.holding names.new).pairs p }
+    ensures refused { IfErr result (IsRefusal L.eq nat_eq (Contains (B.holding names.old).pairs)
+        (IsFull (B.holding names.old)) (name, fresh)) }
     ensures unchanged { OnErr result (B.holding names.new ≡ B.holding names.old) }
 {
     names.get_by_left_or_insert(name, fresh)

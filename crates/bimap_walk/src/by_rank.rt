@@ -59,13 +59,18 @@ pub fn range<
     range: &A,
     meter: &mut M,
 ) -> Iter<'a, L, R>
-    requires keys { (place : ℕ) → K.key_at keys.now place ≡ option_map P.of (pair_at pairs.now place) }
+    requires keys { (place : ℕ) → K.key_at keys.now place
+        ≡ option_map P.of (pair_at pairs.now place) }
     requires ascends { Ascends (K.key_at keys.now) K.order index.now.places }
-    ensures rest { A.has_bounds range.now → result ≡ filter (λ p. range_contains K.order (A.start_bound range.now) (A.end_bound range.now) (P.of p)) (pairs_at pairs.now index.now.places) }
+    ensures rest { A.has_bounds range.now →
+        result ≡ filter (λ p. range_contains K.order (A.start_bound range.now)
+        (A.end_bound range.now) (P.of p)) (pairs_at pairs.now index.now.places) }
     ensures runs { ShowsInOrder (deref_pair {K = L} {X = R}) }
     ensures runs_back { ShowsInReverse (deref_pair {K = L} {X = R}) }
-    ensures comparisons { M.comparisons meter.new ≤ M.comparisons meter.old + 2 * most_height (length index.now.places) }
-    ensures touches { M.touches meter.new ≤ M.touches meter.old + 4 * most_height (length index.now.places) }
+    ensures comparisons { M.comparisons meter.new ≤ M.comparisons meter.old
+        + 2 * most_height (length index.now.places) }
+    ensures touches { M.touches meter.new ≤ M.touches meter.old
+        + 4 * most_height (length index.now.places) }
 {
     let span = Span::of(index, keys, range, meter);
     let window = Window::new(index, span.front, span.back);

@@ -23,7 +23,9 @@ pub trait Course: Drop {
     /// Returns the place of the first pair ahead, which is ahead no more.
     fn first<L, R>(&self, pairs: &Pairs<L, R>, cursor: &mut Self::Cursor) -> Option<usize>
         requires stands { stands (L × R) self.now cursor.old pairs.now }
-        ensures { IsStep (λ p ps. p ∷ ps) (stands (L × R) self.now cursor.new) (ahead (L × R) self.now cursor.new) pairs.now (ahead (L × R) self.now cursor.old pairs.now) result };
+        ensures { IsStep (λ p ps. p ∷ ps) (stands (L × R) self.now cursor.new)
+            (ahead (L × R) self.now cursor.new) pairs.now
+            (ahead (L × R) self.now cursor.old pairs.now) result };
 }
 
 /// A course that also goes from its end.
@@ -31,5 +33,7 @@ pub trait CourseBack: Course {
     /// Returns the place of the last pair ahead, which is ahead no more.
     fn last<L, R>(&self, pairs: &Pairs<L, R>, cursor: &mut Self::Cursor) -> Option<usize>
         requires stands { Self.stands (L × R) self.now cursor.old pairs.now }
-        ensures { IsStep (λ p ps. ps ++ p ∷ []) (Self.stands (L × R) self.now cursor.new) (Self.ahead (L × R) self.now cursor.new) pairs.now (Self.ahead (L × R) self.now cursor.old pairs.now) result };
+        ensures { IsStep (λ p ps. ps ++ p ∷ []) (Self.stands (L × R) self.now cursor.new)
+            (Self.ahead (L × R) self.now cursor.new) pairs.now
+            (Self.ahead (L × R) self.now cursor.old pairs.now) result };
 }

@@ -59,7 +59,8 @@ impl Window {
     pub(crate) fn first(&mut self, index: &Ordered) -> Option<usize>
         requires window { IsWindow index.now.places self.old }
         ensures window { IsWindow index.now.places self.new }
-        ensures takes { TakesFirst (λ place. place) (places_in index.now.places self.old) result (places_in index.now.places self.new) }
+        ensures takes { TakesFirst (λ place. place) (places_in index.now.places self.old) result
+            (places_in index.now.places self.new) }
     {
         if self.front == self.back {
             return None;
@@ -75,7 +76,8 @@ impl Window {
     pub(crate) fn last(&mut self, index: &Ordered) -> Option<usize>
         requires window { IsWindow index.now.places self.old }
         ensures window { IsWindow index.now.places self.new }
-        ensures takes { TakesLast (λ place. place) (places_in index.now.places self.old) result (places_in index.now.places self.new) }
+        ensures takes { TakesLast (λ place. place) (places_in index.now.places self.old) result
+            (places_in index.now.places self.new) }
     {
         if self.front == self.back {
             return None;

@@ -20,8 +20,10 @@ pub fn hash_to_value<
     LS: BuildHasher,
     RS: BuildHasher,
 >(alloc: Global, bimap: &BiHashMap<L, R, LS, RS>) -> Result<Value, NoMemory>
-    ensures object { IfOk result (λ v. IsObjectOf (IsEntryOf L.writes_key R.writes (Contains (holding bimap.now).pairs)) (view v)) }
-    ensures reads_back { OnOk result (EachReadsBack L.writes_key R.writes L.reads_key R.reads L.eq R.eq (holding bimap.now).pairs) }
+    ensures object { IfOk result (λ v. IsObjectOf
+        (IsEntryOf L.writes_key R.writes (Contains (holding bimap.now).pairs)) (view v)) }
+    ensures reads_back { OnOk result (EachReadsBack L.writes_key R.writes L.reads_key R.reads L.eq
+        R.eq (holding bimap.now).pairs) }
 {
     write_walk(alloc, bimap.iter())
 }
@@ -59,7 +61,8 @@ pub fn reread_with_hashers<
     right_builder: NewRS,
     bimap: &BiHashMap<L, R, LS, RS>,
 ) -> Result<BiHashMap<L, R, NewLS, NewRS>, JsonFault>
-    ensures same { IfOk result (λ copy. IsSame L.eq R.eq (holding bimap.now).pairs (holding copy).pairs) }
+    ensures same { IfOk result (λ copy. IsSame L.eq R.eq (holding bimap.now).pairs
+        (holding copy).pairs) }
     ensures only_memory { IfErr result (λ fault. fault ≡ JsonFault.Memory) }
 {
     match hash_to_value(alloc, bimap) {

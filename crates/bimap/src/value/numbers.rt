@@ -23,7 +23,8 @@ pub trait JsonKey: Copy + Eq {
     /// The key text of a number.
     fn to_text(self, alloc: Global) -> Result<String, NoMemory>
         ensures text { IfOk result (λ s. string_bytes s ≡ form.writes_key self) }
-        ensures reads_back { OnOk result (ReadsBack Self.eq (form.reads_key (form.writes_key self)) self) };
+        ensures reads_back { OnOk result (ReadsBack Self.eq
+            (form.reads_key (form.writes_key self)) self) };
 
     /// The number that a key text reads as.
     fn of_text(text: &str) -> Option<Self>

@@ -46,8 +46,10 @@ pub trait JsonObject<L: JsonKey + Drop, R: JsonValue + Drop>: Bijection<L, R> + 
     ///     let value = seats.to_value(alloc)?;
     ///     // {"a":3,"b":1,"c":2}
     fn to_value(&self, alloc: Global) -> Result<Value, NoMemory>
-        ensures object { IfOk result (λ v. IsObjectOf (IsEntryOf L.writes_key R.writes (Contains (Self.holding self.now).pairs)) (view v)) }
-        ensures reads_back { OnOk result (EachReadsBack L.writes_key R.writes L.reads_key R.reads L.eq R.eq (Self.holding self.now).pairs) };
+        ensures object { IfOk result (λ v. IsObjectOf
+            (IsEntryOf L.writes_key R.writes (Contains (Self.holding self.now).pairs)) (view v)) }
+        ensures reads_back { OnOk result (EachReadsBack L.writes_key R.writes L.reads_key R.reads
+            L.eq R.eq (Self.holding self.now).pairs) };
 
     /// Creates the bimap of an object's entries, inserted in ascending byte order of their keys. A later one overwrites
     /// those that it shares a value with.
@@ -56,7 +58,8 @@ pub trait JsonObject<L: JsonKey + Drop, R: JsonValue + Drop>: Bijection<L, R> + 
     ///     let seats: BiBTreeMap<char, u32> = BiBTreeMap::from_value(alloc, &value)?;
     ///     // ('B', 2) and ('C', 1)
     fn from_value(alloc: Global, value: &Value) -> Result<Self, JsonFault>
-        ensures { ReadsObject L.reads_key R.reads L.eq R.eq Self.holding 0 (view value.now) result };
+        ensures { ReadsObject L.reads_key R.reads L.eq R.eq Self.holding 0
+            (view value.now) result };
 }
 
 /// Returns the object of the pairs that an iterator gives. Of pairs with one key text it has the last.
@@ -64,8 +67,10 @@ pub fn write_walk<'a, L: JsonKey + 'a, R: JsonValue + 'a, I: IntoIterator<Item =
     alloc: Global,
     walk: I,
 ) -> Result<Value, NoMemory>
-    requires ends { IsFiniteIterable I.into_iter_gives I.IntoIter.can_next I.IntoIter.remaining walk }
-    ensures { IfOk result (λ v. (it : I.IntoIter) × (items : List (Bor L × Bor R)) × I.into_iter_gives walk it × Drains I.IntoIter.next_gives it items
+    requires ends { IsFiniteIterable I.into_iter_gives I.IntoIter.can_next
+        I.IntoIter.remaining walk }
+    ensures { IfOk result (λ v. (it : I.IntoIter) × (items : List (Bor L × Bor R))
+        × I.into_iter_gives walk it × Drains I.IntoIter.next_gives it items
         × IsObjectOf (IsLastEntryOf L.writes_key R.writes (shown_pairs items)) (view v)
         × EachReadsBack L.writes_key R.writes L.reads_key R.reads L.eq R.eq (shown_pairs items)) }
 {
@@ -89,7 +94,8 @@ pub fn read_into<L: JsonKey + Drop, R: JsonValue + Drop, B: Bijection<L, R> + Dr
     value: &Value,
 ) -> Result<B, JsonFault>
     requires empty { (B.holding empty).pairs ≡ [] }
-    ensures { ReadsObject L.reads_key R.reads L.eq R.eq B.holding (B.holding empty).room (view value.now) result }
+    ensures { ReadsObject L.reads_key R.reads L.eq R.eq B.holding (B.holding empty).room
+        (view value.now) result }
 {
     let policy = Policy {
         left: OnHeld::Overwrite,
@@ -112,7 +118,8 @@ pub fn read_into_with<L: JsonKey + Drop, R: JsonValue + Drop, B: Bijection<L, R>
     policy: Policy,
 ) -> Result<B, JsonFault>
     requires empty { (B.holding empty).pairs ≡ [] }
-    ensures { ReadsObjectUnder L.reads_key R.reads L.eq R.eq B.holding (B.holding empty).room (view value.now) policy result }
+    ensures { ReadsObjectUnder L.reads_key R.reads L.eq R.eq B.holding (B.holding empty).room
+        (view value.now) policy result }
 {
     let Some(map) = value.as_object() else {
         return Err(JsonFault::NotAnObject);
@@ -150,7 +157,8 @@ pub fn reread<L: JsonKey + Drop, R: JsonValue + Drop, B: JsonObject<L, R> + Drop
     alloc: Global,
     bimap: &B,
 ) -> Result<B, JsonFault>
-    ensures same { IfOk result (λ copy. IsSame L.eq R.eq (B.holding bimap.now).pairs (B.holding copy).pairs) }
+    ensures same { IfOk result (λ copy. IsSame L.eq R.eq (B.holding bimap.now).pairs
+        (B.holding copy).pairs) }
     ensures only_memory { IfErr result (λ fault. fault ≡ JsonFault.Memory) }
 {
     match bimap.to_value(alloc) {

@@ -65,7 +65,8 @@ pub trait JsonKey: Eq + Sized {
     /// Returns the key text of a value.
     fn to_key(&self, alloc: Global) -> Result<String, NoMemory>
         ensures text { IfOk result (λ s. string_bytes s ≡ writes_key self.now) }
-        ensures reads_back { OnOk result (ReadsBack Self.eq (reads_key (writes_key self.now)) self.now) };
+        ensures reads_back { OnOk result (ReadsBack Self.eq
+            (reads_key (writes_key self.now)) self.now) };
 
     /// Returns the value that a key text reads as, or `Bad` exactly where it reads as none.
     fn from_key(alloc: Global, text: &str) -> Result<Self, ReadFault>

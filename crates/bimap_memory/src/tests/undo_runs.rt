@@ -42,7 +42,8 @@ fn refusals<L: Copy + Eq + Drop, R: Copy + Eq + Drop, B: Bijection<L, R> + Drop>
     pairs: &[(L, R)],
     row: &Row<'_, L, R>,
 ) -> Result<Option<u64>, Fail>
-    requires leads { (first : List (L × R)) × Leads L.eq R.eq first entries.items (B.holding bimap.old).pairs }
+    requires leads { (first : List (L × R)) × Leads L.eq R.eq first entries.items
+        (B.holding bimap.old).pairs }
 {
     let mut entries = entries;
     let mut famine = Famine::begin(alloc, 60)?;

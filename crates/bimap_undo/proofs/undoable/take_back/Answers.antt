@@ -1,7 +1,6 @@
 use Rattle.std.proofs.Common.{inl, inr, arith, Contains}
 use Rattle.bimap.proofs.Undoing.{inserting_undoable, inserting_shorter, undone_same}
 use Rattle.bimap.proofs.Removals.{removing_shorter, put_again}
-use Rattle.bimap_undo.proofs.Paths.{both_or_not}
 use Rattle.bimap_undo.proofs.Replacing.{left_close, right_close, has_new, replaced_back, found_there}
 use Rattle.bimap.proofs.Trails.{both_or_not}
 use Rattle.bimap_undo.proofs.undoable.take_back.Goals as goal
