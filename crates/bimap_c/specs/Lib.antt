@@ -1,0 +1,4 @@
+pub mod Calls
+pub mod Slots
+pub mod Tables
+pub mod U64U64

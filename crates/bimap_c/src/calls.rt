@@ -1,0 +1,74 @@
+//! The bodies of the calls that are the same for all types of sides, over any bimap.
+ghost use Rattle.std.specs.Prelude.{◌≡◌, length, if◌then◌else◌, IfSome, IfNone};
+ghost use Rattle.bimap_c.specs.Calls.{Reserves, Clears, AreFlags, on_held};
+
+use crate::status::{DONE, NO_MEMORY, NOT_FOUND};
+use bimap::{Bijection, OnHeld, Policy};
+
+pub(crate) fn len<L: Eq + Drop, R: Eq + Drop, B: Bijection<L, R>>(map: &B, len: &mut usize) -> u32
+    ensures { (result ≡ 0) × (len.new ≡ length (B.holding map.now).pairs) }
+{
+    *len = map.len();
+    DONE
+}
+
+pub(crate) fn capacity<L: Eq + Drop, R: Eq + Drop, B: Bijection<L, R>>(
+    map: &B,
+    capacity: &mut usize,
+) -> u32
+    ensures { (result ≡ 0) × (capacity.new ≡ (B.holding map.now).room) }
+{
+    *capacity = map.capacity();
+    DONE
+}
+
+pub(crate) fn reserve<L: Eq + Drop, R: Eq + Drop, B: Bijection<L, R>>(
+    map: &mut B,
+    more: usize,
+) -> u32
+    ensures { Reserves (B.holding map.old) more result (B.holding map.new) }
+{
+    match map.reserve(more) {
+        Ok(()) => DONE,
+        Err(_) => NO_MEMORY,
+    }
+}
+
+pub(crate) fn clear<L: Eq + Drop, R: Eq + Drop, B: Bijection<L, R>>(map: &mut B) -> u32
+    ensures { Clears (B.holding map.old) result (B.holding map.new) }
+{
+    map.clear();
+    DONE
+}
+
+/// Returns the status of whether a value is contained.
+pub(crate) fn found(contained: bool) -> u32
+    ensures { result ≡ (if contained then 0 else 5) }
+{
+    if contained { DONE } else { NOT_FOUND }
+}
+
+/// Returns the policy of two flags, or `None` if one is above 1.
+pub(crate) fn policy(left_refuses: u8, right_refuses: u8) -> Option<Policy>
+    ensures some { IfSome result (λ policy. AreFlags left_refuses right_refuses
+        × (policy.left ≡ on_held left_refuses) × (policy.right ≡ on_held right_refuses)) }
+    ensures none { IfNone result (AreFlags left_refuses right_refuses → ⊥) }
+{
+    if left_refuses > 1 || right_refuses > 1 {
+        return None;
+    }
+    Some(Policy {
+        left: on_held(left_refuses),
+        right: on_held(right_refuses),
+    })
+}
+
+fn on_held(flag: u8) -> OnHeld
+    ensures { result ≡ on_held flag }
+{
+    if flag == 0 {
+        OnHeld::Overwrite
+    } else {
+        OnHeld::Refuse
+    }
+}

@@ -1,0 +1,242 @@
+//! The hashed bimap of two numbers for C.
+ghost use Rattle.std.specs.Prelude.{◌≡◌, [], length, nat_eq, Contains};
+ghost use Rattle.bimap.specs.Sets.{HasLeft, HasRight};
+ghost use Rattle.bimap_c.specs.Calls.{IsWritten, Reads, Changes, Makes, Frees, Tests, Reserves, Clears};
+ghost use Rattle.bimap_c.specs.Tables.{hash_u64_u64};
+ghost use Rattle.bimap_c.specs.U64U64.{GetsByLeft, GetsByRight, Inserts, InsertsNew, InsertsFlagged, InsertsMany, RemovesByLeft, RemovesByRight};
+
+use crate::calls;
+use crate::handle::Handle;
+use crate::status::NO_TABLE;
+use crate::table::Table;
+use crate::u64_u64::{self, Overwritten, Pair};
+use bimap::BiHashMap;
+use std::alloc::Global;
+
+/// Makes an empty table of no places, in constant time, behind a handle that has none. 1: no memory; 2: the handle has
+/// a table.
+#[unsafe(no_mangle)]
+pub extern "C" fn jetukoma_hash_u64_u64_new_unchecked(alloc: Global, handle: &mut Handle) -> u32
+    ensures { Makes hash_u64_u64 handle.old.slot.value result handle.new.slot.value
+        (λ held. (held.pairs ≡ []) × (held.room ≡ 0)) }
+{
+    handle.make(alloc, Table::HashU64U64(BiHashMap::new(alloc)))
+}
+
+/// Frees the table, in time in proportion to its places; the handle has none then. 2: it has none.
+#[unsafe(no_mangle)]
+pub extern "C" fn jetukoma_hash_u64_u64_free_unchecked(alloc: Global, handle: &mut Handle) -> u32
+    ensures { Frees handle.old.slot.value result handle.new.slot.value }
+{
+    handle.free(alloc)
+}
+
+/// Writes the number of pairs, in constant time.
+#[unsafe(no_mangle)]
+pub extern "C" fn jetukoma_hash_u64_u64_len_unchecked(
+    alloc: Global,
+    handle: &mut Handle,
+    len: &mut usize,
+) -> u32
+    ensures answer { Reads hash_u64_u64 handle.old.slot.value result
+        (λ held. (result ≡ 0) × (len.new ≡ length held.pairs)) }
+    ensures unchanged { handle.new.slot.value ≡ handle.old.slot.value }
+    ensures out { IsWritten result len.old len.new }
+{
+    on_table!(handle, alloc, HashU64U64, map => calls::len(map, len))
+}
+
+/// Writes the number of places for pairs, in constant time.
+#[unsafe(no_mangle)]
+pub extern "C" fn jetukoma_hash_u64_u64_capacity_unchecked(
+    alloc: Global,
+    handle: &mut Handle,
+    capacity: &mut usize,
+) -> u32
+    ensures answer { Reads hash_u64_u64 handle.old.slot.value result
+        (λ held. (result ≡ 0) × (capacity.new ≡ held.room)) }
+    ensures unchanged { handle.new.slot.value ≡ handle.old.slot.value }
+    ensures out { IsWritten result capacity.old capacity.new }
+{
+    on_table!(handle, alloc, HashU64U64, map => calls::capacity(map, capacity))
+}
+
+/// Makes places for the pairs and `more` pairs, exactly, unless they are there. No call but this and an insertion asks
+/// for memory, and none of the next `more` insertions does. 1: no memory.
+#[unsafe(no_mangle)]
+pub extern "C" fn jetukoma_hash_u64_u64_reserve_unchecked(
+    alloc: Global,
+    handle: &mut Handle,
+    more: usize,
+) -> u32
+    ensures { Changes hash_u64_u64 handle.old.slot.value result handle.new.slot.value
+        (λ old new. Reserves old more result new) }
+{
+    on_table!(handle, alloc, HashU64U64, map => calls::reserve(map, more))
+}
+
+/// Inserts a pair, and writes the pairs that it overwrote. Of memory it asks where it overwrites none and no place is
+/// free. 1: no memory.
+#[unsafe(no_mangle)]
+pub extern "C" fn jetukoma_hash_u64_u64_insert_unchecked(
+    alloc: Global,
+    handle: &mut Handle,
+    left: u64,
+    right: u64,
+    overwritten: &mut Overwritten,
+) -> u32
+    ensures change { Changes hash_u64_u64 handle.old.slot.value result handle.new.slot.value
+        (λ old new. Inserts old result new (left, right) overwritten.new) }
+    ensures out { IsWritten result overwritten.old overwritten.new }
+{
+    on_table!(handle, alloc, HashU64U64, map => u64_u64::insert(map, left, right, overwritten))
+}
+
+/// Inserts a pair if neither value is contained. 1: no memory; 3: a value is contained.
+#[unsafe(no_mangle)]
+pub extern "C" fn jetukoma_hash_u64_u64_insert_no_overwrite_unchecked(
+    alloc: Global,
+    handle: &mut Handle,
+    left: u64,
+    right: u64,
+) -> u32
+    ensures { Changes hash_u64_u64 handle.old.slot.value result handle.new.slot.value
+        (λ old new. InsertsNew old result new (left, right)) }
+{
+    on_table!(handle, alloc, HashU64U64, map => u64_u64::insert_no_overwrite(map, left, right))
+}
+
+/// Inserts a pair, and writes the pairs that it overwrote. A flag of 1 refuses where the value of its side is
+/// contained, and one of 0 overwrites. 1: no memory; 3: a value is contained that its flag keeps, or a flag is above 1.
+#[unsafe(no_mangle)]
+pub extern "C" fn jetukoma_hash_u64_u64_insert_with_unchecked(
+    alloc: Global,
+    handle: &mut Handle,
+    left: u64,
+    right: u64,
+    left_refuses: u8,
+    right_refuses: u8,
+    overwritten: &mut Overwritten,
+) -> u32
+    ensures change { Changes hash_u64_u64 handle.old.slot.value result handle.new.slot.value
+        (λ old new. InsertsFlagged old result new (left, right) left_refuses right_refuses
+        overwritten.new) }
+    ensures out { IsWritten result overwritten.old overwritten.new }
+{
+    on_table!(handle, alloc, HashU64U64, map => u64_u64::insert_with(map, left, right, left_refuses, right_refuses, overwritten))
+}
+
+/// Inserts pairs in order, each as `insert` does, and writes how many were inserted. 1: no memory for the next one;
+/// those before it stay, and `taken` is written too.
+#[unsafe(no_mangle)]
+pub extern "C" fn jetukoma_hash_u64_u64_insert_many_unchecked(
+    alloc: Global,
+    handle: &mut Handle,
+    pairs: &[Pair],
+    taken: &mut usize,
+) -> u32
+    ensures change { Changes hash_u64_u64 handle.old.slot.value result handle.new.slot.value
+        (λ old new. InsertsMany old result new pairs.now taken.new) }
+    ensures out { result ≡ 2 → taken.new ≡ taken.old }
+{
+    on_table!(handle, alloc, HashU64U64, map => u64_u64::insert_many(map, pairs, taken))
+}
+
+/// Writes the right of a left, found by a search. 5: the left is not contained.
+#[unsafe(no_mangle)]
+pub extern "C" fn jetukoma_hash_u64_u64_get_by_left_unchecked(
+    alloc: Global,
+    handle: &mut Handle,
+    left: u64,
+    right: &mut u64,
+) -> u32
+    ensures answer { Reads hash_u64_u64 handle.old.slot.value result
+        (λ held. GetsByLeft held result left right.new) }
+    ensures unchanged { handle.new.slot.value ≡ handle.old.slot.value }
+    ensures out { IsWritten result right.old right.new }
+{
+    on_table!(handle, alloc, HashU64U64, map => u64_u64::get_by_left(map, left, right))
+}
+
+/// Writes the left of a right, found by a search. 5: the right is not contained.
+#[unsafe(no_mangle)]
+pub extern "C" fn jetukoma_hash_u64_u64_get_by_right_unchecked(
+    alloc: Global,
+    handle: &mut Handle,
+    right: u64,
+    left: &mut u64,
+) -> u32
+    ensures answer { Reads hash_u64_u64 handle.old.slot.value result
+        (λ held. GetsByRight held result right left.new) }
+    ensures unchanged { handle.new.slot.value ≡ handle.old.slot.value }
+    ensures out { IsWritten result left.old left.new }
+{
+    on_table!(handle, alloc, HashU64U64, map => u64_u64::get_by_right(map, right, left))
+}
+
+/// Returns 0 if the left is contained, and 5 if not.
+#[unsafe(no_mangle)]
+pub extern "C" fn jetukoma_hash_u64_u64_contains_left_unchecked(
+    alloc: Global,
+    handle: &mut Handle,
+    left: u64,
+) -> u32
+    ensures answer { Reads hash_u64_u64 handle.old.slot.value result
+        (λ held. Tests (HasLeft nat_eq (Contains held.pairs) left) result) }
+    ensures unchanged { handle.new.slot.value ≡ handle.old.slot.value }
+{
+    on_table!(handle, alloc, HashU64U64, map => calls::found(map.contains_left(&left)))
+}
+
+/// Returns 0 if the right is contained, and 5 if not.
+#[unsafe(no_mangle)]
+pub extern "C" fn jetukoma_hash_u64_u64_contains_right_unchecked(
+    alloc: Global,
+    handle: &mut Handle,
+    right: u64,
+) -> u32
+    ensures answer { Reads hash_u64_u64 handle.old.slot.value result
+        (λ held. Tests (HasRight nat_eq (Contains held.pairs) right) result) }
+    ensures unchanged { handle.new.slot.value ≡ handle.old.slot.value }
+{
+    on_table!(handle, alloc, HashU64U64, map => calls::found(map.contains_right(&right)))
+}
+
+/// Removes the pair of a left, and writes it. 5: the left is not contained.
+#[unsafe(no_mangle)]
+pub extern "C" fn jetukoma_hash_u64_u64_remove_by_left_unchecked(
+    alloc: Global,
+    handle: &mut Handle,
+    left: u64,
+    pair: &mut Pair,
+) -> u32
+    ensures change { Changes hash_u64_u64 handle.old.slot.value result handle.new.slot.value
+        (λ old new. RemovesByLeft old result new left pair.new) }
+    ensures out { IsWritten result pair.old pair.new }
+{
+    on_table!(handle, alloc, HashU64U64, map => u64_u64::remove_by_left(map, left, pair))
+}
+
+/// Removes the pair of a right, and writes it. 5: the right is not contained.
+#[unsafe(no_mangle)]
+pub extern "C" fn jetukoma_hash_u64_u64_remove_by_right_unchecked(
+    alloc: Global,
+    handle: &mut Handle,
+    right: u64,
+    pair: &mut Pair,
+) -> u32
+    ensures change { Changes hash_u64_u64 handle.old.slot.value result handle.new.slot.value
+        (λ old new. RemovesByRight old result new right pair.new) }
+    ensures out { IsWritten result pair.old pair.new }
+{
+    on_table!(handle, alloc, HashU64U64, map => u64_u64::remove_by_right(map, right, pair))
+}
+
+/// Removes all pairs, in time in proportion to the places, which stay.
+#[unsafe(no_mangle)]
+pub extern "C" fn jetukoma_hash_u64_u64_clear_unchecked(alloc: Global, handle: &mut Handle) -> u32
+    ensures { Changes hash_u64_u64 handle.old.slot.value result handle.new.slot.value
+        (λ old new. Clears old result new) }
+{
+    on_table!(handle, alloc, HashU64U64, map => calls::clear(map))
+}

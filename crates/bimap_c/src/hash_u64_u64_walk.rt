@@ -1,0 +1,75 @@
+//! The walk of the hashed bimap of two numbers for C.
+ghost use Rattle.std.specs.Prelude.{◌≡◌, drop};
+ghost use Rattle.bimap.specs.Hash.{holding};
+ghost use Rattle.bimap_c.specs.Calls.{IsWritten, Reads};
+ghost use Rattle.bimap_c.specs.Tables.{hash_u64_u64};
+ghost use Rattle.bimap_c.specs.U64U64.{IsFilled, Fills};
+
+use crate::handle::Handle;
+use crate::status::{DONE, NO_TABLE};
+use crate::table::Table;
+use crate::u64_u64::Pair;
+use bimap::BiHashMap;
+use bimap::hash::Iter;
+use std::alloc::Global;
+
+/// Writes pairs in the order of their places, after the first `start`, to the front of a row, as many as there are and
+/// it has room for, and how many they are. Each call passes over all places before: a whole walk wants one row, or few.
+#[unsafe(no_mangle)]
+pub extern "C" fn jetukoma_hash_u64_u64_fill_unchecked(
+    alloc: Global,
+    handle: &mut Handle,
+    start: usize,
+    row: &mut [Pair],
+    filled: &mut usize,
+) -> u32
+    ensures answer { Reads hash_u64_u64 handle.old.slot.value result
+        (λ held. Fills (drop start held.pairs) result row.old filled.new row.new) }
+    ensures unchanged { handle.new.slot.value ≡ handle.old.slot.value }
+    ensures out { IsWritten result filled.old filled.new }
+    ensures row { IsWritten result row.old row.new }
+{
+    on_table!(handle, alloc, HashU64U64, map => fill(map, start, row, filled))
+}
+
+// Passes over so many pairs of a walk.
+fn pass(walk: &mut Iter<'_, u64, u64>, count: usize)
+    ensures { walk.new ≡ drop count walk.old }
+{
+    let mut left = count;
+    'pairs: while left > 0 {
+        match walk.next() {
+            Some(_) => left -= 1,
+            None => return,
+        }
+    }
+}
+
+// Writes the pairs of a walk to the front of a row, as many as there are and it has room for, and returns how many.
+fn write_row(mut walk: Iter<'_, u64, u64>, row: &mut [Pair]) -> usize
+    ensures { IsFilled walk.entry row.old result row.new }
+{
+    let mut filled = 0;
+    'row: while filled < row.len() {
+        match walk.next() {
+            Some((left, right)) => {
+                row[filled] = Pair {
+                    left: *left,
+                    right: *right,
+                };
+                filled += 1;
+            }
+            None => return filled,
+        }
+    }
+    filled
+}
+
+fn fill(map: &BiHashMap<u64, u64>, start: usize, row: &mut [Pair], filled: &mut usize) -> u32
+    ensures { Fills (drop start (holding map.now).pairs) result row.old filled.new row.new }
+{
+    let mut walk = map.iter();
+    pass(&mut walk, start);
+    *filled = write_row(walk, row);
+    DONE
+}

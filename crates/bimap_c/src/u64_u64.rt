@@ -1,0 +1,182 @@
+//! What C hands over and is handed where both sides are numbers, and the bodies of the calls, over any bimap of them.
+ghost use Rattle.std.specs.Prelude.{◌≡◌};
+ghost use Rattle.std.specs.Map.Iter.{deref};
+ghost use Rattle.bimap_c.specs.Calls.{IsWritten, Tells};
+ghost use Rattle.bimap_c.specs.U64U64.{row, shown, GetsByLeft, GetsByRight, Inserts, InsertsNew, InsertsFlagged, InsertsMany, RemovesByLeft, RemovesByRight};
+
+use crate::calls::policy;
+use crate::status::{DONE, NO_MEMORY, NOT_FOUND, REFUSED};
+use bimap::{Bijection, NotInserted, NotInsertedWith};
+
+/// A left and its right.
+#[repr(C)]
+#[derive(Clone, Copy, Drop)]
+pub struct Pair {
+    pub left: u64,
+    pub right: u64,
+}
+
+/// The pairs that an insertion overwrote. `kind` is 0 for none, 1 for the pair of the left alone, 2 for that of the
+/// right alone, 3 for the one pair of both, all as `first`, and 4 for that of the left, `first`, and that of the right,
+/// `second`. A pair that there is not is two zeros.
+#[repr(C)]
+#[derive(Clone, Copy, Drop)]
+pub struct Overwritten {
+    pub kind: u32,
+    pub first: Pair,
+    pub second: Pair,
+}
+
+const NO_PAIR: Pair = Pair { left: 0, right: 0 };
+
+// What was overwritten, for C.
+fn show(answer: bimap::Overwritten<u64, u64>) -> Overwritten
+    ensures { result ≡ shown answer }
+{
+    let (kind, (left, right), second) = match answer {
+        bimap::Overwritten::Neither => (0, (0, 0), (0, 0)),
+        bimap::Overwritten::Left(left, right) => (1, (left, right), (0, 0)),
+        bimap::Overwritten::Right(left, right) => (2, (left, right), (0, 0)),
+        bimap::Overwritten::Pair(left, right) => (3, (left, right), (0, 0)),
+        bimap::Overwritten::Both(first, second) => (4, first, second),
+    };
+    Overwritten {
+        kind,
+        first: Pair { left, right },
+        second: Pair {
+            left: second.0,
+            right: second.1,
+        },
+    }
+}
+
+/// Writes what was found, if it was, and returns the status.
+fn tell_value(found: Option<&u64>, out: &mut u64) -> u32
+    ensures told { Tells deref found.entry result out.new }
+    ensures out { IsWritten result out.old out.new }
+{
+    let Some(value) = found else {
+        return NOT_FOUND;
+    };
+    *out = *value;
+    DONE
+}
+
+/// Writes the pair that was taken out, if one was, and returns the status.
+pub(crate) fn tell_pair(taken: Option<(u64, u64)>, out: &mut Pair) -> u32
+    ensures told { Tells row taken result out.new }
+    ensures out { IsWritten result out.old out.new }
+{
+    let Some((left, right)) = taken else {
+        return NOT_FOUND;
+    };
+    *out = Pair { left, right };
+    DONE
+}
+
+pub(crate) fn insert<B: Bijection<u64, u64>>(
+    map: &mut B,
+    left: u64,
+    right: u64,
+    overwritten: &mut Overwritten,
+) -> u32
+    ensures inserted { Inserts (B.holding map.old) result (B.holding map.new) (left, right)
+        overwritten.new }
+    ensures out { IsWritten result overwritten.old overwritten.new }
+{
+    match map.insert(left, right) {
+        Ok(answer) => {
+            *overwritten = show(answer);
+            DONE
+        }
+        Err(_) => NO_MEMORY,
+    }
+}
+
+pub(crate) fn insert_no_overwrite<B: Bijection<u64, u64>>(map: &mut B, left: u64, right: u64) -> u32
+    ensures { InsertsNew (B.holding map.old) result (B.holding map.new) (left, right) }
+{
+    match map.insert_no_overwrite(left, right) {
+        Ok(()) => DONE,
+        Err(NotInserted::Occupied(_, _)) => REFUSED,
+        Err(NotInserted::Memory(_, _)) => NO_MEMORY,
+    }
+}
+
+pub(crate) fn insert_with<B: Bijection<u64, u64>>(
+    map: &mut B,
+    left: u64,
+    right: u64,
+    left_refuses: u8,
+    right_refuses: u8,
+    overwritten: &mut Overwritten,
+) -> u32
+    ensures inserted { InsertsFlagged (B.holding map.old) result (B.holding map.new) (left, right)
+        left_refuses right_refuses overwritten.new }
+    ensures out { IsWritten result overwritten.old overwritten.new }
+{
+    let Some(policy) = policy(left_refuses, right_refuses) else {
+        return REFUSED;
+    };
+    match map.insert_with(left, right, policy) {
+        Ok(answer) => {
+            *overwritten = show(answer);
+            DONE
+        }
+        Err(NotInsertedWith::Memory(_, _)) => NO_MEMORY,
+        Err(_) => REFUSED,
+    }
+}
+
+pub(crate) fn insert_many<B: Bijection<u64, u64>>(
+    map: &mut B,
+    pairs: &[Pair],
+    taken: &mut usize,
+) -> u32
+    ensures { InsertsMany (B.holding map.old) result (B.holding map.new) pairs.now taken.new }
+{
+    let mut inserted = 0;
+    for pair in pairs {
+        match map.insert(pair.left, pair.right) {
+            Ok(_) => inserted += 1,
+            Err(_) => {
+                *taken = inserted;
+                return NO_MEMORY;
+            }
+        }
+    }
+    *taken = inserted;
+    DONE
+}
+
+pub(crate) fn get_by_left<B: Bijection<u64, u64>>(map: &B, left: u64, right: &mut u64) -> u32
+    ensures got { GetsByLeft (B.holding map.now) result left right.new }
+    ensures out { IsWritten result right.old right.new }
+{
+    tell_value(map.get_by_left(&left), right)
+}
+
+pub(crate) fn get_by_right<B: Bijection<u64, u64>>(map: &B, right: u64, left: &mut u64) -> u32
+    ensures got { GetsByRight (B.holding map.now) result right left.new }
+    ensures out { IsWritten result left.old left.new }
+{
+    tell_value(map.get_by_right(&right), left)
+}
+
+pub(crate) fn remove_by_left<B: Bijection<u64, u64>>(map: &mut B, left: u64, pair: &mut Pair) -> u32
+    ensures removed { RemovesByLeft (B.holding map.old) result (B.holding map.new) left pair.new }
+    ensures out { IsWritten result pair.old pair.new }
+{
+    tell_pair(map.remove_by_left(&left), pair)
+}
+
+pub(crate) fn remove_by_right<B: Bijection<u64, u64>>(
+    map: &mut B,
+    right: u64,
+    pair: &mut Pair,
+) -> u32
+    ensures removed { RemovesByRight (B.holding map.old) result (B.holding map.new) right pair.new }
+    ensures out { IsWritten result pair.old pair.new }
+{
+    tell_pair(map.remove_by_right(&right), pair)
+}
