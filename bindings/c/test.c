@@ -1,0 +1,128 @@
+/* Tries each call of jetukoma.h, on each type: every status, null pointers, lengths of 0 and beyond memory, flags that are
+ * none, a table freed twice and used after it; calls by chance beside a model; and each request for memory refused in turn.
+ *
+ *     cc -std=c11 -Wl,--wrap=malloc,--wrap=realloc,--wrap=free test.c libjetukoma.a -o test
+ */
+#include "jetukoma.h"
+#include <stdio.h>
+#include <stdlib.h>
+#include <string.h>
+
+static int failed, tests_passed, tests_failed;
+#define CHECK(it) ((it) ? 0 : (failed++, printf("%s:%d: %s\n", __FILE__, __LINE__, #it)))
+
+static void test(const char *type, const char *name, void (*run)(void)) {
+    failed = 0;
+    run();
+    if (failed) tests_failed++, printf("%s: %s failed\n", type, name);
+    else tests_passed++;
+}
+
+/* The program's memory, of which so many requests are granted, and how many blocks are out. */
+static size_t granted = SIZE_MAX, blocks;
+void *__real_malloc(size_t);
+void *__real_realloc(void *, size_t);
+void __real_free(void *);
+void *__wrap_malloc(size_t bytes) {
+    void *it = granted && granted-- ? __real_malloc(bytes) : NULL;
+    return blocks += it != NULL, it;
+}
+void *__wrap_realloc(void *old, size_t bytes) {
+    void *it = granted && granted-- ? __real_realloc(old, bytes) : NULL;
+    return blocks += it && !old, it;
+}
+void __wrap_free(void *it) { blocks -= it != NULL, __real_free(it); }
+
+/* Values are numbered from 0 to MANY - 1. As u64 they are scattered, as bytes number n has n bytes, so that 0 has none. */
+enum { MANY = 40, NONE = -1, STRANGE = -2 };
+static uint64_t number(int value) { return value * UINT64_C(0x9E3779B97F4A7C15); }
+static int of_number(uint64_t it) {
+    for (int value = 0; value < MANY; value++) if (number(value) == it) return value;
+    return STRANGE;
+}
+static const uint8_t *bytes(int value) {
+    static uint8_t all[MANY][MANY];
+    for (int at = 0; at < value; at++) all[value][at] = (uint8_t)(value * 5 * (at % 3));
+    return all[value];
+}
+static int of_bytes(const uint8_t *it, size_t len) { return len < MANY && !memcmp(it, bytes((int)len), len) ? (int)len : STRANGE; }
+static int below_bytes(int a, int b) {
+    int order = memcmp(bytes(a), bytes(b), a < b ? a : b);
+    return order ? order < 0 : a < b;
+}
+
+/* The model, what an insertion tells, and what the last call that changed something did. */
+struct pair { int left, right; };
+struct told { uint32_t kind; struct pair first, second; };
+static const struct pair no_pair = {NONE, NONE};
+static int right_of[MANY], left_of[MANY], held;
+static struct told last;
+
+static void empty_model(void) {
+    for (int it = 0; it < MANY; it++) right_of[it] = left_of[it] = NONE;
+    held = 0, last = (struct told){0, no_pair, no_pair};
+}
+static struct pair model_remove(int left) {
+    struct pair it = {left, left == NONE ? NONE : right_of[left]};
+    if (it.right == NONE) return no_pair;
+    right_of[left] = left_of[it.right] = NONE;
+    held--, last = (struct told){0, it, no_pair};
+    return it;
+}
+static uint32_t model_insert(int left, int right, int left_refuses, int right_refuses, struct told *told) {
+    int has_left = right_of[left] != NONE, has_right = left_of[right] != NONE;
+    if ((left_refuses && has_left) || (right_refuses && has_right)) return JETUKOMA_REFUSED;
+    told->kind = has_left && has_right ? (right_of[left] == right ? 3 : 4) : has_left ? 1 : has_right ? 2 : 0;
+    told->first = model_remove(has_left ? left : left_of[right]);
+    told->second = model_remove(left_of[right]);
+    right_of[left] = right, left_of[right] = left, held++, last = *told;
+    return JETUKOMA_DONE;
+}
+static int same_pair(struct pair a, struct pair b) { return a.left == b.left && a.right == b.right; }
+static int same_told(struct told a, struct told b) {
+    return a.kind == b.kind && same_pair(a.first, b.first) && same_pair(a.second, b.second);
+}
+static int chance(int below) {
+    static uint64_t state = 1;
+    state = state * UINT64_C(6364136223846793005) + UINT64_C(1442695040888963407);
+    return (int)((state >> 33) % (uint64_t)below);
+}
+
+#define PASTE(kind, sides, call) jetukoma_##kind##_##sides##_##call
+#define NAME(kind, sides, call) PASTE(kind, sides, call)
+#define PASTE_TYPE(kind, sides) jetukoma_##kind##_##sides
+#define TYPE(kind, sides) PASTE_TYPE(kind, sides)
+#define PASTE_OURS(kind, sides, name) kind##_##sides##_##name
+#define JOIN(kind, sides, name) PASTE_OURS(kind, sides, name)
+#define TEXT_OF(it) #it
+#define TEXT(it) TEXT_OF(it)
+
+#define KIND btree
+#define ORDERED 1
+#include "test_numbers.h"
+#define RIGHT_IS_BYTES 0
+#include "test_bytes.h"
+#define RIGHT_IS_BYTES 1
+#include "test_bytes.h"
+#undef KIND
+#undef ORDERED
+#define KIND hash
+#define ORDERED 0
+#include "test_numbers.h"
+#define RIGHT_IS_BYTES 0
+#include "test_bytes.h"
+#define RIGHT_IS_BYTES 1
+#include "test_bytes.h"
+#undef KIND
+#undef ORDERED
+
+int main(void) {
+    btree_u64_u64_tests();
+    btree_bytes_u64_tests();
+    btree_bytes_bytes_tests();
+    hash_u64_u64_tests();
+    hash_bytes_u64_tests();
+    hash_bytes_bytes_tests();
+    printf("%d passed, %d failed\n", tests_passed, tests_failed);
+    return tests_failed != 0;
+}

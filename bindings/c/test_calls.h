@@ -1,0 +1,160 @@
+/* The tests of one type, over its calls by the numbers of values. */
+static void OUR(statuses)(void) {
+    OUR(table) t = {0};
+    size_t n = 99;
+    struct told told;
+    struct pair pair;
+    int it;
+    OUR(own)(NULL, JETUKOMA_NO_TABLE);
+    OUR(nulls)(NULL, JETUKOMA_NO_TABLE, JETUKOMA_NO_TABLE);
+    CHECK(CALL(new)(NULL) == JETUKOMA_NO_TABLE && CALL(free)(NULL) == JETUKOMA_NO_TABLE && CALL(clear)(NULL) == JETUKOMA_NO_TABLE);
+    CHECK(CALL(len)(NULL, &n) == JETUKOMA_NO_TABLE && CALL(capacity)(NULL, &n) == JETUKOMA_NO_TABLE && n == 99);
+    CHECK(CALL(reserve)(NULL, 1) == JETUKOMA_NO_TABLE && CALL(free)(&t) == JETUKOMA_NO_TABLE);
+    /* with no table, with one, and after it was freed twice */
+    for (int round = 0; round < 3; round++) {
+        uint32_t status = round == 1 ? 0 : JETUKOMA_NO_TABLE, missing = status ? status : JETUKOMA_NOT_FOUND;
+        uint32_t refused = status ? status : JETUKOMA_REFUSED;
+        if (round == 1) CHECK(!CALL(new)(&t) && CALL(new)(&t) == JETUKOMA_NO_TABLE);
+        n = 99, it = 99, pair = no_pair, told.kind = 99;
+        OUR(nulls)(&t, JETUKOMA_REFUSED, JETUKOMA_REFUSED);
+        CHECK(CALL(len)(&t, NULL) == JETUKOMA_REFUSED && CALL(capacity)(&t, NULL) == JETUKOMA_REFUSED);
+        CHECK(CALL(len)(&t, &n) == status && n == (status ? 99 : 0) && CALL(capacity)(&t, &n) == status && n == (status ? 99 : 0));
+        CHECK(OUR(get_by_left)(&t, 1, &it) == missing && OUR(get_by_right)(&t, 1, &it) == missing && it == 99);
+        CHECK(CALL(contains_left)(&t, LEFT(1)) == missing && CALL(contains_right)(&t, RIGHT(0)) == missing);
+        CHECK(OUR(remove_by_left)(&t, 1, &pair) == missing && OUR(remove_by_right)(&t, 0, &pair) == missing && pair.left == NONE);
+#if ORDERED
+        CHECK(OUR(pop)(&t, 1, &pair) == missing && OUR(pop)(&t, 0, &pair) == missing && pair.left == NONE);
+#endif
+        OUR(own)(&t, status);
+        CHECK(CALL(clear)(&t) == status && CALL(reserve)(&t, 0) == status && CALL(reserve)(&t, 6) == status);
+        CHECK(CALL(capacity)(&t, &n) == status && (status || n >= 6));
+        size_t was = n;
+        CHECK(CALL(reserve)(&t, SIZE_MAX) == (status ? status : JETUKOMA_NO_MEMORY));
+        CHECK(CALL(reserve)(&t, SIZE_MAX / 64) == (status ? status : JETUKOMA_NO_MEMORY));
+        CHECK(CALL(capacity)(&t, &n) == status && n == was);
+        CHECK(OUR(insert_with)(&t, 1, 2, 2, 0, &told) == refused && OUR(insert_with)(&t, 1, 2, 0, 255, &told) == refused);
+        CHECK(told.kind == 99 && CALL(insert_no_overwrite)(&t, LEFT(1), RIGHT(2)) == status);
+        CHECK(CALL(insert_no_overwrite)(&t, LEFT(1), RIGHT(2)) == refused && CALL(insert_no_overwrite)(&t, LEFT(0), RIGHT(2)) == refused);
+        CHECK(OUR(insert)(&t, 0, 3, &told) == status && told.kind == (status ? 99 : 0));
+        CHECK(OUR(insert_with)(&t, 1, 3, 1, 0, &told) == refused && OUR(insert_with)(&t, 1, 3, 0, 1, &told) == refused);
+        CHECK(OUR(insert)(&t, 1, 3, &told) == status && told.kind == (status ? 99 : 4));
+        CHECK(status || (same_pair(told.first, (struct pair){1, 2}) && same_pair(told.second, (struct pair){0, 3})));
+        CHECK(CALL(len)(&t, &n) == status && (status || n == 1));
+        CHECK(OUR(get_by_right)(&t, 3, &it) == status && it == (status ? 99 : 1));
+        if (round == 1) CHECK(!CALL(free)(&t) && CALL(free)(&t) == JETUKOMA_NO_TABLE && !t.live);
+    }
+    CHECK(blocks == 0);
+}
+
+/* Whether the table has the model's pairs, and no more. */
+static void OUR(same)(OUR(table) *t) {
+    size_t len, capacity;
+    CHECK(!CALL(len)(t, &len) && len == (size_t)held && !CALL(capacity)(t, &capacity) && capacity >= len);
+    for (int value = 0; value < MANY; value++) {
+        int right = NONE, left = NONE;
+        CHECK(OUR(get_by_left)(t, value, &right) == (right_of[value] == NONE ? JETUKOMA_NOT_FOUND : 0) && right == right_of[value]);
+        CHECK(OUR(get_by_right)(t, value, &left) == (left_of[value] == NONE ? JETUKOMA_NOT_FOUND : 0) && left == left_of[value]);
+    }
+    struct pair row[MANY + 1];
+    if (OUR(walk)(t, row, &len) == JETUKOMA_REFUSED) return;
+    CHECK(len == (size_t)held);
+    for (size_t at = 0; at < len; at++) {
+        CHECK(row[at].left >= 0 && right_of[row[at].left] == row[at].right);
+        for (size_t other = 0; other < at; other++) CHECK(row[other].left != row[at].left);
+    }
+}
+
+/* One call by chance, of the table and of the model. */
+static void OUR(one)(OUR(table) *t) {
+    int left = chance(MANY), right = chance(MANY), l = chance(2), r = chance(2), it = NONE;
+    struct told told = {0, no_pair, no_pair}, wanted = told;
+    struct pair pair = no_pair;
+    uint32_t missing_left = right_of[left] == NONE ? JETUKOMA_NOT_FOUND : 0;
+    uint32_t missing_right = left_of[right] == NONE ? JETUKOMA_NOT_FOUND : 0;
+    switch (chance(ORDERED ? 11 : 10)) {
+    case 0: CHECK(OUR(insert)(t, left, right, &told) == model_insert(left, right, 0, 0, &wanted) && same_told(told, wanted)); break;
+    case 1: CHECK(OUR(insert_with)(t, left, right, l, r, &told) == model_insert(left, right, l, r, &wanted) && same_told(told, wanted)); break;
+    case 2: CHECK(CALL(insert_no_overwrite)(t, LEFT(left), RIGHT(right)) == model_insert(left, right, 1, 1, &wanted)); break;
+    case 3: CHECK(OUR(get_by_left)(t, left, &it) == missing_left && it == right_of[left]); break;
+    case 4: CHECK(OUR(get_by_right)(t, right, &it) == missing_right && it == left_of[right]); break;
+    case 5: CHECK(CALL(contains_left)(t, LEFT(left)) == missing_left && CALL(contains_right)(t, RIGHT(right)) == missing_right); break;
+    case 6: CHECK(OUR(remove_by_left)(t, left, &pair) == missing_left && same_pair(pair, model_remove(left))); break;
+    case 7: CHECK(OUR(remove_by_right)(t, right, &pair) == missing_right && same_pair(pair, model_remove(left_of[right]))); break;
+    case 8: if (!chance(400)) CHECK(!CALL(clear)(t)), empty_model(); break;
+    case 9: if (!chance(400)) CHECK(!CALL(reserve)(t, (size_t)chance(30))); break;
+#if ORDERED
+    case 10:
+        if (chance(4)) break;
+        CHECK(OUR(pop)(t, l, &pair) == (held ? 0 : JETUKOMA_NOT_FOUND));
+        for (int value = 0; held && value < MANY; value++)
+            if (right_of[value] != NONE && value != pair.left) CHECK(OUR(below)(l ? pair.left : value, l ? value : pair.left));
+        CHECK(same_pair(pair, model_remove(pair.left)));
+#endif
+    }
+#if BYTES
+    CHECK(same_pair(OUR(gone)(t, 0), last.first) && same_pair(OUR(gone)(t, 1), last.second));
+#endif
+}
+static void OUR(calls)(void) {
+    OUR(table) t = {0};
+    empty_model();
+    CHECK(!CALL(new)(&t));
+    for (int call = 0; call < 100000 && failed < 20; call++) {
+        OUR(one)(&t);
+        if (call % 100 == 0) OUR(same)(&t);
+    }
+    CHECK(!CALL(free)(&t) && blocks == 0);
+}
+
+/* The same with each number of requests granted: what is refused changes nothing, and goes well once there is memory. */
+static void OUR(memory)(void) {
+    int refused = 1;
+    for (size_t most = 0; refused && failed < 20; most++) {
+        OUR(table) t = {0};
+        struct told told = {0, no_pair, no_pair}, wanted = told;
+        empty_model();
+        refused = 0, granted = most;
+        if (CALL(new)(&t)) {
+            CHECK(CALL(new)(&t) == JETUKOMA_NO_MEMORY && !t.live && CALL(free)(&t) == JETUKOMA_NO_TABLE);
+            refused = 1, granted = SIZE_MAX;
+            CHECK(!CALL(new)(&t));
+            granted = 0;
+        }
+        for (int value = 0; value < 20; value++) {
+            size_t was, now, requests = granted;
+            CALL(capacity)(&t, &was);
+            uint32_t status = OUR(insert)(&t, value, 20 - value, &told);
+            if (!status) {
+                CHECK(!model_insert(value, 20 - value, 0, 0, &wanted) && same_told(told, wanted));
+                continue;
+            }
+            CHECK(status == JETUKOMA_NO_MEMORY && requests < 8 && !CALL(capacity)(&t, &now) && now == was);
+            CHECK(CALL(insert_no_overwrite)(&t, LEFT(value), RIGHT(20 - value)) == JETUKOMA_NO_MEMORY);
+            CHECK(CALL(reserve)(&t, was + 1) == JETUKOMA_NO_MEMORY && !CALL(capacity)(&t, &now) && now == was);
+            refused = 1, granted = SIZE_MAX;
+            OUR(same)(&t);
+            CHECK(!OUR(insert)(&t, value, 20 - value, &told) && !model_insert(value, 20 - value, 0, 0, &wanted));
+            granted = 0;
+        }
+#if !BYTES
+        /* an insertion that overwrites asks for none */
+        granted = 0;
+        CHECK(!OUR(insert)(&t, 3, 20, &told) && !model_insert(3, 20, 0, 0, &wanted) && same_told(told, wanted));
+#endif
+        granted = SIZE_MAX;
+        OUR(same)(&t);
+        CHECK(!CALL(free)(&t) && blocks == 0);
+    }
+}
+
+static void OUR(tests)(void) {
+    test(TEXT(KIND) " " TEXT(SIDES), "statuses", OUR(statuses));
+    test(TEXT(KIND) " " TEXT(SIDES), "calls by chance", OUR(calls));
+    test(TEXT(KIND) " " TEXT(SIDES), "memory refused", OUR(memory));
+}
+#undef SIDES
+#undef LEFT
+#undef RIGHT
+#undef CALL
+#undef OUR
+#undef BYTES

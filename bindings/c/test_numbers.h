@@ -1,0 +1,108 @@
+/* The calls of a bimap of numbers, as test_calls.h makes them: by the numbers of values. */
+#define SIDES u64_u64
+#define BYTES 0
+#define CALL(it) NAME(KIND, SIDES, it)
+#define OUR(it) JOIN(KIND, SIDES, it)
+typedef TYPE(KIND, SIDES) OUR(table);
+#define LEFT(it) number(it)
+#define RIGHT(it) number(it)
+
+static struct pair OUR(named)(jetukoma_u64_u64_pair it) { return (struct pair){of_number(it.left), of_number(it.right)}; }
+static struct told OUR(told)(jetukoma_u64_u64_overwritten it) {
+    struct told told = {it.kind, it.kind > 0 ? OUR(named)(it.first) : no_pair, it.kind > 3 ? OUR(named)(it.second) : no_pair};
+    return told;
+}
+static uint32_t OUR(insert)(OUR(table) *table, int left, int right, struct told *told) {
+    jetukoma_u64_u64_overwritten it;
+    uint32_t status = CALL(insert)(table, number(left), number(right), &it);
+    return status ? status : (*told = OUR(told)(it), 0);
+}
+static uint32_t OUR(insert_with)(OUR(table) *table, int left, int right, uint8_t l, uint8_t r, struct told *told) {
+    jetukoma_u64_u64_overwritten it;
+    uint32_t status = CALL(insert_with)(table, number(left), number(right), l, r, &it);
+    return status ? status : (*told = OUR(told)(it), 0);
+}
+static uint32_t OUR(get_by_left)(OUR(table) *table, int left, int *right) {
+    uint64_t it;
+    uint32_t status = CALL(get_by_left)(table, number(left), &it);
+    return status ? status : (*right = of_number(it), 0);
+}
+static uint32_t OUR(get_by_right)(OUR(table) *table, int right, int *left) {
+    uint64_t it;
+    uint32_t status = CALL(get_by_right)(table, number(right), &it);
+    return status ? status : (*left = of_number(it), 0);
+}
+static uint32_t OUR(remove_by_left)(OUR(table) *table, int left, struct pair *pair) {
+    jetukoma_u64_u64_pair it;
+    uint32_t status = CALL(remove_by_left)(table, number(left), &it);
+    return status ? status : (*pair = OUR(named)(it), 0);
+}
+static uint32_t OUR(remove_by_right)(OUR(table) *table, int right, struct pair *pair) {
+    jetukoma_u64_u64_pair it;
+    uint32_t status = CALL(remove_by_right)(table, number(right), &it);
+    return status ? status : (*pair = OUR(named)(it), 0);
+}
+static uint32_t OUR(walk)(OUR(table) *table, struct pair *row, size_t *count) {
+    jetukoma_u64_u64_pair its[MANY + 1], from[MANY + 1];
+    uint32_t status = CALL(fill)(table, 0, its, MANY + 1, count);
+    if (status) return status;
+    for (size_t at = 0; at < *count; at++) row[at] = OUR(named)(its[at]);
+    /* from each place on, the same pairs */
+    size_t start = *count ? (size_t)chance((int)*count) : 3, filled;
+    CHECK(!CALL(fill)(table, start, from, MANY + 1, &filled) && filled == (start < *count ? *count - start : 0));
+    CHECK(!filled || !memcmp(from, its + start, filled * sizeof *its));
+#if ORDERED
+    for (size_t at = 1; at < *count; at++) CHECK(its[at - 1].left < its[at].left);
+    if (!*count) return 0;
+    size_t rank;
+    CHECK(!CALL(left_rank)(table, its[start].left, &rank) && rank == start);
+    CHECK(!CALL(left_rank)(table, its[start].left + 1, &rank) && rank == start + 1);
+    CHECK(!CALL(fill_from)(table, its[start].left, from, 2, &filled) && filled == (start + 1 < *count ? 2 : 1));
+    CHECK(!memcmp(from, its + start, filled * sizeof *its));
+#endif
+    return 0;
+}
+#if ORDERED
+static int OUR(below)(int a, int b) { return number(a) < number(b); }
+static uint32_t OUR(pop)(OUR(table) *table, int first, struct pair *pair) {
+    jetukoma_u64_u64_pair it;
+    uint32_t status = first ? CALL(pop_first)(table, &it) : CALL(pop_last)(table, &it);
+    return status ? status : (*pair = OUR(named)(it), 0);
+}
+#endif
+
+/* What this type has alone, answered by a table, by a handle with none, and by null. */
+static void OUR(own)(OUR(table) *table, uint32_t status) {
+    jetukoma_u64_u64_pair row[3] = {{7, 7}, {8, 8}, {7, 9}};
+    size_t n = 99;
+    CHECK(CALL(fill)(table, 0, row, 0, &n) == status && n == (status ? 99 : 0));
+    CHECK(CALL(insert_many)(table, row, 0, &n) == status && n == (status ? 99 : 0));
+    CHECK(CALL(insert_many)(table, row, 3, &n) == status && n == (status ? 99 : 3));
+    memset(row, 0, sizeof row);
+    CHECK(CALL(fill)(table, 1, row, 3, &n) == status && n == (status ? 99 : 1) && (status || row[0].left < 9));
+#if ORDERED
+    size_t rank = 99;
+    CHECK(CALL(fill_from)(table, 0, row, 3, &n) == status && n == (status ? 99 : 2));
+    CHECK(status ? !row[0].left : row[0].left == 7 && row[0].right == 9 && row[1].left == 8 && row[1].right == 8);
+    CHECK(CALL(fill_from)(table, 9, row, 3, &n) == status && n == (status ? 99 : 0));
+    CHECK(CALL(left_rank)(table, 8, &rank) == status && rank == (status ? 99 : 1));
+#endif
+}
+static void OUR(nulls)(OUR(table) *table, uint32_t null, uint32_t beyond) {
+    jetukoma_u64_u64_pair row[1];
+    size_t n;
+    CHECK(CALL(insert)(table, 1, 1, NULL) == null && CALL(insert_with)(table, 1, 1, 0, 0, NULL) == null);
+    CHECK(CALL(get_by_left)(table, 1, NULL) == null && CALL(get_by_right)(table, 1, NULL) == null);
+    CHECK(CALL(remove_by_left)(table, 1, NULL) == null && CALL(remove_by_right)(table, 1, NULL) == null);
+    CHECK(CALL(insert_many)(table, NULL, 0, &n) == null && CALL(insert_many)(table, row, 0, NULL) == null);
+    CHECK(CALL(fill)(table, 0, NULL, 0, &n) == null && CALL(fill)(table, 0, row, 1, NULL) == null);
+    CHECK(CALL(insert_many)(table, row, SIZE_MAX, &n) == beyond && CALL(insert_many)(table, row, SIZE_MAX / 16, &n) == beyond);
+    CHECK(CALL(fill)(table, 0, row, SIZE_MAX, &n) == beyond && CALL(fill)(table, 0, row, SIZE_MAX / 16, &n) == beyond);
+#if ORDERED
+    CHECK(CALL(fill_from)(table, 0, NULL, 0, &n) == null && CALL(fill_from)(table, 0, row, 1, NULL) == null);
+    CHECK(CALL(fill_from)(table, 0, row, SIZE_MAX / 16, &n) == beyond && CALL(left_rank)(table, 0, NULL) == null);
+    CHECK(CALL(pop_first)(table, NULL) == null && CALL(pop_last)(table, NULL) == null);
+#endif
+}
+
+#include "test_calls.h"
