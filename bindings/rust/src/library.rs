@@ -1,0 +1,196 @@
+//! The calls of the C library, made safe. A table stands behind a `Handle` from the time that it is made.
+use std::ffi::c_void;
+use std::marker::PhantomData;
+use std::ptr::null_mut;
+
+use crate::{Overwritten, Policy};
+
+/// Why a call was refused.
+pub enum Refusal {
+    Memory,
+    Held,
+}
+
+/// What the library keeps a table behind. The type says which calls it is for.
+#[repr(C)]
+pub struct Handle<B: Library> {
+    at: *mut c_void,
+    live: bool,
+    calls: PhantomData<B>,
+}
+
+// SAFETY: the library lets a handle go to another thread; it has no memory that belongs to one.
+unsafe impl<B: Library> Send for Handle<B> {}
+
+impl<B: Library> Handle<B> {
+    pub fn new() -> Result<Handle<B>, Refusal> {
+        let mut handle = Handle {
+            at: null_mut(),
+            live: false,
+            calls: PhantomData,
+        };
+        B::make(&mut handle)?;
+        Ok(handle)
+    }
+}
+
+impl<B: Library> Drop for Handle<B> {
+    fn drop(&mut self) {
+        B::free(self);
+    }
+}
+
+/// A value as the library knows it: `u64`, or bytes.
+type Owned<V> = <V as ToOwned>::Owned;
+type Found<B> = (Owned<<B as Library>::Left>, Owned<<B as Library>::Right>);
+type Told<B> = Overwritten<Owned<<B as Library>::Left>, Owned<<B as Library>::Right>>;
+type Asked<T> = Result<Option<T>, Refusal>;
+
+/// The calls on one kind of table.
+pub trait Library: Sized {
+    type Left: ?Sized + ToOwned;
+    type Right: ?Sized + ToOwned;
+
+    fn make(handle: &mut Handle<Self>) -> Result<(), Refusal>;
+    fn free(handle: &mut Handle<Self>);
+    fn len(handle: &mut Handle<Self>) -> usize;
+    fn capacity(handle: &mut Handle<Self>) -> usize;
+    fn reserve(handle: &mut Handle<Self>, more: usize) -> Result<(), Refusal>;
+    fn clear(handle: &mut Handle<Self>);
+    fn insert_with(handle: &mut Handle<Self>, left: &Self::Left, right: &Self::Right, policy: Policy) -> Result<Told<Self>, Refusal>;
+    fn get_by_left(handle: &mut Handle<Self>, left: &Self::Left) -> Asked<Owned<Self::Right>>;
+    fn get_by_right(handle: &mut Handle<Self>, right: &Self::Right) -> Asked<Owned<Self::Left>>;
+    fn contains_left(handle: &mut Handle<Self>, left: &Self::Left) -> Result<bool, Refusal>;
+    fn contains_right(handle: &mut Handle<Self>, right: &Self::Right) -> Result<bool, Refusal>;
+    fn remove_by_left(handle: &mut Handle<Self>, left: &Self::Left) -> Asked<Found<Self>>;
+    fn remove_by_right(handle: &mut Handle<Self>, right: &Self::Right) -> Asked<Found<Self>>;
+}
+
+/// Those of a table that can be walked.
+pub trait Walked: Library {
+    /// The longest row to ask for: a hashed table comes to the start of each row from the first place.
+    const LONGEST: usize;
+    /// The pairs from the start-th on, at most so many.
+    fn row(handle: &mut Handle<Self>, start: usize, most: usize) -> Vec<Found<Self>>;
+}
+
+/// Those of a table of two ordered sides.
+pub trait InOrder: Walked {
+    fn left_rank(handle: &mut Handle<Self>, left: &Self::Left) -> Result<usize, Refusal>;
+    fn pop_first(handle: &mut Handle<Self>) -> Option<Found<Self>>;
+    fn pop_last(handle: &mut Handle<Self>) -> Option<Found<Self>>;
+}
+
+// The statuses.
+const DONE: u32 = 0;
+const NO_MEMORY: u32 = 1;
+const REFUSED: u32 = 3;
+const BUFFER_TOO_SHORT: u32 = 4;
+const NOT_FOUND: u32 = 5;
+
+fn done(status: u32) -> Result<(), Refusal> {
+    match status {
+        DONE => Ok(()),
+        NO_MEMORY => Err(Refusal::Memory),
+        REFUSED => Err(Refusal::Held),
+        other => unreachable!("status {other}"),
+    }
+}
+
+fn sure(status: u32) {
+    assert_eq!(status, DONE);
+}
+
+fn found(status: u32) -> Result<bool, Refusal> {
+    if status == NOT_FOUND {
+        Ok(false)
+    } else {
+        done(status).map(|()| true)
+    }
+}
+
+fn overwritten<L, R>(kind: u32, mut pair: impl FnMut(usize) -> (L, R)) -> Overwritten<L, R> {
+    if kind == 0 {
+        return Overwritten::Neither;
+    }
+    let (left, right) = pair(0);
+    match kind {
+        1 => Overwritten::Left(left, right),
+        2 => Overwritten::Right(left, right),
+        3 => Overwritten::Pair(left, right),
+        _ => Overwritten::Both((left, right), pair(1)),
+    }
+}
+
+/// A number that the library writes.
+fn number(call: impl FnOnce(*mut u64) -> u32) -> Asked<u64> {
+    let mut it = 0;
+    Ok(found(call(&mut it))?.then_some(it))
+}
+
+fn size(call: impl FnOnce(*mut usize) -> u32) -> Result<usize, Refusal> {
+    let mut it = 0;
+    done(call(&mut it)).map(|()| it)
+}
+
+/// Bytes that the library writes, into a buffer that is long enough at the second time.
+fn bytes(mut call: impl FnMut(*mut u8, usize, *mut usize) -> u32) -> Asked<Vec<u8>> {
+    let mut buffer = vec![0; 32];
+    loop {
+        let mut len = 0;
+        match call(buffer.as_mut_ptr(), buffer.len(), &mut len) {
+            BUFFER_TOO_SHORT => buffer = vec![0; len],
+            other => {
+                buffer.truncate(len);
+                return Ok(found(other)?.then_some(buffer));
+            }
+        }
+    }
+}
+
+/// Declares calls of the library on tables of a type.
+macro_rules! external {
+    ($name:ident $prefix:literal: $($call:ident($($given:ident: $type:ty),*);)*) => {
+        unsafe extern "C" { $(
+            #[link_name = concat!("jetukoma_", $prefix, "_", stringify!($call), "_unchecked")]
+            fn $call(handle: *mut Handle<$name> $(, $given: $type)*) -> u32;
+        )* }
+    };
+}
+
+// SAFETY, of each call below: the handle is this type's, behind a `&mut`; references and slices are handed over as pointers
+// with their lengths, and the library keeps none of them. It calls nothing of the program but malloc, realloc and free.
+
+/// The calls that take no value.
+macro_rules! plain {
+    () => {
+        fn make(handle: &mut Handle<Self>) -> Result<(), Refusal> {
+            done(unsafe { new(handle) })
+        }
+        fn free(handle: &mut Handle<Self>) {
+            // (a handle whose table was not made has none)
+            unsafe { free(handle) };
+        }
+        fn len(handle: &mut Handle<Self>) -> usize {
+            let mut it = 0;
+            sure(unsafe { len(handle, &mut it) });
+            it
+        }
+        fn capacity(handle: &mut Handle<Self>) -> usize {
+            let mut it = 0;
+            sure(unsafe { capacity(handle, &mut it) });
+            it
+        }
+        fn reserve(handle: &mut Handle<Self>, more: usize) -> Result<(), Refusal> {
+            done(unsafe { reserve(handle, more) })
+        }
+        fn clear(handle: &mut Handle<Self>) {
+            sure(unsafe { clear(handle) });
+        }
+    };
+}
+
+mod by_bytes;
+mod by_numbers;
+pub use by_bytes::*;
+pub use by_numbers::*;

@@ -1,0 +1,334 @@
+//! The map.
+use std::alloc::{Layout, handle_alloc_error};
+use std::borrow::Borrow;
+use std::cell::UnsafeCell;
+use std::fmt;
+use std::ops::{Bound, RangeBounds};
+
+use crate::library::{Handle, InOrder, Library, Refusal, Walked};
+use crate::sides::{Key, PairedWith, Value};
+use crate::walk::{IntoIter, Iter, Walk};
+use crate::{NoMemory, NotInserted, Overwritten, Policy};
+
+/// A two-way map between lefts `L` and rights `R`, of the kind `K`: [`BiBTreeMap`](crate::BiBTreeMap) or
+/// [`BiHashMap`](crate::BiHashMap).
+pub struct BijectiveMap<L: PairedWith<R, K>, R: Value, K> {
+    // A look-up takes the table out of its handle and puts it back, so a shared map is written too. No two calls are under way
+    // at once: the cell keeps the map to one thread, and the library calls nothing of the program but its allocator.
+    handle: UnsafeCell<Handle<L::Library>>,
+}
+
+/// Ends the process as std's collections do.
+fn ended<T>(_: Refusal) -> T {
+    handle_alloc_error(Layout::new::<[u64; 2]>())
+}
+
+fn pair<L: Value, R: Value>((left, right): (<L::Raw as ToOwned>::Owned, <R::Raw as ToOwned>::Owned)) -> (L, R) {
+    (L::of(left), R::of(right))
+}
+
+impl<L: PairedWith<R, K>, R: Value, K> BijectiveMap<L, R, K> {
+    #[allow(clippy::mut_from_ref)]
+    fn handle(&self) -> &mut Handle<L::Library> {
+        // SAFETY: each call below takes it once and lets it go before it returns, on the one thread that has the map.
+        unsafe { &mut *self.handle.get() }
+    }
+
+    /// Makes an empty map, of capacity 0.
+    pub fn new() -> Self {
+        Self::try_new().unwrap_or_else(|NoMemory| ended(Refusal::Memory))
+    }
+
+    /// The same, where memory may be refused.
+    pub fn try_new() -> Result<Self, NoMemory> {
+        let handle = Handle::new().map_err(|_| NoMemory)?;
+        Ok(BijectiveMap {
+            handle: UnsafeCell::new(handle),
+        })
+    }
+
+    /// Makes an empty map with places for so many pairs.
+    pub fn with_capacity(capacity: usize) -> Self {
+        let mut map = Self::new();
+        map.reserve(capacity);
+        map
+    }
+
+    /// Returns the number of pairs.
+    pub fn len(&self) -> usize {
+        L::Library::len(self.handle())
+    }
+
+    /// Returns whether there is no pair.
+    pub fn is_empty(&self) -> bool {
+        self.len() == 0
+    }
+
+    /// Returns the number of places for pairs.
+    pub fn capacity(&self) -> usize {
+        L::Library::capacity(self.handle())
+    }
+
+    /// Makes places for so many pairs more, unless they are there.
+    pub fn reserve(&mut self, more: usize) {
+        self.try_reserve(more).unwrap_or_else(|NoMemory| ended(Refusal::Memory))
+    }
+
+    /// The same, where memory may be refused.
+    pub fn try_reserve(&mut self, more: usize) -> Result<(), NoMemory> {
+        L::Library::reserve(self.handle(), more).map_err(|_| NoMemory)
+    }
+
+    /// Removes all pairs. The capacity stays.
+    pub fn clear(&mut self) {
+        L::Library::clear(self.handle())
+    }
+
+    /// Returns the right of a left.
+    #[inline]
+    pub fn get_by_left<Q: Key<Raw = L::Raw> + ?Sized>(&self, left: &Q) -> Option<R>
+    where
+        L: Borrow<Q>,
+    {
+        L::Library::get_by_left(self.handle(), left.raw()).unwrap_or_else(ended).map(R::of)
+    }
+
+    /// Returns the left of a right.
+    #[inline]
+    pub fn get_by_right<Q: Key<Raw = R::Raw> + ?Sized>(&self, right: &Q) -> Option<L>
+    where
+        R: Borrow<Q>,
+    {
+        L::Library::get_by_right(self.handle(), right.raw())
+            .unwrap_or_else(ended)
+            .map(L::of)
+    }
+
+    /// Returns whether the left is contained.
+    pub fn contains_left<Q: Key<Raw = L::Raw> + ?Sized>(&self, left: &Q) -> bool
+    where
+        L: Borrow<Q>,
+    {
+        L::Library::contains_left(self.handle(), left.raw()).unwrap_or_else(ended)
+    }
+
+    /// Returns whether the right is contained.
+    pub fn contains_right<Q: Key<Raw = R::Raw> + ?Sized>(&self, right: &Q) -> bool
+    where
+        R: Borrow<Q>,
+    {
+        L::Library::contains_right(self.handle(), right.raw()).unwrap_or_else(ended)
+    }
+
+    /// Removes the pair of a left and returns it.
+    #[inline]
+    pub fn remove_by_left<Q: Key<Raw = L::Raw> + ?Sized>(&mut self, left: &Q) -> Option<(L, R)>
+    where
+        L: Borrow<Q>,
+    {
+        L::Library::remove_by_left(self.handle(), left.raw())
+            .unwrap_or_else(ended)
+            .map(pair)
+    }
+
+    /// Removes the pair of a right and returns it.
+    #[inline]
+    pub fn remove_by_right<Q: Key<Raw = R::Raw> + ?Sized>(&mut self, right: &Q) -> Option<(L, R)>
+    where
+        R: Borrow<Q>,
+    {
+        L::Library::remove_by_right(self.handle(), right.raw())
+            .unwrap_or_else(ended)
+            .map(pair)
+    }
+
+    /// Inserts a pair and returns the pairs that it overwrote.
+    #[inline]
+    pub fn insert(&mut self, left: L, right: R) -> Overwritten<L, R> {
+        self.put(&left, &right, Policy::OVERWRITE).unwrap_or_else(ended)
+    }
+
+    /// The same, where memory may be refused.
+    #[inline]
+    pub fn try_insert(&mut self, left: L, right: R) -> Result<Overwritten<L, R>, NotInserted<L, R>> {
+        self.try_insert_with(left, right, Policy::OVERWRITE)
+    }
+
+    /// Inserts a pair if neither value is contained, or else hands it back.
+    #[inline]
+    pub fn insert_no_overwrite(&mut self, left: L, right: R) -> Result<(), (L, R)> {
+        self.insert_with(left, right, Policy::REFUSE).map(drop)
+    }
+
+    /// The same, where memory may be refused.
+    #[inline]
+    pub fn try_insert_no_overwrite(&mut self, left: L, right: R) -> Result<(), NotInserted<L, R>> {
+        self.try_insert_with(left, right, Policy::REFUSE).map(drop)
+    }
+
+    /// Inserts a pair, overwriting where the policy lets it, or else hands it back.
+    #[inline]
+    pub fn insert_with(&mut self, left: L, right: R, policy: Policy) -> Result<Overwritten<L, R>, (L, R)> {
+        self.try_insert_with(left, right, policy).map_err(|why| match why {
+            NotInserted::Occupied(left, right) => (left, right),
+            NotInserted::Memory(..) => ended(Refusal::Memory),
+        })
+    }
+
+    /// The same, where memory may be refused.
+    #[inline]
+    pub fn try_insert_with(&mut self, left: L, right: R, policy: Policy) -> Result<Overwritten<L, R>, NotInserted<L, R>> {
+        match self.put(&left, &right, policy) {
+            Ok(overwritten) => Ok(overwritten),
+            Err(Refusal::Held) => Err(NotInserted::Occupied(left, right)),
+            Err(Refusal::Memory) => Err(NotInserted::Memory(left, right)),
+        }
+    }
+
+    #[inline]
+    fn put(&mut self, left: &L, right: &R, policy: Policy) -> Result<Overwritten<L, R>, Refusal> {
+        L::Library::insert_with(self.handle(), left.raw(), right.raw(), policy).map(|it| it.map(pair))
+    }
+}
+
+impl<L: PairedWith<R, K, Library: Walked>, R: Value, K> BijectiveMap<L, R, K> {
+    pub(crate) fn row(&self, start: usize, most: usize) -> Vec<(L, R)> {
+        L::Library::row(self.handle(), start, most).into_iter().map(pair).collect()
+    }
+
+    /// Walks the pairs, by ascending left where that is ordered.
+    pub fn iter(&self) -> Iter<'_, L, R, K> {
+        Walk::new(self, 0, self.len())
+    }
+
+    /// Walks the lefts, in the order of [`iter`](Self::iter).
+    pub fn left_values(&self) -> impl Iterator<Item = L> {
+        self.iter().map(|(left, _)| left)
+    }
+
+    /// Keeps the pairs of which `f` says so. It asks of each pair once.
+    pub fn retain<F: FnMut(&L, &R) -> bool>(&mut self, mut f: F) {
+        let gone: Vec<L> = self.iter().filter(|(left, right)| !f(left, right)).map(|(left, _)| left).collect();
+        for left in &gone {
+            self.remove_by_left(left);
+        }
+    }
+}
+
+impl<R: Value + Ord, L: PairedWith<R, crate::Ordered, Library: InOrder>> BijectiveMap<L, R, crate::Ordered> {
+    /// Walks the rights, ascending. They are copied and put in order first.
+    pub fn right_values(&self) -> impl Iterator<Item = R> {
+        let mut all: Vec<R> = self.iter().map(|(_, right)| right).collect();
+        all.sort_unstable();
+        all.into_iter()
+    }
+
+    /// Walks the pairs whose left is within the bounds. Reversed bounds have none.
+    pub fn left_range<A: RangeBounds<L>>(&self, bounds: A) -> Iter<'_, L, R, crate::Ordered> {
+        let below = |left: &L, and_itself: bool| self.left_rank(left) + (and_itself && self.contains_left(left)) as usize;
+        let start = match bounds.start_bound() {
+            Bound::Included(left) => below(left, false),
+            Bound::Excluded(left) => below(left, true),
+            Bound::Unbounded => 0,
+        };
+        let end = match bounds.end_bound() {
+            Bound::Included(left) => below(left, true),
+            Bound::Excluded(left) => below(left, false),
+            Bound::Unbounded => self.len(),
+        };
+        Walk::new(self, start, end.max(start))
+    }
+
+    /// Returns how many lefts are below this one, contained or not.
+    pub fn left_rank<Q: Key<Raw = L::Raw> + ?Sized>(&self, left: &Q) -> usize
+    where
+        L: Borrow<Q>,
+    {
+        L::Library::left_rank(self.handle(), left.raw()).unwrap_or_else(ended)
+    }
+
+    /// Removes the pair of the least left and returns it.
+    pub fn pop_first_by_left(&mut self) -> Option<(L, R)> {
+        L::Library::pop_first(self.handle()).map(pair)
+    }
+
+    /// Removes the pair of the greatest left and returns it.
+    pub fn pop_last_by_left(&mut self) -> Option<(L, R)> {
+        L::Library::pop_last(self.handle()).map(pair)
+    }
+}
+
+impl<R: Value, L: PairedWith<R, crate::Hashed, Library: Walked>> BijectiveMap<L, R, crate::Hashed> {
+    /// Walks the rights, in the order of [`iter`](Self::iter).
+    pub fn right_values(&self) -> impl Iterator<Item = R> {
+        self.iter().map(|(_, right)| right)
+    }
+}
+
+impl<L: PairedWith<R, K>, R: Value, K> Default for BijectiveMap<L, R, K> {
+    fn default() -> Self {
+        Self::new()
+    }
+}
+
+impl<L: PairedWith<R, K, Library: Walked>, R: Value, K> Clone for BijectiveMap<L, R, K> {
+    fn clone(&self) -> Self {
+        let mut map = Self::with_capacity(self.len());
+        map.extend(self);
+        map
+    }
+}
+
+impl<L: PairedWith<R, K, Library: Walked> + fmt::Debug, R: Value + fmt::Debug, K> fmt::Debug for BijectiveMap<L, R, K> {
+    fn fmt(&self, f: &mut fmt::Formatter<'_>) -> fmt::Result {
+        f.write_str("{")?;
+        for (at, (left, right)) in self.iter().enumerate() {
+            write!(f, "{}{left:?} <> {right:?}", if at == 0 { "" } else { ", " })?;
+        }
+        f.write_str("}")
+    }
+}
+
+impl<L: PairedWith<R, K, Library: Walked>, R: Value + PartialEq, K> PartialEq for BijectiveMap<L, R, K> {
+    fn eq(&self, other: &Self) -> bool {
+        self.len() == other.len() && self.iter().all(|(left, right)| other.get_by_left(&left) == Some(right))
+    }
+}
+
+impl<L: PairedWith<R, K, Library: Walked>, R: Value + Eq, K> Eq for BijectiveMap<L, R, K> {}
+
+/// Each pair is put in as by `insert`, in turn, and may overwrite earlier ones.
+impl<L: PairedWith<R, K>, R: Value, K> Extend<(L, R)> for BijectiveMap<L, R, K> {
+    fn extend<I: IntoIterator<Item = (L, R)>>(&mut self, pairs: I) {
+        for (left, right) in pairs {
+            self.insert(left, right);
+        }
+    }
+}
+
+impl<L: PairedWith<R, K>, R: Value, K> FromIterator<(L, R)> for BijectiveMap<L, R, K> {
+    fn from_iter<I: IntoIterator<Item = (L, R)>>(pairs: I) -> Self {
+        let mut map = Self::new();
+        map.extend(pairs);
+        map
+    }
+}
+
+impl<'a, L: PairedWith<R, K, Library: Walked>, R: Value, K> IntoIterator for &'a BijectiveMap<L, R, K> {
+    type Item = (L, R);
+    type IntoIter = Iter<'a, L, R, K>;
+
+    fn into_iter(self) -> Self::IntoIter {
+        self.iter()
+    }
+}
+
+impl<L: PairedWith<R, K, Library: Walked>, R: Value, K> IntoIterator for BijectiveMap<L, R, K> {
+    type Item = (L, R);
+    type IntoIter = IntoIter<L, R, K>;
+
+    fn into_iter(self) -> Self::IntoIter {
+        let len = self.len();
+        Walk::new(self, 0, len)
+    }
+}

@@ -1,0 +1,88 @@
+//! The types of sides, and which pairs of them the library has.
+use crate::library::{BTreeBytesBytes, BTreeBytesU64, BTreeU64U64, HashBytesBytes, HashBytesU64, HashU64U64, Library};
+use crate::{Hashed, Ordered};
+
+// (What nobody outside can name, nobody outside can implement.)
+mod sealed {
+    pub trait Raw {
+        /// What the library knows of a value.
+        type Raw: ?Sized + ToOwned;
+        fn raw(&self) -> &Self::Raw;
+    }
+    pub trait Paired<R, K> {}
+}
+
+/// What a value may be looked up by: `u64`, `str`, `[u8]`, `String` and `Vec<u8>`. It is for these types alone.
+pub trait Key: sealed::Raw {}
+
+/// A value of a side: `u64`, `String` or `Vec<u8>`. It is for these types alone.
+pub trait Value: Key + Sized {
+    #[doc(hidden)]
+    fn of(it: <Self::Raw as ToOwned>::Owned) -> Self;
+}
+
+/// A left, with the rights that a map of the kind `K` pairs it with: `u64` with `u64`, `Vec<u8>` and `String` with `u64`, and
+/// `Vec<u8>` with `Vec<u8>`. It is for these types alone.
+pub trait PairedWith<R: Value, K>: Value + sealed::Paired<R, K> {
+    #[doc(hidden)]
+    type Library: Library<Left = Self::Raw, Right = R::Raw>;
+}
+
+macro_rules! keys {
+    ($($type:ty as $Raw:ty, |$it:ident| $raw:expr;)*) => { $(
+        impl sealed::Raw for $type {
+            type Raw = $Raw;
+            fn raw(&self) -> &$Raw {
+                let $it = self;
+                $raw
+            }
+        }
+        impl Key for $type {}
+    )* };
+}
+
+keys! {
+    u64 as u64, |it| it;
+    [u8] as [u8], |it| it;
+    Vec<u8> as [u8], |it| it;
+    str as [u8], |it| it.as_bytes();
+    String as [u8], |it| it.as_bytes();
+}
+
+impl Value for u64 {
+    fn of(it: u64) -> u64 {
+        it
+    }
+}
+
+impl Value for Vec<u8> {
+    fn of(it: Vec<u8>) -> Vec<u8> {
+        it
+    }
+}
+
+impl Value for String {
+    fn of(it: Vec<u8>) -> String {
+        String::from_utf8(it).expect("the bytes of a String were put in")
+    }
+}
+
+macro_rules! pairs {
+    ($($L:ty, $R:ty: $ordered:ident $hashed:ident;)*) => { $(
+        impl sealed::Paired<$R, Ordered> for $L {}
+        impl sealed::Paired<$R, Hashed> for $L {}
+        impl PairedWith<$R, Ordered> for $L {
+            type Library = $ordered;
+        }
+        impl PairedWith<$R, Hashed> for $L {
+            type Library = $hashed;
+        }
+    )* };
+}
+
+pairs! {
+    u64, u64: BTreeU64U64 HashU64U64;
+    Vec<u8>, u64: BTreeBytesU64 HashBytesU64;
+    String, u64: BTreeBytesU64 HashBytesU64;
+    Vec<u8>, Vec<u8>: BTreeBytesBytes HashBytesBytes;
+}

@@ -1,0 +1,222 @@
+//! What the crate `bimap` doesn't have: policies, refusals of memory, threads; and calls by chance beside two maps of std.
+use jetukoma::{BiBTreeMap, BiHashMap, NoMemory, NotInserted, OnHeld, Overwritten, Policy};
+use std::collections::BTreeMap;
+
+#[test]
+fn policies() {
+    let [overwrite, refuse] = [OnHeld::Overwrite, OnHeld::Refuse];
+    let mut bimap = BiBTreeMap::from_iter([(10, 1), (20, 2)]);
+    assert_eq!(
+        bimap.insert_with(
+            10,
+            3,
+            Policy {
+                left: refuse,
+                right: overwrite
+            }
+        ),
+        Err((10, 3))
+    );
+    assert_eq!(
+        bimap.insert_with(
+            30,
+            1,
+            Policy {
+                left: overwrite,
+                right: refuse
+            }
+        ),
+        Err((30, 1))
+    );
+    assert_eq!(
+        bimap.insert_with(
+            10,
+            3,
+            Policy {
+                left: overwrite,
+                right: refuse
+            }
+        ),
+        Ok(Overwritten::Left(10, 1))
+    );
+    assert_eq!(
+        bimap.insert_with(
+            30,
+            3,
+            Policy {
+                left: refuse,
+                right: overwrite
+            }
+        ),
+        Ok(Overwritten::Right(10, 3))
+    );
+    assert_eq!(
+        bimap.try_insert_with(
+            30,
+            3,
+            Policy {
+                left: refuse,
+                right: refuse
+            }
+        ),
+        Err(NotInserted::Occupied(30, 3))
+    );
+    assert_eq!(bimap.try_insert_no_overwrite(40, 2), Err(NotInserted::Occupied(40, 2)));
+    assert_eq!(bimap.try_insert(30, 2), Ok(Overwritten::Both((30, 3), (20, 2))));
+    assert_eq!(bimap.iter().collect::<Vec<_>>(), [(30, 2)]);
+}
+
+#[test]
+fn no_memory() {
+    let mut bimap = BiHashMap::from_iter([(10, 1)]);
+    let capacity = bimap.capacity();
+    assert_eq!(bimap.try_reserve(usize::MAX), Err(NoMemory));
+    assert_eq!(bimap.try_reserve(usize::MAX / 64), Err(NoMemory));
+    assert_eq!((bimap.capacity(), bimap.len(), bimap.get_by_left(&10)), (capacity, 1, Some(1)));
+    assert_eq!(NoMemory.to_string(), "no memory");
+}
+
+#[test]
+fn another_thread() {
+    let mut bimap: BiBTreeMap<String, u64> = BiBTreeMap::new();
+    bimap.insert("a".into(), 1);
+    let bimap = std::thread::spawn(move || {
+        bimap.insert("b".into(), 2);
+        bimap
+    });
+    assert_eq!(bimap.join().unwrap().len(), 2);
+}
+
+#[test]
+fn long_and_empty_bytes() {
+    let (long, longer) = (vec![7; 100], vec![7; 100_000]);
+    let mut bimap: BiBTreeMap<Vec<u8>, Vec<u8>> = BiBTreeMap::new();
+    assert_eq!(bimap.insert(long.clone(), longer.clone()), Overwritten::Neither);
+    assert_eq!(bimap.insert(vec![], long.clone()), Overwritten::Neither);
+    assert_eq!(
+        bimap.iter().collect::<Vec<_>>(),
+        [(vec![], long.clone()), (long.clone(), longer.clone())]
+    );
+    assert_eq!(
+        (bimap.get_by_left(&long), bimap.get_by_right(&longer)),
+        (Some(longer.clone()), Some(long.clone()))
+    );
+    assert_eq!(
+        bimap.insert(vec![], longer.clone()),
+        Overwritten::Both((vec![], long.clone()), (long, longer.clone()))
+    );
+    assert_eq!(
+        (bimap.pop_last_by_left(), bimap.pop_first_by_left()),
+        (Some((vec![], longer)), None)
+    );
+    let mut letters: BiHashMap<String, u64> = BiHashMap::new();
+    assert_eq!(letters.insert("zoë".into(), 1), Overwritten::Neither);
+    assert_eq!(letters.remove_by_right(&1), Some(("zoë".into(), 1)));
+}
+
+#[test]
+fn ends_and_ranks() {
+    let mut bimap = BiBTreeMap::from_iter((0..1000).map(|it| (it * 2, it)));
+    assert_eq!(
+        (bimap.left_rank(&10), bimap.left_rank(&11), bimap.left_rank(&u64::MAX)),
+        (5, 6, 1000)
+    );
+    assert_eq!(
+        (bimap.pop_first_by_left(), bimap.pop_last_by_left()),
+        (Some((0, 0)), Some((1998, 999)))
+    );
+    let mut walk = bimap.left_range(100..);
+    assert_eq!((walk.len(), walk.next(), walk.len()), (949, Some((100, 50)), 948));
+    assert_eq!(
+        walk.map(|it| it.0).collect::<Vec<_>>(),
+        (51..999).map(|it| it * 2).collect::<Vec<_>>()
+    );
+}
+
+#[test]
+fn many_pairs() {
+    let pairs: Vec<(u64, u64)> = (0..100_000).map(|it| (it * 7919 % 100_003, it)).collect();
+    let mut ascending = pairs.clone();
+    ascending.sort();
+    assert_eq!(BiBTreeMap::from_iter(pairs.clone()).into_iter().collect::<Vec<_>>(), ascending);
+    let mut walked: Vec<_> = BiHashMap::from_iter(pairs).into_iter().collect();
+    walked.sort();
+    assert_eq!(walked, ascending);
+}
+
+fn chance(state: &mut u64, below: u64) -> u64 {
+    *state = state.wrapping_mul(6364136223846793005).wrapping_add(1442695040888963407);
+    (*state >> 33) % below
+}
+
+/// Calls by chance, of values that are made from numbers.
+macro_rules! beside_a_model {
+    ($($test:ident $map:ident $left:expr, $right:expr;)*) => { $(
+        #[test]
+        fn $test() {
+            let (mut map, mut by_left, mut by_right) = ($map::new(), BTreeMap::new(), BTreeMap::new());
+            let state = &mut 7;
+            for _ in 0..50_000 {
+                let (left, right) = ($left(chance(state, 50)), $right(chance(state, 50)));
+                match chance(state, 6) {
+                    0 | 1 => {
+                        let refuses = [chance(state, 2) == 0, chance(state, 2) == 0];
+                        let [l, r] = refuses.map(|it| if it { OnHeld::Refuse } else { OnHeld::Overwrite });
+                        let (old_right, old_left) = (by_left.get(&left).cloned(), by_right.get(&right).cloned());
+                        let wanted = if refuses[0] && old_right.is_some() || refuses[1] && old_left.is_some() {
+                            Err((left.clone(), right.clone()))
+                        } else {
+                            by_left.retain(|l, r| *l != left && *r != right);
+                            by_right.retain(|r, l| *l != left && *r != right);
+                            by_left.insert(left.clone(), right.clone());
+                            by_right.insert(right.clone(), left.clone());
+                            Ok(match (old_right, old_left) {
+                                (None, None) => Overwritten::Neither,
+                                (Some(old), None) => Overwritten::Left(left.clone(), old),
+                                (None, Some(old)) => Overwritten::Right(old, right.clone()),
+                                (Some(old), Some(_)) if old == right => Overwritten::Pair(left.clone(), old),
+                                (Some(old), Some(other)) => Overwritten::Both((left.clone(), old), (other, right.clone())),
+                            })
+                        };
+                        assert_eq!(map.insert_with(left, right, Policy { left: l, right: r }), wanted);
+                    }
+                    2 => {
+                        let wanted = by_left.remove_entry(&left);
+                        by_right.retain(|_, l| *l != left);
+                        assert_eq!(map.remove_by_left(&left), wanted);
+                    }
+                    3 => {
+                        let wanted = by_right.remove_entry(&right).map(|(right, left)| (left, right));
+                        by_left.retain(|_, r| *r != right);
+                        assert_eq!(map.remove_by_right(&right), wanted);
+                    }
+                    4 => assert_eq!((map.get_by_left(&left), map.contains_left(&left)), (by_left.get(&left).cloned(), by_left.contains_key(&left))),
+                    _ => assert_eq!((map.get_by_right(&right), map.contains_right(&right)), (by_right.get(&right).cloned(), by_right.contains_key(&right))),
+                }
+                assert_eq!(map.len(), by_left.len());
+            }
+        }
+    )* };
+}
+
+fn number(it: u64) -> u64 {
+    it
+}
+
+fn bytes(it: u64) -> Vec<u8> {
+    vec![it as u8 % 3; it as usize]
+}
+
+fn text(it: u64) -> String {
+    format!("{it:x$}", x = it as usize)
+}
+
+beside_a_model! {
+    ordered_numbers BiBTreeMap number, number;
+    hashed_numbers BiHashMap number, number;
+    ordered_texts BiBTreeMap text, number;
+    hashed_texts BiHashMap text, number;
+    ordered_bytes_and_numbers BiBTreeMap bytes, number;
+    ordered_bytes BiBTreeMap bytes, bytes;
+    hashed_bytes BiHashMap bytes, bytes;
+}
