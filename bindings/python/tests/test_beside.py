@@ -1,0 +1,156 @@
+"""Bad input, the types of sides, many items, and calls by chance beside two dicts."""
+import copy
+import pickle
+import random
+import unittest
+
+from jetukoma import BiBTreeMap, BiHashMap, DuplicationError, ValueDuplicationError
+
+TYPES = [(int, int), (str, int), (int, str), (bytes, int), (bytes, bytes), (str, str)]
+KINDS = [BiBTreeMap, BiHashMap]
+
+
+def of(type, number):
+    """A value of a type."""
+    return number << 40 if type is int else "é" * number if type is str else bytes([number % 3]) * number
+
+
+def can_be_walked(it):
+    return type(it) is BiBTreeMap or it._table.numbers
+
+
+class BadInput(unittest.TestCase):
+    def test_numbers(self):
+        for kind in KINDS:
+            it = kind({1: 2**64 - 1, 0: 3})
+            for bad, error in [(-1, OverflowError), (2**64, OverflowError), (1.5, TypeError), ("1", TypeError), (None, TypeError)]:
+                for call in [it.put, it.forceput, it.__setitem__, it.inverse.put]:
+                    self.assertRaises(error, call, bad, 7)
+                    self.assertRaises(error, call, 7, bad)
+                for call in [it.putall, it.update, it.forceupdate, it.inverse.putall]:
+                    self.assertRaises(error, call, [(8, 8), (bad, 7)])
+                    self.assertRaises(error, call, [(8, 8), (7, bad)])
+                self.assertRaises(KeyError, it.__getitem__, bad)
+                self.assertRaises(KeyError, it.pop, bad)
+                self.assertTrue(bad not in it and it.get(bad) is None and it.pop(bad, 5) == 5)
+            for call in [it.putall, it.update, it.forceupdate]:
+                self.assertRaises(ValueError, call, [(8, 8), (7, 7, 7)])
+                self.assertRaises(ValueError, call, [(8, 8), (7,), (6, 6, 6)])
+                self.assertRaises(TypeError, call, [(8, 8), 7])
+                self.assertRaises(TypeError, call, 7)
+            self.assertEqual(it, {1: 2**64 - 1, 0: 3})
+
+    def test_texts_and_bytes(self):
+        for kind in KINDS:
+            texts, strings = kind({"a": 1}, keys=str), kind({b"a": b"1"}, keys=bytes, values=bytes)
+            for it, bad in [(texts, b"a"), (texts, 1), (texts, None), (strings, "a"), (strings, bytearray(b"a"))]:
+                self.assertRaises(TypeError, it.put, bad, 7 if it is texts else b"7")
+                self.assertRaises(TypeError, it.forceupdate, [(bad, 7 if it is texts else b"7")])
+                self.assertTrue(bad not in it and it.get(bad) is None)
+            self.assertRaises(UnicodeError, texts.put, "\ud800", 7)
+            self.assertRaises(OverflowError, texts.update, [("b", 2), ("c", -1)])
+            self.assertRaises(ValueError, texts.update, [("b", 2), ("c",)])
+            self.assertTrue("\ud800" not in texts)
+            self.assertEqual((len(texts), texts["a"], len(strings), strings[b"a"]), (1, 1, 1, b"1"))
+
+    def test_types(self):
+        self.assertRaises(TypeError, BiBTreeMap, keys=float)
+        self.assertRaises(TypeError, BiHashMap, {1.5: 2})
+
+
+class Types(unittest.TestCase):
+    def test_copies(self):
+        for kind in KINDS:
+            for keys, values in TYPES:
+                it = kind({of(keys, 3): of(values, 5), of(keys, 0): of(values, 70)}, keys=keys, values=values)
+                if not can_be_walked(it):
+                    self.assertRaises(TypeError, list, it)
+                    self.assertEqual(repr(it).split(" items")[0], "<BiHashMap of 2")
+                    continue
+                for other in [it.copy(), copy.copy(it), copy.deepcopy(it), pickle.loads(pickle.dumps(it)), eval(repr(it)), it.inverse.inverse]:
+                    self.assertEqual((other, type(other)), (it, kind))
+                self.assertEqual(eval(repr(it.inverse)), {of(values, 5): of(keys, 3), of(values, 70): of(keys, 0)})
+                other = it.copy()
+                other.clear()
+                self.assertEqual(len(it), 2)
+
+    def test_long_strings(self):
+        it = BiBTreeMap(keys=bytes, values=bytes)
+        it.putall([(b"", b"x" * 1000), (b"y\0" * 5000, b""), (b"z", b"z")])
+        self.assertEqual((it[b""], it.inverse[b""], it[b"z"]), (b"x" * 1000, b"y\0" * 5000, b"z"))
+        self.assertEqual(list(it), [b"", b"y\0" * 5000, b"z"])
+        self.assertEqual(it.popitem(last=False), (b"", b"x" * 1000))
+
+
+class Many(unittest.TestCase):
+    def test_in_and_out(self):
+        chance = random.Random(1)
+        numbers = list({chance.getrandbits(64) for _ in range(20000)})
+        items = list(zip(numbers[:10000], numbers[10000:]))
+        for kind in KINDS:
+            it = kind()
+            it.putall(items[:5000])
+            it.putall(iter(items[5000:]))
+            self.assertEqual(sorted(it.items()), sorted(items))
+            self.assertEqual(dict(it.inverse), {value: key for key, value in items})
+            with self.assertRaises(ValueDuplicationError):
+                it.putall([(7, 7), (8, items[0][1])])
+            with self.assertRaises(DuplicationError):
+                it.putall([(key + 1, value) for key, value in items])
+            self.assertEqual(it, dict(items))
+            it.update(items)
+            it.inverse.forceupdate((value, key) for key, value in items)
+            self.assertEqual(it, dict(items))
+        self.assertEqual(list(BiBTreeMap(items)), sorted(numbers[:10000]))
+
+    def test_a_walk_shows_what_was_there(self):
+        it = BiHashMap((number, number) for number in range(1000))
+        for key in it:
+            del it[key]
+        self.assertEqual(len(it), 0)
+
+
+class Chance(unittest.TestCase):
+    def test_beside_two_dicts(self):
+        for kind in KINDS:
+            for keys, values in TYPES:
+                with self.subTest(kind=kind, keys=keys, values=values):
+                    self.calls(kind(keys=keys, values=values), keys, values)
+
+    def calls(self, it, keys, values):
+        chance, by_key, by_value = random.Random(2), {}, {}
+        for _ in range(3000):
+            key, value = of(keys, chance.randrange(30)), of(values, chance.randrange(30))
+            call = chance.choice(["put", "set", "forceput", "get", "pop", "popvalue"])
+            has_key, has_value = key in by_key, value in by_value
+            if call in ("put", "set", "forceput"):
+                same = by_key.get(key) == value and has_key
+                refused = not same and (has_value and call != "forceput" or has_key and call == "put")
+                try:
+                    {"put": it.put, "set": it.__setitem__, "forceput": it.forceput}[call](key, value)
+                    self.assertFalse(refused)
+                    by_value.pop(by_key.pop(key, None), None)
+                    by_key.pop(by_value.pop(value, None), None)
+                    by_key[key], by_value[value] = value, key
+                except DuplicationError as error:
+                    self.assertTrue(refused)
+                    name = "KeyAndValue" if has_key and has_value else "Key" if has_key else "Value"
+                    self.assertEqual(type(error).__name__, f"{name}DuplicationError")
+            elif call == "get":
+                self.assertEqual((it.get(key), key in it), (by_key.get(key), has_key))
+                self.assertEqual((it.inverse.get(value), value in it.inverse), (by_value.get(value), has_value))
+            elif call == "pop":
+                wanted = by_key.pop(key, None)
+                by_value.pop(wanted, None)
+                self.assertEqual(it.pop(key, None), wanted)
+            else:
+                wanted = by_value.pop(value, None)
+                by_key.pop(wanted, None)
+                self.assertEqual(it.inverse.pop(value, None), wanted)
+            self.assertEqual(len(it), len(by_key))
+        if can_be_walked(it):
+            self.assertEqual(it, by_key)
+
+
+if __name__ == "__main__":
+    unittest.main()

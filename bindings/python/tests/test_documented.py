@@ -1,0 +1,200 @@
+"""What the documentation of bidict says of its calls, at the types that are here."""
+import doctest
+import unittest
+from collections.abc import MutableMapping
+
+import jetukoma
+from jetukoma import (
+    BiBTreeMap,
+    BiHashMap,
+    DuplicationError,
+    KeyAndValueDuplicationError,
+    KeyDuplicationError,
+    ValueDuplicationError,
+)
+
+
+def load_tests(loader, tests, pattern):
+    tests.addTests(doctest.DocTestSuite(jetukoma))
+    return tests
+
+
+class Ordered:
+    Map = BiBTreeMap
+
+
+class Hashed:
+    Map = BiHashMap
+
+
+class Numbers:
+    """The tests of maps of numbers, of either kind."""
+
+    def setUp(self):
+        self.one_two = self.Map({1: 10, 2: 20})
+
+    def test_both_ways(self):
+        it = self.Map({1: 10})
+        self.assertEqual((it[1], it.inverse[10]), (10, 1))
+        self.assertIs(it.inverse.inverse, it)
+        it.inverse[20] = 2
+        self.assertEqual(it, {1: 10, 2: 20})
+        del it.inverse[10]
+        self.assertEqual(it, {2: 20})
+        self.assertEqual(it.inv, {20: 2})
+
+    def test_the_inverse_outlives_the_map(self):
+        inverse = self.Map({1: 10}).inverse
+        self.assertEqual((inverse[10], inverse.inverse[1]), (1, 10))
+        self.assertIs(inverse.inverse.inverse, inverse)
+
+    def test_values_are_unique(self):
+        with self.assertRaises(ValueDuplicationError):
+            self.one_two[3] = 10
+        with self.assertRaises(KeyAndValueDuplicationError):
+            self.one_two[1] = 20
+        self.assertEqual(self.one_two, {1: 10, 2: 20})
+        self.one_two[1] = 30
+        self.assertEqual(self.one_two, {1: 30, 2: 20})
+        self.one_two[1] = 30
+        self.assertEqual(self.one_two, {1: 30, 2: 20})
+
+    def test_put(self):
+        with self.assertRaises(KeyDuplicationError) as it:
+            self.one_two.put(1, 30)
+        self.assertEqual(it.exception.args, (1,))
+        with self.assertRaises(ValueDuplicationError) as it:
+            self.one_two.put(3, 20)
+        self.assertEqual(it.exception.args, (20,))
+        with self.assertRaises(KeyAndValueDuplicationError) as it:
+            self.one_two.put(1, 20)
+        self.assertEqual(it.exception.args, (1, 20))
+        self.assertIsInstance(it.exception, KeyDuplicationError)
+        self.assertIsInstance(it.exception, ValueDuplicationError)
+        self.assertIsInstance(it.exception, DuplicationError)
+        self.one_two.put(1, 10)
+        self.one_two.put(3, 30)
+        self.assertEqual(self.one_two, {1: 10, 2: 20, 3: 30})
+
+    def test_put_the_other_way(self):
+        with self.assertRaises(KeyDuplicationError):
+            self.one_two.inverse.put(10, 3)
+        with self.assertRaises(ValueDuplicationError):
+            self.one_two.inverse[30] = 1
+        self.one_two.inverse[10] = 3
+        self.assertEqual(self.one_two, {2: 20, 3: 10})
+
+    def test_forceput(self):
+        self.one_two.forceput(1, 20)
+        self.assertEqual(self.one_two, {1: 20})
+        self.one_two.inverse.forceput(20, 5)
+        self.assertEqual(self.one_two, {5: 20})
+
+    def test_putall_puts_all_or_none(self):
+        with self.assertRaises(KeyDuplicationError):
+            self.one_two.putall({3: 30, 1: 11})
+        with self.assertRaises(ValueDuplicationError):
+            self.one_two.putall([(3, 30), (4, 30)])
+        with self.assertRaises(KeyDuplicationError):
+            self.one_two.putall([(3, 30), (3, 40)])
+        with self.assertRaises(KeyAndValueDuplicationError):
+            self.one_two.putall([(3, 30), (1, 20)])
+        self.assertEqual(self.one_two, {1: 10, 2: 20})
+        self.one_two.putall([(3, 30), (1, 10), (3, 30)])
+        self.assertEqual(self.one_two, {1: 10, 2: 20, 3: 30})
+        self.one_two.inverse.putall([(40, 4)])
+        self.assertEqual(self.one_two[4], 40)
+
+    def test_update_sets_all_or_none(self):
+        with self.assertRaises(ValueDuplicationError):
+            self.one_two.update([(1, 11), (3, 20)])
+        with self.assertRaises(KeyAndValueDuplicationError):
+            self.one_two.update({1: 20})
+        self.assertEqual(self.one_two, {1: 10, 2: 20})
+        # 10 is free when its turn comes
+        self.one_two.update([(1, 11), (3, 10)])
+        self.assertEqual(self.one_two, {1: 11, 2: 20, 3: 10})
+        self.assertEqual(self.Map([(1, 10), (1, 20)]), {1: 20})
+        with self.assertRaises(ValueDuplicationError):
+            self.Map([(1, 10), (2, 10)])
+
+    def test_the_order_of_items_counts(self):
+        it = self.Map({0: 0, 1: 2})
+        it.forceupdate([(2, 0), (0, 1), (0, 0)])
+        self.assertEqual(it, {0: 0, 1: 2})
+        it.forceupdate([(0, 1), (0, 0), (2, 0)])
+        self.assertEqual(it, {1: 2, 2: 0})
+
+    def test_pop(self):
+        self.assertEqual((self.one_two.pop(1), self.one_two.pop(1, None), self.one_two.pop(1, 7)), (10, None, 7))
+        with self.assertRaises(KeyError):
+            self.one_two.pop(1)
+        with self.assertRaises(KeyError):
+            del self.one_two[1]
+        self.assertEqual(self.one_two.popitem(), (2, 20))
+        with self.assertRaises(KeyError):
+            self.one_two.popitem()
+        self.assertEqual(self.one_two, {})
+
+    def test_as_a_mapping(self):
+        self.assertIsInstance(self.one_two, MutableMapping)
+        self.assertTrue(1 in self.one_two and 10 not in self.one_two and 10 in self.one_two.inverse)
+        self.assertEqual((self.one_two.get(1), self.one_two.get(3), self.one_two.get(3, 7)), (10, None, 7))
+        with self.assertRaises(KeyError):
+            self.one_two[3]
+        self.assertEqual((len(self.one_two), sorted(self.one_two)), (2, [1, 2]))
+        self.assertEqual(sorted(self.one_two.items()), [(1, 10), (2, 20)])
+        self.assertEqual(sorted(self.one_two.inverse.items()), [(10, 1), (20, 2)])
+        self.assertEqual(self.one_two.items() & {(1, 10), (2, 10)}, {(1, 10)})
+        self.assertEqual(self.one_two.keys() | {3}, {1, 2, 3})
+        self.assertEqual(self.one_two.values(), {10, 20})
+        self.assertTrue(20 in self.one_two.values() and (1, 10) in self.one_two.items())
+        self.assertEqual((self.one_two.setdefault(1, 7), self.one_two.setdefault(3, 30)), (10, 30))
+        self.one_two.clear()
+        self.assertFalse(self.one_two)
+        with self.assertRaises(TypeError):
+            hash(self.one_two)
+
+    def test_equality(self):
+        self.assertEqual(self.one_two, self.Map([(2, 20), (1, 10)]))
+        self.assertEqual(self.one_two, {2: 20, 1: 10})
+        self.assertNotEqual(self.one_two, {1: 10})
+        self.assertNotEqual(self.one_two, {1: 10, 2: 21})
+        self.assertNotEqual(self.one_two, 7)
+        self.assertEqual(self.one_two.copy(), self.one_two)
+
+
+class OrderedNumbers(Ordered, Numbers, unittest.TestCase):
+    def test_walks_ascend(self):
+        it = BiBTreeMap([(3, 10), (1, 30), (4, 5), (2, 20)])
+        self.assertEqual(it.popitem(), (4, 5))
+        self.assertEqual((list(it), list(reversed(it)), list(it.values())), ([1, 2, 3], [3, 2, 1], [30, 20, 10]))
+        self.assertEqual(repr(it), "BiBTreeMap({1: 30, 2: 20, 3: 10})")
+        self.assertEqual(repr(it.inverse), "BiBTreeMap({30: 1, 20: 2, 10: 3})")
+        self.assertEqual((it.popitem(), it.popitem(last=False), it.inverse.popitem()), ((3, 10), (1, 30), (20, 2)))
+        self.assertEqual(repr(it), "BiBTreeMap()")
+
+
+class HashedNumbers(Hashed, Numbers, unittest.TestCase):
+    def test_repr(self):
+        self.assertEqual(repr(BiHashMap({1: 10})), "BiHashMap({1: 10})")
+
+
+class OrderedTexts(unittest.TestCase):
+    def test_elements(self):
+        symbols = BiBTreeMap({"hydrogen": 1, "carbon": 6}, keys=str)
+        self.assertEqual((symbols["carbon"], symbols.inverse[1]), (6, "hydrogen"))
+        with self.assertRaises(ValueDuplicationError):
+            symbols["coal"] = 6
+        symbols.inverse[6] = "coal"
+        self.assertEqual(list(symbols.items()), [("coal", 6), ("hydrogen", 1)])
+        symbols.update(oxygen=8)
+        self.assertEqual(repr(symbols), "BiBTreeMap({'coal': 6, 'hydrogen': 1, 'oxygen': 8}, keys=str)")
+        self.assertEqual(repr(symbols.inverse), "BiBTreeMap({6: 'coal', 1: 'hydrogen', 8: 'oxygen'}, values=str)")
+        with self.assertRaises(KeyDuplicationError):
+            symbols.putall([("boron", 5), ("oxygen", 9)])
+        self.assertEqual((len(symbols), symbols.popitem()), (3, ("oxygen", 8)))
+
+
+if __name__ == "__main__":
+    unittest.main()
