@@ -74,6 +74,7 @@ impl<L, R> Overwritten<L, R> {
         !matches!(self, Overwritten::Neither)
     }
 
+    #[inline]
     fn map<M, S>(self, to: impl Fn((L, R)) -> (M, S)) -> Overwritten<M, S> {
         use Overwritten::*;
         let one = |left, right, into: fn(M, S) -> Overwritten<M, S>| {

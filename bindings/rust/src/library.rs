@@ -88,6 +88,7 @@ const REFUSED: u32 = 3;
 const BUFFER_TOO_SHORT: u32 = 4;
 const NOT_FOUND: u32 = 5;
 
+#[inline]
 fn done(status: u32) -> Result<(), Refusal> {
     match status {
         DONE => Ok(()),
@@ -101,6 +102,7 @@ fn sure(status: u32) {
     assert_eq!(status, DONE);
 }
 
+#[inline]
 fn found(status: u32) -> Result<bool, Refusal> {
     if status == NOT_FOUND {
         Ok(false)
@@ -109,6 +111,7 @@ fn found(status: u32) -> Result<bool, Refusal> {
     }
 }
 
+#[inline]
 fn overwritten<L, R>(kind: u32, mut pair: impl FnMut(usize) -> (L, R)) -> Overwritten<L, R> {
     if kind == 0 {
         return Overwritten::Neither;
@@ -123,6 +126,7 @@ fn overwritten<L, R>(kind: u32, mut pair: impl FnMut(usize) -> (L, R)) -> Overwr
 }
 
 /// A number that the library writes.
+#[inline]
 fn number(call: impl FnOnce(*mut u64) -> u32) -> Asked<u64> {
     let mut it = 0;
     Ok(found(call(&mut it))?.then_some(it))

@@ -21,6 +21,7 @@ struct Answer {
     pairs: [Pair; 2],
 }
 
+#[inline]
 fn pair(call: impl FnOnce(*mut Pair) -> u32) -> Asked<(u64, u64)> {
     let mut it = Pair::default();
     Ok(found(call(&mut it))?.then_some(it.parts()))
