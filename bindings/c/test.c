@@ -116,6 +116,21 @@ static int chance(int below) {
 #undef KIND
 #undef ORDERED
 
+/* A handle whose table is of another type has none for a call. */
+static void of_another_type(void) {
+    jetukoma_btree_bytes_u64 t = {0};
+    void *it = &t;
+    size_t n = 99;
+    uint64_t number = 99;
+    CHECK(!jetukoma_btree_bytes_u64_new(&t) && !jetukoma_btree_bytes_u64_insert_no_overwrite(&t, bytes(3), 3, 7));
+    CHECK(jetukoma_hash_bytes_u64_len(it, &n) == JETUKOMA_NO_TABLE && jetukoma_btree_u64_u64_len(it, &n) == JETUKOMA_NO_TABLE && n == 99);
+    CHECK(jetukoma_hash_u64_u64_new(it) == JETUKOMA_NO_TABLE && jetukoma_hash_u64_u64_free(it) == JETUKOMA_NO_TABLE);
+    CHECK(jetukoma_btree_u64_u64_clear(it) == JETUKOMA_NO_TABLE && jetukoma_hash_bytes_bytes_clear(it) == JETUKOMA_NO_TABLE);
+    CHECK(jetukoma_hash_bytes_u64_get_by_left(it, bytes(3), 3, &number) == JETUKOMA_NO_TABLE && number == 99);
+    CHECK(!jetukoma_btree_bytes_u64_get_by_left(&t, bytes(3), 3, &number) && number == 7);
+    CHECK(!jetukoma_btree_bytes_u64_free(&t) && blocks == 0);
+}
+
 int main(void) {
     btree_u64_u64_tests();
     btree_bytes_u64_tests();
@@ -123,6 +138,7 @@ int main(void) {
     hash_u64_u64_tests();
     hash_bytes_u64_tests();
     hash_bytes_bytes_tests();
+    test("a table", "of another type", of_another_type);
     printf("%d passed, %d failed\n", tests_passed, tests_failed);
     return tests_failed != 0;
 }
