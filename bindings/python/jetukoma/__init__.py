@@ -180,7 +180,7 @@ class _Bimap(MutableMapping):
     def _put_all(self, items, more, key_refuses):
         items, row = self._prepared(items, more)
         # many numbers are put into a copy, which takes the table's place if none was a duplicate
-        if row and len(items) * 32 >= len(self):
+        if row and len(items) * 16 >= len(self):
             copy = self._table.copy()
             copy.insert_many(row)
             if len(copy) == len(self) + len(items):

@@ -1,7 +1,7 @@
 """The calls of the library, by ctypes. What is passed is made here: a plain int would pass as one of 32 bits."""
 import os
 from array import array
-from ctypes import PyDLL, Structure, byref, c_bool, c_size_t, c_uint32, c_uint64, c_void_p, create_string_buffer
+from ctypes import PyDLL, Structure, byref, c_bool, c_size_t, c_uint64, c_void_p, create_string_buffer
 from itertools import chain
 from operator import index
 
@@ -91,7 +91,7 @@ class Table:
         self._remove = self._call("remove_by_left"), self._call("remove_by_right")
         self._insert, self._len, self._free = (self._call(it) for it in ("insert_with", "len", "free"))
         # (the kind of what was overwritten, and of numbers the pairs)
-        self._told, self._size = byref((c_uint32 * 10)()), c_size_t()
+        self._told, self._size = byref((c_uint64 * 5)()), c_size_t()
         self._pair = (byref((c_uint64 * 2)()),) if self.numbers else ()
         self._handle = Handle()
         self._at = byref(self._handle)
