@@ -20,7 +20,10 @@ a map.
 from collections.abc import ItemsView, Mapping, MutableMapping
 from weakref import ref
 
-from ._library import MISSING, SIDES, Table, row_of
+from ._library import MISSING, SIDES, NumberTable, Table, row_of
+
+# What a look-up raises of what no map of its types contains.
+NEVER_CONTAINED = (TypeError, OverflowError, UnicodeError)
 
 __all__ = [
     "BiBTreeMap",
@@ -56,24 +59,28 @@ class _Items(ItemsView):
 
 
 class _Bimap(MutableMapping):
-    __slots__ = ("_table", "_side", "_inverse", "_inverse_of", "__weakref__")
+    __slots__ = ("_table", "_side", "_inverse", "_inverse_of", "_find", "_find_key", "_has", "_take", "_insert_pair", "__weakref__")
 
     def __init__(self, items=(), /, *, keys=int, values=int):
         if keys not in SIDES or values not in SIDES:
             raise TypeError("keys and values are int, bytes or str")
-        self._side = int(keys is int and values is not int)
-        self._table = Table(self._kind, (values, keys) if self._side else (keys, values))
-        self._inverse = self._inverse_of = None
+        side = int(keys is int and values is not int)
+        types = (values, keys) if side else (keys, values)
+        self._bind((NumberTable if types == (int, int) else Table)(self._kind, types), side, None)
         self.update(items)
+
+    def _bind(self, table, side, inverse_of):
+        self._table, self._side, self._inverse, self._inverse_of = table, side, None, inverse_of
+        self._find, self._find_key = table.finder(side), table.finder(1 - side)
+        self._has, self._take, self._insert_pair = table.asker(side), table.taker(side), table.inserter()
 
     @property
     def inverse(self):
         """The same items, by their values."""
         other = self._inverse or self._inverse_of and self._inverse_of()
         if other is None:
-            other = object.__new__(type(self))
-            other._table, other._side, other._inverse, other._inverse_of = self._table, 1 - self._side, None, ref(self)
-            self._inverse = other
+            other = self._inverse = object.__new__(type(self))
+            other._bind(self._table, 1 - self._side, ref(self))
         return other
 
     inv = inverse
@@ -86,25 +93,26 @@ class _Bimap(MutableMapping):
 
     def __contains__(self, key):
         try:
-            return self._table.contains(self._side, key)
-        except (TypeError, OverflowError, UnicodeError):
+            return self._has(key)
+        except NEVER_CONTAINED:
             return False
-
-    def __getitem__(self, key):
-        try:
-            value = self._table.find(self._side, key)
-        except (TypeError, OverflowError, UnicodeError):
-            raise KeyError(key) from None
-        if value is MISSING:
-            raise KeyError(key)
-        return value
 
     def get(self, key, default=None):
         """The value of a key, or the default."""
         try:
-            return self[key]
-        except KeyError:
+            value = self._find(key)
+        except NEVER_CONTAINED:
             return default
+        return default if value is MISSING else value
+
+    def __getitem__(self, key):
+        try:
+            value = self._find(key)
+        except NEVER_CONTAINED:
+            value = MISSING
+        if value is MISSING:
+            raise KeyError(key)
+        return value
 
     def _columns(self):
         return self._table.rows()[:: -1 if self._side else 1]
@@ -128,12 +136,12 @@ class _Bimap(MutableMapping):
 
     def _insert(self, key, value, key_refuses, value_refuses):
         if self._side:
-            return self._table.insert(value, key, value_refuses, key_refuses)
-        return self._table.insert(key, value, key_refuses, value_refuses)
+            return self._insert_pair(value, key, value_refuses, key_refuses)
+        return self._insert_pair(key, value, key_refuses, value_refuses)
 
     def _put(self, key, value, key_refuses):
         if not self._insert(key, value, key_refuses, True):
-            _judge(key, value, self.get(key, MISSING), self.inverse.get(value, MISSING), key_refuses)
+            _judge(key, value, self._find(key), self._find_key(value), key_refuses)
 
     def put(self, key, value):
         """Inserts an item. If another one has the key or the value, it is a DuplicationError."""
@@ -190,10 +198,10 @@ class _Bimap(MutableMapping):
 
     def _check(self, items, key_refuses):
         """Refuses what would be a duplicate when its turn comes, and changes nothing."""
-        values, keys, inverse = {}, {}, self.inverse
+        values, keys = {}, {}
         for key, value in items:
-            old_value = values[key] if key in values else self.get(key, MISSING)
-            old_key = keys[value] if value in keys else inverse.get(value, MISSING)
+            old_value = values[key] if key in values else self._find(key)
+            old_key = keys[value] if value in keys else self._find_key(value)
             _judge(key, value, old_value, old_key, key_refuses)
             keys[old_value] = MISSING
             values[key], keys[value] = value, key
@@ -209,21 +217,21 @@ class _Bimap(MutableMapping):
 
     def pop(self, key, default=MISSING):
         """Removes the item of a key and returns its value; without one the default, or else it is a KeyError."""
-        value = self.get(key, MISSING)
-        if value is not MISSING:
-            self._table.remove(self._side, key)
-            return value
-        if default is MISSING:
+        try:
+            value = self._take(key)
+        except NEVER_CONTAINED:
+            value = MISSING
+        if value is MISSING and default is MISSING:
             raise KeyError(key)
-        return default
+        return default if value is MISSING else value
 
     def popitem(self, last=True):
         """Removes the last item of the walk, or the first, and returns it."""
         if not self:
             raise KeyError("popitem(): the map is empty")
-        item = self._table.end(last)
-        self._table.remove(0, item[0])
-        return item[:: -1 if self._side else 1]
+        item = self._table.at_rank(len(self) - 1 if last else 0)[:: -1 if self._side else 1]
+        self._take(item[0])
+        return item
 
     def clear(self):
         """Removes all items."""

@@ -1,7 +1,7 @@
 """The calls of the library, by ctypes. What is passed is made here: a plain int would pass as one of 32 bits."""
 import os
 from array import array
-from ctypes import PyDLL, Structure, byref, c_bool, c_size_t, c_uint64, c_void_p, create_string_buffer
+from ctypes import PyDLL, Structure, byref, c_bool, c_size_t, c_uint64, c_void_p, create_string_buffer, memmove
 from itertools import chain
 from operator import index
 
@@ -26,10 +26,7 @@ class Numbers:
         self.out = (byref(self._got),)
 
     def give(self, value):
-        value = index(value)
-        if value >> 64:
-            raise OverflowError(f"{value} is not from 0 to 2**64 - 1")
-        self._given.value = value
+        self._given.value = number(value)
         return (self._given,)
 
     def got(self):
@@ -37,6 +34,13 @@ class Numbers:
 
     def grow(self):
         """Numbers have room."""
+
+
+def number(value):
+    value = index(value)
+    if value >> 64:
+        raise OverflowError(f"{value} is not from 0 to 2**64 - 1")
+    return value
 
 
 class Bytes:
@@ -79,110 +83,152 @@ SIDES = {int: Numbers, bytes: Bytes, str: Texts}
 
 
 class Table:
-    """A table and its two sides, 0 the left one. What `side` stands in is the side that is asked."""
+    """A table with bytes or texts on the left. What is said of a side, 0 the left one, is a function of its values."""
+
+    numbers = False
 
     def __init__(self, kind, types):
         self.kind, self.types = kind, types
         self.sides = tuple(SIDES[it]() for it in types)
-        self.numbers = types == (int, int)
         self._prefix = f"jetukoma_{kind}_{'_'.join(it.name for it in self.sides)}_"
-        self._get = self._call("get_by_left"), self._call("get_by_right")
-        self._contains = self._call("contains_left"), self._call("contains_right")
-        self._remove = self._call("remove_by_left"), self._call("remove_by_right")
-        self._insert, self._len, self._free = (self._call(it) for it in ("insert_with", "len", "free"))
-        # (the kind of what was overwritten, and of numbers the pairs)
-        self._told, self._size = byref((c_uint64 * 5)()), c_size_t()
-        self._pair = (byref((c_uint64 * 2)()),) if self.numbers else ()
-        self._handle = Handle()
+        self._handle, self._size = Handle(), c_size_t()
         self._at = byref(self._handle)
-        sure(self._call("new")(self._at))
+        self._len, self._free = self.call("len"), self.call("free")
+        sure(self.call("new")(self._at))
 
     def __del__(self):
-        if hasattr(self, "_at"):
+        if hasattr(self, "_free"):
             self._free(self._at)
 
-    def _call(self, name):
-        return getattr(library, self._prefix + name)
+    def call(self, name, side=None):
+        return getattr(library, f"{self._prefix}{name}{'' if side is None else ('left', 'right')[side]}")
 
     def __len__(self):
         sure(self._len(self._at, byref(self._size)))
         return self._size.value
 
-    def find(self, side, value):
-        """The partner of a value, or MISSING."""
-        other = self.sides[1 - side]
-        given = self.sides[side].give(value)
-        while (status := self._get[side](self._at, *given, *other.out)) == BUFFER_TOO_SHORT:
-            other.grow()
-        return other.got() if found(status) else MISSING
-
-    def contains(self, side, value):
-        return found(self._contains[side](self._at, *self.sides[side].give(value)))
-
-    def insert(self, left, right, left_refuses, right_refuses):
-        """Whether the pair was inserted."""
-        left, right = self.sides[0].give(left), self.sides[1].give(right)
-        status = self._insert(self._at, *left, *right, left_refuses, right_refuses, self._told)
-        if status == REFUSED:
-            return False
-        sure(status)
-        return True
-
-    def remove(self, side, value):
-        """Whether the value was contained. Its pair is gone then."""
-        return found(self._remove[side](self._at, *self.sides[side].give(value), *self._pair))
-
     def clear(self):
-        sure(self._call("clear")(self._at))
+        sure(self.call("clear")(self._at))
 
-    def copy(self):
-        """A table with the same pairs of numbers."""
-        other = Table(self.kind, self.types)
-        other.insert_many(self.fill(0, len(self)))
-        return other
+    def finder(self, side):
+        """The partner of a value, or MISSING."""
+        call, at, give, other = self.call("get_by_", side), self._at, self.sides[side].give, self.sides[1 - side]
 
-    def exchange(self, other):
-        """Exchanges what two tables of one type contain."""
-        self._handle, other._handle = other._handle, self._handle
-        self._at, other._at = other._at, self._at
+        def find(value):
+            given = give(value)
+            while (status := call(at, *given, *other.out)) == BUFFER_TOO_SHORT:
+                other.grow()
+            return other.got() if found(status) else MISSING
+
+        return find
+
+    def asker(self, side):
+        """Whether a value is contained."""
+        call, at, give = self.call("contains_", side), self._at, self.sides[side].give
+        return lambda value: found(call(at, *give(value)))
+
+    def taker(self, side):
+        """The partner of a value whose pair is removed, or MISSING."""
+        find, call, at, give = self.finder(side), self.call("remove_by_", side), self._at, self.sides[side].give
+
+        def take(value):
+            partner = find(value)
+            return partner if found(call(at, *give(value))) else MISSING
+
+        return take
+
+    def inserter(self):
+        """Whether a pair was inserted; it is handed over with what its left and its right refuse."""
+        call, at, told, (left, right) = self.call("insert_with"), self._at, byref(c_uint64()), self.sides
+        return lambda l, r, *refuses: inserted(call(at, *left.give(l), *right.give(r), *refuses, told))
 
     def rows(self):
         """The lefts and the rights, in the walk's order."""
-        if self.numbers:
-            row = self.fill(0, len(self))
-            return row[::2], row[1::2]
         if self.kind != "btree":
             raise TypeError("a hashed map of bytes or texts can't be walked")
-        pairs = [self._at_rank(rank) for rank in range(len(self))]
+        pairs = [self.at_rank(rank) for rank in range(len(self))]
         return [left for left, _ in pairs], [right for _, right in pairs]
 
-    def _at_rank(self, rank):
+    def at_rank(self, rank):
+        if self.kind != "btree":
+            return self.rows()
         left, right = self.sides
-        while (status := self._call("pair_at_rank")(self._at, c_size_t(rank), *left.out, *right.out)) == BUFFER_TOO_SHORT:
+        while (status := self.call("pair_at_rank")(self._at, c_size_t(rank), *left.out, *right.out)) == BUFFER_TOO_SHORT:
             left.grow()
             right.grow()
         sure(status)
         return left.got(), right.got()
 
-    def end(self, last):
-        """The first or the last pair of the walk, of which there is one."""
-        rank = len(self) - 1 if last else 0
-        return tuple(self.fill(rank, 1)) if self.numbers else self._at_rank(rank) if self.kind == "btree" else self.rows()
+
+class NumberTable(Table):
+    """A table with numbers on both sides. Many cross at once, and one goes the short way."""
+
+    numbers = True
+
+    def finder(self, side):
+        call, at, given, got = self.call("get_by_", side), self._at, c_uint64(), c_uint64()
+        out = byref(got)
+
+        def find(value):
+            given.value = number(value)
+            status = call(at, given, out)
+            return got.value if not status or found(status) else MISSING
+
+        return find
+
+    def taker(self, side):
+        call, at, given, pair = self.call("remove_by_", side), self._at, c_uint64(), (c_uint64 * 2)()
+        out = byref(pair)
+
+        def take(value):
+            given.value = number(value)
+            return pair[1 - side] if found(call(at, given, out)) else MISSING
+
+        return take
+
+    def inserter(self):
+        call, at, left, right, told = self.call("insert_with"), self._at, c_uint64(), c_uint64(), byref((c_uint64 * 5)())
+
+        def insert(l, r, left_refuses, right_refuses):
+            left.value, right.value = number(l), number(r)
+            status = call(at, left, right, left_refuses, right_refuses, told)
+            return not status or inserted(status)
+
+        return insert
+
+    def copy(self):
+        """A table with the same pairs."""
+        other = NumberTable(self.kind, self.types)
+        other.insert_many(self.fill(0, len(self)))
+        return other
+
+    def exchange(self, other):
+        """Exchanges what the two contain."""
+        mine, theirs = bytes(self._handle), bytes(other._handle)
+        memmove(self._at, theirs, len(theirs))
+        memmove(other._at, mine, len(mine))
+
+    def rows(self):
+        row = self.fill(0, len(self))
+        return row[::2], row[1::2]
+
+    def at_rank(self, rank):
+        return tuple(self.fill(rank, 1))
 
     def fill(self, start, count):
-        """So many pairs of numbers from the start-th on, a left and a right in turn. So many are there."""
+        """So many pairs from the start-th on, a left and a right in turn. So many are there."""
         row = array("Q", bytes(16 * count))
         # (an empty array stands at null)
         if count:
             at = c_void_p(row.buffer_info()[0])
-            sure(self._call("fill")(self._at, c_size_t(start), at, c_size_t(count), byref(self._size)))
+            sure(self.call("fill")(self._at, c_size_t(start), at, c_size_t(count), byref(self._size)))
         return row
 
     def insert_many(self, row):
-        """Inserts pairs of numbers in turn, each overwriting. Where there is no memory, those before are in."""
+        """Inserts pairs in turn, each overwriting. Where there is no memory, those before are in."""
         if row:
             at = c_void_p(row.buffer_info()[0])
-            sure(self._call("insert_many")(self._at, at, c_size_t(len(row) // 2), byref(self._size)))
+            sure(self.call("insert_many")(self._at, at, c_size_t(len(row) // 2), byref(self._size)))
 
 
 def row_of(pairs):
@@ -197,6 +243,13 @@ def sure(status):
         raise MemoryError
     if status:
         raise RuntimeError(f"status {status}")
+
+
+def inserted(status):
+    if status == REFUSED:
+        return False
+    sure(status)
+    return True
 
 
 def found(status):
