@@ -143,6 +143,19 @@ static void OUR(memory)(void) {
 #endif
         granted = SIZE_MAX;
         OUR(same)(&t);
+#if !BYTES
+        /* of many pairs those before the refusal are in */
+        jetukoma_u64_u64_pair row[64];
+        size_t taken = 99, len, filled;
+        for (uint64_t at = 0; at < 64; at++) row[at].left = row[at].right = at * 2 + 1;
+        CHECK(!CALL(clear)(&t));
+        granted = most / 2;
+        CHECK(CALL(insert_many)(&t, row, 64, &taken) == (taken < 64 ? JETUKOMA_NO_MEMORY : 0) && taken >= 20);
+        granted = SIZE_MAX;
+        refused |= taken < 64;
+        CHECK(!CALL(len)(&t, &len) && len == taken && !CALL(fill)(&t, 0, row, 64, &filled) && filled == taken);
+        for (size_t at = 0; at < taken; at++) CHECK(!CALL(contains_left)(&t, at * 2 + 1));
+#endif
         CHECK(!CALL(free)(&t) && blocks == 0);
     }
 }

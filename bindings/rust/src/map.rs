@@ -2,13 +2,15 @@
 use std::alloc::{Layout, handle_alloc_error};
 use std::borrow::Borrow;
 use std::cell::UnsafeCell;
+use std::cmp::Ordering;
 use std::fmt;
+use std::hash::{Hash, Hasher};
 use std::ops::{Bound, RangeBounds};
 
 use crate::library::{Handle, InOrder, Library, Refusal, Walked};
 use crate::sides::{Key, PairedWith, Value};
 use crate::walk::{IntoIter, Iter, Walk};
-use crate::{NoMemory, NotInserted, Overwritten, Policy};
+use crate::{Hashed, NoMemory, NotInserted, Ordered, Overwritten, Policy};
 
 /// A two-way map between lefts `L` and rights `R`, of the kind `K`: [`BiBTreeMap`](crate::BiBTreeMap) or
 /// [`BiHashMap`](crate::BiHashMap).
@@ -215,7 +217,7 @@ impl<L: PairedWith<R, K, Library: Walked>, R: Value, K> BijectiveMap<L, R, K> {
     }
 }
 
-impl<R: Value + Ord, L: PairedWith<R, crate::Ordered, Library: InOrder>> BijectiveMap<L, R, crate::Ordered> {
+impl<R: Value + Ord, L: PairedWith<R, Ordered, Library: InOrder>> BijectiveMap<L, R, Ordered> {
     /// Walks the rights, ascending. They are copied and put in order first.
     pub fn right_values(&self) -> impl Iterator<Item = R> {
         let mut all: Vec<R> = self.iter().map(|(_, right)| right).collect();
@@ -224,7 +226,7 @@ impl<R: Value + Ord, L: PairedWith<R, crate::Ordered, Library: InOrder>> Bijecti
     }
 
     /// Walks the pairs whose left is within the bounds. Reversed bounds have none.
-    pub fn left_range<A: RangeBounds<L>>(&self, bounds: A) -> Iter<'_, L, R, crate::Ordered> {
+    pub fn left_range<A: RangeBounds<L>>(&self, bounds: A) -> Iter<'_, L, R, Ordered> {
         let below = |left: &L, and_itself: bool| self.left_rank(left) + (and_itself && self.contains_left(left)) as usize;
         let start = match bounds.start_bound() {
             Bound::Included(left) => below(left, false),
@@ -258,7 +260,7 @@ impl<R: Value + Ord, L: PairedWith<R, crate::Ordered, Library: InOrder>> Bijecti
     }
 }
 
-impl<R: Value, L: PairedWith<R, crate::Hashed, Library: Walked>> BijectiveMap<L, R, crate::Hashed> {
+impl<R: Value, L: PairedWith<R, Hashed, Library: Walked>> BijectiveMap<L, R, Hashed> {
     /// Walks the rights, in the order of [`iter`](Self::iter).
     pub fn right_values(&self) -> impl Iterator<Item = R> {
         self.iter().map(|(_, right)| right)
@@ -296,6 +298,25 @@ impl<L: PairedWith<R, K, Library: Walked>, R: Value + PartialEq, K> PartialEq fo
 }
 
 impl<L: PairedWith<R, K, Library: Walked>, R: Value + Eq, K> Eq for BijectiveMap<L, R, K> {}
+
+/// By the pairs in turn, the least left first.
+impl<L: PairedWith<R, Ordered, Library: Walked> + Ord, R: Value + Ord> Ord for BijectiveMap<L, R, Ordered> {
+    fn cmp(&self, other: &Self) -> Ordering {
+        self.iter().cmp(other.iter())
+    }
+}
+
+impl<L: PairedWith<R, Ordered, Library: Walked> + Ord, R: Value + Ord> PartialOrd for BijectiveMap<L, R, Ordered> {
+    fn partial_cmp(&self, other: &Self) -> Option<Ordering> {
+        Some(self.cmp(other))
+    }
+}
+
+impl<L: PairedWith<R, Ordered, Library: Walked> + Hash, R: Value + Hash> Hash for BijectiveMap<L, R, Ordered> {
+    fn hash<H: Hasher>(&self, state: &mut H) {
+        self.iter().for_each(|pair| pair.hash(state));
+    }
+}
 
 /// Each pair is put in as by `insert`, in turn, and may overwrite earlier ones.
 impl<L: PairedWith<R, K>, R: Value, K> Extend<(L, R)> for BijectiveMap<L, R, K> {

@@ -1,5 +1,6 @@
 //! What the documentation of the crate `bimap` says of its calls, at the types that are here.
 use jetukoma::{BiBTreeMap, BiHashMap, BiMap, Overwritten};
+use std::collections::HashSet;
 
 /// A text, or its bytes.
 fn s<T: From<&'static str>>(text: &'static str) -> T {
@@ -204,6 +205,20 @@ fn ordered_walks_ascend() {
     assert_eq!(bimap.left_range(..).len(), 4);
     assert_eq!(bimap.left_range(b.clone()..b.clone()).len(), 0);
     assert_eq!(bimap.left_range(d..b).next(), None);
+}
+
+#[test]
+fn ordered_maps_compare_and_hash() {
+    let of = |pairs: &[(u64, u64)]| pairs.iter().copied().collect::<BiBTreeMap<u64, u64>>();
+    assert!(of(&[(1, 2)]) < of(&[(2, 1)]) && of(&[(1, 1)]) < of(&[(1, 1), (2, 2)]) && of(&[(1, 1)]) < of(&[(1, 2)]));
+    let lists: [&[(u64, u64)]; 5] = [
+        &[],
+        &[(0, 0)],
+        &[(0, 0), (0, 1), (1, 0)],
+        &[(1, 0), (0, 1), (0, 0)],
+        &[(0, 1), (1, 0)],
+    ];
+    assert_eq!(lists.map(of).into_iter().collect::<HashSet<_>>().len(), 3);
 }
 
 #[test]
