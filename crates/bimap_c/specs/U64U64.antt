@@ -1,6 +1,6 @@
 -- What a call for C returns, writes and leaves where both sides are numbers: a record of the facade holds of some answer,
 -- and that is what the status and the out-parameters tell.
-use Rattle.std.specs.Prelude.{◌≡◌, ◌⊎◌, ℕ, ◌<◌, ◌-◌, Option, None, Some, Result, Ok, Err, List, [], ◌∷◌, ◌++◌, length, take, drop, map, min, nat_eq, Contains, IfOk}
+use Rattle.std.specs.Prelude.{◌≡◌, ◌⊎◌, ℕ, ◌<◌, Option, Result, List, ◌++◌, length, take, drop, map, min, nat_eq, Contains, IfOk}
 use Rattle.std.specs.Borrow.{Bor}
 use Rattle.std.specs.Map.Iter.{TakesFirst, TakesLast, deref}
 use Rattle.bimap.specs.Holding.{Holding, IsFull, IsFoundByLeft, IsFoundByRight, IsInsertion, IsInsertionUnder, IsInsertionWithoutOverwriting, IsRemovalByLeft, IsRemovalByRight}
