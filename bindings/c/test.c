@@ -124,7 +124,7 @@ static void of_another_type(void) {
     uint64_t number = 99;
     CHECK(!jetukoma_btree_bytes_u64_new(&t) && !jetukoma_btree_bytes_u64_insert_no_overwrite(&t, bytes(3), 3, 7));
     CHECK(jetukoma_hash_bytes_u64_len(it, &n) == JETUKOMA_NO_TABLE && jetukoma_btree_u64_u64_len(it, &n) == JETUKOMA_NO_TABLE && n == 99);
-    CHECK(jetukoma_hash_u64_u64_new(it) == JETUKOMA_NO_TABLE && jetukoma_hash_u64_u64_free(it) == JETUKOMA_NO_TABLE);
+    CHECK(jetukoma_hash_u64_u64_new(it) == JETUKOMA_NO_TABLE && jetukoma_hash_u64_u64_reserve(it, 1) == JETUKOMA_NO_TABLE);
     CHECK(jetukoma_btree_u64_u64_clear(it) == JETUKOMA_NO_TABLE && jetukoma_hash_bytes_bytes_clear(it) == JETUKOMA_NO_TABLE);
     CHECK(jetukoma_hash_bytes_u64_get_by_left(it, bytes(3), 3, &number) == JETUKOMA_NO_TABLE && number == 99);
     CHECK(!jetukoma_btree_bytes_u64_get_by_left(&t, bytes(3), 3, &number) && number == 7);
