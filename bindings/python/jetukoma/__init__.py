@@ -13,9 +13,9 @@ Keys and values are ints from 0 to 2**64 - 1, unless the constructor is told oth
 for values, and bytes or str on both sides. `BiBTreeMap` walks by ascending keys, texts by the bytes of their UTF-8;
 `BiHashMap` in no promised order, and of texts or bytes not at all. A walk shows what was contained when it began.
 
-A key of another type, or out of range, is not contained; to put one in is a TypeError or an OverflowError, and nothing has
-changed. So it is after each exception, but for a MemoryError among many items: those before are in. One thread at a time uses
-a map.
+A key of another type, or out of range, is not contained; to put one in is a TypeError, an OverflowError or, of a text that
+has no UTF-8, a UnicodeError, and nothing has changed. So it is after each exception, but for a MemoryError among many items,
+of which those before may be in. One thread at a time uses a map.
 """
 from collections.abc import ItemsView, Mapping, MutableMapping
 from weakref import ref
