@@ -1,6 +1,7 @@
 //! What the crate `bimap` doesn't have: policies, refusals of memory, threads; and calls by chance beside two maps of std.
 use jetukoma::{BiBTreeMap, BiHashMap, NoMemory, NotInserted, OnHeld, Overwritten, Policy};
 use std::collections::BTreeMap;
+use std::process::Command;
 
 #[test]
 fn policies() {
@@ -74,6 +75,33 @@ fn no_memory() {
     assert_eq!(bimap.try_reserve(usize::MAX / 64), Err(NoMemory));
     assert_eq!((bimap.capacity(), bimap.len(), bimap.get_by_left(&10)), (capacity, 1, Some(1)));
     assert_eq!(NoMemory.to_string(), "no memory");
+}
+
+/// Run by the next test alone, with little memory.
+#[test]
+#[ignore]
+fn starved() {
+    let mut bimap = BiHashMap::new();
+    let refused = (0..u64::MAX).find_map(|it| bimap.try_insert(it, it).err()).unwrap();
+    let len = bimap.len() as u64;
+    assert_eq!((refused, bimap.capacity() as u64), (NotInserted::Memory(len, len), len));
+    assert_eq!(bimap.try_insert_no_overwrite(len, len), Err(NotInserted::Memory(len, len)));
+    assert_eq!((bimap.get_by_left(&len), bimap.get_by_right(&(len - 1))), (None, Some(len - 1)));
+    assert_eq!(bimap.try_insert(0, 1), Ok(Overwritten::Both((0, 0), (1, 1))));
+    assert_eq!(bimap.try_insert(len, len), Ok(Overwritten::Neither));
+}
+
+#[test]
+fn a_refused_insertion() {
+    let little = r#"ulimit -v 150000 && exec "$0" --exact starved --ignored"#;
+    let ran = Command::new("sh")
+        .arg("-c")
+        .arg(little)
+        .arg(std::env::current_exe().unwrap())
+        .output()
+        .unwrap();
+    let said = String::from_utf8_lossy(&ran.stdout);
+    assert!(ran.status.success() && said.contains("1 passed"), "{said}");
 }
 
 #[test]
