@@ -71,4 +71,5 @@ fn builders_are_handed_in(rt: HostRuntime) {
         &rt, "memory",
     );
     assert_eq!(rt; (read.len(), again.len()), (70_000, 70_000));
+    assert_eq!(rt; (read.capacity(), again.capacity()), (131_072, 131_072));
 }
