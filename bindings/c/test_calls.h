@@ -91,9 +91,6 @@ static void OUR(one)(OUR(table) *t) {
         CHECK(same_pair(pair, model_remove(pair.left)));
 #endif
     }
-#if BYTES
-    CHECK(same_pair(OUR(gone)(t, 0), last.first) && same_pair(OUR(gone)(t, 1), last.second));
-#endif
 }
 static void OUR(calls)(void) {
     OUR(table) t = {0};
@@ -136,14 +133,11 @@ static void OUR(memory)(void) {
             CHECK(!OUR(insert)(&t, value, 20 - value, &told) && !model_insert(value, 20 - value, 0, 0, &wanted));
             granted = 0;
         }
-#if !BYTES
         /* an insertion that overwrites asks for none */
         granted = 0;
         CHECK(!OUR(insert)(&t, 3, 20, &told) && !model_insert(3, 20, 0, 0, &wanted) && same_told(told, wanted));
-#endif
         granted = SIZE_MAX;
         OUR(same)(&t);
-#if !BYTES
         /* of many pairs those before the refusal are in */
         jetukoma_u64_u64_pair row[64];
         size_t taken = 99, len, filled;
@@ -155,7 +149,6 @@ static void OUR(memory)(void) {
         refused |= taken < 64;
         CHECK(!CALL(len)(&t, &len) && len == taken && !CALL(fill)(&t, 0, row, 64, &filled) && filled == taken);
         for (size_t at = 0; at < taken; at++) CHECK(!CALL(contains_left)(&t, at * 2 + 1));
-#endif
         CHECK(!CALL(free)(&t) && blocks == 0);
     }
 }
@@ -170,4 +163,3 @@ static void OUR(tests)(void) {
 #undef RIGHT
 #undef CALL
 #undef OUR
-#undef BYTES
