@@ -38,13 +38,12 @@ enum {
     JETUKOMA_DONE = 0,
     /* Out of memory, and nothing has changed. A call of many items keeps those before the one that wanted memory. */
     JETUKOMA_NO_MEMORY = 1,
-    /* The handle has no table of the call's kind, or is null; of `new`: it has a table already. Nothing has changed. */
+    /* The handle has no table of the call's kind, or is null; of `free`: it has no table; of `new`: it has one
+     * already. Nothing has changed. */
     JETUKOMA_NO_TABLE = 2,
-    /* A value is contained, and may not be overwritten; or a flag is above 1, or a pointer to a value is null. Nothing
-     * has changed. */
+    /* A value is contained, and may not be overwritten; or a flag is above 1, or a pointer to a value is null.
+     * Nothing has changed. */
     JETUKOMA_REFUSED = 3,
-    /* The buffer is too short, and the length wanted is written. Nothing else has changed. */
-    JETUKOMA_BUFFER_TOO_SHORT = 4,
     /* No such pair is contained, and nothing has changed. */
     JETUKOMA_NOT_FOUND = 5,
 };
@@ -56,8 +55,8 @@ typedef struct {
 } jetukoma_u64_u64_pair;
 
 /* The pairs that an insertion overwrote. `kind` is 0 for none, 1 for the pair of the left alone, 2 for that of the
- * right alone, 3 for the one pair of both, all as `first`, and 4 for that of the left, `first`, and that of the right,
- * `second`. A pair that there is not is two zeros. */
+ * right alone, 3 for the one pair of both, all as `first`, and 4 for that of the left, `first`, and that of the
+ * right, `second`. A pair that there is not is two zeros. */
 typedef struct {
     uint32_t kind;
     jetukoma_u64_u64_pair first;
@@ -70,8 +69,8 @@ typedef struct {
     bool live;
 } jetukoma_btree_u64_u64;
 
-/* Makes an empty table of no places, in constant time, behind a handle that has none. 1: no memory; 2: the handle has a
- * table. */
+/* Makes an empty table of no places, in constant time, behind a handle that has none. 1: no memory; 2: the handle
+ * has a table. */
 uint32_t jetukoma_btree_u64_u64_new_unchecked(jetukoma_btree_u64_u64 *handle);
 JETUKOMA_API uint32_t jetukoma_btree_u64_u64_new(jetukoma_btree_u64_u64 *handle) {
     if (!handle) return JETUKOMA_NO_TABLE;
@@ -101,8 +100,8 @@ JETUKOMA_API uint32_t jetukoma_btree_u64_u64_capacity(jetukoma_btree_u64_u64 *ha
     return jetukoma_btree_u64_u64_capacity_unchecked(handle, capacity);
 }
 
-/* Makes places for the pairs and `more` pairs, exactly, unless they are there. No call but this and an insertion asks
- * for memory, and none of the next `more` insertions does. 1: no memory. */
+/* Makes places for the pairs and `more` pairs, exactly, unless they are there. No call but this and an insertion
+ * asks for memory, and none of the next `more` insertions does. 1: no memory. */
 uint32_t jetukoma_btree_u64_u64_reserve_unchecked(jetukoma_btree_u64_u64 *handle, size_t more);
 JETUKOMA_API uint32_t jetukoma_btree_u64_u64_reserve(jetukoma_btree_u64_u64 *handle, size_t more) {
     if (!handle) return JETUKOMA_NO_TABLE;
@@ -125,8 +124,9 @@ JETUKOMA_API uint32_t jetukoma_btree_u64_u64_insert_no_overwrite(jetukoma_btree_
     return jetukoma_btree_u64_u64_insert_no_overwrite_unchecked(handle, left, right);
 }
 
-/* Inserts a pair, and writes the pairs that it overwrote. A flag of 1 refuses where the value of its side is contained,
- * and one of 0 overwrites. 1: no memory; 3: a value is contained that its flag keeps, or a flag is above 1. */
+/* Inserts a pair, and writes the pairs that it overwrote. A flag of 1 refuses where the value of its side is
+ * contained, and one of 0 overwrites. 1: no memory; 3: a value is contained that its flag keeps, or a flag is above
+ * 1. */
 uint32_t jetukoma_btree_u64_u64_insert_with_unchecked(jetukoma_btree_u64_u64 *handle, uint64_t left, uint64_t right, uint8_t left_refuses, uint8_t right_refuses, jetukoma_u64_u64_overwritten *overwritten);
 JETUKOMA_API uint32_t jetukoma_btree_u64_u64_insert_with(jetukoma_btree_u64_u64 *handle, uint64_t left, uint64_t right, uint8_t left_refuses, uint8_t right_refuses, jetukoma_u64_u64_overwritten *overwritten) {
     if (!handle) return JETUKOMA_NO_TABLE;
@@ -196,8 +196,9 @@ JETUKOMA_API uint32_t jetukoma_btree_u64_u64_clear(jetukoma_btree_u64_u64 *handl
     return jetukoma_btree_u64_u64_clear_unchecked(handle);
 }
 
-/* Writes pairs by ascending left, from the one with `start` lefts below its own on, to the front of a row, as many as
- * there are and it has room for, and how many they are. It makes a search, and then takes a descent a pair at most. */
+/* Writes pairs by ascending left, from the one with `start` lefts below its own on, to the front of a row, as many
+ * as there are and it has room for, and how many they are. It makes a search, and then takes a descent a pair at
+ * most. */
 uint32_t jetukoma_btree_u64_u64_fill_unchecked(jetukoma_btree_u64_u64 *handle, size_t start, jetukoma_u64_u64_pair *row, size_t row_len, size_t *filled);
 JETUKOMA_API uint32_t jetukoma_btree_u64_u64_fill(jetukoma_btree_u64_u64 *handle, size_t start, jetukoma_u64_u64_pair *row, size_t row_len, size_t *filled) {
     if (!handle) return JETUKOMA_NO_TABLE;
@@ -243,8 +244,8 @@ typedef struct {
     bool live;
 } jetukoma_hash_u64_u64;
 
-/* Makes an empty table of no places, in constant time, behind a handle that has none. 1: no memory; 2: the handle has a
- * table. */
+/* Makes an empty table of no places, in constant time, behind a handle that has none. 1: no memory; 2: the handle
+ * has a table. */
 uint32_t jetukoma_hash_u64_u64_new_unchecked(jetukoma_hash_u64_u64 *handle);
 JETUKOMA_API uint32_t jetukoma_hash_u64_u64_new(jetukoma_hash_u64_u64 *handle) {
     if (!handle) return JETUKOMA_NO_TABLE;
@@ -274,8 +275,8 @@ JETUKOMA_API uint32_t jetukoma_hash_u64_u64_capacity(jetukoma_hash_u64_u64 *hand
     return jetukoma_hash_u64_u64_capacity_unchecked(handle, capacity);
 }
 
-/* Makes places for the pairs and `more` pairs, exactly, unless they are there. No call but this and an insertion asks
- * for memory, and none of the next `more` insertions does. 1: no memory. */
+/* Makes places for the pairs and `more` pairs, exactly, unless they are there. No call but this and an insertion
+ * asks for memory, and none of the next `more` insertions does. 1: no memory. */
 uint32_t jetukoma_hash_u64_u64_reserve_unchecked(jetukoma_hash_u64_u64 *handle, size_t more);
 JETUKOMA_API uint32_t jetukoma_hash_u64_u64_reserve(jetukoma_hash_u64_u64 *handle, size_t more) {
     if (!handle) return JETUKOMA_NO_TABLE;
@@ -298,8 +299,9 @@ JETUKOMA_API uint32_t jetukoma_hash_u64_u64_insert_no_overwrite(jetukoma_hash_u6
     return jetukoma_hash_u64_u64_insert_no_overwrite_unchecked(handle, left, right);
 }
 
-/* Inserts a pair, and writes the pairs that it overwrote. A flag of 1 refuses where the value of its side is contained,
- * and one of 0 overwrites. 1: no memory; 3: a value is contained that its flag keeps, or a flag is above 1. */
+/* Inserts a pair, and writes the pairs that it overwrote. A flag of 1 refuses where the value of its side is
+ * contained, and one of 0 overwrites. 1: no memory; 3: a value is contained that its flag keeps, or a flag is above
+ * 1. */
 uint32_t jetukoma_hash_u64_u64_insert_with_unchecked(jetukoma_hash_u64_u64 *handle, uint64_t left, uint64_t right, uint8_t left_refuses, uint8_t right_refuses, jetukoma_u64_u64_overwritten *overwritten);
 JETUKOMA_API uint32_t jetukoma_hash_u64_u64_insert_with(jetukoma_hash_u64_u64 *handle, uint64_t left, uint64_t right, uint8_t left_refuses, uint8_t right_refuses, jetukoma_u64_u64_overwritten *overwritten) {
     if (!handle) return JETUKOMA_NO_TABLE;
@@ -369,9 +371,9 @@ JETUKOMA_API uint32_t jetukoma_hash_u64_u64_clear(jetukoma_hash_u64_u64 *handle)
     return jetukoma_hash_u64_u64_clear_unchecked(handle);
 }
 
-/* Writes pairs in the order of their places, after the first `start`, to the front of a row, as many as there are and
- * it has room for, and how many they are. Each call passes over all places before: a whole walk wants one row, or few.
- * */
+/* Writes pairs in the order of their places, after the first `start`, to the front of a row, as many as there are
+ * and it has room for, and how many they are. Each call passes over all places before: a whole walk wants one row,
+ * or few. */
 uint32_t jetukoma_hash_u64_u64_fill_unchecked(jetukoma_hash_u64_u64 *handle, size_t start, jetukoma_u64_u64_pair *row, size_t row_len, size_t *filled);
 JETUKOMA_API uint32_t jetukoma_hash_u64_u64_fill(jetukoma_hash_u64_u64 *handle, size_t start, jetukoma_u64_u64_pair *row, size_t row_len, size_t *filled) {
     if (!handle) return JETUKOMA_NO_TABLE;

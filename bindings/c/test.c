@@ -97,7 +97,7 @@ static int chance(int below) {
 #undef KIND
 #undef ORDERED
 
-/* A handle whose table is of another type has none for a call. */
+/* A handle whose table is of another type has none for a call, but `free`. */
 static void of_another_type(void) {
     jetukoma_btree_u64_u64 t = {0};
     void *it = &t;
@@ -109,7 +109,7 @@ static void of_another_type(void) {
     CHECK(jetukoma_hash_u64_u64_clear(it) == JETUKOMA_NO_TABLE && jetukoma_hash_u64_u64_insert_no_overwrite(it, 4, 8) == JETUKOMA_NO_TABLE);
     CHECK(jetukoma_hash_u64_u64_get_by_left(it, 3, &number) == JETUKOMA_NO_TABLE && number == 99);
     CHECK(!jetukoma_btree_u64_u64_get_by_left(&t, 3, &number) && number == 7 && !jetukoma_btree_u64_u64_len(&t, &n) && n == 1);
-    CHECK(!jetukoma_btree_u64_u64_free(&t) && blocks == 0);
+    CHECK(!jetukoma_hash_u64_u64_free(it) && jetukoma_btree_u64_u64_free(&t) == JETUKOMA_NO_TABLE && blocks == 0);
 }
 
 int main(void) {

@@ -17,6 +17,7 @@ changed. So it is after each exception, but for a MemoryError among many items, 
 a time uses a map.
 """
 from collections.abc import ItemsView, Mapping, MutableMapping
+from operator import index
 from weakref import ref
 
 from ._library import MISSING, Table, row_of
@@ -72,7 +73,9 @@ class _Bimap(MutableMapping):
     @property
     def inverse(self):
         """The same items, by their values."""
-        other = self._inverse or self._inverse_of and self._inverse_of()
+        other = self._inverse
+        if other is None and self._inverse_of:
+            other = self._inverse_of()
         if other is None:
             other = self._inverse = object.__new__(type(self))
             other._bind(self._table, 1 - self._side, ref(self))
@@ -133,7 +136,7 @@ class _Bimap(MutableMapping):
 
     def _put(self, key, value, key_refuses):
         if not self._insert(key, value, key_refuses, True):
-            _judge(key, value, self._find(key), self._find_key(value), key_refuses)
+            _judge(index(key), index(value), self._find(key), self._find_key(value), key_refuses)
 
     def put(self, key, value):
         """Inserts an item. If another one has the key or the value, it is a DuplicationError."""
@@ -180,13 +183,13 @@ class _Bimap(MutableMapping):
             copy.insert_many(row)
             if len(copy) == len(self) + len(items):
                 return self._table.exchange(copy)
-        self._check(items, key_refuses)
+        self._check(row, key_refuses)
         self._table.insert_many(row)
 
-    def _check(self, items, key_refuses):
+    def _check(self, row, key_refuses):
         """Refuses what would be a duplicate when its turn comes, and changes nothing."""
         values, keys = {}, {}
-        for key, value in items:
+        for key, value in zip(row[self._side :: 2], row[1 - self._side :: 2]):
             old_value = values[key] if key in values else self._find(key)
             old_key = keys[value] if value in keys else self._find_key(value)
             _judge(key, value, old_value, old_key, key_refuses)

@@ -5,7 +5,7 @@ from ctypes import PyDLL, Structure, byref, c_bool, c_size_t, c_uint64, c_void_p
 from itertools import chain
 from operator import index
 
-DONE, NO_MEMORY, NO_TABLE, REFUSED, BUFFER_TOO_SHORT, NOT_FOUND = range(6)
+NO_MEMORY, REFUSED, NOT_FOUND = 1, 3, 5
 MISSING = object()
 
 # (PyDLL keeps the interpreter's lock, so no two threads make a call at once)

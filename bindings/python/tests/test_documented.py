@@ -37,6 +37,8 @@ class Numbers:
         it = self.Map({1: 10})
         self.assertEqual((it[1], it.inverse[10]), (10, 1))
         self.assertIs(it.inverse.inverse, it)
+        empty = self.Map()
+        self.assertIs(empty.inverse, empty.inverse)
         it.inverse[20] = 2
         self.assertEqual(it, {1: 10, 2: 20})
         del it.inverse[10]
@@ -47,6 +49,19 @@ class Numbers:
         inverse = self.Map({1: 10}).inverse
         self.assertEqual((inverse[10], inverse.inverse[1]), (1, 10))
         self.assertIs(inverse.inverse.inverse, inverse)
+
+    def test_what_counts_as_a_number_is_one(self):
+        class Number:
+            def __init__(self, value):
+                self.value = value
+
+            def __index__(self):
+                return self.value
+
+        with self.assertRaises(KeyDuplicationError):
+            self.one_two.putall([(Number(3), 30), (Number(3), 40)])
+        self.one_two.put(1, Number(10))
+        self.assertEqual(self.one_two, {1: 10, 2: 20})
 
     def test_values_are_unique(self):
         with self.assertRaises(ValueDuplicationError):

@@ -18,7 +18,7 @@
 //! # What differs from `bimap`
 //! - Values stand in the library: look-ups and walks give copies of them, by value.
 //! - Where there is no memory, what is named as in `bimap` ends the process, as std's collections do; a call named `try_..`
-//!   hands the pair back instead, and has changed nothing. An insertion that overwrites asks for none.
+//!   returns that instead, with the pair that it was given, and has changed nothing. An insertion that overwrites asks for none.
 //! - A map goes to another thread, and is not shared between two: it is `Send` and not `Sync`.
 //!
 //! ```compile_fail,E0277
