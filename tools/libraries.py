@@ -46,13 +46,12 @@ class Libraries:
     """The libraries of the repository, as crates.txt has them, and where they are built."""
 
     def __init__(self, built, log):
-        self.built, self.log, self.needs, self.kinds = built or os.getcwd(), log, {}, {}
+        self.built, self.log, self.needs = built or os.getcwd(), log, {}
         self.making = threading.Lock()
         for line in read("crates.txt").split("\n"):
-            head, _, needs = line.partition("#")[0].partition(":")
-            if head.strip():
-                name, *self.kinds[name] = head.split()
-                self.needs[name] = needs.split()
+            name, _, needs = line.partition("#")[0].partition(":")
+            if name.strip():
+                self.needs[name.split()[0]] = needs.split()
 
     def below(self, crate):
         """The repository's libraries below a crate, each after those that it stands on."""
@@ -82,7 +81,6 @@ class Libraries:
         """The words by which the checker finds a crate's text and the libraries below it."""
         root = "src/main.rt" if os.path.isfile(f"crates/{crate}/src/main.rt") else "src/lib.rt"
         words = ["--crate-name", crate, root, "--links", f"{crate}=", "-L", f"dependency={KIT}/rlibs"]
-        words += [word for it in self.kinds[crate] for word in ("--crate-type", it)]
         for it in ["std", *self.needs[crate]]:
             words += ["--extern", f"{it}={self.rlib(it) if it in self.needs else f'{KIT}/rlibs'}/{it}.rlib"]
         for it in self.below(crate):
