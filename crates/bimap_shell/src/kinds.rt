@@ -1,10 +1,11 @@
 //! The five kinds, and what each answers to a line.
+use crate::hunger;
 use crate::request::{On, Request};
 use crate::session::Session;
 use crate::word::Word;
-use crate::{hunger, json};
 use bimap::{BiBTreeHashMap, BiBTreeMap, BiHashBTreeMap, BiHashMap};
 use bimap_calls::{Crowded, Zero};
+use bimap_json_calls::{JsonCall, json_call};
 use std::alloc::AllocError;
 
 /// How a line and an answer name the kinds.
@@ -161,7 +162,13 @@ impl Kinds {
     ) -> Result<bool, AllocError> {
         request.kind = kind;
         if request.call == "json" {
-            return json::call(kind, request, said);
+            let json = JsonCall {
+                alloc: request.alloc,
+                types: request.types,
+                policy: request.policy,
+                text: request.text,
+            };
+            return json_call(kind, &json, said);
         }
         match kind {
             0 => self.ordered.call(request, said),

@@ -9,7 +9,6 @@ mod hashed_left;
 mod help;
 mod hunger;
 mod items;
-mod json;
 mod kind;
 mod kinds;
 mod look;

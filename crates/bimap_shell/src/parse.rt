@@ -1,6 +1,7 @@
 //! What a line asks for, read from its words.
 use crate::request::{Memory, On, Request};
-use crate::values::{answer, call, numbered, pair, pairs, policy, range, repeated, steps, value};
+use crate::values::{answer, call, pair, pairs, policy, range, steps, value};
+use bimap_json_calls::{numbered, repeated};
 use std::alloc::{AllocError, Global};
 use std::str::SplitWhitespace;
 

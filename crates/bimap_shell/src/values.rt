@@ -2,6 +2,7 @@
 use crate::request::Step;
 use crate::word::Word;
 use bimap::{Call, OnHeld, Overwritten, Policy};
+use bimap_json_calls::numbered;
 use std::alloc::{AllocError, Global};
 use std::ops::Bound;
 use std::str::SplitWhitespace;
@@ -74,18 +75,6 @@ pub fn steps(
         steps.push(Step::Rest)?;
     }
     Ok(Some(steps))
-}
-
-/// The text in which the digits of a number stand for each `#`.
-pub fn numbered(alloc: Global, pattern: &str, number: usize) -> Result<String, AllocError> {
-    let digits = format!(in alloc; "{number:07}")?;
-    pattern.replace(alloc, '#', digits.as_str())
-}
-
-/// What `each N TEXT` says: how often the text is meant, each time with a number for each `#`.
-pub fn repeated(text: &str) -> Option<(usize, &str)> {
-    let (count, text) = text.trim_start().strip_prefix("each ")?.split_once(' ')?;
-    Some((count.parse().ok()?, text))
 }
 
 // So many pairs of numbered words.

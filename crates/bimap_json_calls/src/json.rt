@@ -1,11 +1,19 @@
 //! JSON both ways: each type as both sides, and each as a left and as a right beside another.
-use crate::request::Request;
-use crate::values::{numbered, repeated};
+use crate::numbered::{numbered, repeated};
 use bimap::value::{JsonFault, JsonKey, JsonObject, JsonValue, read_into_with, reread};
-use bimap::{BiBTreeHashMap, BiBTreeMap, BiHashBTreeMap, BiHashMap, NoMemory};
+use bimap::{BiBTreeHashMap, BiBTreeMap, BiHashBTreeMap, BiHashMap, NoMemory, Policy};
 use serde_json::Value;
 use std::alloc::{AllocError, Global};
 use std::hash::Hash;
+
+/// What a line asks for.
+#[derive(Clone, Copy)]
+pub struct JsonCall<'a> {
+    pub alloc: Global,
+    pub types: (&'a str, &'a str),
+    pub policy: Policy,
+    pub text: &'a str,
+}
 
 fn write_fault(fault: JsonFault, said: &mut String) -> Result<bool, AllocError> {
     write!(said, "Err({fault:?})")?;
@@ -48,7 +56,7 @@ macro_rules! both_ways {
 
 fn ordered<L: JsonKey + Ord + Drop, R: JsonValue + Ord + Drop>(
     value: &Value,
-    request: &Request<'_>,
+    request: &JsonCall<'_>,
     said: &mut String,
 ) -> Result<bool, AllocError> {
     both_ways!(BiBTreeMap::<L, R>::new(request.alloc), value, request, said)
@@ -56,7 +64,7 @@ fn ordered<L: JsonKey + Ord + Drop, R: JsonValue + Ord + Drop>(
 
 fn hashed<L: JsonKey + Hash + Drop, R: JsonValue + Hash + Drop>(
     value: &Value,
-    request: &Request<'_>,
+    request: &JsonCall<'_>,
     said: &mut String,
 ) -> Result<bool, AllocError> {
     both_ways!(BiHashMap::<L, R>::new(request.alloc), value, request, said)
@@ -64,7 +72,7 @@ fn hashed<L: JsonKey + Hash + Drop, R: JsonValue + Hash + Drop>(
 
 fn ordered_left<L: JsonKey + Ord + Drop, R: JsonValue + Hash + Drop>(
     value: &Value,
-    request: &Request<'_>,
+    request: &JsonCall<'_>,
     said: &mut String,
 ) -> Result<bool, AllocError> {
     both_ways!(
@@ -77,7 +85,7 @@ fn ordered_left<L: JsonKey + Ord + Drop, R: JsonValue + Hash + Drop>(
 
 fn ordered_right<L: JsonKey + Hash + Drop, R: JsonValue + Ord + Drop>(
     value: &Value,
-    request: &Request<'_>,
+    request: &JsonCall<'_>,
     said: &mut String,
 ) -> Result<bool, AllocError> {
     both_ways!(
@@ -105,7 +113,7 @@ fn value_of(alloc: Global, text: &str) -> Result<Option<Value>, AllocError> {
 
 fn of_kind<L: JsonKey + Ord + Hash + Drop, R: JsonValue + Ord + Hash + Drop>(
     kind: usize,
-    request: &Request<'_>,
+    request: &JsonCall<'_>,
     said: &mut String,
 ) -> Result<bool, AllocError> {
     let Some(value) = value_of(request.alloc, request.text)? else {
@@ -121,8 +129,12 @@ fn of_kind<L: JsonKey + Ord + Hash + Drop, R: JsonValue + Ord + Hash + Drop>(
     }
 }
 
-/// Reads and writes at the types that the request names, in a bimap of the kind of this number.
-pub fn call(kind: usize, request: &Request<'_>, said: &mut String) -> Result<bool, AllocError> {
+/// Reads and writes at the types that the request names, in a bimap of the kind of this number, and answers whether there is one.
+pub fn json_call(
+    kind: usize,
+    request: &JsonCall<'_>,
+    said: &mut String,
+) -> Result<bool, AllocError> {
     match request.types {
         ("char", "char") => of_kind::<char, char>(kind, request, said),
         ("String", "String") => of_kind::<String, String>(kind, request, said),
