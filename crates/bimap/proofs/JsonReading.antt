@@ -18,7 +18,7 @@ use Rattle.bimap.specs.Growth.{Outgrows}
 use Rattle.bimap.proofs.Growing.{answer_overwrites, room_after, room_push}
 use Rattle.bimap.specs.JsonObjects.{Entry, HasEntries, ReadsAs, EachReadsAs, StopsAt, StopsUnder, IsReadIntoUnder, ReadsObject, ReadsObjectUnder}
 use Rattle.bimap.specs.declared.value.object.JsonFault.{JsonFault}
-use Rattle.bimap.specs.declared.value.object.JsonFault.TheVariants.{NotAnObject, BadKey, BadValue, LeftHeld, RightHeld, Memory}
+use Rattle.bimap.specs.declared.value.object.JsonFault.TheVariants.{NotJson, NameTwice, NotAnObject, BadKey, BadValue, LeftHeld, RightHeld, Memory}
 
 module _ {L R : Type 0} (reads_key : List ℕ → L → Type 0) (reads : Data → R → Type 0) where
   read_more : (before : List Entry) (pairs : List (L × R)) (e : Entry) (p : L × R) → EachReadsAs reads_key reads before pairs → ReadsAs reads_key reads e p → EachReadsAs reads_key reads (before ++ e ∷ []) (pairs ++ p ∷ [])
@@ -118,6 +118,8 @@ module _ {L R : Type 0} (reads_key : List ℕ → L → Type 0) (reads : Data �
     -- a reading under a policy that keeps nothing
     pub read_any : {B : Type 0} (holding : B → Holding L R) (places : ℕ) (value : Data) → policy.left ≢ Refuse → policy.right ≢ Refuse → (result : Result B JsonFault) → ReadsObjectUnder reads_key reads same_left same_right holding places value policy result → ReadsObject reads_key reads same_left same_right holding places value result
     read_any holding places value left right (Ok b) h = h.is_read
+    read_any holding places value left right (Err NotJson) h = h
+    read_any holding places value left right (Err NameTwice) h = h
     read_any holding places value left right (Err NotAnObject) h = h
     read_any holding places value left right (Err (BadKey at)) h = stopped_any value at _ h
     read_any holding places value left right (Err (BadValue at)) h = stopped_any value at _ h

@@ -16,7 +16,7 @@ use Rattle.bimap.specs.JsonObjects.{Entry, entries_of, Ascends, HasEntries, IsOb
 use Rattle.bimap.proofs.JsonEntries.{other_key, below_later}
 use Rattle.bimap.proofs.JsonWriting.{IsSplit, split_member, middle_in}
 use Rattle.bimap.specs.declared.value.object.JsonFault.{JsonFault}
-use Rattle.bimap.specs.declared.value.object.JsonFault.TheVariants.{NotAnObject, BadKey, BadValue, LeftHeld, RightHeld, Memory}
+use Rattle.bimap.specs.declared.value.object.JsonFault.TheVariants.{NotJson, NameTwice, NotAnObject, BadKey, BadValue, LeftHeld, RightHeld, Memory}
 
 -- an object has one list of entries
 has_unique : (value : Data) (es fs : List Entry) → HasEntries value es → HasEntries value fs → es ≡ fs
@@ -139,6 +139,8 @@ module _ {L R : Type 0} (same_left : L → L → Bool) (same_right : R → R →
       stopped_at at P s = (object.exactly s.entry).0 (subst (λ l. Contains l s.entry) (has_unique value (s.before ++ s.entry ∷ s.rest) object.entries s.has object.has) (middle_in s.before s.entry s.rest))
 
       reread_fault : {B : Type 0} (holding : B → Holding L R) (places : ℕ) (fault : JsonFault) → ReadsObject key val same_left same_right holding places value (Err fault) → fault ≡ Memory
+      reread_fault holding places NotJson h = absurd h
+      reread_fault holding places NameTwice h = absurd h
       reread_fault holding places NotAnObject h = let e : Some object.has.members ≡ None = sym object.has.is_object ∙ h in absurd (cc)
       reread_fault holding places (BadKey at) h =
           let w = stopped_at at _ h in

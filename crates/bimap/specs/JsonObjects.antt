@@ -108,9 +108,8 @@ module _ {L R : Type 0} (reads_key : List ℕ → L → Type 0) (reads : Data �
     ReadsObject holding places value (Err NotAnObject) = as_object value ≡ None
     ReadsObject holding places value (Err (BadKey at)) = StopsAt value at (λ e. ReadsNothing (reads_key e.0))
     ReadsObject holding places value (Err (BadValue at)) = StopsAt value at (λ e. ((l : L) × reads_key e.0 l) × ReadsNothing (reads e.1))
-    ReadsObject holding places value (Err (LeftHeld at)) = ⊥
-    ReadsObject holding places value (Err (RightHeld at)) = ⊥
     ReadsObject holding places value (Err Memory) = (at : ℕ) × StopsAt value at (λ e. Unit {0})
+    ReadsObject holding places value (Err _) = ⊥
 
     -- and the policy let each of them in
     pub record IsReadIntoUnder (value : Data) (places : ℕ) (policy : Policy) (new : Holding L R) : Type 0 where
@@ -141,6 +140,7 @@ module _ {L R : Type 0} (reads_key : List ℕ → L → Type 0) (reads : Data �
     ReadsObjectUnder holding places value policy (Err (RightHeld at)) =
         StopsUnder value policy at (λ S e. (p : L × R) × ReadsAs e p × IsRefusalUnder same_left same_right S ⊥ p policy (RightKept p.0 p.1))
     ReadsObjectUnder holding places value policy (Err Memory) = (at : ℕ) × StopsUnder value policy at (λ S e. Unit {0})
+    ReadsObjectUnder holding places value policy (Err _) = ⊥
 
 -- what references to the sides show
 abbrev pub shown_pairs : {L R : Type 0} → List (Bor L × Bor R) → List (L × R)

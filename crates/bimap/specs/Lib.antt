@@ -21,8 +21,12 @@ pub mod Trail
 pub mod JsonReading
 pub mod JsonTexts
 pub mod JsonObjects
+pub mod JsonDocument
 pub mod JsonNumbers
 pub mod Types
 pub use Rattle.serde_json.specs.Data
 pub use Rattle.serde_json.specs.Find
 pub use Rattle.serde_json.specs.View
+pub use Rattle.serde_json.specs.Read
+pub use Rattle.json.specs.Json
+pub use Rattle.json.specs.Strict

@@ -5,11 +5,12 @@ ghost use Rattle.bimap.specs.Answer.{IsRefusal};
 ghost use Rattle.bimap.specs.BTree.{holding};
 ghost use Rattle.bimap.specs.Extension.{IsExtensionUnder, IsExtensionStoppedUnder, IsRefusedNextUnder};
 ghost use Rattle.bimap.specs.Holding.{IsFull, IsFoundByLeft, IsFoundByRight};
-ghost use Rattle.bimap.specs.JsonObjects.{IsObjectOf, IsEntryOf, EachReadsBack, ReadsObjectUnder};
+ghost use Rattle.bimap.specs.JsonDocument.{ReadsTextUnder};
+ghost use Rattle.bimap.specs.JsonObjects.{IsObjectOf, IsEntryOf, EachReadsBack};
 ghost use Rattle.bimap.specs.Sets.{IsWithPut, LacksLeft, LacksRight};
 ghost use Rattle.bimap.specs.View.{view};
 
-use bimap::value::{JsonFault, JsonKey, JsonObject, JsonValue, Value, read_into_with};
+use bimap::value::{JsonFault, JsonKey, JsonObject, JsonValue, Value, read_text_with};
 use bimap::{
     BiBTreeHashMap, ItemRefused, NoMemory, NotInserted, OnHeld, Policy, extend_with, from_iter_with,
 };
@@ -22,18 +23,18 @@ const ONCE: Policy = Policy {
     right: OnHeld::Refuse,
 };
 
-/// The table of a JSON object, whose keys are the names. Of entries that repeat a name or a code the first is told, by its
-/// place in the byte order of the names.
+/// The table of a JSON text, an object whose keys are the names. A name that stands twice is a fault; of entries that repeat a
+/// code the first is told, by its place in the byte order of the names.
 ///
-/// Costs one insertion an entry, and takes memory for them. A fault leaves no table.
+/// Costs one insertion an entry, and takes memory for them and, twice, for the values of the text. A fault leaves no table.
 pub fn read_codes<L: JsonKey + Ord + Drop, R: JsonValue + Eq + Hash + Drop>(
     alloc: Global,
-    object: &Value,
+    text: &str,
 ) -> Result<BiBTreeHashMap<L, R>, JsonFault>
-    ensures { ReadsObjectUnder L.reads_key R.reads L.eq R.eq holding 0 (view object.now)
+    ensures { ReadsTextUnder L.reads_key R.reads L.eq R.eq holding 0 text.now
         (record { left = OnHeld.Refuse; right = OnHeld.Refuse }) result }
 {
-    read_into_with(alloc, BiBTreeHashMap::new(alloc), object, ONCE)
+    read_text_with(alloc, BiBTreeHashMap::new(alloc), text, ONCE)
 }
 
 /// An empty table, filled with names and their codes. The first that repeats a name or a code ends it, and is handed back

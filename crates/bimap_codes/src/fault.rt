@@ -8,9 +8,7 @@ use std::{fmt, io};
 pub enum Fault {
     /// A file could not be read.
     Unread(io::Error),
-    /// A text is no JSON.
-    NotJson,
-    /// A JSON value is no table.
+    /// A text is no table in JSON.
     NotTable(JsonFault),
     /// A word that stands for a code is no number from 0 to 4294967295.
     NotCode,
@@ -22,9 +20,11 @@ pub enum Fault {
     Memory,
 }
 
-// What is wrong with a JSON value.
+// What is wrong with a JSON text.
 fn write_entry<W: fmt::Write>(f: &mut fmt::Formatter<W>, fault: JsonFault) -> fmt::Result {
     match fault {
+        JsonFault::NotJson => write!(f, "no JSON; wanted: an object of names with codes"),
+        JsonFault::NameTwice => write!(f, "a name stands twice"),
         JsonFault::NotAnObject => write!(f, "no JSON object; wanted: one of names with codes"),
         JsonFault::BadKey(at) => write!(f, "entry {at}: its name is no text"),
         JsonFault::BadValue(at) => {
@@ -57,7 +57,6 @@ impl fmt::Display for Fault {
     fn fmt<W: fmt::Write>(&self, f: &mut fmt::Formatter<W>) -> fmt::Result {
         match self {
             Fault::Unread(error) => write!(f, "{error}"),
-            Fault::NotJson => write!(f, "no JSON; wanted: an object of names with codes"),
             Fault::NotTable(fault) => write_entry(f, *fault),
             Fault::NotCode => write!(f, "a code is no number from 0 to 4294967295"),
             Fault::NoCode => write!(f, "the last name has no code"),

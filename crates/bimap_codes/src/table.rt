@@ -2,7 +2,6 @@
 use crate::codes::{collect_codes, read_codes};
 use crate::fault::Fault;
 use bimap::BiBTreeHashMap;
-use bimap::value::Value;
 use std::alloc::Global;
 use std::fs;
 use std::rt::Files;
@@ -29,14 +28,6 @@ pub fn parse_items(alloc: Global, text: &str) -> Result<Vec<(String, u32)>, Faul
     Ok(items)
 }
 
-// The table of a JSON object.
-fn table_of_json(alloc: Global, text: &str) -> Result<Codes, Fault> {
-    let Ok(object) = Value::from_str(alloc, text) else {
-        return Err(Fault::NotJson);
-    };
-    read_codes(alloc, &object).map_err(Fault::NotTable)
-}
-
 /// Whether a line is to give a table: it begins with `{` or `table `.
 pub fn gives_table(line: &str) -> bool {
     line.strip_prefix("{").is_some() || line.strip_prefix("table ").is_some()
@@ -49,7 +40,7 @@ pub fn table_of(alloc: Global, text: &str) -> Result<Codes, Fault> {
             let items = parse_items(alloc, text)?;
             collect_codes(Codes::new(alloc), items).map_err(Fault::Refused)
         }
-        None => table_of_json(alloc, text),
+        None => read_codes(alloc, text).map_err(Fault::NotTable),
     }
 }
 

@@ -1,6 +1,6 @@
 //! JSON both ways: each type as both sides, and each as a left and as a right beside another.
 use crate::numbered::{numbered, repeated};
-use bimap::value::{JsonFault, JsonKey, JsonObject, JsonValue, read_into_with, reread};
+use bimap::value::{JsonFault, JsonKey, JsonObject, JsonValue, read_text_with, reread};
 use bimap::{BiBTreeHashMap, BiBTreeMap, BiHashBTreeMap, BiHashMap, NoMemory, Policy};
 use serde_json::Value;
 use std::alloc::{AllocError, Global};
@@ -37,11 +37,11 @@ fn write_text(
     Ok(true)
 }
 
-// Reads the value into an empty bimap, and writes it again.
+// Reads the text into an empty bimap, and writes it again.
 macro_rules! both_ways {
-    ($empty:expr, $value:ident, $request:ident, $said:ident) => {{
+    ($empty:expr, $text:ident, $request:ident, $said:ident) => {{
         let alloc = $request.alloc;
-        match read_into_with(alloc, $empty, $value, $request.policy) {
+        match read_text_with(alloc, $empty, $text, $request.policy) {
             Err(fault) => write_fault(fault, $said),
             Ok(read) => {
                 let equal = match reread(alloc, &read) {
@@ -55,51 +55,51 @@ macro_rules! both_ways {
 }
 
 fn ordered<L: JsonKey + Ord + Drop, R: JsonValue + Ord + Drop>(
-    value: &Value,
+    text: &str,
     request: &JsonCall<'_>,
     said: &mut String,
 ) -> Result<bool, AllocError> {
-    both_ways!(BiBTreeMap::<L, R>::new(request.alloc), value, request, said)
+    both_ways!(BiBTreeMap::<L, R>::new(request.alloc), text, request, said)
 }
 
 fn hashed<L: JsonKey + Hash + Drop, R: JsonValue + Hash + Drop>(
-    value: &Value,
+    text: &str,
     request: &JsonCall<'_>,
     said: &mut String,
 ) -> Result<bool, AllocError> {
-    both_ways!(BiHashMap::<L, R>::new(request.alloc), value, request, said)
+    both_ways!(BiHashMap::<L, R>::new(request.alloc), text, request, said)
 }
 
 fn ordered_left<L: JsonKey + Ord + Drop, R: JsonValue + Hash + Drop>(
-    value: &Value,
+    text: &str,
     request: &JsonCall<'_>,
     said: &mut String,
 ) -> Result<bool, AllocError> {
     both_ways!(
         BiBTreeHashMap::<L, R>::new(request.alloc),
-        value,
+        text,
         request,
         said
     )
 }
 
 fn ordered_right<L: JsonKey + Hash + Drop, R: JsonValue + Ord + Drop>(
-    value: &Value,
+    text: &str,
     request: &JsonCall<'_>,
     said: &mut String,
 ) -> Result<bool, AllocError> {
     both_ways!(
         BiHashBTreeMap::<L, R>::new(request.alloc),
-        value,
+        text,
         request,
         said
     )
 }
 
-// The value of a text: as it stands, or an object of so many members for `each N MEMBER`. `None` where it is no JSON.
-fn value_of(alloc: Global, text: &str) -> Result<Option<Value>, AllocError> {
+// A text as it stands, or that of an object of so many members for `each N MEMBER`.
+fn text_of(alloc: Global, text: &str) -> Result<String, AllocError> {
     let Some((count, member)) = repeated(text) else {
-        return Ok(Value::from_str(alloc, text).ok());
+        return String::from_str(alloc, text);
     };
     let mut object = String::from_str(alloc, "{")?;
     let mut between = "";
@@ -108,7 +108,7 @@ fn value_of(alloc: Global, text: &str) -> Result<Option<Value>, AllocError> {
         between = ",";
     }
     write!(object, "}}")?;
-    Ok(Value::from_str(alloc, object.as_str()).ok())
+    Ok(object)
 }
 
 fn of_kind<L: JsonKey + Ord + Hash + Drop, R: JsonValue + Ord + Hash + Drop>(
@@ -116,15 +116,13 @@ fn of_kind<L: JsonKey + Ord + Hash + Drop, R: JsonValue + Ord + Hash + Drop>(
     request: &JsonCall<'_>,
     said: &mut String,
 ) -> Result<bool, AllocError> {
-    let Some(value) = value_of(request.alloc, request.text)? else {
-        write!(said, "no JSON")?;
-        return Ok(true);
-    };
+    let text = text_of(request.alloc, request.text)?;
+    let text = text.as_str();
     match kind {
-        0 => ordered::<L, R>(&value, request, said),
-        1 => hashed::<L, R>(&value, request, said),
-        2 => ordered_left::<L, R>(&value, request, said),
-        3 => ordered_right::<L, R>(&value, request, said),
+        0 => ordered::<L, R>(text, request, said),
+        1 => hashed::<L, R>(text, request, said),
+        2 => ordered_left::<L, R>(text, request, said),
+        3 => ordered_right::<L, R>(text, request, said),
         _ => Ok(false),
     }
 }

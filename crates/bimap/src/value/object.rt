@@ -17,6 +17,12 @@ use thiserror::Error;
 /// were inserted.
 #[derive(Clone, Copy, Debug, Eq, Error, PartialEq)]
 pub enum JsonFault {
+    /// The text is no JSON, or none that `Value::from_str` reads.
+    #[error("not JSON")]
+    NotJson,
+    /// An object in the text has a name twice, and the policy keeps lefts.
+    #[error("a name stands twice in an object")]
+    NameTwice,
     /// The value is not an object.
     #[error("not a JSON object")]
     NotAnObject,

@@ -1,6 +1,6 @@
 //! Examples of JSON.
 use super::{Seats, holds, ordered};
-use bimap::value::{JsonFault, JsonObject, Value, read_into_with, reread};
+use bimap::value::{JsonFault, JsonObject, Value, read_into_with, read_text_with, reread};
 use bimap::{BiBTreeMap, NoMemory, OnHeld, Policy};
 use std::alloc::Global;
 use std::test::Fail;
@@ -32,6 +32,27 @@ fn reads_seats(rt: HostRuntime) -> Result<(), Fail> {
         .expect(&rt, "no seat stands twice");
     assert!(&rt; holds(&seats, &[('A', 1), ('B', 2)]));
     Ok(())
+}
+
+fn read_named_once(alloc: Global, text: &str) -> Result<Seats, JsonFault> {
+    let once = Policy {
+        left: OnHeld::Refuse,
+        right: OnHeld::Refuse,
+    };
+    let seats = read_text_with(alloc, BiBTreeMap::new(alloc), text, once)?;
+    Ok(seats)
+}
+
+#[test]
+fn reads_seats_of_a_text(rt: HostRuntime) {
+    let alloc = rt.alloc();
+    assert!(&rt;
+        read_named_once(alloc, r#"{"A": 1, "B": 2, "A": 3}"#) == Err(JsonFault::NameTwice)
+    );
+    let seats = read_named_once(alloc, r#"{"B": 2, "A": 1}"#)
+        .ok()
+        .expect(&rt, "no guest stands twice");
+    assert!(&rt; holds(&seats, &[('A', 1), ('B', 2)]));
 }
 
 fn written(alloc: Global, seats: &Seats) -> Result<Value, NoMemory> {

@@ -92,6 +92,12 @@ fn refusals_of_a_list(rt: HostRuntime) -> Result<(), Fail> {
 
 #[test]
 fn faults_of_json(rt: HostRuntime) {
+    says(&rt, JsonFault::NotJson, "not JSON");
+    says(
+        &rt,
+        JsonFault::NameTwice,
+        "a name stands twice in an object",
+    );
     says(&rt, JsonFault::NotAnObject, "not a JSON object");
     says(&rt, JsonFault::BadKey(0), "entry 0: the key is no left");
     says(

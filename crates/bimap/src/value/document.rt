@@ -1,0 +1,57 @@
+//! Any bimap from the text of a JSON object. It doesn't know how an entry is read.
+ghost use Rattle.std.specs.Prelude.{◌≡◌, [], IfErr, OnOk};
+ghost use Rattle.bimap_base.specs.declared.policy.OnHeld.TheVariants.{Refuse};
+ghost use Rattle.bimap.specs.JsonDocument.{IsNamedOnce, IsTextFault, ReadsTextUnder};
+
+use crate::value::object::{JsonFault, read_into_with};
+use crate::value::sides::{JsonKey, JsonValue};
+use bimap_base::{Bijection, Policy};
+use json::Scratch;
+use serde_json::Value;
+use std::alloc::Global;
+
+// Whether no object in a text has a name twice, which is asked where the policy keeps lefts.
+fn check_names(alloc: Global, text: &str, policy: Policy) -> Result<(), JsonFault>
+    ensures once { OnOk result (policy.left ≡ Refuse → IsNamedOnce text.now) }
+    ensures fault { IfErr result (IsTextFault text.now policy) }
+{
+    if !policy.left.refuses() {
+        return Ok(());
+    }
+    let mut scratch = Scratch::new(alloc);
+    match json::Value::parse_strict(alloc, text, &mut scratch) {
+        Ok(_) => Ok(()),
+        Err(json::Error::DuplicateKey) => Err(JsonFault::NameTwice),
+        Err(json::Error::OutOfMemory) => Err(JsonFault::Memory),
+        Err(json::Error::Invalid) => Err(JsonFault::NotJson),
+        Err(json::Error::TooLong) => unreachable!(),
+    }
+}
+
+/// Inserts the entries of a JSON text's object into an empty bimap and returns it, as [`read_into_with`] does of a
+/// value. Of members with one name the last alone is an entry; where the policy keeps lefts such a name is a fault, in
+/// any object of the text.
+///
+/// Takes memory for all values of the text, and before that, where the policy keeps lefts, once more for comparing
+/// names. An `Err` drops the bimap.
+///
+///     // no guest twice: {"A": 1, "B": 2, "A": 3} gives Err(JsonFault::NameTwice)
+///     let once = Policy { left: OnHeld::Refuse, right: OnHeld::Refuse };
+///     let seats = read_text_with(alloc, BiBTreeMap::new(alloc), text, once)?;
+pub fn read_text_with<L: JsonKey + Drop, R: JsonValue + Drop, B: Bijection<L, R> + Drop>(
+    alloc: Global,
+    empty: B,
+    text: &str,
+    policy: Policy,
+) -> Result<B, JsonFault>
+    requires empty { (B.holding empty).pairs ≡ [] }
+    ensures { ReadsTextUnder L.reads_key R.reads L.eq R.eq B.holding (B.holding empty).room
+        text.now policy result }
+{
+    check_names(alloc, text, policy)?;
+    match Value::from_str(alloc, text) {
+        Ok(value) => read_into_with(alloc, empty, &value, policy),
+        Err(error) if error.is_memory() => Err(JsonFault::Memory),
+        Err(_) => Err(JsonFault::NotJson),
+    }
+}
