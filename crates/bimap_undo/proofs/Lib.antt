@@ -2,3 +2,4 @@ pub mod Replacing
 pub mod Paths
 pub mod Removing
 pub mod Replaced
+pub mod Items

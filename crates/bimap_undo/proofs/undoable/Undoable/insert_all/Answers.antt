@@ -5,6 +5,7 @@ use Rattle.bimap.specs.Types.{Policy, NotInsertedWith}
 use Rattle.bimap.proofs.Extending.{ArePutIn, put_in_none, put_in_more}
 use Rattle.bimap.specs.declared.NotInsertedWith.TheVariants.{LeftHeld, RightHeld, Memory}
 use Rattle.bimap_undo.specs.Marks.{Marked, KeepsMarks, IsRecordedRefusal}
+use Rattle.bimap_undo.proofs.Items.{held_after}
 use Rattle.bimap_undo.proofs.Paths.{keeps_all, keeps_below, keeps_through}
 use Rattle.bimap_undo.proofs.undoable.Undoable.insert_all.Goals as goal
 
@@ -97,6 +98,7 @@ returns-clause-all g c =
         };
         allowed = i.put_in.allowed;
       };
+      held = held_after g.L.PartialEq.eq g.R.PartialEq.eq g.met.L.Eq.laws g.met.R.Eq.laws c.args.self.now.held c.loop-left.yielded c.args.policy c.loop-left.self.held c.mark-mark.ensures.stands_for_what_is_held.apart i.apart i.put_in;
       recorded = i.recorded;
       kept = i.kept;
     }
