@@ -10,8 +10,8 @@ ghost use Rattle.bimap.specs.Exchange.{IsReplacementOfLeft, IsReplacementOfRight
 ghost use Rattle.bimap.specs.Extension.{IsExtensionUnder};
 ghost use Rattle.bimap.specs.Holding.{IsFoundByLeft, IsFoundByRight, IsInsertionWithoutOverwriting};
 ghost use Rattle.bimap.specs.Sets.{IsSameSet};
-ghost use Rattle.bimap_undo.specs.AllOrNone.{AreAllRecorded, AreNoneRecorded};
-ghost use Rattle.bimap_registry.specs.Batch.{IsTakenBack};
+ghost use Rattle.bimap_undo.specs.AllOrNone.{AreAdded, AreAllRecorded, AreNoneRecorded};
+ghost use Rattle.bimap_registry.specs.Batch.{AreGiven, IsTakenBack};
 
 use bimap::btree::Iter;
 use bimap::{
@@ -109,6 +109,9 @@ pub fn register_recorded<I: IntoIterator<Item = (u32, String)>>(
     ensures none { IfErr result (λ e. AreNoneRecorded nat_eq string_eq
         (I.into_iter_gives members) I.IntoIter.next_gives registry.old
         (record { left = OnHeld.Refuse; right = OnHeld.Refuse }) e registry.new) }
+    ensures registered { OnOk result ((batch : _)
+        × AreGiven (I.into_iter_gives members) I.IntoIter.next_gives batch
+        × AreAdded registry.old.held.pairs batch registry.new.held.pairs) }
     ensures same { IfErr result (λ e. IsSameSet (Contains registry.old.held.pairs)
         (Contains registry.new.held.pairs)) }
 {
@@ -120,7 +123,7 @@ pub fn register_recorded<I: IntoIterator<Item = (u32, String)>>(
 }
 
 /// Registers all of these, or none: the first of which the id or the name is taken, by a member or by one before it, is
-/// handed back.
+/// handed back. Each id and name of an `Ok` is registered, each of before still is, and there are so many more.
 ///
 /// Costs what `register_recorded` costs, and leaves on an `Err` what that leaves.
 pub fn register_all<I: IntoIterator<Item = (u32, String)>>(
@@ -133,6 +136,9 @@ pub fn register_all<I: IntoIterator<Item = (u32, String)>>(
     ensures all { OnOk result (IsExtensionUnder nat_eq string_eq
         (I.into_iter_gives members) I.IntoIter.next_gives (holding registry.old)
         (record { left = OnHeld.Refuse; right = OnHeld.Refuse }) (holding registry.new)) }
+    ensures registered { OnOk result ((batch : _)
+        × AreGiven (I.into_iter_gives members) I.IntoIter.next_gives batch
+        × AreAdded (holding registry.old).pairs batch (holding registry.new).pairs) }
     ensures none { IfErr result (λ e. IsTakenBack nat_eq string_eq
         (I.into_iter_gives members) I.IntoIter.next_gives (holding registry.old)
         (record { left = OnHeld.Refuse; right = OnHeld.Refuse }) e (holding registry.new)) }
