@@ -1,18 +1,20 @@
 -- What is held after items were put in under a policy, in plain facts.
-use Rattle.std.proofs.Common.{◌≡◌, ◌↔◌, ◌⊎◌, ◌∙◌, Bool, true, false, List, [], ◌∷◌, ◌++◌, length, inl, inr, refl, sym, ap, subst, arith, true≢false, append_assoc, append-nil, length-append}
+use Rattle.std.proofs.Common.{◌≡◌, ◌↔◌, ◌⊎◌, ◌∙◌, Bool, true, false, List, [], ◌∷◌, ◌++◌, length, get_or, inl, inr, refl, sym, ap, subst, arith, true≢false, append_assoc, append-nil, length-append}
 use Rattle.std.specs.Prelude.{Contains}
 use Rattle.std.specs.Cmp.{IsEquivalence}
 use Rattle.std.proofs.lemmas.Bool.{cases_Bool, or_cases, or_from}
-use Rattle.std.proofs.lemmas.List.Elements.{Contains-append_left, Contains-append_right, Contains-append_cases, Contains-push_cases}
-use Rattle.bimap.specs.Sets.{shares, NoneShares, IsApart}
+use Rattle.std.proofs.lemmas.List.{get_or_default}
+use Rattle.std.proofs.lemmas.List.Elements.{Contains-append_left, Contains-append_right, Contains-push_cases}
+use Rattle.std.proofs.lemmas.List.Quantifiers.{all_pairs_push}
+use Rattle.bimap.specs.Sets.{shares, IsApart}
 use Rattle.bimap.specs.Answer.{IsAllowed}
 use Rattle.bimap.specs.Survivors.{Survives, PutsItself, TouchesSharing}
 use Rattle.bimap.specs.Extension.{AreAllowed}
 use Rattle.bimap.specs.Holding.{Holding}
 use Rattle.bimap.specs.Types.{Policy, Refuse}
-use Rattle.bimap.proofs.Apart.{apart_head, apart_tail, apart_none, apart_more, shares_symm, shares_itself, no_longer}
+use Rattle.bimap.proofs.Apart.{shares_symm, shares_itself, no_longer}
 use Rattle.bimap.proofs.Extending.{ArePutIn}
-use Rattle.bimap.proofs.Members.{head_in, more_in, cases_in, none_in}
+use Rattle.bimap.proofs.Members.{head_in, cases_in, none_in}
 use Rattle.bimap.proofs.Survivors.{Survives_none, items_push}
 use Rattle.bimap_undo.specs.AllOrNone.{AreHeldAfter}
 
@@ -55,14 +57,8 @@ module _ {L R : Type 0} (same_left : L → L → Bool) (same_right : R → R →
       subst P e (along S policy P step (before ++ x ∷ []) later (subst (λ h. AreAllowed same_left same_right S h policy) (sym e) are) (step before x (are before x later refl) p))
 
   apart_push : (ps : List (L × R)) (x : L × R) → IsApart same_left same_right ps → ((q : L × R) → Contains ps q → shares same_left same_right q x ≡ false) → IsApart same_left same_right (ps ++ x ∷ [])
-  apart_push [] x apart none = apart_more same_left same_right x [] (λ q m. none_in q m) apart
-  apart_push (p ∷ ps) x apart none =
-      apart_more same_left same_right p (ps ++ x ∷ [])
-      (λ q m. elim (Contains-push_cases ps x q m) [
-        | inl n ↦ apart_head same_left same_right p ps apart q n
-        | inr e ↦ subst (λ z. shares same_left same_right p z ≡ false) e (none p (head_in p ps))
-      ])
-      (apart_push ps x (apart_tail same_left same_right p ps apart) (λ q m. none q (more_in p ps q m)))
+  apart_push ps x apart none =
+      all_pairs_push (λ p q. shares same_left same_right p q ≡ false) ps x apart (λ k d inside. none (get_or ps k d) (k, inside, get_or_default ps k (get_or ps k d) d inside))
 
   -- what is held is an item or was held
   only : (S : L × R → Type 0) (items : List (L × R)) (p : L × R) → After S items p → Contains items p ⊎ S p
