@@ -9,4 +9,4 @@ mod names;
 pub use held::seat_new;
 pub use ledger::{seat_both, seat_guest, seat_in_free_place, seats_taken, show_seats};
 pub use looks::{Shown, run_and_look, run_and_look_ordered};
-pub use names::number_of;
+pub use names::{name_of, number_of};

@@ -1,15 +1,16 @@
 //! What a caller knows of names that are numbered as they come.
-ghost use Rattle.std.specs.Prelude.{◌≡◌, true, Contains, IfOk, IfErr, OnOk, OnErr, nat_eq};
+ghost use Rattle.std.specs.Prelude.{◌≡◌, true, Contains, IfSome, IfNone, IfOk, IfErr, OnOk, OnErr, nat_eq};
 ghost use Rattle.bimap.specs.Answer.{IsRefusal};
 ghost use Rattle.bimap.specs.Holding.{IsFull};
-ghost use Rattle.bimap.specs.Sets.{IsWithPut, LacksLeft};
+ghost use Rattle.bimap.specs.Sets.{IsWithPut, LacksLeft, LacksRight};
 
-use bimap::{Interning, NotInserted};
+use bimap::{Bijection, Interning, NotInserted};
 
 /// The number of a name: the one that it has, or else `fresh`. No name loses its number.
 ///
 /// Costs a search where the name has a number, and else an insertion. It takes memory only where it has none and no place
 /// is free. An `Err` hands both back, and nothing has changed: another name has `fresh`, or there was no memory.
+#[tactic(auto, using(bimap::proofs::LookUps::put_is_held))]
 pub fn number_of<L: Eq + Drop, B: Interning<L, u32>>(
     names: &mut B,
     name: L,
@@ -20,6 +21,8 @@ pub fn number_of<L: Eq + Drop, B: Interning<L, u32>>(
     ensures put { LacksLeft L.eq (Contains (B.holding names.old).pairs) name →
         OnOk result (IsWithPut L.eq nat_eq (Contains (B.holding names.old).pairs) (name, fresh)
         (Contains (B.holding names.new).pairs)) }
+    ensures given { LacksLeft L.eq (Contains (B.holding names.old).pairs) name →
+        OnOk result (Contains (B.holding names.new).pairs (name, fresh)) }
     ensures kept { (p : _) → Contains (B.holding names.old).pairs p →
         Contains (B.holding names.new).pairs p }
     ensures refused { IfErr result (IsRefusal L.eq nat_eq (Contains (B.holding names.old).pairs)
@@ -27,4 +30,13 @@ pub fn number_of<L: Eq + Drop, B: Interning<L, u32>>(
     ensures unchanged { OnErr result (B.holding names.new ≡ B.holding names.old) }
 {
     names.get_by_left_or_insert(name, fresh)
+}
+
+/// The name of a number, by one search: of the very number, since equal numbers are the same.
+pub fn name_of<'a, L: Eq + Drop, B: Bijection<L, u32>>(names: &'a B, number: u32) -> Option<&'a L>
+    ensures named { IfSome result (λ name.
+        Contains (B.holding names.now).pairs (name.now, number)) }
+    ensures none { IfNone result (LacksRight nat_eq (Contains (B.holding names.now).pairs) number) }
+{
+    names.get_by_right(&number)
 }
