@@ -1,6 +1,6 @@
 -- What a table says of its store and its indexes, after a write at one place.
 use Rattle.std.proofs.Common.{◌≡◌, ◌≢◌, ℕ, ◌<◌, ◌≤◌, Bool, true, false, List, length, Option, Some, None, arith}
-use Rattle.std.specs.Prelude.{IsSomeAnd, MatchBool, slice_set}
+use Rattle.std.specs.Prelude.{IsSomeAnd, MatchBool, MatchOption, is_some, slice_set}
 use Rattle.std.specs.Cmp.{IsEquivalence}
 use Rattle.std.proofs.lemmas.Grind.{merely}
 use Rattle.std.proofs.lemmas.List.{length-set}
@@ -48,13 +48,13 @@ module _ {L R : Type 0} where
         fits = fits_in (slice_set slots place None);
       }
 
--- what a listing again asks, where a pair was written over: of a new key, that it may be listed by its spot; else, that the index still lists the side
-pub may_relist : {P K X Spot : Type 0} (key : P → K) {same : K → K → Bool} → IsEquivalence same → {IsListing : X → (ℕ → Option K) → Type 0} → ((index : X) (f g : ℕ → Option K) → ((p : ℕ) → IsAlike same (f p) (g p)) → IsListing index f → IsListing index g) → (IsFor : X → K → Spot → Type 0) (was now : X) (spot : Spot) (slots : List (Option P)) (place : ℕ) (old p : P) (is_new : Bool)
-    → pair_at slots place ≡ Some old → ((other : ℕ) (q : P) → other ≢ place → pair_at slots other ≡ Some q → same (key q) (key p) ≡ false) → MatchBool is_new (IsFor was (key p) spot) (IsSomeAnd (pair_at slots place) (λ q. same (key q) (key p) ≡ true))
-    → ((k : K) (s : Spot) → IsFor was k s → IsFor now k s) → MatchBool is_new ((f : ℕ → Option K) → IsWithout f (keys_in key same slots) place → IsListing now f) (IsListing now (keys_in key same slots))
-    → MatchBool is_new ((k : K) × MayLink IsListing same now (keys_in key same (slice_set slots place (Some p))) place k × IsFor now k spot) (IsListing now (keys_in key same (slice_set slots place (Some p))))
-may_relist key {same} equal {IsListing} respects IsFor was now spot slots place old p true there alone spotted kept off =
+-- what a listing again asks, where a pair was written over: of a spot of a new key, that it may be listed there; else, that the index still lists the side
+pub may_relist : {P K X Spot : Type 0} (key : P → K) {same : K → K → Bool} → IsEquivalence same → {IsListing : X → (ℕ → Option K) → Type 0} → ((index : X) (f g : ℕ → Option K) → ((p : ℕ) → IsAlike same (f p) (g p)) → IsListing index f → IsListing index g) → (IsFor : X → K → Spot → Type 0) (was now : X) (slots : List (Option P)) (place : ℕ) (old p : P) (spot : Option Spot)
+    → pair_at slots place ≡ Some old → ((other : ℕ) (q : P) → other ≢ place → pair_at slots other ≡ Some q → same (key q) (key p) ≡ false) → MatchOption spot (IsSomeAnd (pair_at slots place) (λ q. same (key q) (key p) ≡ true)) (IsFor was (key p))
+    → ((k : K) (s : Spot) → IsFor was k s → IsFor now k s) → MatchBool (is_some spot) ((f : ℕ → Option K) → IsWithout f (keys_in key same slots) place → IsListing now f) (IsListing now (keys_in key same slots))
+    → MatchOption spot (IsListing now (keys_in key same (slice_set slots place (Some p)))) (λ s. (k : K) × MayLink IsListing same now (keys_in key same (slice_set slots place (Some p))) place k × IsFor now k s)
+may_relist key {same} equal {IsListing} respects IsFor was now slots place old p (Some spot) there alone spotted kept off =
     let inside = live_within slots place old there in
     (key p, may_over key same slots place IsListing now p inside alone (off (keys_in key same (slice_set slots place None)) (taken_without key same slots place inside)), kept (key p) spot spotted)
-may_relist key {same} equal respects IsFor was now spot slots place old p false there alone alike kept off =
+may_relist key {same} equal respects IsFor was now slots place old p None there alone alike kept off =
     respects now (keys_in key same slots) (keys_in key same (slice_set slots place (Some p))) (alike_put key same slots place equal old p (live_within slots place old there) there (rw there at alike)) off

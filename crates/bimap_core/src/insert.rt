@@ -58,7 +58,6 @@ impl<L: Eq, R: Eq, I: Index<L>, J: Index<R>> Table<L, R, I, J> {
         if keeps(by_right, policy.right) {
             return Err(NotInsertedWith::RightHeld(left, right));
         }
-        let spots = (&left_spot, &right_spot);
         match (by_left, by_right) {
             (None, None) => {
                 if self.make_room().is_err() {
@@ -68,21 +67,22 @@ impl<L: Eq, R: Eq, I: Index<L>, J: Index<R>> Table<L, R, I, J> {
                 Ok(Overwritten::Neither)
             }
             (Some(place), None) => {
-                let old = self.swap(place, left, right, (false, true), spots, meter);
+                let old = self.swap(place, left, right, (None, Some(&right_spot)), meter);
                 Ok(Overwritten::Left(old.0, old.1))
             }
             (None, Some(place)) => {
-                let old = self.swap(place, left, right, (true, false), spots, meter);
+                let old = self.swap(place, left, right, (Some(&left_spot), None), meter);
                 Ok(Overwritten::Right(old.0, old.1))
             }
             (Some(place), Some(other)) => {
+                let spots = (None, (place != other).then_some(&right_spot));
                 if place == other {
                     self.is_left_first = true;
-                    let old = self.swap(place, left, right, (false, false), spots, meter);
+                    let old = self.swap(place, left, right, spots, meter);
                     return Ok(Overwritten::Pair(old.0, old.1));
                 }
                 let second = self.take(other, meter);
-                let first = self.swap(place, left, right, (false, true), spots, meter);
+                let first = self.swap(place, left, right, spots, meter);
                 Ok(Overwritten::Both(first, second))
             }
         }

@@ -1,30 +1,31 @@
 //! One index beside a place whose pair is written over. It is changed only where the key is new.
-ghost use Rattle.std.specs.Prelude.{◌≡◌, ◌<◌, ◌≤◌, ◌+◌, ◌*◌, ℕ, Option, IsSome, IsSomeAnd, MatchBool, true, length, if◌then◌else◌};
+ghost use Rattle.std.specs.Prelude.{◌≡◌, ◌<◌, ◌≤◌, ◌+◌, ◌*◌, ℕ, Option, IsSome, IsSomeAnd, MatchBool, MatchOption, is_some, true, length, if◌then◌else◌};
 ghost use Rattle.bimap_index.specs.Listed.{IsWithout, MayLink};
 
 use bimap_base::{Meter, Side};
 use bimap_index::Index;
 
-// Whether the key is new at a place, and a spot of it where it is. Where it is known to be equal, it isn't.
+// A spot of the key where it is new at a place. Where it is known to be equal, it isn't.
 pub(crate) fn renew<K: Eq, I: Index<K>, S: Side<K>, M: Meter>(
     index: &I,
     side: S,
     place: usize,
     key: &K,
     meter: &mut M,
-) -> (bool, I::Spot)
+) -> Option<I::Spot>
     requires listing { I.is_listing index.now (S.key_at side) }
     requires live { IsSome (S.key_at side place) }
-    ensures is_for { MatchBool result.0 (I.is_for index.now key.now result.1)
-        (IsSomeAnd (S.key_at side place) (λ k. K.eq k key.now ≡ true)) }
+    ensures is_for { MatchOption result
+        (IsSomeAnd (S.key_at side place) (λ k. K.eq k key.now ≡ true))
+        (I.is_for index.now key.now) }
     ensures comparisons { M.comparisons meter.new ≤ M.comparisons meter.old
         + I.effort (length (I.places index.now)) }
     ensures touches { M.touches meter.new ≡ M.touches meter.old }
 {
     if index.is_known(side, place, key, meter) {
-        (false, index.spot())
+        None
     } else {
-        (true, index.spot_for(key))
+        Some(index.spot_for(key))
     }
 }
 
@@ -55,27 +56,26 @@ pub(crate) fn unlist<K: Eq, I: Index<K>, S: Side<K>, M: Meter>(
     }
 }
 
-// Lists the place again, by a spot of its key.
+// Lists the place again, by a spot of its key, where the key is new.
 pub(crate) fn relist<K: Eq, I: Index<K>, S: Side<K>, M: Meter>(
     index: &mut I,
-    is_new: bool,
     side: S,
     place: usize,
-    spot: &I::Spot,
+    spot: Option<&I::Spot>,
     meter: &mut M,
 )
-    requires may { MatchBool is_new ((key : K)
+    requires may { MatchOption spot (I.is_listing index.old (S.key_at side)) (λ s. (key : K)
         × MayLink I.is_listing K.eq index.old (S.key_at side) place key
-        × I.is_for index.old key spot.now) (I.is_listing index.old (S.key_at side)) }
+        × I.is_for index.old key s.now) }
     requires cell { place < I.cells index.old }
     ensures listing { I.is_listing index.new (S.key_at side) }
     ensures cells { I.cells index.new ≡ I.cells index.old }
     ensures comparisons { M.comparisons meter.new ≤ M.comparisons meter.old
-        + (if is_new then I.effort (length (I.places index.old)) else 0) }
+        + (if is_some spot.entry then I.effort (length (I.places index.old)) else 0) }
     ensures touches { M.touches meter.new ≤ M.touches meter.old
-        + (if is_new then 64 * (I.effort (length (I.places index.old)) + 1) else 0) }
+        + (if is_some spot.entry then 64 * (I.effort (length (I.places index.old)) + 1) else 0) }
 {
-    if is_new {
+    if let Some(spot) = spot {
         index.relink(side, place, spot, meter);
     }
 }

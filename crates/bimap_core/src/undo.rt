@@ -77,11 +77,11 @@ impl<L: Eq, R: Eq, I: Index<L>, J: Index<R>> Table<L, R, I, J> {
             + 128 * (J.effort (length (J.places self.old.right)) + 1) }
     {
         let lefts = LeftSide::new(&self.pairs);
-        let (new_left, left_spot) = renew(&self.left, lefts, place, &left, meter);
+        let left_spot = renew(&self.left, lefts, place, &left, meter);
         let rights = RightSide::new(&self.pairs);
-        let (new_right, right_spot) = renew(&self.right, rights, place, &right, meter);
-        let spots = (&left_spot, &right_spot);
-        self.swap(place, left, right, (new_left, new_right), spots, meter)
+        let right_spot = renew(&self.right, rights, place, &right, meter);
+        let spots = (left_spot.as_ref(), right_spot.as_ref());
+        self.swap(place, left, right, spots, meter)
     }
 
     // Puts a pair that shares with none into a free place, and answers which.

@@ -1,5 +1,5 @@
 //! Writes at one place: the store and what changes of the indexes, together. It decides nothing.
-ghost use Rattle.std.specs.Prelude.{◌≡◌, ◌<◌, ◌≤◌, ◌+◌, ◌*◌, ℕ, true, length, Some, None, IsSomeAnd, MatchBool, OnOk, OnErr, max, slice_set, if◌then◌else◌};
+ghost use Rattle.std.specs.Prelude.{◌≡◌, ◌<◌, ◌≤◌, ◌+◌, ◌*◌, ℕ, true, length, Some, None, IsSomeAnd, MatchOption, is_some, OnOk, OnErr, max, slice_set, if◌then◌else◌};
 ghost use Rattle.bimap_base.specs.Slots.{pair_at, left_at, right_at, IsLive, pair_count};
 
 use crate::slot_update::{relist, unlist};
@@ -11,40 +11,45 @@ impl<L: Eq, R: Eq, I: Index<L>, J: Index<R>> Table<L, R, I, J> {
     ghost use Rattle.bimap_core.specs.Store.{IsAloneAt};
 
     // Puts a pair in the place of another. An index is changed only where its key is new, by the spot of that key: where
-    // it isn't, it is equal, and the spot may be any.
-    pub(crate) fn swap<M: Meter>(
+    // there is no spot, it is equal.
+    pub(crate) fn swap<'a, M: Meter>(
         &mut self,
         place: usize,
         left: L,
         right: R,
-        is_new: (bool, bool),
-        spots: (&I::Spot, &J::Spot),
+        spots: (Option<&'a I::Spot>, Option<&'a J::Spot>),
         meter: &mut M,
     ) -> (L, R)
         requires live { IsLive self.old.pairs place }
-        requires left { MatchBool is_new.0 (I.is_for self.old.left left spots.0.now)
-            (IsSomeAnd (pair_at self.old.pairs place) (λ p. L.eq p.0 left ≡ true)) }
-        requires right { MatchBool is_new.1 (J.is_for self.old.right right spots.1.now)
-            (IsSomeAnd (pair_at self.old.pairs place) (λ p. R.eq p.1 right ≡ true)) }
+        requires left { MatchOption spots.0
+            (IsSomeAnd (pair_at self.old.pairs place) (λ p. L.eq p.0 left ≡ true))
+            (λ s. I.is_for self.old.left left s.now) }
+        requires right { MatchOption spots.1
+            (IsSomeAnd (pair_at self.old.pairs place) (λ p. R.eq p.1 right ≡ true))
+            (λ s. J.is_for self.old.right right s.now) }
         requires alone { IsAloneAt L.eq R.eq self.old.pairs place (left, right) }
         ensures was { pair_at self.old.pairs place ≡ Some result }
         ensures pairs { self.new.pairs ≡ slice_set self.old.pairs place (Some (left, right)) }
         ensures comparisons { M.comparisons meter.new ≤ M.comparisons meter.old
-            + 2 * (if is_new.0 then I.effort (length (I.places self.old.left)) else 0)
-            + 2 * (if is_new.1 then J.effort (length (J.places self.old.right)) else 0) }
+            + 2 * (if is_some spots.entry.0
+                then I.effort (length (I.places self.old.left)) else 0)
+            + 2 * (if is_some spots.entry.1
+                then J.effort (length (J.places self.old.right)) else 0) }
         ensures touches { M.touches meter.new ≤ M.touches meter.old
-            + 2 * (if is_new.0 then 64 * (I.effort (length (I.places self.old.left)) + 1) else 0)
-            + 2 * (if is_new.1 then 64 * (J.effort (length (J.places self.old.right)) + 1) else 0) }
+            + 2 * (if is_some spots.entry.0
+                then 64 * (I.effort (length (I.places self.old.left)) + 1) else 0)
+            + 2 * (if is_some spots.entry.1
+                then 64 * (J.effort (length (J.places self.old.right)) + 1) else 0) }
     {
         let lefts = LeftSide::new(&self.pairs);
-        unlist(&mut self.left, is_new.0, lefts, place, meter);
+        unlist(&mut self.left, spots.0.is_some(), lefts, place, meter);
         let rights = RightSide::new(&self.pairs);
-        unlist(&mut self.right, is_new.1, rights, place, meter);
+        unlist(&mut self.right, spots.1.is_some(), rights, place, meter);
         let old = self.pairs.swap_in(place, left, right);
         let lefts = LeftSide::new(&self.pairs);
-        relist(&mut self.left, is_new.0, lefts, place, spots.0, meter);
+        relist(&mut self.left, lefts, place, spots.0, meter);
         let rights = RightSide::new(&self.pairs);
-        relist(&mut self.right, is_new.1, rights, place, spots.1, meter);
+        relist(&mut self.right, rights, place, spots.1, meter);
         old
     }
 
