@@ -1,6 +1,6 @@
 -- What outgrows the places of a bimap, as a history grows.
-use Rattle.std.proofs.Common.{◌≡◌, ◌↔◌, ◌⊎◌, inl, inr, ℕ, ◌≤◌, Bool, true, false, List, [], ◌∷◌, ◌++◌, length, refl, sym, ap, ◌∙◌, arith, append_assoc}
-use Rattle.std.specs.Prelude.{Contains, MatchBool}
+use Rattle.std.proofs.Common.{◌≡◌, ◌↔◌, ◌⊎◌, inl, inr, ℕ, ◌≤◌, ◌*◌, Bool, true, false, List, [], ◌∷◌, ◌++◌, length, refl, sym, ap, ◌∙◌, arith, append_assoc}
+use Rattle.std.specs.Prelude.{Contains, MatchBool, max}
 use Rattle.std.proofs.lemmas.Bool.{cases_lt, or_left, or_right}
 use Rattle.bimap_base.specs.Sets.{NoneShares, SomeShares, IsApart}
 use Rattle.bimap_base.specs.Answer.{IsAnswer, overwrites}
@@ -29,41 +29,44 @@ module _ {L R : Type 0} (same_left : L → L → Bool) (same_right : R → R →
 
   module _ {E : Type 0} (Puts : E → L × R → Type 0) where
     -- after an entry that puts the pair the room is as it was, or the entry added it where no place was free
-    pub room_after : (old new : Holding L R) (pair : L × R) (e : E) (strikes : Bool) → Puts e pair → length old.pairs ≤ old.room → MatchBool strikes (SomeShares same_left same_right (Contains old.pairs) pair) (NoneShares same_left same_right (Contains old.pairs) pair) → IsRoomAfter same_left same_right old pair new → (new.room ≡ old.room) ⊎ (Adds same_left same_right Puts (Contains old.pairs) e × IsFull old)
-    room_after old new pair e true puts fits some room = inl (room.strikes some)
+    pub room_after : (old new : Holding L R) (pair : L × R) (e : E) (strikes : Bool) → Puts e pair → length old.pairs ≤ old.room → MatchBool strikes (SomeShares same_left same_right (Contains old.pairs) pair) (NoneShares same_left same_right (Contains old.pairs) pair) → IsRoomAfter old (SomeShares same_left same_right (Contains old.pairs) pair) new → (new.room ≡ old.room) ⊎ (Adds same_left same_right Puts (Contains old.pairs) e × IsFull old × (new.room ≤ max 4 (2 * old.room)))
+    room_after old new pair e true puts fits some room = inl (room.in_place some)
     room_after old new pair e false puts fits none room =
         elim (cases_lt (length old.pairs) old.room) [
           | inl free ↦ inl (room.had_place free)
-          | inr full ↦ inr ((pair, puts, none), omega (arith, fits, full))
+          | inr full ↦ inr ((pair, puts, none), omega (arith, fits, full), room.at_most)
         ]
 
     module _ (Held : List E → L × R → Type 0) where
       -- what has outgrown the places has done so whatever comes later
-      pub outgrows_first : (g h : List E) (room : ℕ) → Outgrows same_left same_right Puts Held g room → Outgrows same_left same_right Puts Held (g ++ h) room
-      outgrows_first g h room o = record {
+      pub outgrows_first : (g h : List E) (room grown now : ℕ) → now ≡ grown → Outgrows same_left same_right Puts Held g room grown → Outgrows same_left same_right Puts Held (g ++ h) room now
+      outgrows_first g h room grown now stays o = record {
         before = o.before;
         entry = o.entry;
         later = o.later ++ h;
         split = ap (λ l. l ++ h) o.split ∙ append_assoc o.before (o.entry ∷ o.later) h;
         adds = o.adds;
         full = o.full;
+        at_most = omega (arith, stays, o.at_most);
       }
 
       -- and whatever came before, where that left no fewer places
-      pub outgrows_second : (After : List E → L × R → Type 0) (g h : List E) (room more : ℕ) → ((before : List E) (p : L × R) → After before p ↔ Held (g ++ before) p) → room ≤ more → Outgrows same_left same_right Puts After h more → Outgrows same_left same_right Puts Held (g ++ h) room
-      outgrows_second After g h room more through fewer o = record {
+      pub outgrows_second : (After : List E → L × R → Type 0) (g h : List E) (room more grown : ℕ) → ((before : List E) (p : L × R) → After before p ↔ Held (g ++ before) p) → room ≤ more → Outgrows same_left same_right Puts After h more grown → Outgrows same_left same_right Puts Held (g ++ h) room grown
+      unfolding out_of_room_along
+      outgrows_second After g h room more grown through fewer o = record {
         before = g ++ o.before;
         entry = o.entry;
         later = o.later;
         split = ap (λ l. g ++ l) o.split ∙ sym (append_assoc g o.before (o.entry ∷ o.later));
         adds = (o.adds.0, o.adds.1, λ q m. o.adds.2 q ((through o.before q).1 m));
         full = out_of_room_along (After o.before) (Held (g ++ o.before)) room more (through o.before) fewer o.full;
+        at_most = o.at_most;
       }
 
       -- one entry on
-      pub room_push : (old new : Holding L R) (g : List E) (e : E) (room : ℕ) → IsApart same_left same_right old.pairs → ((p : L × R) → Contains old.pairs p ↔ Held g p) → room ≤ old.room → (old.room ≡ room) ⊎ Outgrows same_left same_right Puts Held g room → (new.room ≡ old.room) ⊎ (Adds same_left same_right Puts (Contains old.pairs) e × IsFull old) → (new.room ≡ room) ⊎ Outgrows same_left same_right Puts Held (g ++ e ∷ []) room
+      pub room_push : (old new : Holding L R) (g : List E) (e : E) (room : ℕ) → IsApart same_left same_right old.pairs → ((p : L × R) → Contains old.pairs p ↔ Held g p) → room ≤ old.room → (old.room ≡ room) ⊎ Outgrows same_left same_right Puts Held g room old.room → (new.room ≡ old.room) ⊎ (Adds same_left same_right Puts (Contains old.pairs) e × IsFull old × (new.room ≤ max 4 (2 * old.room))) → (new.room ≡ room) ⊎ Outgrows same_left same_right Puts Held (g ++ e ∷ []) room new.room
       room_push old new g e room apart held fewer so_far (inl stays) =
-          elim so_far [ inl was ↦ inl (stays ∙ was) | inr o ↦ inr (outgrows_first g (e ∷ []) room o) ]
+          elim so_far [ inl was ↦ inl (stays ∙ was) | inr o ↦ inr (outgrows_first g (e ∷ []) room old.room new.room stays o) ]
       room_push old new g e room apart held fewer so_far (inr added) = inr (record {
         before = g;
         entry = e;
@@ -71,4 +74,5 @@ module _ {L R : Type 0} (same_left : L → L → Bool) (same_right : R → R →
         split = refl;
         adds = (added.0.0, added.0.1, λ q m. added.0.2 q ((held q).1 m));
         full = record { pairs = old.pairs; apart = apart; members = held; full = omega (arith, fewer, added.1) };
+        at_most = omega (arith, added.1, added.2);
       })

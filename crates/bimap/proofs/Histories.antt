@@ -92,14 +92,14 @@ module _ {L R K : Type 0} (same_left : L → L → Bool) (same_right : R → R �
               (out_of_room_along same_left same_right (IsSurvivor same_left same_right Test (Contains second.pairs) w.0) (IsSurvivor same_left same_right Test (Contains first.pairs) (g ++ w.0)) first.room second.room (through w.0) one.not_lower (two.needs_room w.0 e later w.2 n))
         ]
 
-    room_both : (third.room ≡ first.room) ⊎ Outgrows same_left same_right Puts (IsSurvivor same_left same_right Test (Contains first.pairs)) (g ++ h) first.room
+    room_both : (third.room ≡ first.room) ⊎ Outgrows same_left same_right Puts (IsSurvivor same_left same_right Test (Contains first.pairs)) (g ++ h) first.room third.room
     room_both =
-        elim one.room [
-          | inl stays ↦ elim two.room [
-            | inl still ↦ inl (still ∙ stays)
-            | inr o ↦ inr (outgrows_second same_left same_right Puts (IsSurvivor same_left same_right Test (Contains first.pairs)) (IsSurvivor same_left same_right Test (Contains second.pairs)) g h first.room second.room through one.not_lower o)
+        elim two.room [
+          | inl still ↦ elim one.room [
+            | inl stays ↦ inl (still ∙ stays)
+            | inr o ↦ inr (outgrows_first same_left same_right Puts (IsSurvivor same_left same_right Test (Contains first.pairs)) g h first.room second.room third.room still o)
           ]
-          | inr o ↦ inr (outgrows_first same_left same_right Puts (IsSurvivor same_left same_right Test (Contains first.pairs)) g h first.room o)
+          | inr o ↦ inr (outgrows_second same_left same_right Puts (IsSurvivor same_left same_right Test (Contains first.pairs)) (IsSurvivor same_left same_right Test (Contains second.pairs)) g h first.room second.room third.room through one.not_lower o)
         ]
 
     -- two histories, one after the other

@@ -38,7 +38,7 @@ module _ {L R : Type 0} (reads_key : List ℕ → L → Type 0) (reads : Data �
       pub survivors : AreSurvivors same_left same_right (Contains []) pairs (Contains held.pairs)
       pub allowed : AreAllowed same_left same_right (Contains []) pairs policy
       pub not_lower : places ≤ held.room
-      pub room : (held.room ≡ places) ⊎ Outgrows same_left same_right PutsItself (Survives PutsItself (TouchesSharing same_left same_right) (Contains [])) pairs places
+      pub room : (held.room ≡ places) ⊎ Outgrows same_left same_right PutsItself (Survives PutsItself (TouchesSharing same_left same_right) (Contains [])) pairs places held.room
 
     pub reading_first : (all : List Entry) (held : Holding L R) → held.pairs ≡ [] → IsReading all all held.room held 0
     reading_first all held empty = record {

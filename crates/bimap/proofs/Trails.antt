@@ -3,7 +3,7 @@ use Rattle.std.proofs.Common.{◌≡◌, ◌⊎◌, inl, inr, ℕ, suc, ◌+◌,
 use Rattle.std.specs.Prelude.{Contains}
 use Rattle.std.specs.Cmp.{IsEquivalence}
 use Rattle.bimap_base.specs.Sets.{IsApart, IsSameSet, IsWithPut}
-use Rattle.bimap_base.specs.Answer.{IsAnswer, IsBoth}
+use Rattle.bimap_base.specs.Answer.{IsAnswer, IsBoth, named_count}
 use Rattle.bimap_base.specs.Undoing.{IsUndoable, IsUndone, IsInserting, IsTrail}
 use Rattle.bimap_base.specs.declared.overwritten.Overwritten.{Overwritten}
 use Rattle.bimap_base.specs.declared.overwritten.Overwritten.TheVariants.{Neither, Left, Right, Pair, Both}
@@ -131,3 +131,11 @@ both_or_not Neither = inr (λ b. b)
 both_or_not (Left l r) = inr (λ b. b)
 both_or_not (Right l r) = inr (λ b. b)
 both_or_not (Pair l r) = inr (λ b. b)
+
+-- an answer names two pairs at most
+pub two_at_most : {L R : Type 0} (answer : Overwritten L R) → named_count answer ≤ 2
+two_at_most (Both p q) = omega arith
+two_at_most Neither = omega arith
+two_at_most (Left l r) = omega arith
+two_at_most (Right l r) = omega arith
+two_at_most (Pair l r) = omega arith

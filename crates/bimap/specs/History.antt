@@ -88,7 +88,7 @@ module _ {L R K : Type 0} (same_left : L → L → Bool) (same_right : R → R �
     pub survivors : (p : L × R) → Contains new.pairs p ↔ IsSurvivor (Contains old.pairs) history p
     pub needs_room : NeedsRoom (Contains old.pairs) old.room history
     pub not_lower : old.room ≤ new.room
-    pub room : (new.room ≡ old.room) ⊎ Outgrows same_left same_right Puts (IsSurvivor (Contains old.pairs)) history old.room
+    pub room : (new.room ≡ old.room) ⊎ Outgrows same_left same_right Puts (IsSurvivor (Contains old.pairs)) history old.room new.room
 
   -- p is the pair of a successful insertion of the history, and no later call touches it
   abbrev pub IsStanding : List (Entry L R K) → L × R → Type 0

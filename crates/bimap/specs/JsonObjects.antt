@@ -99,7 +99,7 @@ module _ {L R : Type 0} (reads_key : List ℕ → L → Type 0) (reads : Data �
       pub survivors : AreSurvivors same_left same_right (Contains []) pairs (Contains new.pairs)
       pub not_lower : places ≤ new.room
       pub room : (new.room ≡ places)
-          ⊎ Outgrows same_left same_right PutsItself (Survives PutsItself (TouchesSharing same_left same_right) (Contains [])) pairs places
+          ⊎ Outgrows same_left same_right PutsItself (Survives PutsItself (TouchesSharing same_left same_right) (Contains [])) pairs places new.room
 
     -- what the reading into a bimap of no pairs and so many places answers. The first faulty entry is named, and of it the
     -- key first

@@ -1,5 +1,5 @@
 -- What one call needs and leaves.
-use Rattle.std.specs.Prelude.{◌≡◌, ◌↔◌, ◌⊎◌, Bool, Contains}
+use Rattle.std.specs.Prelude.{◌≡◌, ◌↔◌, ◌⊎◌, ◌≤◌, ◌*◌, max, Bool, Contains}
 use Rattle.bimap_base.specs.Holding.{Holding, IsFull}
 use Rattle.bimap.specs.declared.call.Call.{Call}
 use Rattle.bimap.specs.declared.call.Call.TheVariants.{Retain}
@@ -15,7 +15,8 @@ abbrev pub IsStep : {L R K : Type 0} → (L → L → Bool) → (R → R → Boo
 IsStep {L} {R} same_left same_right Test S entry T =
     (p : L × R) → T p ↔ (Puts entry p ⊎ (S p × (Touches same_left same_right Test entry p → ⊥)))
 
--- the room is as it was, or the entry added a pair where no place was free
+-- the room is as it was, or the entry added a pair where no place was free, and it is doubled at most, to four at least
 abbrev pub IsRoomAfterCall : {L R K : Type 0} → (L → L → Bool) → (R → R → Bool) → Holding L R → Entry L R K → Holding L R → Type 0
 IsRoomAfterCall same_left same_right old entry new =
-    (new.room ≡ old.room) ⊎ (Adds same_left same_right Puts (Contains old.pairs) entry × IsFull old)
+    (new.room ≡ old.room)
+    ⊎ (Adds same_left same_right Puts (Contains old.pairs) entry × IsFull old × (new.room ≤ max 4 (2 * old.room)))

@@ -12,7 +12,7 @@ use std::alloc::Global;
 /// Performs one call and returns its reply.
 ///
 /// It costs what the call costs. A refusal leaves the pairs as they were. `NoRoom` comes only where no place is free, and
-/// only there does the capacity grow. The test says which pairs a `Retain` keeps: for its key and each pair it must have
+/// only there does the capacity grow, to its double or to four at most. The test says which pairs a `Retain` keeps: for its key and each pair it must have
 /// one answer.
 ///
 ///     let reply = perform(&mut seats, Call::InsertNoOverwrite('a', 1), &|_: &u32, _: &char, _: &u32| true);

@@ -1,6 +1,7 @@
 //! A list of insertions, undone from its end on any bimap. It doesn't know how a bimap keeps its pairs.
-ghost use Rattle.std.specs.Prelude.{◌≡◌, ◌≤◌, List, Contains, IsOk, OnOk, IfErr};
+ghost use Rattle.std.specs.Prelude.{◌≡◌, List, Contains, IsOk, OnOk, IfErr};
 ghost use Rattle.bimap_base.specs.Sets.{IsSameSet};
+ghost use Rattle.bimap_base.specs.Extension.{IsRoomAfterItems};
 ghost use Rattle.bimap.specs.Trail.{Leads, LeadsWithin, IsStopped};
 
 use bimap_base::{Bijection, Overwritten};
@@ -17,7 +18,7 @@ pub struct UndoRunStopped<L, R> {
 /// insertion returned.
 ///
 /// Each costs an `undo_insert`, and is out of memory only for `Both` where no place is free. Only there does the capacity
-/// grow.
+/// grow, to its double or to four at most.
 ///
 ///     // `entries` of the insertion of 'a' with 1: [('a', Overwritten::Both(('a', 3), ('b', 1)))]
 ///     undo_run(&mut seats, entries)?;
@@ -33,7 +34,7 @@ pub fn undo_run<L: Eq + Drop, R: Eq + Drop, B: Bijection<L, R>>(
         IsSameSet (Contains first) (Contains (B.holding bimap.new).pairs)) }
     ensures stopped { IfErr result (λ e. IsStopped L.eq R.eq
         (B.holding bimap.old) entries.items e.rest.items (B.holding bimap.new)) }
-    ensures not_lower { (B.holding bimap.old).room ≤ (B.holding bimap.new).room }
+    ensures room { IsRoomAfterItems (B.holding bimap.old) entries.items (B.holding bimap.new) }
 
     // Where no set on the way back needs another place, all is undone in the places that are there.
     ensures fits { (first : List (L × R)) →

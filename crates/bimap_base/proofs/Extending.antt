@@ -1,9 +1,9 @@
 -- Items put in one after the other under a policy.
-use Rattle.std.proofs.Common.{◌↔◌, ◌∙◌, ◌+◌, ◌≤◌, Bool, List, [], ◌∷◌, ◌++◌, length, refl, subst, arith, inl, inr}
+use Rattle.std.proofs.Common.{◌↔◌, ◌+◌, ◌≤◌, Bool, List, [], ◌∷◌, ◌++◌, length, refl, subst, arith, inl, inr}
 use Rattle.std.specs.Prelude.{Contains}
 use Rattle.std.specs.Cmp.{IsEquivalence}
 use Rattle.std.proofs.lemmas.List.{length_push}
-use Rattle.bimap_base.specs.Sets.{IsApart, IsWithPut}
+use Rattle.bimap_base.specs.Sets.{IsApart, IsWithPut, SomeShares}
 use Rattle.bimap_base.specs.Answer.{IsAllowed, IsRefusalUnder}
 use Rattle.bimap_base.specs.Survivors.{Survives, PutsItself, TouchesSharing, AreSurvivors}
 use Rattle.bimap_base.specs.Holding.{Holding, IsFull, IsRoomAfter}
@@ -12,6 +12,7 @@ use Rattle.bimap_base.specs.declared.policy.Policy.{Policy}
 use Rattle.bimap_base.specs.declared.refusal.NotInsertedWith.{NotInsertedWith}
 use Rattle.bimap_base.specs.declared.refusal.NotInsertedWith.TheVariants.{LeftHeld, RightHeld, Memory}
 use Rattle.bimap_base.proofs.Apart.{one_longer}
+use Rattle.bimap_base.proofs.Room.{room_more}
 use Rattle.bimap_base.proofs.Survivors.{split_push, not_split, items_none, items_push}
 
 module _ {L R : Type 0} (same_left : L → L → Bool) (same_right : R → R → Bool) where
@@ -47,7 +48,7 @@ module _ {L R : Type 0} (same_left : L → L → Bool) (same_right : R → R →
     survivors = items_none same_left same_right (Contains old.pairs);
     allowed = λ before item later q. not_split before later item q;
     no_longer = omega arith;
-    room = record { not_lower = omega arith; had_places = λ _. refl };
+    room = record { not_lower = omega arith; at_most = omega arith; had_places = λ _. refl };
   }
 
   -- where no place is free, those that were there were used
@@ -55,7 +56,7 @@ module _ {L R : Type 0} (same_left : L → L → Bool) (same_right : R → R →
   put_in_full old items policy new are full = record { full = full; used = omega (arith, full, are.no_longer, are.room.not_lower) }
 
   -- one item on
-  pub put_in_more : (old : Holding L R) (items : List (L × R)) (policy : Policy) (held : Holding L R) (item : L × R) (new : Holding L R) → IsEquivalence same_left → IsEquivalence same_right → IsApart same_left same_right held.pairs → IsApart same_left same_right new.pairs → ArePutIn old items policy held → IsAllowed same_left same_right (Contains held.pairs) item policy → IsWithPut same_left same_right (Contains held.pairs) item (Contains new.pairs) → IsRoomAfter same_left same_right held item new → ArePutIn old (items ++ item ∷ []) policy new
+  pub put_in_more : (old : Holding L R) (items : List (L × R)) (policy : Policy) (held : Holding L R) (item : L × R) (new : Holding L R) → IsEquivalence same_left → IsEquivalence same_right → IsApart same_left same_right held.pairs → IsApart same_left same_right new.pairs → ArePutIn old items policy held → IsAllowed same_left same_right (Contains held.pairs) item policy → IsWithPut same_left same_right (Contains held.pairs) item (Contains new.pairs) → IsRoomAfter held (SomeShares same_left same_right (Contains held.pairs) item) new → ArePutIn old (items ++ item ∷ []) policy new
   put_in_more old items policy held item new lefts rights apart apart_after are let_in put room =
       let more = length_push items item in
       let longer = one_longer same_left same_right lefts rights held.pairs new.pairs item apart apart_after put in
@@ -63,10 +64,5 @@ module _ {L R : Type 0} (same_left : L → L → Bool) (same_right : R → R →
         survivors = items_push same_left same_right (Contains old.pairs) (Contains held.pairs) (Contains new.pairs) items item are.survivors put;
         allowed = allowed_push (Contains old.pairs) (Contains held.pairs) items item policy are.survivors are.allowed let_in;
         no_longer = omega (arith, more, longer, are.no_longer);
-        room = record {
-          not_lower = omega (arith, are.room.not_lower, room.not_lower);
-          had_places = λ fits.
-              let was = are.room.had_places (omega (arith, fits, more)) in
-              room.had_place (omega (arith, fits, more, was, are.no_longer)) ∙ was;
-        };
+        room = room_more old held new items (items ++ item ∷ []) (omega (arith, more)) (omega (arith, more, are.no_longer)) are.room room;
       }

@@ -64,11 +64,12 @@ module _ {L R : Type 0} where
       }
 
       module _ (same_left : L → L → Bool) (same_right : R → R → Bool) where
-        room_alike : (pair : L × R) → IsRoomAfter same_left same_right h pair h' → IsRoomAfter same_left same_right k pair k'
-        room_alike pair r = record {
+        room_alike : (InPlace InPlaceBack : Type 0) → (InPlaceBack → InPlace) → IsRoomAfter h InPlace h' → IsRoomAfter k InPlaceBack k'
+        room_alike InPlace InPlaceBack back r = record {
           not_lower = rw (like.room, after.room) r.not_lower;
+          at_most = rw (like.room, after.room) r.at_most;
           had_place = λ free. after.room ∙ r.had_place (rw (sym like.room, sym like.long) free) ∙ sym like.room;
-          strikes = λ some. after.room ∙ r.strikes (SomeShares-back (Contains h.pairs) (Contains k.pairs) like.members same_left same_right pair some) ∙ sym like.room;
+          in_place = λ in_place. after.room ∙ r.in_place (back in_place) ∙ sym like.room;
         }
 
         -- where an `Err` left the very holding, it left the very other
@@ -80,7 +81,7 @@ module _ {L R : Type 0} where
           count = IfOk-weaker result _ _ (λ answer e. omega (arith, after.long, e, like.long)) i.count;
           refused = IfErr-weaker result _ _ (λ e. IsRefusalUnder-same (Contains h.pairs) (Contains k.pairs) like.members same_left same_right (IsFull h) (IsFull k) pair policy e full_alike) i.refused;
           unchanged = unchanged;
-          room = room_alike pair i.room;
+          room = room_alike _ _ (SomeShares-back (Contains h.pairs) (Contains k.pairs) like.members same_left same_right pair) i.room;
         }
 
         -- where a held left, or an `Err`, left the very holding, it left the very other
@@ -95,7 +96,7 @@ module _ {L R : Type 0} where
               kept = λ p was. (after.members p).0 (i.kept p ((like.members p).1 was));
               refused = IfErr-weaker result _ _ (λ e. IsRefusal-same (Contains h.pairs) (Contains k.pairs) like.members same_left same_right (IsFull h) (IsFull k) pair e full_alike) i.refused;
               unchanged = unchanged;
-              room = room_alike pair i.room;
+              room = room_alike _ _ (SomeShares-back (Contains h.pairs) (Contains k.pairs) like.members same_left same_right pair) i.room;
             }
 
         pub undoing_alike : (left : L) (answer : Overwritten L R) (result : Result (L × R) (UndoStopped L R)) → OnErr result (k' ≡ k) → IsUndoing same_left same_right h left answer result h' → IsUndoing same_left same_right k left answer result k'
@@ -107,7 +108,5 @@ module _ {L R : Type 0} where
           both = u.both;
           full = on_err_weaker result full_alike u.full;
           unchanged = unchanged;
-          not_lower = rw (like.room, after.room) u.not_lower;
-          had_place = λ free. after.room ∙ u.had_place (rw (sym like.room, sym like.long) free) ∙ sym like.room;
-          not_both = λ never. after.room ∙ u.not_both never ∙ sym like.room;
+          room = room_alike _ _ (λ never. never) u.room;
         }

@@ -15,6 +15,7 @@ pub mod NodesInCells
 pub mod Passing
 pub mod Removals
 pub mod Replacing
+pub mod Room
 pub mod SameAscending
 pub mod SameSets
 pub mod SetsAlike

@@ -1,5 +1,5 @@
 -- What a bimap takes of an iterator. `gives it`: the iterator that was asked may be it. `next`: what its calls give and leave.
-use Rattle.std.specs.Prelude.{◌≡◌, ℕ, ◌+◌, ◌-◌, ◌^◌, ◌≤◌, Bool, Option, Some, List, ◌∷◌, ◌++◌, length, min, Contains}
+use Rattle.std.specs.Prelude.{◌≡◌, ℕ, ◌+◌, ◌-◌, ◌*◌, ◌^◌, ◌≤◌, Bool, Option, Some, List, ◌∷◌, ◌++◌, length, min, max, Contains}
 use Rattle.std.specs.Iterator.{Drains, YieldsThen}
 use Rattle.bimap_base.specs.Sets.{NoneShares}
 use Rattle.bimap_base.specs.Answer.{IsAllowed, IsRefusalUnder}
@@ -9,9 +9,11 @@ use Rattle.bimap_base.specs.declared.policy.Policy.{Policy}
 use Rattle.bimap_base.specs.declared.refusal.ExtendStopped.{ExtendStopped}
 use Rattle.bimap_base.specs.declared.refusal.ItemRefused.{ItemRefused}
 
--- so many items leave the room: it never falls, and stays where there was a place for each item
-pub record IsRoomAfterItems {L R : Type 0} (old : Holding L R) (items : List (L × R)) (new : Holding L R) : Type 0 where
+-- so many items leave the room: it never falls, and stays where there was a place for each item. Where it grew, it is at
+-- most four, or twice the places for the pairs of old and these items
+pub record IsRoomAfterItems {L R T : Type 0} (old : Holding L R) (items : List T) (new : Holding L R) : Type 0 where
   pub not_lower : old.room ≤ new.room
+  pub at_most : new.room ≤ max old.room (max 4 (2 * (length old.pairs + length items)))
   pub had_places : length old.pairs + length items ≤ old.room → new.room ≡ old.room
 
 -- no place is free, and there was none beyond those for the pairs of old and these items

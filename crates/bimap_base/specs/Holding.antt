@@ -1,5 +1,5 @@
 -- What a contract sees of a bimap, and what each call answers and leaves: one record a call, one fact a field.
-use Rattle.std.specs.Prelude.{◌≡◌, ℕ, ◌<◌, ◌≤◌, ◌+◌, Bool, true, Option, Result, List, length, Contains, IfSome, IfNone, IfOk, IfErr, IsOk, OnOk, OnErr, MatchOption}
+use Rattle.std.specs.Prelude.{◌≡◌, ℕ, ◌<◌, ◌≤◌, ◌+◌, ◌*◌, max, Bool, true, Option, Result, List, length, Contains, IfSome, IfNone, IfOk, IfErr, IsOk, OnOk, OnErr, MatchOption}
 use Rattle.std.specs.Borrow.{Bor}
 use denote.Param.Members.{Mut}
 use Rattle.bimap_base.specs.Sets.{NoneShares, SomeShares, IsWithPut, HasLeft, LacksLeft, IsWithoutLeft, LacksRight, IsWithoutRight}
@@ -21,6 +21,14 @@ pub record Holding (L R : Type 0) : Type 0 where
 -- no place is free
 abbrev pub IsFull : {L R : Type 0} → Holding L R → Type 0
 IsFull held = length held.pairs ≡ held.room
+
+-- the room never falls, and is doubled at most, to four at least. It stays where a place was free, or where what is put in
+-- takes the place of what goes out
+pub record IsRoomAfter {L R : Type 0} (old : Holding L R) (InPlace : Type 0) (new : Holding L R) : Type 0 where
+  pub not_lower : old.room ≤ new.room
+  pub at_most : new.room ≤ max 4 (2 * old.room)
+  pub had_place : length old.pairs < old.room → new.room ≡ old.room
+  pub in_place : InPlace → new.room ≡ old.room
 
 module _ {L R : Type 0} (same_left : L → L → Bool) where
   -- the answer of a look-up by left
@@ -51,12 +59,6 @@ module _ {L R : Type 0} (same_right : R → R → Bool) where
     pub room : new.room ≡ old.room
 
 module _ {L R : Type 0} (same_left : L → L → Bool) (same_right : R → R → Bool) where
-  -- the room never falls, and stays where a place was free, or where the new pair takes that of a struck one
-  pub record IsRoomAfter (old : Holding L R) (pair : L × R) (new : Holding L R) : Type 0 where
-    pub not_lower : old.room ≤ new.room
-    pub had_place : length old.pairs < old.room → new.room ≡ old.room
-    pub strikes : SomeShares same_left same_right (Contains old.pairs) pair → new.room ≡ old.room
-
   -- what `insert` answers and leaves
   pub record IsInsertion (old : Holding L R) (pair : L × R) (result : Result (Overwritten L R) (NoRoom L R)) (new : Holding L R) : Type 0 where
     pub answer : IfOk result (IsAnswer same_left same_right (Contains old.pairs) pair)
@@ -66,7 +68,7 @@ module _ {L R : Type 0} (same_left : L → L → Bool) (same_right : R → R →
     pub none_struck : OnErr result (NoneShares same_left same_right (Contains old.pairs) pair)
     pub full : OnErr result (IsFull old)
     pub unchanged : OnErr result (new ≡ old)
-    pub room : IsRoomAfter old pair new
+    pub room : IsRoomAfter old (SomeShares same_left same_right (Contains old.pairs) pair) new
 
   -- the same of `insert_no_overwrite`
   pub record IsInsertionWithoutOverwriting (old : Holding L R) (pair : L × R) (result : Result (Unit {0}) (NotInserted L R)) (new : Holding L R) : Type 0 where
@@ -75,7 +77,7 @@ module _ {L R : Type 0} (same_left : L → L → Bool) (same_right : R → R →
     pub count : OnOk result (length new.pairs ≡ length old.pairs + 1)
     pub refused : IfErr result (IsRefusal same_left same_right (Contains old.pairs) (IsFull old) pair)
     pub unchanged : OnErr result (new ≡ old)
-    pub room : IsRoomAfter old pair new
+    pub room : IsRoomAfter old (SomeShares same_left same_right (Contains old.pairs) pair) new
 
   -- of `insert_with`
   pub record IsInsertionUnder (old : Holding L R) (pair : L × R) (policy : Policy) (result : Result (Overwritten L R) (NotInsertedWith L R)) (new : Holding L R) : Type 0 where
@@ -85,7 +87,7 @@ module _ {L R : Type 0} (same_left : L → L → Bool) (same_right : R → R →
     pub count : IfOk result (λ answer. length new.pairs + named_count answer ≡ length old.pairs + 1)
     pub refused : IfErr result (IsRefusalUnder same_left same_right (Contains old.pairs) (IsFull old) pair policy)
     pub unchanged : OnErr result (new ≡ old)
-    pub room : IsRoomAfter old pair new
+    pub room : IsRoomAfter old (SomeShares same_left same_right (Contains old.pairs) pair) new
 
   -- the answer is the right held for an equal left, and the given pair is put in only where none was held
   pub record IsInterning (old : Holding L R) (pair : L × R) (result : Result R (NotInserted L R)) (new : Holding L R) : Type 0 where
@@ -96,7 +98,7 @@ module _ {L R : Type 0} (same_left : L → L → Bool) (same_right : R → R →
     pub kept : (p : L × R) → Contains old.pairs p → Contains new.pairs p
     pub refused : IfErr result (IsRefusal same_left same_right (Contains old.pairs) (IsFull old) pair)
     pub unchanged : OnErr result (new ≡ old)
-    pub room : IsRoomAfter old pair new
+    pub room : IsRoomAfter old (SomeShares same_left same_right (Contains old.pairs) pair) new
 
   -- and of `undo_insert`
   pub record IsUndoing (old : Holding L R) (left : L) (answer : Overwritten L R) (result : Result (L × R) (UndoStopped L R)) (new : Holding L R) : Type 0 where
@@ -107,9 +109,7 @@ module _ {L R : Type 0} (same_left : L → L → Bool) (same_right : R → R →
     pub both : OnErr result (IsBoth answer)
     pub full : OnErr result (IsFull old)
     pub unchanged : OnErr result (new ≡ old)
-    pub not_lower : old.room ≤ new.room
-    pub had_place : length old.pairs < old.room → new.room ≡ old.room
-    pub not_both : (IsBoth answer → ⊥) → new.room ≡ old.room
+    pub room : IsRoomAfter old (IsBoth answer → ⊥) new
 
 -- what `retain` leaves, the closure being called in some order
 pub record IsRetention {F L R : Type 0} (g : Mut F (Bor L × (Bor R × Unit {0})) Bool) (old : Holding L R) (f : F) (new : Holding L R) : Type 0 where

@@ -1,17 +1,18 @@
 -- What each arm of an interning answers and leaves.
-use Rattle.std.proofs.Common.{◌≡◌, ℕ, ◌<◌, ◌≤◌, true, false, Bool, List, length, Option, Some, None, IsSome, refl, sym, ap, subst, ◌∙◌, inl, inr, arith, true≢false}
+use Rattle.std.proofs.Common.{◌≡◌, ℕ, ◌<◌, true, false, Bool, List, length, Option, Some, None, IsSome, refl, sym, ap, subst, ◌∙◌, inl, inr, arith, true≢false}
 use Rattle.std.specs.Prelude.{Contains, Ok, Err, slice_set}
 use Rattle.std.specs.Option.{is_some}
 use Rattle.std.specs.Cmp.{IsEquivalence}
 use Rattle.bimap_base.specs.Sets.{HasLeft, LacksLeft}
-use Rattle.bimap_base.specs.Holding.{IsInterning}
+use Rattle.bimap_base.specs.Holding.{IsRoomAfter, IsInterning}
 use Rattle.bimap_base.specs.Slots.{pair_at, pair_count}
 use Rattle.bimap_base.specs.Places.{pairs_in, IsFoundAt}
 use Rattle.bimap_base.specs.declared.policy.OnHeld.TheVariants.{Refuse}
 use Rattle.bimap_base.specs.declared.refusal.NotInserted.TheVariants.{Occupied, Memory}
+use Rattle.bimap_base.proofs.Room.{room_stays}
 use Rattle.bimap_core.specs.Store.{holding_of}
 use Rattle.bimap_core.proofs.Places.{held_at, left_lacking, length-pairs_in}
-use Rattle.bimap_core.proofs.Inserted.{right_held, room_kept, put_new}
+use Rattle.bimap_core.proofs.Inserted.{right_held, put_new}
 use Rattle.bimap_core.proofs.Inserting.{right_of_two, none_shares}
 
 pub nothing : {A : Type 0} (o : Option A) → is_some o ≡ false → o ≡ None
@@ -35,7 +36,7 @@ module _ {L R : Type 0} (same_left : L → L → Bool) (same_right : R → R →
         kept = λ q m. m;
         refused = tt;
         unchanged = tt;
-        room = room_kept same_left same_right slots slots (l, r) refl;
+        room = room_stays _ _ _ refl;
       }
 
   module _ (by_left by_right : Option ℕ) (at_left : IsFoundAt (λ p. p.0) same_left slots l by_left) (at_right : IsFoundAt (λ p. p.1) same_right slots r by_right) (no_left : by_left ≡ None) where
@@ -58,7 +59,7 @@ module _ {L R : Type 0} (same_left : L → L → Bool) (same_right : R → R →
           kept = λ q m. m;
           refused = (refl, (h.0, h.1, right_of_two _ _ h.2));
           unchanged = refl;
-          room = room_kept same_left same_right slots slots (l, r) refl;
+          room = room_stays _ _ _ refl;
         }
 
     -- nothing shares, and there was no memory
@@ -71,14 +72,14 @@ module _ {L R : Type 0} (same_left : L → L → Bool) (same_right : R → R →
       kept = λ q m. subst (λ z. Contains (pairs_in z) q) (sym same) m;
       refused = (refl, none_shares same_left same_right slots l r by_left by_right at_left at_right no_left no_right, length-pairs_in slots ∙ full);
       unchanged = ap holding_of same;
-      room = room_kept same_left same_right slots slots' (l, r) (ap length same);
+      room = room_stays _ _ _ (ap length same);
     }
 
     -- nothing shares
-    pub interned_new : (equal_left : IsEquivalence same_left) (equal_right : IsEquivalence same_right) (grown slots' : List (Option (L × R))) (place : ℕ) → by_right ≡ None → ((q : ℕ) → pair_at grown q ≡ pair_at slots q) → (pair_count slots < length slots → grown ≡ slots) → length slots ≤ length grown
+    pub interned_new : (equal_left : IsEquivalence same_left) (equal_right : IsEquivalence same_right) (grown slots' : List (Option (L × R))) (place : ℕ) → by_right ≡ None → ((q : ℕ) → pair_at grown q ≡ pair_at slots q) → IsRoomAfter (holding_of slots) ⊥ (holding_of grown)
         → place < length grown → pair_at grown place ≡ None → slots' ≡ slice_set grown place (Some (l, r)) → IsInterning same_left same_right (holding_of slots) (l, r) (Ok r) (holding_of slots')
-    interned_new equal_left equal_right grown slots' place no_right kept had grows inside free now =
-        let i = put_new same_left same_right equal_left equal_right slots l r (record { left = Refuse; right = Refuse }) by_left by_right at_left at_right (λ _. no_left) (λ _. no_right) grown slots' place no_left no_right kept had grows inside free now in
+    interned_new equal_left equal_right grown slots' place no_right kept room inside free now =
+        let i = put_new same_left same_right equal_left equal_right slots l r (record { left = Refuse; right = Refuse }) by_left by_right at_left at_right (λ _. no_left) (λ _. no_right) grown slots' place no_left no_right kept room inside free now in
         record {
           answer = (l, (i.put (l, r)).1 (inl refl), equal_left.refl l);
           held = lacks_held;

@@ -6,13 +6,14 @@ use Rattle.std.proofs.lemmas.Bool.{cases_eq, false_from_ne_true}
 use Rattle.std.proofs.lemmas.List.{get_or-set_same, get_or-set_other, length-set}
 use Rattle.bimap_base.specs.Sets.{shares}
 use Rattle.bimap_base.specs.Answer.{IsNamed, IsBoth, named_count}
-use Rattle.bimap_base.specs.Holding.{IsUndoing}
+use Rattle.bimap_base.specs.Holding.{IsRoomAfter, IsUndoing}
 use Rattle.bimap_base.specs.Places.{pairs_in, IsFoundAt}
 use Rattle.bimap_base.specs.Slots.{pair_at, pair_count}
 use Rattle.bimap_base.specs.Undoing.{IsUndoable, IsUndone}
 use Rattle.bimap_base.specs.declared.overwritten.Overwritten.{Overwritten}
 use Rattle.bimap_base.specs.declared.overwritten.Overwritten.TheVariants.{Neither, Both}
 use Rattle.bimap_base.proofs.Fits.{NamesOne}
+use Rattle.bimap_base.proofs.Room.{room_stays, room_made}
 use Rattle.bimap_core.specs.Store.{holding_of, IsAloneAt}
 use Rattle.bimap_core.proofs.Places.{held_at, place_of, live_within, pairs_kept, length-pairs_in}
 use Rattle.bimap_base.proofs.Apart.{shares_symm}
@@ -117,8 +118,8 @@ module _ {L R : Type 0} (same_left : L → L → Bool) (same_right : R → R →
             λ m. (held q).1 (elim m [ inl n ↦ inl n | inr d ↦ inr (w.1 d) ]),
           )
 
-      pub undoing_by : length (pairs_in slots') + 1 ≡ length (pairs_in slots) + named_count answer → length slots ≤ length slots' → (pair_count slots < length slots → length slots' ≡ length slots) → ((IsBoth answer → ⊥) → length slots' ≡ length slots) → IsUndoing same_left same_right (holding_of slots) left answer (Ok p) (holding_of slots')
-      undoing_by count longer had not_both = record {
+      pub undoing_by : length (pairs_in slots') + 1 ≡ length (pairs_in slots) + named_count answer → IsRoomAfter (holding_of slots) (IsBoth answer → ⊥) (holding_of slots') → IsUndoing same_left same_right (holding_of slots) left answer (Ok p) (holding_of slots')
+      undoing_by count room = record {
         taken = (held_at slots place p was, rw was at there.here);
         undone = undone_by;
         count = count;
@@ -126,16 +127,14 @@ module _ {L R : Type 0} (same_left : L → L → Bool) (same_right : R → R →
         both = tt;
         full = tt;
         unchanged = tt;
-        not_lower = longer;
-        had_place = λ h. had (omega (arith, h, length-pairs_in slots));
-        not_both = not_both;
+        room = room;
       }
 
     -- nothing is put in
     pub undone_neither : (p : L × R) (slots' : List (Option (L × R))) → pair_at slots place ≡ Some p → slots' ≡ slice_set slots place None → IsUndoing same_left same_right (holding_of slots) left Neither (Ok p) (holding_of slots')
     undone_neither p slots' was now =
         let long : length slots' ≡ length slots = ap length now ∙ length-set slots place None in
-        undoing_by p was Neither slots' (λ q. (λ c. inr (subst (λ z. Contains (pairs_in z) q) now c), λ m. elim m [ inl n ↦ absurd n | inr d ↦ subst (λ z. Contains (pairs_in z) q) (sym now) d ])) (omega (arith, count_out slots slots' place p was now)) (omega (arith, long)) (λ _. long) (λ _. long)
+        undoing_by p was Neither slots' (λ q. (λ c. inr (subst (λ z. Contains (pairs_in z) q) now c), λ m. elim m [ inl n ↦ absurd n | inr d ↦ subst (λ z. Contains (pairs_in z) q) (sym now) d ])) (omega (arith, count_out slots slots' place p was now)) (room_stays _ _ _ long)
 
     -- one pair is put in
     pub undone_one : (answer : Overwritten L R) (p new : L × R) (slots' : List (Option (L × R))) → NamesOne answer new → pair_at slots place ≡ Some p → slots' ≡ slice_set slots place (Some new) → IsUndoing same_left same_right (holding_of slots) left answer (Ok p) (holding_of slots')
@@ -146,22 +145,22 @@ module _ {L R : Type 0} (same_left : L → L → Bool) (same_right : R → R →
         let h = held_set slots place inside new q in (
           λ c. elim (h.0 (subst (λ z. Contains (pairs_in z) q) now c)) [ inl e ↦ inl (subst (IsNamed answer) (sym e) one.is) | inr d ↦ inr d ],
           λ m. subst (λ z. Contains (pairs_in z) q) (sym now) (h.1 (elim m [ inl n ↦ inl (one.only q n) | inr d ↦ inr d ])),
-        )) (omega (arith, count_over slots slots' place p new was now, one.one)) (omega (arith, long)) (λ _. long) (λ _. long)
+        )) (omega (arith, count_over slots slots' place p new was now, one.one)) (room_stays _ _ _ long)
 
     -- two pairs are put in, the first at the place
-    pub undone_both : (p first second : L × R) (grown slots' : List (Option (L × R))) (other : ℕ) → pair_at grown place ≡ Some p → ((q : ℕ) → pair_at grown q ≡ pair_at slots q) → length slots ≤ length grown → (pair_count slots < length slots → grown ≡ slots)
+    pub undone_both : (p first second : L × R) (grown slots' : List (Option (L × R))) (other : ℕ) → pair_at grown place ≡ Some p → ((q : ℕ) → pair_at grown q ≡ pair_at slots q) → IsRoomAfter (holding_of slots) ⊥ (holding_of grown)
         → other < length (slice_set grown place (Some first)) → pair_at (slice_set grown place (Some first)) other ≡ None → slots' ≡ slice_set (slice_set grown place (Some first)) other (Some second)
         → IsUndoing same_left same_right (holding_of slots) left (Both first second) (Ok p) (holding_of slots')
-    undone_both p first second grown slots' other was kept longer had within free now =
+    undone_both p first second grown slots' other was kept room within free now =
         let before = sym (kept place) ∙ was in
         let inside = live_within slots place p before in
         let long : length slots' ≡ length grown = ap length now ∙ length-set (slice_set grown place (Some first)) other (Some second) ∙ length-set grown place (Some first) in
-        let same = same_taken slots grown place inside longer kept in
+        let same = same_taken slots grown place inside room.not_lower kept in
         undoing_by p before (Both first second) slots' (λ q.
         let h = held_both grown place other first second (live_within grown place p was) within free q in (
           λ c. elim (h.0 (subst (λ z. Contains (pairs_in z) q) now c)) [ inl n ↦ inl n | inr d ↦ inr (subst (λ z. Contains z q) same d) ],
           λ m. subst (λ z. Contains (pairs_in z) q) (sym now) (h.1 (elim m [ inl n ↦ inl n | inr d ↦ inr (subst (λ z. Contains z q) (sym same) d) ])),
-        )) (omega (arith, count_over grown (slice_set grown place (Some first)) place p first was refl, count_new (slice_set grown place (Some first)) slots' other second within free now, ap length (pairs_kept slots grown kept))) (omega (arith, long)) (λ h. long ∙ ap length (had h)) (λ n. absurd (n tt))
+        )) (omega (arith, count_over grown (slice_set grown place (Some first)) place p first was refl, count_new (slice_set grown place (Some first)) slots' other second within free now, ap length (pairs_kept slots grown kept))) (room_made _ (holding_of grown) _ _ long (λ n. n tt) room)
 
 module _ {L R : Type 0} (same_left : L → L → Bool) (same_right : R → R → Bool) where
   -- there was no memory
@@ -174,7 +173,5 @@ module _ {L R : Type 0} (same_left : L → L → Bool) (same_right : R → R →
     both = tt;
     full = length-pairs_in slots ∙ full;
     unchanged = ap holding_of same;
-    not_lower = omega (arith, ap length same);
-    had_place = λ _. ap length same;
-    not_both = λ _. ap length same;
+    room = room_stays _ _ _ (ap length same);
   }

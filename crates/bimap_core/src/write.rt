@@ -1,5 +1,6 @@
 //! Writes at one place: the store and what changes of the indexes, together. It decides nothing.
 ghost use Rattle.std.specs.Prelude.{◌≡◌, ◌<◌, ◌≤◌, ◌+◌, ◌*◌, ℕ, true, length, Some, None, IsSomeAnd, MatchOption, is_some, OnOk, OnErr, max, slice_set, if◌then◌else◌};
+ghost use Rattle.bimap_base.specs.Holding.{IsRoomAfter};
 ghost use Rattle.bimap_base.specs.Slots.{pair_at, left_at, right_at, IsLive, pair_count};
 
 use crate::slot_update::{relist, unlist};
@@ -8,7 +9,7 @@ use bimap_base::{LeftSide, Meter, NoMemory, RightSide};
 use bimap_index::Index;
 
 impl<L: Eq, R: Eq, I: Index<L>, J: Index<R>> Table<L, R, I, J> {
-    ghost use Rattle.bimap_core.specs.Store.{IsAloneAt};
+    ghost use Rattle.bimap_core.specs.Store.{holding_of, IsAloneAt};
 
     // Puts a pair in the place of another. An index is changed only where its key is new, by the spot of that key: where
     // there is no spot, it is equal.
@@ -32,14 +33,14 @@ impl<L: Eq, R: Eq, I: Index<L>, J: Index<R>> Table<L, R, I, J> {
         ensures pairs { self.new.pairs ≡ slice_set self.old.pairs place (Some (left, right)) }
         ensures comparisons { M.comparisons meter.new ≤ M.comparisons meter.old
             + 2 * (if is_some spots.entry.0
-                then I.effort (length (I.places self.old.left)) else 0)
+            then I.effort (length (I.places self.old.left)) else 0)
             + 2 * (if is_some spots.entry.1
-                then J.effort (length (J.places self.old.right)) else 0) }
+            then J.effort (length (J.places self.old.right)) else 0) }
         ensures touches { M.touches meter.new ≤ M.touches meter.old
             + 2 * (if is_some spots.entry.0
-                then 64 * (I.effort (length (I.places self.old.left)) + 1) else 0)
+            then 64 * (I.effort (length (I.places self.old.left)) + 1) else 0)
             + 2 * (if is_some spots.entry.1
-                then 64 * (J.effort (length (J.places self.old.right)) + 1) else 0) }
+            then 64 * (J.effort (length (J.places self.old.right)) + 1) else 0) }
     {
         let lefts = LeftSide::new(&self.pairs);
         unlist(&mut self.left, spots.0.is_some(), lefts, place, meter);
@@ -128,9 +129,7 @@ impl<L: Eq, R: Eq, I: Index<L>, J: Index<R>> Table<L, R, I, J> {
     // Makes sure that a place is free. The places double, from four on.
     pub(crate) fn make_room(&mut self) -> Result<(), NoMemory>
         ensures ok { OnOk result (pair_count self.new.pairs < length self.new.pairs) }
-        ensures grows { length self.old.pairs ≤ length self.new.pairs }
-        ensures had_place { pair_count self.old.pairs < length self.old.pairs →
-            self.new.pairs ≡ self.old.pairs }
+        ensures room { IsRoomAfter (holding_of self.old.pairs) ⊥ (holding_of self.new.pairs) }
         ensures kept { (place : ℕ) → pair_at self.new.pairs place ≡ pair_at self.old.pairs place }
         ensures count { pair_count self.new.pairs ≡ pair_count self.old.pairs }
         ensures left_spots { (key : L) (spot : I.Spot) →

@@ -1,5 +1,5 @@
 //! What changes pairs in a vector, of which no two share a value.
-ghost use Rattle.std.specs.Prelude.{◌≡◌, ◌≤◌, ◌<◌, ◌+◌, ◌⊎◌, Contains, OnOk, OnErr, vec_len, vec_capacity};
+ghost use Rattle.std.specs.Prelude.{◌≡◌, ◌≤◌, ◌<◌, ◌+◌, ◌*◌, ◌⊎◌, max, Contains, OnOk, OnErr, vec_len, vec_capacity};
 ghost use Rattle.bimap_base.specs.Sets.{IsApart};
 ghost use Rattle.bimap_base.specs.Answer.{IsAnswer, named_count};
 ghost use Rattle.bimap_base.specs.Capacity.{IsReservation};
@@ -18,6 +18,7 @@ fn make_place<T>(items: &mut Vec<T>) -> Result<(), NoMemory>
     ensures full { OnErr result (vec_len items.old ≡ vec_capacity items.old) }
     ensures unchanged { OnErr result (vec_capacity items.new ≡ vec_capacity items.old) }
     ensures not_lower { vec_capacity items.old ≤ vec_capacity items.new }
+    ensures at_most { vec_capacity items.new ≤ max 4 (2 * vec_capacity items.old) }
     ensures had_place { vec_len items.old < vec_capacity items.old →
         vec_capacity items.new ≡ vec_capacity items.old }
 {

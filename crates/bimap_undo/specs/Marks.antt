@@ -74,7 +74,7 @@ module _ {L R : Type 0} (same_left : L → L → Bool) (same_right : R → R →
     pub recorded : OnOk result (length new.entries ≡ length old.entries + 1)
     pub last : OnOk result (IsInsertionLast old pair new)
     pub kept : OnOk result (KeepsMarks old (length old.entries) new)
-    pub room : IsRoomAfter same_left same_right old.held pair new.held
+    pub room : IsRoomAfter old.held (SomeShares same_left same_right (Contains old.held.pairs) pair) new.held
     pub handed_back : IfErr result (λ e. (e.left, e.right) ≡ pair)
     pub unchanged : OnErr result (new ≡ old)
 
@@ -94,7 +94,7 @@ module _ {L R : Type 0} (same_left : L → L → Bool) (same_right : R → R →
     pub recorded : OnOk result (length new.entries ≡ length old.entries + 1)
     pub last : OnOk result (IsInsertionLast old pair new)
     pub kept : OnOk result (KeepsMarks old (length old.entries) new)
-    pub room : IsRoomAfter same_left same_right old.held pair new.held
+    pub room : IsRoomAfter old.held (SomeShares same_left same_right (Contains old.held.pairs) pair) new.held
     pub refused : IfErr result (IsRecordedRefusal (Contains old.held.pairs) pair policy)
     pub unchanged : OnErr result (new ≡ old)
 

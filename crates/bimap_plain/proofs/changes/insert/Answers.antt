@@ -24,11 +24,12 @@ returns-clause-insertion g c = record {
   unchanged = tt;
   room = record {
     not_lower = omega (arith, c.push_reserved.ensures.capacity, c.make_place.ensures.not_lower, c.strike-answer.ensures.capacity);
+    at_most = omega (arith, c.push_reserved.ensures.capacity, c.make_place.ensures.at_most, c.strike-answer.ensures.capacity);
     had_place = λ h. elim c.strike-answer.ensures.spare [
       | inl s ↦ stays g c s
       | inr w ↦ stays g c (omega (arith, h, ap length w.1, c.strike-answer.ensures.capacity, c.strike-answer.new.pairs.ok.0))
     ];
-    strikes = λ h. elim c.strike-answer.ensures.spare [
+    in_place = λ h. elim c.strike-answer.ensures.spare [
       | inl s ↦ stays g c s
       | inr w ↦ absurd (true≢false (sym h.2 ∙ none g c w.0 h.0 h.1))
     ];

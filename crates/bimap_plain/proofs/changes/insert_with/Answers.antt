@@ -1,4 +1,5 @@
-use Rattle.std.proofs.Common.{refl, sym, ◌∙◌, arith, true≢false}
+use Rattle.std.proofs.Common.{refl, sym, ◌∙◌, true≢false}
+use Rattle.bimap_base.proofs.Room.{room_stays}
 use Rattle.bimap_plain.proofs.changes.insert_with.Goals as goal
 use Rattle.bimap_plain.proofs.changes.insert_with.Goals.{else-refuses-via-then-refuses+else-has_left, else-refuses-via-else-refuses, else-refuses-2-via-then-refuses-2+else-has_right, else-refuses-2-via-else-refuses-2}
 
@@ -10,7 +11,7 @@ returns-then-has_left-clause-insertion g c = record {
   count = tt;
   refused = (refl, c.refuses.ensures.0 c.if-refuses.true, rw c.deref.ensures.value at (rw c.if-has_left.true at c.has_left.ensures));
   unchanged = refl;
-  room = record { not_lower = omega arith; had_place = λ h. refl; strikes = λ h. refl };
+  room = room_stays _ _ _ refl;
 }
 
 pub returns-then-has_right-clause-insertion : goal.returns-then-has_right-clause-insertion
@@ -29,7 +30,7 @@ returns-then-has_right-clause-insertion g c = record {
     rw c.deref-then-refuses-2.ensures.value at (rw c.if-has_right.true at c.has_right.ensures),
   );
   unchanged = refl;
-  room = record { not_lower = omega arith; had_place = λ h. refl; strikes = λ h. refl };
+  room = room_stays _ _ _ refl;
 }
 
 pub returns-in-Ok-clause-insertion : goal.returns-in-Ok-clause-insertion

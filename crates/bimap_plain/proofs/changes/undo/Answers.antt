@@ -3,6 +3,7 @@ use Rattle.bimap_base.specs.Sets.{IsWithoutLeft}
 use Rattle.bimap_base.specs.Answer.{IsBoth, named_count}
 use Rattle.bimap_base.specs.Undoing.{IsUndone}
 use Rattle.bimap_base.proofs.Fits.{names_one}
+use Rattle.bimap_base.proofs.Room.{room_stays}
 use Rattle.bimap_plain.proofs.Undone.{one_back, two_back, one_apart, two_apart}
 use Rattle.bimap_plain.proofs.changes.undo.Goals as goal
 
@@ -27,9 +28,12 @@ returns-in-Some-take_left-clause-undoing g c =
       both = tt;
       full = tt;
       unchanged = tt;
-      not_lower = omega (arith, stays, c.make_place.ensures.not_lower);
-      had_place = λ h. stays ∙ c.make_place.ensures.had_place (omega (arith, h, c.args.pairs.now.ok.0));
-      not_both = λ h. absurd (h (subst IsBoth (sym c.in-Both.is) tt));
+      room = record {
+        not_lower = omega (arith, stays, c.make_place.ensures.not_lower);
+        at_most = omega (arith, stays, c.make_place.ensures.at_most);
+        had_place = λ h. stays ∙ c.make_place.ensures.had_place (omega (arith, h, c.args.pairs.now.ok.0));
+        in_place = λ h. absurd (h (subst IsBoth (sym c.in-Both.is) tt));
+      };
     }
 
 pub returns-in-Some-take_left-clause-apart : goal.returns-in-Some-take_left-clause-apart
@@ -49,9 +53,7 @@ returns-in-Some-take_left-2-clause-undoing g c =
       both = tt;
       full = tt;
       unchanged = tt;
-      not_lower = omega (arith, stays);
-      had_place = λ h. stays;
-      not_both = λ h. stays;
+      room = room_stays _ _ _ stays;
     }
 
 pub returns-in-Some-take_left-2-clause-apart : goal.returns-in-Some-take_left-2-clause-apart

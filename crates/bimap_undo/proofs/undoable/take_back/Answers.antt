@@ -49,8 +49,8 @@ returns-in-Ok-clause-room g c =
     elim (both_or_not c.in-Inserted.answer) [
       | inl both ↦
           let l = inserting_shorter g.L.PartialEq.eq g.R.PartialEq.eq g.met.L.Eq.laws g.met.R.Eq.laws c.requires.0 (g.B.Bijection.holding c.args.bimap.now).pairs c.in-Inserted.left c.in-Inserted.answer c.requires.1 (g.met.B.Bijection.apart c.args.bimap.now) i both in
-          c.undo_insert.ensures.had_place (omega (arith, l, c.requires.2))
-      | inr not ↦ c.undo_insert.ensures.not_both not
+          c.undo_insert.ensures.room.had_place (omega (arith, l, c.requires.2))
+      | inr not ↦ c.undo_insert.ensures.room.in_place not
     ]
 
 pub returns-in-Removed-clause-taken_back : goal.returns-in-Removed-clause-taken_back

@@ -24,7 +24,7 @@ pub returns-clause-answer : goal.returns-clause-answer
 returns-clause-answer g c =
     let room = c.make_room.ensures in
     let there = c.put-place.ensures in
-    interned_new g.L.PartialEq.eq g.R.PartialEq.eq c.args.self.now.pairs c.args.left c.args.right c.finish_left.result c.finish_right.result c.finish_left.ensures.found c.finish_right.ensures.found c.in_default.is g.met.L.Eq.laws g.met.R.Eq.laws c.make_room.new.self.pairs c.put-place.new.self.pairs c.put-place.result (nothing _ (sym c.is_some.ensures ∙ c.if-is_some.false)) room.kept room.had_place room.grows there.there there.was_free there.pairs
+    interned_new g.L.PartialEq.eq g.R.PartialEq.eq c.args.self.now.pairs c.args.left c.args.right c.finish_left.result c.finish_right.result c.finish_left.ensures.found c.finish_right.ensures.found c.in_default.is g.met.L.Eq.laws g.met.R.Eq.laws c.make_room.new.self.pairs c.put-place.new.self.pairs c.put-place.result (nothing _ (sym c.is_some.ensures ∙ c.if-is_some.false)) room.kept room.room there.there there.was_free there.pairs
 
 pub returns-clause-held_slots : goal.returns-clause-held_slots
 returns-clause-held_slots g c = lacks_held g.L.PartialEq.eq g.R.PartialEq.eq c.args.self.now.pairs c.args.left c.args.right c.finish_left.result c.finish_right.result c.finish_left.ensures.found c.finish_right.ensures.found c.in_default.is

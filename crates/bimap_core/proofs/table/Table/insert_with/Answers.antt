@@ -1,6 +1,7 @@
 use Rattle.std.proofs.Common.{◌∙◌, ap, sym, refl, Some, arith}
+use Rattle.bimap_base.proofs.Room.{room_stays}
 use Rattle.bimap_core.proofs.Places.{left_lacking, apart_at_places}
-use Rattle.bimap_core.proofs.Inserted.{may, must, on_err, left_held, right_held, room_kept, refused_memory, put_new, put_left, put_right, put_pair, put_both}
+use Rattle.bimap_core.proofs.Inserted.{may, must, on_err, left_held, right_held, refused_memory, put_new, put_left, put_right, put_pair, put_both}
 use Rattle.bimap_core.proofs.table.Table.insert_with.Goals as goal
 
 pub returns-then-keeps-clause-answer : goal.returns-then-keeps-clause-answer
@@ -14,7 +15,7 @@ returns-then-keeps-clause-answer g c =
       count = tt;
       refused = (refl, kept.1, left_held g.L.PartialEq.eq g.R.PartialEq.eq slots c.args.left c.finish_left-by_left.result c.finish_left-by_left.ensures.found kept.0);
       unchanged = refl;
-      room = room_kept g.L.PartialEq.eq g.R.PartialEq.eq slots slots (c.args.left, c.args.right) refl;
+      room = room_stays _ _ _ refl;
     }
 
 pub returns-then-keeps-2-clause-answer : goal.returns-then-keeps-2-clause-answer
@@ -33,7 +34,7 @@ returns-then-keeps-2-clause-answer g c =
         right_held g.L.PartialEq.eq g.R.PartialEq.eq slots c.args.right c.finish_right-by_right.result c.finish_right-by_right.ensures.found kept.0,
       );
       unchanged = refl;
-      room = room_kept g.L.PartialEq.eq g.R.PartialEq.eq slots slots (c.args.left, c.args.right) refl;
+      room = room_stays _ _ _ refl;
     }
 
 pub returns-then-is_err-clause-answer : goal.returns-then-is_err-clause-answer
@@ -44,7 +45,7 @@ returns-then-is_err-clause-answer g c =
 pub returns-in-None-None-clause-answer : goal.returns-in-None-None-clause-answer
 returns-in-None-None-clause-answer g c =
     let room = c.make_room.ensures in
-    put_new g.L.PartialEq.eq g.R.PartialEq.eq g.met.L.Eq.laws g.met.R.Eq.laws c.args.self.now.pairs c.args.left c.args.right c.args.policy c.finish_left-by_left.result c.finish_right-by_right.result c.finish_left-by_left.ensures.found c.finish_right-by_right.ensures.found (may _ _ c.if-keeps.false c.keeps.ensures) (may _ _ c.if-keeps-2.false c.keeps-2.ensures) c.make_room.new.self.pairs c.put-place.new.self.pairs c.put-place.result c.in-None-None.is-0 c.in-None-None.is-1 room.kept room.had_place room.grows c.put-place.ensures.there c.put-place.ensures.was_free c.put-place.ensures.pairs
+    put_new g.L.PartialEq.eq g.R.PartialEq.eq g.met.L.Eq.laws g.met.R.Eq.laws c.args.self.now.pairs c.args.left c.args.right c.args.policy c.finish_left-by_left.result c.finish_right-by_right.result c.finish_left-by_left.ensures.found c.finish_right-by_right.ensures.found (may _ _ c.if-keeps.false c.keeps.ensures) (may _ _ c.if-keeps-2.false c.keeps-2.ensures) c.make_room.new.self.pairs c.put-place.new.self.pairs c.put-place.result c.in-None-None.is-0 c.in-None-None.is-1 room.kept room.room c.put-place.ensures.there c.put-place.ensures.was_free c.put-place.ensures.pairs
 
 pub returns-in-Some-None-clause-answer : goal.returns-in-Some-None-clause-answer
 returns-in-Some-None-clause-answer g c = put_left g.L.PartialEq.eq g.R.PartialEq.eq g.met.L.Eq.laws g.met.R.Eq.laws c.args.self.now.pairs c.args.left c.args.right c.args.policy c.finish_left-by_left.result c.finish_right-by_right.result c.finish_left-by_left.ensures.found c.finish_right-by_right.ensures.found (may _ _ c.if-keeps.false c.keeps.ensures) (may _ _ c.if-keeps-2.false c.keeps-2.ensures) c.swap-old-in-Some-None.new.self.pairs c.in-Some-None.place c.swap-old-in-Some-None.result c.in-Some-None.is-0 c.in-Some-None.is-1 c.swap-old-in-Some-None.ensures.was c.swap-old-in-Some-None.ensures.pairs

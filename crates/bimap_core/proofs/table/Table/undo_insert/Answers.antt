@@ -42,7 +42,7 @@ returns-then-is_err-clause-answer g c =
 pub returns-else-is_err-clause-answer : goal.returns-else-is_err-clause-answer
 returns-else-is_err-clause-answer g c =
     let room = c.make_room.ensures in
-    rw c.in-Both.is (undone_both g.L.PartialEq.eq g.R.PartialEq.eq g.met.L.Eq.laws g.met.R.Eq.laws c.args.self.now.pairs c.args.left.now c.in-Some.place c.left_place.result c.left_place.ensures.found c.in-Some.is c.replace-old.result c.in-Both.first c.in-Both.second c.make_room.new.self.pairs c.put_new-place.new.self.pairs c.put_new-place.result c.replace-old.ensures.was room.kept room.grows room.had_place (rw c.replace-old.ensures.pairs at c.put_new-place.ensures.there) (rw c.replace-old.ensures.pairs at c.put_new-place.ensures.was_free) (rw c.replace-old.ensures.pairs at c.put_new-place.ensures.pairs))
+    rw c.in-Both.is (undone_both g.L.PartialEq.eq g.R.PartialEq.eq g.met.L.Eq.laws g.met.R.Eq.laws c.args.self.now.pairs c.args.left.now c.in-Some.place c.left_place.result c.left_place.ensures.found c.in-Some.is c.replace-old.result c.in-Both.first c.in-Both.second c.make_room.new.self.pairs c.put_new-place.new.self.pairs c.put_new-place.result c.replace-old.ensures.was room.kept room.room (rw c.replace-old.ensures.pairs at c.put_new-place.ensures.there) (rw c.replace-old.ensures.pairs at c.put_new-place.ensures.was_free) (rw c.replace-old.ensures.pairs at c.put_new-place.ensures.pairs))
 
 pub returns-then-is_err-clause-slots : goal.returns-then-is_err-clause-slots
 returns-then-is_err-clause-slots g c = on_err c.make_room.result (sym c.is_err.ensures.value ∙ c.if-is_err.true) c.make_room.ensures.err

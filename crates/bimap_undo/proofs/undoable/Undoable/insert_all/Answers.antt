@@ -78,6 +78,7 @@ returns-in-Err-clause-none g c =
       kept = keeps_through g.L.PartialEq.eq g.R.PartialEq.eq first c.insert_with.new.self c.back_to.new.self (length first.entries) kept (subst (λ m. KeepsMarks g.L.PartialEq.eq g.R.PartialEq.eq c.insert_with.new.self m c.back_to.new.self) mark back.gone_back.kept);
       room = record {
         not_lower = omega (arith, put_in.room.not_lower, back.room);
+        at_most = omega (arith, put_in.room.at_most, back.room);
         had_places = λ fits. back.room ∙ put_in.room.had_places fits;
       };
     }
