@@ -1,18 +1,15 @@
 -- Places in the order of their keys.
-use Rattle.std.specs.Prelude.{◌≡◌, ◌⊎◌, ◌↔◌, ℕ, ◌<◌, List, length, Option, Some, None, IsSome, option_map, slice_index}
+use Rattle.std.specs.Prelude.{◌≡◌, ◌⊎◌, ◌↔◌, ℕ, ◌<◌, List, length, Option, Some, None, IsSome, slice_index}
 use Rattle.std.specs.List.{Contains}
 use Rattle.std.specs.declared.cmp.Ordering.{Ordering}
-use Rattle.std.specs.declared.cmp.Ordering.TheVariants.{Less}
+use Rattle.std.specs.declared.cmp.Ordering.TheVariants.{Less, Greater}
 
 module _ {K : Type 0} where
-  -- how the key of a place stands to a key, where the place has one
-  abbrev pub standing : (ℕ → Option K) → (K → K → Ordering) → K → ℕ → Option Ordering
-  standing key_at order key place = option_map (λ k. order k key) (key_at place)
-
-  -- how the key of a place stands to that of another, where both have one
-  abbrev pub standing_of : (ℕ → Option K) → (K → K → Ordering) → Option K → ℕ → Option Ordering
-  standing_of key_at order None place = None
-  standing_of key_at order (Some key) place = standing key_at order key place
+  -- how a key stands to another: behind it, where either is not there
+  abbrev pub standing : (K → K → Ordering) → Option K → Option K → Ordering
+  standing order first None = Greater
+  standing order None (Some key) = Greater
+  standing order (Some k) (Some key) = order k key
 
   -- each place of the list has a key, and the keys rise strictly
   pub record Ascends (key_at : ℕ → Option K) (order : K → K → Ordering) (places : List ℕ) : Type 0 where

@@ -2,7 +2,7 @@
 ghost use Rattle.std.specs.Prelude.{◌≡◌, ℕ, ◌+◌, Option, Some, IsSome};
 ghost use Rattle.std.specs.declared.cmp.Ordering.{Ordering};
 ghost use Rattle.std.specs.Cmp.{IsTotalOrder};
-ghost use Rattle.bimap_base.specs.Keyed.{standing, standing_of};
+ghost use Rattle.bimap_base.specs.Keyed.{standing};
 
 use crate::meter::Meter;
 use std::cmp::Ordering;
@@ -20,7 +20,7 @@ pub trait Keys {
     /// How the key of a place stands to a key.
     fn compare<M: Meter>(&self, place: usize, key: &Self::Key, meter: &mut M) -> Ordering
         requires live { IsSome (key_at self.now place) }
-        ensures answer { standing (key_at self.now) order key.now place ≡ Some result }
+        ensures answer { result ≡ standing order (key_at self.now place) (Some key.now) }
         ensures comparisons { M.comparisons meter.new ≡ M.comparisons meter.old + 1 }
         ensures touches { M.touches meter.new ≡ M.touches meter.old };
 
@@ -28,7 +28,7 @@ pub trait Keys {
     fn compare_places<M: Meter>(&self, a: usize, b: usize, meter: &mut M) -> Ordering
         requires first { IsSome (key_at self.now a) }
         requires second { IsSome (key_at self.now b) }
-        ensures answer { standing_of (key_at self.now) order (key_at self.now b) a ≡ Some result }
+        ensures answer { result ≡ standing order (key_at self.now a) (key_at self.now b) }
         ensures comparisons { M.comparisons meter.new ≡ M.comparisons meter.old + 1 }
         ensures touches { M.touches meter.new ≡ M.touches meter.old };
 

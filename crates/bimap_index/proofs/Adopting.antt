@@ -6,7 +6,7 @@ use Rattle.std.specs.Cmp.{IsTotalOrder}
 use Rattle.std.specs.Ordering.{eq_by_cmp}
 use Rattle.std.proofs.Math.Nat.{suc-mul}
 use Rattle.std.proofs.lemmas.Bool.{cases_eq}
-use Rattle.std.proofs.lemmas.Cmp.{tied_back, tied_itself}
+use Rattle.std.proofs.lemmas.Cmp.{tied_back}
 use Rattle.bimap_base.specs.Keyed.{standing, Ascends, Adds}
 use Rattle.bimap_base.specs.Places.{pairs_in}
 use Rattle.bimap_base.proofs.Members.{none_in}
@@ -14,7 +14,8 @@ use Rattle.bimap_base.proofs.Walk.{listed_long, some_at}
 use Rattle.bimap_index.specs.ByOrder.{ListsByOrder}
 use Rattle.bimap_index.specs.Listed.{IsCompactedSide}
 use Rattle.bimap_index.specs.OrderLaws.{order_walk_of}
-use Rattle.bimap_index.proofs.Ascending.{stands, one_place}
+use Rattle.bimap_tree.proofs.Ascending.{only_one, own_key}
+use Rattle.bimap_index.proofs.Ascending.{equal_is}
 use Rattle.bimap_index.proofs.Compaction.{live_in, rank_of, compacted_apart}
 
 -- the first so many places are listed, and no other
@@ -68,13 +69,13 @@ module _ {K : Type 0} (order : K → K → Ordering) (same : K → K → Bool) (
       omega (arith, r.0, as_many)
 
   -- no two of them are equal
-  pub compacted_unequal : (place p : ℕ) (k : K) → p < place → g place ≡ Some k → standing g order k p ≡ Some Equal → ⊥
+  pub compacted_unequal : (place p : ℕ) (k : K) → p < place → g place ≡ Some k → standing order (g p) (Some k) ≡ Equal → ⊥
   compacted_unequal place p k before is e =
-      let s = stands order same total agrees g k p e in
+      let s = equal_is order same total agrees (g p) k e in
       compacted_apart side (λ k l. order k l ≡ Equal → ⊥) (λ k l differ tie. differ (tied_back total l k tie)) unequal p place s.0 k (λ at. absurd (omega (arith, before, at))) s.1 is s.2
     where
       unequal : (a b : ℕ) (k l : K) → a ≢ b → f a ≡ Some k → f b ≡ Some l → order k l ≡ Equal → ⊥
-      unequal a b k l away first second tie = away (one_place order same total agrees f places listing.up l a b k l (listing.lists a (ap is_some first)) (listing.lists b (ap is_some second)) first second tie (tied_itself total l))
+      unequal a b k l away first second tie = away (only_one f order total places listing.up l a b (listing.lists a (ap is_some first)) (listing.lists b (ap is_some second)) (rw first tie) (own_key f order total b l second))
 
   -- so the whole side is listed
   pub all_listed : (new : List ℕ) → IsListedUpTo order g (length places) new → ListsByOrder order new g

@@ -1,13 +1,11 @@
 -- How an ordered index keeps listing a side. A side is a function from places to keys.
 use Rattle.std.proofs.Common.{get_or, ◌≡◌, ℕ, zero, suc, ◌+◌, ◌*◌, ◌^◌, ◌<◌, ◌≤◌, Bool, true, false, List, length, Option, Some, None, is_some, IsSome, refl, sym, ap, subst, ◌∙◌, inl, inr, arith, true≢false, Contains}
 use Rattle.std.specs.Prelude.{IfSome, IfNone, IsSomeAnd}
-use Rattle.std.specs.Option.{option_map}
 use Rattle.std.specs.declared.cmp.Ordering.{Ordering}
 use Rattle.std.specs.declared.cmp.Ordering.TheVariants.{Equal}
 use Rattle.std.specs.Cmp.{IsTotalOrder}
 use Rattle.std.specs.Ordering.{eq_by_cmp}
-use Rattle.std.proofs.lemmas.Bool.{cases_eq, cases_lt}
-use Rattle.std.proofs.lemmas.Cmp.{alike_right, tied_back}
+use Rattle.std.proofs.lemmas.Bool.{cases_eq}
 use Rattle.std.proofs.lemmas.List.{get_or_default}
 use Rattle.bimap_base.specs.Digits.{bits, most_height}
 use Rattle.bimap_base.specs.Keyed.{standing, Ascends, Adds, Drops}
@@ -15,6 +13,7 @@ use Rattle.bimap_base.proofs.Digits.{bits-enough, bits-least}
 use Rattle.bimap_tree.specs.Index.{Index}
 use Rattle.bimap_tree.specs.Route.{IsRoute}
 use Rattle.bimap_tree.specs.declared.route.Route.{Route}
+use Rattle.bimap_tree.proofs.Ascending.{only_one}
 use Rattle.bimap_tree.proofs.Routes.{IsRoute-alike}
 use Rattle.bimap_index.specs.Listed.{IsFoundBy, IsWithout, MayLink}
 use Rattle.bimap_index.specs.ByOrder.{ListsByOrder}
@@ -36,12 +35,14 @@ not_true true never = absurd (never refl)
 not_true false _ = refl
 
 module _ {K : Type 0} (order : K → K → Ordering) (same : K → K → Bool) (total : IsTotalOrder order) (agrees : (x y : K) → same x y ≡ eq_by_cmp order x y) where
-  pub stands : (f : ℕ → Option K) (key : K) (p : ℕ) → standing f order key p ≡ Some Equal → (k : K) × (f p ≡ Some k) × (order k key ≡ Equal)
-  stands f key p e = by_key (f p) e
-    where
-      by_key : (o : Option K) → option_map (λ k. order k key) o ≡ Some Equal → (k : K) × (o ≡ Some k) × (order k key ≡ Equal)
-      by_key None e = absurd (cc)
-      by_key (Some k) e = (k, refl, (cc))
+  -- a key that stands equal is there
+  pub equal_is : (o : Option K) (key : K) → standing order o (Some key) ≡ Equal → (k : K) × (o ≡ Some k) × (order k key ≡ Equal)
+  equal_is None key e = absurd (cc)
+  equal_is (Some k) key e = (k, refl, e)
+
+  -- the key of a place that is the same as another stands equal to it
+  pub stands : (o : Option K) (k key : K) → o ≡ Some k → same k key ≡ true → standing order o (Some key) ≡ Equal
+  stands o k key is e = rw is (equal_to order same total agrees k key e)
 
   -- the keys of the listed places are as before
   ascends_same : (f g : ℕ → Option K) (places : List ℕ) → ((p : ℕ) → Contains places p → g p ≡ f p) → Ascends f order places → Ascends g order places
@@ -54,41 +55,25 @@ module _ {K : Type 0} (order : K → K → Ordering) (same : K → K → Bool) (
             up.rises i j k l before inside (sym e ∙ first) (sym h ∙ second);
       }
 
-  -- two listed places whose keys are equal to one key are the same
-  pub one_place : (f : ℕ → Option K) (places : List ℕ) → Ascends f order places → (key : K) (p q : ℕ) (k l : K) → Contains places p → Contains places q → f p ≡ Some k → f q ≡ Some l → order k key ≡ Equal → order l key ≡ Equal → p ≡ q
-  one_place f places up key p q k l there here is is2 equal equal2 =
-      let first : get_or places there.0 0 ≡ p = get_or_default places there.0 0 p there.1 ∙ there.2 in
-      let second : get_or places here.0 0 ≡ q = get_or_default places here.0 0 q here.1 ∙ here.2 in
-      let tie : order k l ≡ Equal = alike_right total l key k equal2 ∙ equal in
-      let tie2 : order l k ≡ Equal = tied_back total k l tie in
-      elim (cases_lt there.0 here.0) [
-        | inl lower ↦ let less = up.rises there.0 here.0 k l lower here.1 (ap f first ∙ is) (ap f second ∙ is2) in absurd (cc)
-        | inr other ↦ elim (cases_lt here.0 there.0) [
-          | inl higher ↦ let less = up.rises here.0 there.0 l k higher there.1 (ap f second ∙ is2) (ap f first ∙ is) in absurd (cc)
-          | inr same ↦ let e : there.0 ≡ here.0 = omega arith in sym first ∙ ap (λ n. get_or places n 0) e ∙ second
-        ]
-      ]
-
   -- what was sought and found
   pub found_by_order : (places : List ℕ) (f : ℕ → Option K) (key : K) (r : Option ℕ) → ListsByOrder order places f
-      → IfSome r (λ p. Contains places p × (standing f order key p ≡ Some Equal))
-      → IfNone r ((p : ℕ) → Contains places p → standing f order key p ≡ Some Equal → ⊥) → IsFoundBy f same key r
+      → IfSome r (λ p. Contains places p × (standing order (f p) (Some key) ≡ Equal))
+      → IfNone r ((p : ℕ) → Contains places p → standing order (f p) (Some key) ≡ Equal → ⊥) → IsFoundBy f same key r
   found_by_order places f key None listing found none =
       record {
         here = tt;
-        elsewhere = λ place k away is. not_true (same k key)
-            (λ e. none place (listing.lists place (ap is_some is)) (ap (option_map (λ x. order x key)) is ∙ ap Some (equal_to order same total agrees k key e)));
+        elsewhere = λ place k away is. not_true (same k key) (λ e. none place (listing.lists place (ap is_some is)) (stands (f place) k key is e));
       }
   found_by_order places f key (Some p) listing found none =
-      let s = stands f key p found.1 in
+      let (k, is, equal) = equal_is (f p) key found.1 in
       record {
-        here = subst (λ z. IsSomeAnd z (λ k. same k key ≡ true)) (sym s.1) (equal_from order same total agrees s.0 key s.2);
-        elsewhere = λ place k away is. not_true (same k key)
-            (λ e. away (ap Some (one_place f places listing.up key p place s.0 k found.0 (listing.lists place (ap is_some is)) s.1 is s.2 (equal_to order same total agrees k key e))));
+        here = subst (λ z. IsSomeAnd z (λ k. same k key ≡ true)) (sym is) (equal_from order same total agrees k key equal);
+        elsewhere = λ place l away has. not_true (same l key)
+            (λ e. away (ap Some (only_one f order total places listing.up key p place found.0 (listing.lists place (ap is_some has)) found.1 (stands (f place) l key has e))));
       }
 
   -- one place whose key compares as equal
-  pub known_by_order : (places : List ℕ) (f : ℕ → Option K) (key : K) (place : ℕ) → ListsByOrder order places f → IsSome (f place) → standing f order key place ≡ Some Equal → IsFoundBy f same key (Some place)
+  pub known_by_order : (places : List ℕ) (f : ℕ → Option K) (key : K) (place : ℕ) → ListsByOrder order places f → IsSome (f place) → standing order (f place) (Some key) ≡ Equal → IsFoundBy f same key (Some place)
   known_by_order places f key place listing live e = found_by_order places f key (Some place) listing (listing.lists place live, e) tt
 
   -- a search compares at least once where a place is listed
@@ -107,17 +92,17 @@ module _ {K : Type 0} (order : K → K → Ordering) (same : K → K → Bool) (
     others : (q : ℕ) → Contains index.places q → g q ≡ m.f q
     others q there = m.without.others q (λ at. link_off (subst (Contains index.places) at there))
 
-    pub link_unequal : (p : ℕ) (k : K) → Contains index.places p → g place ≡ Some k → standing g order k p ≡ Some Equal → ⊥
+    pub link_unequal : (p : ℕ) (k : K) → Contains index.places p → g place ≡ Some k → standing order (g p) (Some k) ≡ Equal → ⊥
     link_unequal p k there is e =
-        let s = stands g k p e in
+        let s = equal_is (g p) k e in
         let alike : key ≡ k = let l = m.live in cc in
         let no = m.absent p s.0 (λ at. link_off (subst (Contains index.places) at there)) s.1 in
         true≢false (sym (equal_from order same total agrees s.0 k s.2) ∙ ap (same s.0) (sym alike) ∙ no)
 
-    pub link_route : (spot : Route) → IsRoute index (λ q. standing m.f order key q) spot → (k : K) → g place ≡ Some k → IsRoute index (λ q. standing g order k q) spot
+    pub link_route : (spot : Route) → IsRoute index (λ q. standing order (m.f q) (Some key)) spot → (k : K) → g place ≡ Some k → IsRoute index (λ q. standing order (g q) (Some k)) spot
     link_route spot leads k is =
         let alike : k ≡ key = let l = m.live in cc in
-        IsRoute-alike index _ _ spot (λ q there. ap (option_map (λ x. order x k)) (others q there) ∙ ap (λ z. option_map (λ x. order x z) (m.f q)) alike) leads
+        IsRoute-alike index _ _ spot (λ q there. ap (λ o. standing order o (Some k)) (others q there) ∙ ap (λ z. standing order (m.f q) (Some z)) alike) leads
 
     pub linked : (new : List ℕ) → Adds index.places place new → Ascends g order new → ListsByOrder order new g
     linked new adds up =

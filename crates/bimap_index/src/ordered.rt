@@ -1,5 +1,5 @@
 //! The ordered index as an index of a side. It knows places and routes, and no node.
-ghost use Rattle.std.specs.Prelude.{◌≡◌, ◌≤◌, ⊤, [], length};
+ghost use Rattle.std.specs.Prelude.{◌≡◌, ◌≤◌, ⊤, [], Some, length};
 ghost use Rattle.bimap_base.specs.Digits.{most_height};
 ghost use Rattle.bimap_base.specs.Keyed.{standing};
 ghost use Rattle.bimap_tree.specs.Descent.{IsUnderWay, levels_left};
@@ -21,11 +21,11 @@ impl<K: Ord> Index<K> for Ordered {
 
     ghost is_listing = { λ o. ListsByOrder K.cmp o.places };
 
-    ghost leads = { λ o f key spot. IsRoute o (λ q. standing f K.cmp key q) spot };
+    ghost leads = { λ o f key spot. IsRoute o (λ q. standing K.cmp (f q) (Some key)) spot };
 
     ghost is_for = { λ o key spot. ⊤ };
 
-    ghost under_way = { λ o f key search spot. IsUnderWay o (λ q. standing f K.cmp key q) search spot };
+    ghost under_way = { λ o f key search spot. IsUnderWay o (λ q. standing K.cmp (f q) (Some key)) search spot };
 
     ghost ahead = { λ o search. levels_left o.nodes search };
 

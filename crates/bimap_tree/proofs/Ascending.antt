@@ -12,8 +12,8 @@ use Rattle.std.proofs.lemmas.List.Elements.{All-from_recursion, recursion_from_A
 use Rattle.std.proofs.lemmas.Bool.Decides.{leb_tells}
 use Rattle.std.proofs.lemmas.Cmp.{tied_itself}
 use Rattle.std.proofs.lemmas.List.{get_or_default}
-use Rattle.bimap_base.specs.Keyed.{Ascends}
-use Rattle.bimap_tree.specs.Order.{AllStand, IsSplit, order_of, after_key}
+use Rattle.bimap_base.specs.Keyed.{standing, Ascends}
+use Rattle.bimap_tree.specs.Order.{AllStand, IsSplit, after_key}
 use Rattle.bimap_tree.proofs.Distinct.{all_front, all_behind, all_append, all_both}
 use Rattle.bimap_tree.proofs.Split.{less_or_not}
 
@@ -46,6 +46,10 @@ sorted_with c (x ∷ xs) ys p a b s = sorted_more c x (xs ++ p ∷ ys) (all_with
 
 -- ---- the keys of places
 module _ {K : Type 0} (key : ℕ → Option K) (order : K → K → Ordering) where
+  -- how the keys of two places stand
+  abbrev stand : ℕ → ℕ → Ordering
+  stand p q = standing order (key p) (key q)
+
   pub key_is : (o : Option K) → IsSome o → (k : K) × (o ≡ Some k)
   key_is (Some k) some = (k, refl)
   key_is None some = absurd (let x : false ≡ true = some in cc)
@@ -56,8 +60,8 @@ module _ {K : Type 0} (key : ℕ → Option K) (order : K → K → Ordering) wh
       let here : slice_index xs i ≡ p = get_or_default xs i 0 p few ∙ e in
       key_is (key p) (subst (λ q. IsSome (key q)) here (up.live i few))
 
-  order_is : (a b : ℕ) (k l : K) → key a ≡ Some k → key b ≡ Some l → order_of order (key a) (key b) ≡ order k l
-  order_is a b k l e f = ap (λ o. order_of order o (key b)) e ∙ ap (λ o. order_of order (Some k) o) f
+  stand_is : (a b : ℕ) (k l : K) → key a ≡ Some k → key b ≡ Some l → stand a b ≡ order k l
+  stand_is a b k l e f = ap (λ o. standing order o (key b)) e ∙ ap (λ o. standing order (Some k) o) f
 
   ascends_tail : (x : ℕ) (xs : List ℕ) → Ascends key order (x ∷ xs) → Ascends key order xs
   ascends_tail x xs up = record {
@@ -68,20 +72,20 @@ module _ {K : Type 0} (key : ℕ → Option K) (order : K → K → Ordering) wh
   pub live_all : (xs : List ℕ) → Ascends key order xs → AllByRecursion (λ q. IsSome (key q)) xs
   live_all xs up = all_at (λ q. IsSome (key q)) xs up.live
 
-  pub rising : (xs : List ℕ) → Ascends key order xs → IsStrictlySortedBy (λ a b. order_of order (key a) (key b)) xs
-  rising [] up = sorted_none (λ a b. order_of order (key a) (key b))
+  pub rising : (xs : List ℕ) → Ascends key order xs → IsStrictlySortedBy stand xs
+  rising [] up = sorted_none stand
   rising (x ∷ xs) up =
-      let first = key_is (key x) (up.live 0 (omega arith)) in
-      sorted_more (λ a b. order_of order (key a) (key b)) x xs
-      (all_at (λ y. order_of order (key x) (key y) ≡ Less) xs (λ i few.
-      let next = key_is (key (slice_index xs i)) (up.live (suc i) (omega arith)) in
-      order_is x (slice_index xs i) first.0 next.0 first.1 next.1 ∙ up.rises 0 (suc i) first.0 next.0 (omega arith) (omega arith) first.1 next.1))
+      let (k, is) = key_is (key x) (up.live 0 (omega arith)) in
+      sorted_more stand x xs
+      (all_at (λ y. stand x y ≡ Less) xs (λ i few.
+      let (l, at) = key_is (key (slice_index xs i)) (up.live (suc i) (omega arith)) in
+      stand_is x (slice_index xs i) k l is at ∙ up.rises 0 (suc i) k l (omega arith) (omega arith) is at))
       (rising xs (ascends_tail x xs up))
 
-  ascends_from : (xs : List ℕ) → AllByRecursion (λ q. IsSome (key q)) xs → IsStrictlySortedBy (λ a b. order_of order (key a) (key b)) xs → Ascends key order xs
+  ascends_from : (xs : List ℕ) → AllByRecursion (λ q. IsSome (key q)) xs → IsStrictlySortedBy stand xs → Ascends key order xs
   ascends_from xs live s = record {
     live = λ i few. All-from_recursion (λ q. IsSome (key q)) xs live i 0 few;
-    rises = λ i j k l lt few e f. sym (order_is (slice_index xs i) (slice_index xs j) k l e f) ∙ Less-from_sorted (λ a b. order_of order (key a) (key b)) xs i j 0 s lt few;
+    rises = λ i j k l lt few e f. sym (stand_is (slice_index xs i) (slice_index xs j) k l e f) ∙ Less-from_sorted stand xs i j 0 s lt few;
   }
 
   -- a list from which a place was taken out
@@ -89,7 +93,7 @@ module _ {K : Type 0} (key : ℕ → Option K) (order : K → K → Ordering) wh
   ascends_without xs ys p up =
       ascends_from (xs ++ ys)
       (all_without (λ q. IsSome (key q)) xs ys p (live_all (xs ++ p ∷ ys) up))
-      (sorted_without (λ a b. order_of order (key a) (key b)) xs ys p (rising (xs ++ p ∷ ys) up))
+      (sorted_without stand xs ys p (rising (xs ++ p ∷ ys) up))
 
   module _ (total : IsTotalOrder order) where
     -- ---- as seen from one key
@@ -103,66 +107,62 @@ module _ {K : Type 0} (key : ℕ → Option K) (order : K → K → Ordering) wh
         let a : order k x ≡ Less = total.antisymm k x ∙ ap ordering_reverse e in
         total.antisymm y k ∙ ap ordering_reverse (total.trans k x y a h)
 
-    above_all : (a b : Option K) (k : K) → IsSome a → IsSome b → order_of order a (Some k) ≢ Less → order_of order a b ≡ Less → order_of order b (Some k) ≡ Greater
-    above_all (Some a) (Some b) k x y n h = above_step a b k (order a k) refl n h
-    above_all None b k x y n h = absurd (let w : false ≡ true = x in cc)
-    above_all (Some a) None k x y n h = absurd (let w : false ≡ true = y in cc)
+    above : (a b : Option K) (k : K) → standing order a (Some k) ≢ Less → standing order a b ≡ Less → standing order b (Some k) ≡ Greater
+    above a None k n h = refl
+    above (Some a) (Some b) k n h = above_step a b k (order a k) refl n h
+    above None (Some b) k n h = absurd (let x : Greater ≡ Less = h in cc)
 
-    pub split : (k : K) (xs : List ℕ) → Ascends key order xs → IsSplit (λ q. order_of order (key q) (Some k)) xs
+    pub split : (k : K) (xs : List ℕ) → Ascends key order xs → IsSplit (λ q. standing order (key q) (Some k)) xs
     split k [] up = tt
-    split k (x ∷ xs) up = (
-      elim (less_or_not (order_of order (key x) (Some k))) [
-        | inl w ↦ inl w
-        | inr n ↦ inr (all_both (λ q. IsSome (key q)) (λ y. order_of order (key x) (key y) ≡ Less) (λ q. order_of order (key q) (Some k) ≡ Greater)
-            (λ y live less. above_all (key x) (key y) k (up.live 0 (omega arith)) live n less) xs
-            (live_all xs (ascends_tail x xs up)) (sorted_head (λ a b. order_of order (key a) (key b)) x xs (rising (x ∷ xs) up)))
-      ],
-      split k xs (ascends_tail x xs up),
-    )
+    split k (x ∷ xs) up =
+        let less = sorted_head stand x xs (rising (x ∷ xs) up) in (
+          elim (less_or_not (standing order (key x) (Some k))) [
+            | inl w ↦ inl w
+            | inr n ↦ inr (all_both (λ y. stand x y ≡ Less) (λ y. stand x y ≡ Less) (λ y. standing order (key y) (Some k) ≡ Greater) (λ y h _. above (key x) (key y) k n h) xs less less)
+          ],
+          split k xs (ascends_tail x xs up),
+        )
 
     -- ---- a list into which a place was put
-    flipped : (a : Option K) (k : K) → IsSome a → order_of order a (Some k) ≡ Greater → order_of order (Some k) a ≡ Less
+    flipped : (a : Option K) (k : K) → IsSome a → standing order a (Some k) ≡ Greater → standing order (Some k) a ≡ Less
     flipped (Some a) k some h = total.antisymm k a ∙ ap ordering_reverse h
     flipped None k some h = absurd (let w : false ≡ true = some in cc)
 
-    pub ascends_with : (xs ys : List ℕ) (p : ℕ) (k : K) → key p ≡ Some k → AllStand (λ q. order_of order (key q) (Some k)) Less xs → AllStand (λ q. order_of order (key q) (Some k)) Greater ys → Ascends key order (xs ++ ys) → Ascends key order (xs ++ p ∷ ys)
+    pub ascends_with : (xs ys : List ℕ) (p : ℕ) (k : K) → key p ≡ Some k → AllStand (λ q. standing order (key q) (Some k)) Less xs → AllStand (λ q. standing order (key q) (Some k)) Greater ys → Ascends key order (xs ++ ys) → Ascends key order (xs ++ p ∷ ys)
     ascends_with xs ys p k e a b up =
         let live = live_all (xs ++ ys) up in
         ascends_from (xs ++ p ∷ ys)
         (all_with (λ q. IsSome (key q)) xs ys p (ap is_some e) live)
-        (sorted_with (λ a b. order_of order (key a) (key b)) xs ys p
-        (all_both (λ q. order_of order (key q) (Some k) ≡ Less) (λ q. order_of order (key q) (Some k) ≡ Less) (λ x. order_of order (key x) (key p) ≡ Less) (λ x h _. ap (λ o. order_of order (key x) o) e ∙ h) xs a a)
-        (all_both (λ q. IsSome (key q)) (λ q. order_of order (key q) (Some k) ≡ Greater) (λ y. order_of order (key p) (key y) ≡ Less) (λ y l h. ap (λ o. order_of order o (key y)) e ∙ flipped (key y) k l h) ys (all_behind (λ q. IsSome (key q)) xs ys live) b)
+        (sorted_with stand xs ys p
+        (subst (λ o. AllByRecursion (λ x. standing order (key x) o ≡ Less) xs) (sym e) a)
+        (all_both (λ q. IsSome (key q)) (λ q. standing order (key q) (Some k) ≡ Greater) (λ y. stand p y ≡ Less) (λ y l h. ap (λ o. standing order o (key y)) e ∙ flipped (key y) k l h) ys (all_behind (λ q. IsSome (key q)) xs ys live) b)
         (rising (xs ++ ys) up))
 
     -- ---- only one place of a list has a key equal to this one
-    apart : (xs : List ℕ) → Ascends key order xs → (k : K) (i j : ℕ) → i < j → j < length xs → order_of order (key (slice_index xs i)) (Some k) ≡ Equal → order_of order (key (slice_index xs j)) (Some k) ≡ Equal → ⊥
-    apart xs up k i j lt few a b =
-        let (ki, ei) = key_is (key (slice_index xs i)) (up.live i (omega arith)) in
-        let (kj, ej) = key_is (key (slice_index xs j)) (up.live j few) in
-        let less : order ki kj ≡ Less = up.rises i j ki kj lt few ei ej in
-        let a2 : order ki k ≡ Equal = sym (ap (λ o. order_of order o (Some k)) ei) ∙ a in
-        let b2 : order kj k ≡ Equal = sym (ap (λ o. order_of order o (Some k)) ej) ∙ b in
-        let x : Less ≡ Equal = sym less ∙ total.congr ki k kj a2 ∙ total.antisymm k kj ∙ ap ordering_reverse b2 in
+    apart : (a b k : Option K) → standing order a b ≡ Less → standing order a k ≡ Equal → standing order b k ≡ Equal → ⊥
+    apart (Some a) (Some b) (Some k) less first second =
+        let x : Less ≡ Equal = sym less ∙ total.congr a k b first ∙ total.antisymm k b ∙ ap ordering_reverse second in
         cc
+    apart a b None less first second = let x : Greater ≡ Equal = first in cc
+    apart None b (Some k) less first second = let x : Greater ≡ Equal = first in cc
+    apart (Some a) None (Some k) less first second = let x : Greater ≡ Equal = second in cc
 
-    pub only_one : (xs : List ℕ) → Ascends key order xs → (k : K) (p q : ℕ) → Contains xs p → Contains xs q → order_of order (key p) (Some k) ≡ Equal → order_of order (key q) (Some k) ≡ Equal → p ≡ q
+    pub only_one : (xs : List ℕ) → Ascends key order xs → (k : K) (p q : ℕ) → Contains xs p → Contains xs q → standing order (key p) (Some k) ≡ Equal → standing order (key q) (Some k) ≡ Equal → p ≡ q
     only_one xs up k p q (i, few, e) (j, less, f) a b =
         let here : slice_index xs i ≡ p = get_or_default xs i 0 p few ∙ e in
         let there : slice_index xs j ≡ q = get_or_default xs j 0 q less ∙ f in
-        let a2 = ap (λ x. order_of order (key x) (Some k)) here ∙ a in
-        let b2 = ap (λ x. order_of order (key x) (Some k)) there ∙ b in
+        let ordered : (n m : ℕ) → n < m → m < length xs → stand (slice_index xs n) (slice_index xs m) ≡ Less = λ n m lt within. Less-from_sorted stand xs n m 0 (rising xs up) lt within in
         elim (leb_tells (i + 1) j) [
-          | inl w ↦ absurd (apart xs up k i j (omega (arith, w.1)) less a2 b2)
+          | inl w ↦ absurd (apart (key p) (key q) (Some k) (rw (sym here, sym there) (ordered i j (omega (arith, w.1)) less)) a b)
           | inr w ↦ elim (leb_tells (j + 1) i) [
-            | inl v ↦ absurd (apart xs up k j i (omega (arith, v.1)) few b2 a2)
+            | inl v ↦ absurd (apart (key q) (key p) (Some k) (rw (sym here, sym there) (ordered j i (omega (arith, v.1)) few)) b a)
             | inr v ↦ let same : i ≡ j = omega arith in sym here ∙ ap (λ n. slice_index xs n) same ∙ there
           ]
         ]
 
     -- and a listed place with this key is it
-    pub own_key : (p : ℕ) (k : K) → key p ≡ Some k → order_of order (key p) (Some k) ≡ Equal
-    own_key p k e = ap (λ o. order_of order o (Some k)) e ∙ tied_itself total k
+    pub own_key : (p : ℕ) (k : K) → key p ≡ Some k → standing order (key p) (Some k) ≡ Equal
+    own_key p k e = ap (λ o. standing order o (Some k)) e ∙ tied_itself total k
 
 -- a list split at a key is split just after it too
 pub split_after : (go : ℕ → Ordering) (xs : List ℕ) → IsSplit go xs → IsSplit (λ q. after_key (go q)) xs

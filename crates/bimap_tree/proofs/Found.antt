@@ -5,13 +5,9 @@ use Rattle.std.specs.List.{Contains}
 use Rattle.std.specs.Ordering.{is_eq, is_lt}
 use Rattle.std.specs.declared.cmp.Ordering.{Ordering}
 use Rattle.std.specs.declared.cmp.Ordering.TheVariants.{Less, Equal, Greater}
-use Rattle.bimap_tree.specs.Order.{or_greater, first_equal, count_below, AllStand, IsSplit}
+use Rattle.bimap_tree.specs.Order.{first_equal, count_below, AllStand, IsSplit}
 use Rattle.bimap_tree.proofs.Split.{count_none, less_or_not, not_less}
 use Rattle.bimap_base.proofs.Members.{head_in, more_in, cases_in, none_in as none_within}
-
-pub or_greater_equal : (o : Option Ordering) → or_greater o ≡ Equal → o ≡ Some Equal
-or_greater_equal (Some how) e = ap Some e
-or_greater_equal None e = absurd (let x : Greater ≡ Equal = e in cc)
 
 pub equal_or_not : (o : Ordering) → (o ≡ Equal) ⊎ (is_eq o ≡ false)
 equal_or_not Less = inr refl
@@ -36,22 +32,22 @@ module _ (go : ℕ → Ordering) where
       ]
 
 -- the place that a search found, and that there is none where it found none
-pub found_in : (standing : ℕ → Option Ordering) (xs : List ℕ) (found : Option ℕ) → found ≡ first_equal (λ q. or_greater (standing q)) xs → IfSome found (λ p. Contains xs p × (standing p ≡ Some Equal))
-found_in standing xs None e = tt
-found_in standing xs (Some p) e = let (c, s) = first_is (λ q. or_greater (standing q)) xs p (sym e) in (c, or_greater_equal (standing p) s)
+pub found_in : (go : ℕ → Ordering) (xs : List ℕ) (found : Option ℕ) → found ≡ first_equal go xs → IfSome found (λ p. Contains xs p × (go p ≡ Equal))
+found_in go xs None e = tt
+found_in go xs (Some p) e = first_is go xs p (sym e)
 
-pub none_in : (standing : ℕ → Option Ordering) (xs : List ℕ) (found : Option ℕ) → found ≡ first_equal (λ q. or_greater (standing q)) xs → IfNone found ((p : ℕ) → Contains xs p → standing p ≡ Some Equal → ⊥)
-none_in standing xs (Some p) e = tt
-none_in standing xs None e = λ p c s. first_none (λ q. or_greater (standing q)) xs (sym e) p c (ap or_greater s)
+pub none_in : (go : ℕ → Ordering) (xs : List ℕ) (found : Option ℕ) → found ≡ first_equal go xs → IfNone found ((p : ℕ) → Contains xs p → go p ≡ Equal → ⊥)
+none_in go xs (Some p) e = tt
+none_in go xs None e = first_none go xs (sym e)
 
-pub none_told : (standing : ℕ → Option Ordering) (xs : List ℕ) (found told_on : Option ℕ) → found ≡ None → found ≡ first_equal (λ q. or_greater (standing q)) xs → IfNone told_on ((p : ℕ) → Contains xs p → standing p ≡ Some Equal → ⊥)
-none_told standing xs found (Some p) none e = tt
-none_told standing xs found None none e = none_in standing xs None (sym none ∙ e)
+pub none_told : (go : ℕ → Ordering) (xs : List ℕ) (found told_on : Option ℕ) → found ≡ None → found ≡ first_equal go xs → IfNone told_on ((p : ℕ) → Contains xs p → go p ≡ Equal → ⊥)
+none_told go xs found (Some p) none e = tt
+none_told go xs found None none e = first_none go xs (sym e ∙ none)
 
 -- where no listed key is equal, none is found
-pub none_of : (standing : ℕ → Option Ordering) (xs : List ℕ) (found : Option ℕ) → found ≡ first_equal (λ q. or_greater (standing q)) xs → ((p : ℕ) → Contains xs p → standing p ≡ Some Equal → ⊥) → found ≡ None
-none_of standing xs None e n = refl
-none_of standing xs (Some p) e n = let (c, s) = first_is (λ q. or_greater (standing q)) xs p (sym e) in absurd (n p c (or_greater_equal (standing p) s))
+pub none_of : (go : ℕ → Ordering) (xs : List ℕ) (found : Option ℕ) → found ≡ first_equal go xs → ((p : ℕ) → Contains xs p → go p ≡ Equal → ⊥) → found ≡ None
+none_of go xs None e n = refl
+none_of go xs (Some p) e n = let (c, s) = first_is go xs p (sym e) in absurd (n p c s)
 
 -- where one alone is equal, it is found
 pub one_of : (go : ℕ → Ordering) (xs : List ℕ) (found : Option ℕ) (place : ℕ) → found ≡ first_equal go xs → Contains xs place → go place ≡ Equal → ((p : ℕ) → Contains xs p → go p ≡ Equal → p ≡ place) → found ≡ Some place

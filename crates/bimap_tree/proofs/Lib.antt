@@ -17,7 +17,6 @@ pub mod Follow
 pub mod Descents
 pub mod Removes
 pub mod Found
-pub mod Starts
 pub mod Whole
 pub mod UnderWay
 pub mod Routes

@@ -1,11 +1,10 @@
 -- Routes of keys that stand alike, and routes where there are more cells.
-use Rattle.std.proofs.Common.{◌≡◌, ℕ, ◌<◌, Option, length, sym, subst, ◌∙◌, ap, arith}
+use Rattle.std.proofs.Common.{◌≡◌, ℕ, ◌<◌, length, sym, subst, ◌∙◌, arith}
 use Rattle.std.specs.Prelude.{slice_get}
 use Rattle.std.specs.List.{Contains}
 use Rattle.std.specs.declared.cmp.Ordering.{Ordering}
 use Rattle.bimap_tree.specs.Tree.{leaf, Stands}
 use Rattle.bimap_tree.specs.Index.{Index, IsIndex}
-use Rattle.bimap_tree.specs.Order.{or_greater}
 use Rattle.bimap_tree.specs.Path.{plug}
 use Rattle.bimap_tree.specs.Route.{IsRoute}
 use Rattle.bimap_tree.specs.declared.route.Route.{Route}
@@ -14,19 +13,19 @@ use Rattle.bimap_tree.proofs.Paths.{occurs-plug, Wants-alike}
 use Rattle.bimap_tree.proofs.Shown.{Shows-frame, in_tree}
 
 -- where the listed places stand alike to two keys, a route of the one is a route of the other
-pub IsRoute-alike : (index : Index) (first second : ℕ → Option Ordering) (route : Route) → ((q : ℕ) → Contains index.places q → second q ≡ first q) → IsRoute index first route → IsRoute index second route
+pub IsRoute-alike : (index : Index) (first second : ℕ → Ordering) (route : Route) → ((q : ℕ) → Contains index.places q → second q ≡ first q) → IsRoute index first route → IsRoute index second route
 IsRoute-alike index first second route same r = record {
   path = r.path;
   of_index = r.of_index;
   follows = r.follows;
   depth_is = r.depth_is;
-  wants = Wants-alike (λ q. or_greater (first q)) (λ q. or_greater (second q)) r.path
-      (λ q n. ap or_greater (same q (subst (λ x. Contains x q) r.of_index.in_order (occurs_contains (plug r.path leaf) q (omega (arith, occurs-plug q r.path leaf)))))) r.wants;
+  wants = Wants-alike first second r.path
+      (λ q n. same q (subst (λ x. Contains x q) r.of_index.in_order (occurs_contains (plug r.path leaf) q (omega (arith, occurs-plug q r.path leaf))))) r.wants;
 }
 
 -- more cells change no route
-pub IsRoute-grown : (old new : Index) (standing : ℕ → Option Ordering) (route : Route) → ((k : ℕ) → k < length old.nodes → slice_get new.nodes k ≡ slice_get old.nodes k) → new.root ≡ old.root → new.places ≡ old.places → IsRoute old standing route → IsRoute new standing route
-IsRoute-grown old new standing route same root places h =
+pub IsRoute-grown : (old new : Index) (go : ℕ → Ordering) (route : Route) → ((k : ℕ) → k < length old.nodes → slice_get new.nodes k ≡ slice_get old.nodes k) → new.root ≡ old.root → new.places ≡ old.places → IsRoute old go route → IsRoute new go route
+IsRoute-grown old new go route same root places h =
     let t = plug h.path leaf in
     let stands : Stands new.nodes old.root t = record { root_is = h.of_index.tree.tree.root_is; shown = Shows-frame old.nodes new.nodes t (λ q n. same q (in_tree old.nodes t q h.of_index.tree.tree.shown n)) h.of_index.tree.tree.shown } in
     let index : IsIndex new.nodes new.root t = record { tree = subst (λ r. Stands new.nodes r t) (sym root) stands; balanced = h.of_index.tree.balanced; distinct = h.of_index.tree.distinct } in

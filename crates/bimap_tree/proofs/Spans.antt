@@ -1,52 +1,55 @@
 -- Where the bounds of a range cut the ranks.
-use Rattle.std.proofs.Common.{◌≡◌, ◌⊎◌, ℕ, true, false, List, Option, Some, refl, ap, ◌∙◌, inl, inr, arith}
-use Rattle.std.specs.Prelude.{max}
-use Rattle.std.specs.Option.{option_map}
-use Rattle.std.specs.Borrow.{Bor}
+use Rattle.std.proofs.Common.{◌≡◌, ℕ, List, Option, Some, refl, sym, ap, ◌∙◌, arith, Bool}
+use Rattle.std.specs.Prelude.{max, not}
 use Rattle.std.specs.Cmp.{IsTotalOrder}
 use Rattle.std.specs.Ordering.{is_le, is_lt, ordering_reverse}
-use Rattle.std.specs.Range.Bound.{bound_map}
 use Rattle.std.specs.BTreeMap.Range.{range_contains, is_from_start, is_past_end}
 use Rattle.std.specs.declared.cmp.Ordering.{Ordering}
 use Rattle.std.specs.declared.cmp.Ordering.TheVariants.{Less, Equal, Greater}
 use Rattle.std.specs.declared.ops.Bound.{Bound}
 use Rattle.std.specs.declared.ops.Bound.TheVariants.{Included, Excluded, Unbounded}
-use Rattle.bimap_base.specs.Keyed.{standing}
-use Rattle.bimap_tree.specs.Start.{IsStart, LetsIn}
+use Rattle.bimap_base.specs.Keyed.{standing, Ascends}
+use Rattle.bimap_tree.specs.Order.{after_key, count_below, IsSplit}
 use Rattle.bimap_tree.specs.Spans.{IsCut, IsSpan}
+use Rattle.bimap_tree.proofs.Ascending.{split, split_after}
+use Rattle.bimap_tree.proofs.Found.{below_first, not_below}
+use Rattle.bimap_tree.proofs.Split.{count_length, not_less}
 
-module _ {K : Type 0} (key_at : ℕ → Option K) (order : K → K → Ordering) (total : IsTotalOrder order) where
-  stands : (p : ℕ) (k bound : K) (o : Ordering) → key_at p ≡ Some k → order k bound ≡ o → standing key_at order bound p ≡ Some o
-  stands p k bound o has is = ap (option_map (λ x. order x bound)) has ∙ ap Some is
+-- how a key stands, by how it stands seen from the other one
+le_turned : (o : Ordering) → is_le o ≡ not (is_lt (ordering_reverse o))
+le_turned Less = refl
+le_turned Equal = refl
+le_turned Greater = refl
 
-  -- how the bound stands to the key
-  turned : (k bound : K) (o : Ordering) → order k bound ≡ o → order bound k ≡ ordering_reverse o
-  turned k bound o is = total.antisymm bound k ∙ ap ordering_reverse is
+lt_turned : (o : Ordering) → is_lt o ≡ not (is_lt (after_key (ordering_reverse o)))
+lt_turned Less = refl
+lt_turned Equal = refl
+lt_turned Greater = refl
 
-  -- a start lets a key in, and it is in the range, or neither
-  tells : (bound : Bound (Bor K)) (p : ℕ) (k : K) → key_at p ≡ Some k → (LetsIn key_at order bound p × (is_from_start order (bound_map (λ x. x.now) bound) k ≡ true)) ⊎ ((LetsIn key_at order bound p → ⊥) × (is_from_start order (bound_map (λ x. x.now) bound) k ≡ false))
-  tells Unbounded p k has = inl (tt, refl)
-  tells (Included a) p k has = by (order k a.now) refl
-    where
-      by : (o : Ordering) → order k a.now ≡ o → (LetsIn key_at order (Included a) p × (is_le (order a.now k) ≡ true)) ⊎ ((LetsIn key_at order (Included a) p → ⊥) × (is_le (order a.now k) ≡ false))
-      by Less is = let e = stands p k a.now Less has is in inr ((λ w. elim w [ inl x ↦ cc | inr x ↦ cc ]), ap is_le (turned k a.now Less is))
-      by Equal is = inl (inl (stands p k a.now Equal has is), ap is_le (turned k a.now Equal is))
-      by Greater is = inl (inr (stands p k a.now Greater has is), ap is_le (turned k a.now Greater is))
-  tells (Excluded a) p k has = by (order k a.now) refl
-    where
-      by : (o : Ordering) → order k a.now ≡ o → (LetsIn key_at order (Excluded a) p × (is_lt (order a.now k) ≡ true)) ⊎ ((LetsIn key_at order (Excluded a) p → ⊥) × (is_lt (order a.now k) ≡ false))
-      by Less is = let e = stands p k a.now Less has is in inr ((λ x. cc), ap is_lt (turned k a.now Less is))
-      by Equal is = let e = stands p k a.now Equal has is in inr ((λ x. cc), ap is_lt (turned k a.now Equal is))
-      by Greater is = inl (stands p k a.now Greater has is, ap is_lt (turned k a.now Greater is))
+module _ {K : Type 0} (key : ℕ → Option K) (order : K → K → Ordering) (total : IsTotalOrder order) (xs : List ℕ) (up : Ascends key order xs) where
+  -- a test that the keys below fail, and that all others pass
+  cuts : (go : ℕ → Ordering) → IsSplit go xs → (test : K → Bool) → ((p : ℕ) (k : K) → key p ≡ Some k → test k ≡ not (is_lt (go p))) → (rank : ℕ) → rank ≡ count_below go xs → IsCut test key xs rank
+  cuts go parts test tells rank e = record {
+    within = omega (arith, e, count_length go xs);
+    before = λ i p k few at has. tells p k has ∙ ap (λ o. not (is_lt o)) (below_first go xs parts i p (omega (arith, e, few)) at);
+    after = λ i p k few at has. tells p k has ∙ ap not (not_less (go p) (not_below go xs parts i p (omega (arith, e, few)) at));
+  }
 
-  -- where the start of a range cuts
-  pub cut_from_start : (bound : Bound (Bor K)) (places : List ℕ) (rank : ℕ) → IsStart key_at order bound places rank → IsCut (is_from_start order (bound_map (λ x. x.now) bound)) key_at places rank
-  cut_from_start bound places rank start =
-      record {
-        within = start.within;
-        before = λ i p k l at has. elim (tells bound p k has) [ inl w ↦ absurd (start.before i p l at w.0) | inr w ↦ w.1 ];
-        after = λ i p k l at has. elim (tells bound p k has) [ inl w ↦ w.1 | inr w ↦ absurd (w.0 (start.after i p l at)) ];
-      }
+  seen : (bound k : K) (p : ℕ) → key p ≡ Some k → ordering_reverse (order bound k) ≡ standing order (key p) (Some bound)
+  seen bound k p has = sym (total.antisymm k bound) ∙ ap (λ o. standing order o (Some bound)) (sym has)
+
+  pub cut_included : (bound : K) (rank : ℕ) → rank ≡ count_below (λ q. standing order (key q) (Some bound)) xs → IsCut (is_from_start order (Included bound)) key xs rank
+  cut_included bound =
+      cuts (λ q. standing order (key q) (Some bound)) (split key order total bound xs up) (λ k. is_le (order bound k))
+      (λ p k has. le_turned (order bound k) ∙ ap (λ o. not (is_lt o)) (seen bound k p has))
+
+  pub cut_excluded : (bound : K) (rank : ℕ) → rank ≡ count_below (λ q. after_key (standing order (key q) (Some bound))) xs → IsCut (is_from_start order (Excluded bound)) key xs rank
+  cut_excluded bound =
+      cuts (λ q. after_key (standing order (key q) (Some bound))) (split_after (λ q. standing order (key q) (Some bound)) xs (split key order total bound xs up)) (λ k. is_lt (order bound k))
+      (λ p k has. lt_turned (order bound k) ∙ ap (λ o. not (is_lt (after_key o))) (seen bound k p has))
+
+  pub cut_unbounded : IsCut (is_from_start order Unbounded) key xs 0
+  cut_unbounded = record { within = omega arith; before = λ i p k few at has. absurd (omega arith); after = λ i p k few at has. refl }
 
 -- between the two cuts the keys lie in the range
 pub span_from_cuts : {K : Type 0} (key_at : ℕ → Option K) (order : K → K → Ordering) (low high : Bound K) (places : List ℕ) (front cut back : ℕ) → IsCut (is_from_start order low) key_at places front → IsCut (is_past_end order high) key_at places cut → back ≡ max front cut → IsSpan (range_contains order low high) key_at places front back

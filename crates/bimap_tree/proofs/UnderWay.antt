@@ -9,7 +9,7 @@ use Rattle.bimap_base.specs.Digits.{most_height}
 use Rattle.bimap_base.specs.Keyed.{standing, Ascends}
 use Rattle.bimap_tree.specs.Tree.{Tree, Shows, fork, reading, root_of, branch, node_of}
 use Rattle.bimap_tree.specs.Index.{Index, IsBalancedIndex, IsWhole, index_of, tree_in, height_at}
-use Rattle.bimap_tree.specs.Order.{order_of, first_equal}
+use Rattle.bimap_tree.specs.Order.{first_equal}
 use Rattle.bimap_tree.specs.Path.{Path, top, below, plug, Wants, wanted}
 use Rattle.bimap_tree.specs.Route.{CanFollow, IsFollowed}
 use Rattle.bimap_tree.specs.Search.{CanSeek}
@@ -17,7 +17,6 @@ use Rattle.bimap_tree.specs.Descent.{IsUnderWay, levels_left}
 use Rattle.bimap_tree.specs.declared.descent.Descent.{Descent}
 use Rattle.bimap_tree.specs.declared.route.Route.{Route}
 use Rattle.bimap_tree.proofs.Descents.{here}
-use Rattle.bimap_tree.proofs.Found.{or_greater_equal}
 use Rattle.bimap_tree.proofs.Paths.{steps_within}
 use Rattle.bimap_tree.proofs.Searches.{seek_into, found_left, found_right}
 use Rattle.bimap_tree.proofs.Shown.{a_fork, height_told}
@@ -55,8 +54,8 @@ module _ (ns : List Node) (live : ℕ → Type 0) (go : ℕ → Ordering) where
 
 module _ (ns : List Node) (root : Option ℕ) (len : ℕ) (v : Index) (w : IsWhole ns root len) (e : index_of ns root ≡ v) (descent : Descent) (at_root : descent.root ≡ root) (no_step : descent.depth ≡ 0) (not_found : descent.is_found ≡ false) where
   -- a search that has not gone down yet
-  pub starts : (standing : ℕ → Option Ordering) (route : Route) → IsUnderWay v standing descent route
-  starts standing route = record {
+  pub starts : (go : ℕ → Ordering) (route : Route) → IsUnderWay v go descent route
+  starts go route = record {
     path = top;
     rest = tree_in ns root;
     of_index = shown_index ns root len v w e;
@@ -75,9 +74,9 @@ module _ (ns : List Node) (root : Option ℕ) (len : ℕ) (v : Index) (w : IsWho
 
 module _ (ns : List Node) (root : Option ℕ) (len : ℕ) (v : Index) (w : IsWhole ns root len) (e : index_of ns root ≡ v) {K : Type 0} (key : ℕ → Option K) (order : K → K → Ordering) (total : IsTotalOrder order) (up : Ascends key order v.places) (k : K) (descent : Descent) where
   -- a search that is under way may go on, and finds what it would have found from the top
-  pub goes_on_down : (route : Route) → length route.places ≡ 128 → length route.turns ≡ 128 → (u : IsUnderWay v (λ q. standing key order k q) descent route) → CanFollow ns descent.root (λ q. IsSome (key q)) (λ q. order_of order (key q) (Some k)) route.places route.turns descent.depth u.path u.rest × (first_equal (λ q. order_of order (key q) (Some k)) v.places ≡ first_equal (λ q. order_of order (key q) (Some k)) (reading u.rest))
+  pub goes_on_down : (route : Route) → length route.places ≡ 128 → length route.turns ≡ 128 → (u : IsUnderWay v (λ q. standing order (key q) (Some k)) descent route) → CanFollow ns descent.root (λ q. IsSome (key q)) (λ q. standing order (key q) (Some k)) route.places route.turns descent.depth u.path u.rest × (first_equal (λ q. standing order (key q) (Some k)) v.places ≡ first_equal (λ q. standing order (key q) (Some k)) (reading u.rest))
   goes_on_down route a b u =
-      let go : ℕ → Ordering = λ q. order_of order (key q) (Some k) in
+      let go : ℕ → Ordering = λ q. standing order (key q) (Some k) in
       let whole = can_seek_of ns root len v w e key order total up (plug u.path u.rest) u.of_index k in
       let (can, found) = seek_along ns (λ q. IsSome (key q)) go root u.path u.rest whole u.wants in (
         record {
@@ -93,11 +92,7 @@ module _ (ns : List Node) (root : Option ℕ) (len : ℕ) (v : Index) (w : IsWho
       )
 
   -- where it has come after a step
-  found_later : (old : Route) (u : IsUnderWay v (λ q. standing key order k q) descent old) (later : Descent) → later.is_found ≡ true → (later ≡ descent) ⊎ ((place : ℕ) × (later.root ≡ Some place) × (order_of order (key place) (Some k) ≡ Equal)) → (place : ℕ) × (later.root ≡ Some place) × (standing key order k place ≡ Some Equal)
-  found_later old u later y (inl same) = let (place, at, is) = u.found (sym (ap (λ d. d.is_found) same) ∙ y) in (place, ap (λ d. d.root) same ∙ at, is)
-  found_later old u later y (inr (place, at, is)) = (place, at, or_greater_equal (standing key order k place) is)
-
-  pub goes_further : (old next : Route) (u : IsUnderWay v (λ q. standing key order k q) descent old) (later : Descent) → (low : Path) × (rest : Tree) × IsFollowed (λ q. order_of order (key q) (Some k)) next.places next.turns later.depth later.root (plug u.path u.rest) low rest → (later.is_found ≡ true → (later ≡ descent) ⊎ ((place : ℕ) × (later.root ≡ Some place) × (order_of order (key place) (Some k) ≡ Equal))) → IsUnderWay v (λ q. standing key order k q) later next
+  pub goes_further : (old next : Route) (u : IsUnderWay v (λ q. standing order (key q) (Some k)) descent old) (later : Descent) → (low : Path) × (rest : Tree) × IsFollowed (λ q. standing order (key q) (Some k)) next.places next.turns later.depth later.root (plug u.path u.rest) low rest → (later.is_found ≡ true → (later ≡ descent) ⊎ ((place : ℕ) × (later.root ≡ Some place) × (standing order (key place) (Some k) ≡ Equal))) → IsUnderWay v (λ q. standing order (key q) (Some k)) later next
   goes_further old next u later (low, rest, f) found = record {
     path = low;
     rest = rest;
@@ -106,5 +101,8 @@ module _ (ns : List Node) (root : Option ℕ) (len : ℕ) (v : Index) (w : IsWho
     follows = f.follows;
     depth_is = f.depth_is;
     wants = f.wants;
-    found = λ y. found_later old u later y (found y);
+    found = λ y. elim (found y) [
+      | inl same ↦ let (place, at, is) = u.found (sym (ap (λ d. d.is_found) same) ∙ y) in (place, ap (λ d. d.root) same ∙ at, is)
+      | inr there ↦ there
+    ];
   }

@@ -11,7 +11,7 @@ use Rattle.bimap_base.specs.Keyed.{standing, Ascends, Adds, Drops}
 use Rattle.bimap_base.proofs.Digits.{bits-least}
 use Rattle.bimap_tree.specs.Tree.{Tree, leaf, fork, reading, height, size, occurs, is_at, IsBalanced, IsDistinctTree, Stands, Shows}
 use Rattle.bimap_tree.specs.Index.{Index, IsIndex, IsBalancedIndex, IsWhole, index_of, tree_in}
-use Rattle.bimap_tree.specs.Order.{or_greater, order_of, after_key, first_equal, IsSplit}
+use Rattle.bimap_tree.specs.Order.{after_key, first_equal, IsSplit}
 use Rattle.bimap_tree.specs.Path.{Path, top, plug, front, back, Wants, CanPut, IsRisen}
 use Rattle.bimap_tree.specs.Remove.{CanTake, IsTaken}
 use Rattle.bimap_tree.specs.Route.{IsRoute, CanFollow, IsFollowed}
@@ -22,7 +22,7 @@ use Rattle.bimap_tree.proofs.Distinct.{absent_reading, adds, drops, contains_occ
 use Rattle.bimap_tree.proofs.Found.{none_of, one_of}
 use Rattle.bimap_tree.proofs.Heights.{height-bound}
 use Rattle.bimap_tree.proofs.Index.{tree_in-shown, whole_of}
-use Rattle.bimap_tree.proofs.Paths.{occurs-plug, size-plug, reading-plug, steps_within, beside, Wants-alike}
+use Rattle.bimap_tree.proofs.Paths.{occurs-plug, size-plug, reading-plug, steps_within, beside}
 use Rattle.bimap_tree.proofs.Rooms.{size_room}
 use Rattle.bimap_tree.proofs.Shown.{Shows-frame, no_root, a_fork, size-reading, with_absent, in_tree}
 
@@ -76,7 +76,7 @@ module _ (ns : List Node) (root : Option ℕ) (len : ℕ) (v : Index) (w : IsWho
   -- ---- searches
   module _ {K : Type 0} (key : ℕ → Option K) (order : K → K → Ordering) (total : IsTotalOrder order) (up : Ascends key order v.places) where
     -- in each form of the tree
-    pub can_seek_of : (t : Tree) → IsBalancedIndex v t → (k : K) → CanSeek ns root (λ q. IsSome (key q)) (λ q. order_of order (key q) (Some k)) t
+    pub can_seek_of : (t : Tree) → IsBalancedIndex v t → (k : K) → CanSeek ns root (λ q. IsSome (key q)) (λ q. standing order (key q) (Some k)) t
     can_seek_of t shown k =
         let ascends : Ascends key order (reading t) = subst (λ x. Ascends key order x) (sym shown.in_order) up in
         record {
@@ -86,15 +86,15 @@ module _ (ns : List Node) (root : Option ℕ) (len : ℕ) (v : Index) (w : IsWho
           fits = omega (arith, size-reading t, ap length shown.in_order, length_is, w.few);
         }
 
-    pub can_seek : (k : K) → CanSeek ns root (λ q. IsSome (key q)) (λ q. order_of order (key q) (Some k)) (tree_in ns root)
+    pub can_seek : (k : K) → CanSeek ns root (λ q. IsSome (key q)) (λ q. standing order (key q) (Some k)) (tree_in ns root)
     can_seek = can_seek_of (tree_in ns root) shown_index
 
-    pub can_seek_after : (k : K) → CanSeek ns root (λ q. IsSome (key q)) (λ q. after_key (order_of order (key q) (Some k))) (tree_in ns root)
-    can_seek_after k = record { tree = (can_seek k).tree; all_live = (can_seek k).all_live; in_order = split_after (λ q. order_of order (key q) (Some k)) (reading (tree_in ns root)) (can_seek k).in_order; fits = few }
+    pub can_seek_after : (k : K) → CanSeek ns root (λ q. IsSome (key q)) (λ q. after_key (standing order (key q) (Some k))) (tree_in ns root)
+    can_seek_after k = record { tree = (can_seek k).tree; all_live = (can_seek k).all_live; in_order = split_after (λ q. standing order (key q) (Some k)) (reading (tree_in ns root)) (can_seek k).in_order; fits = few }
 
-    pub can_seek_place : (place : ℕ) (k : K) → key place ≡ Some k → CanSeek ns root (λ q. IsSome (key q) × IsSome (key place)) (λ q. order_of order (key q) (key place)) (tree_in ns root)
+    pub can_seek_place : (place : ℕ) (k : K) → key place ≡ Some k → CanSeek ns root (λ q. IsSome (key q) × IsSome (key place)) (λ q. standing order (key q) (key place)) (tree_in ns root)
     can_seek_place place k is =
-        subst (λ o. CanSeek ns root (λ q. IsSome (key q) × IsSome o) (λ q. order_of order (key q) o) (tree_in ns root)) (sym is)
+        subst (λ o. CanSeek ns root (λ q. IsSome (key q) × IsSome o) (λ q. standing order (key q) o) (tree_in ns root)) (sym is)
         (record { tree = (can_seek k).tree; all_live = λ q n. ((can_seek k).all_live q n, refl); in_order = (can_seek k).in_order; fits = few })
 
   pub can_follow : (live : ℕ → Type 0) (go : ℕ → Ordering) (places : List ℕ) (turns : List Bool) → length places ≡ 128 → length turns ≡ 128 → CanSeek ns root live go (tree_in ns root) → CanFollow ns root live go places turns 0 top (tree_in ns root)
@@ -109,8 +109,8 @@ module _ (ns : List Node) (root : Option ℕ) (len : ℕ) (v : Index) (w : IsWho
   }
 
   -- the route that a search without success leaves
-  pub route_left : (t : Tree) → IsBalancedIndex v t → (standing : ℕ → Option Ordering) (route : Route) (found : Option ℕ) → found ≡ None → (low : Path) × (s : Tree) × IsFollowed (λ q. or_greater (standing q)) route.places route.turns route.depth found t low s → IsRoute v standing route
-  route_left t shown standing route found none (low, s, f) =
+  pub route_left : (t : Tree) → IsBalancedIndex v t → (go : ℕ → Ordering) (route : Route) (found : Option ℕ) → found ≡ None → (low : Path) × (s : Tree) × IsFollowed go route.places route.turns route.depth found t low s → IsRoute v go route
+  route_left t shown go route found none (low, s, f) =
       let no : s ≡ leaf = no_root s (f.root_is ∙ none) in
       let is : t ≡ plug low leaf = sym f.whole ∙ ap (λ x. plug low x) no in
       record {
@@ -121,31 +121,31 @@ module _ (ns : List Node) (root : Option ℕ) (len : ℕ) (v : Index) (w : IsWho
         wants = f.wants;
       }
 
-  pub route_if_none : (t : Tree) → IsBalancedIndex v t → (standing : ℕ → Option Ordering) (route : Route) (found : Option ℕ) → (found ≡ None → (low : Path) × (s : Tree) × IsFollowed (λ q. or_greater (standing q)) route.places route.turns route.depth found t low s) → IfNone found (IsRoute v standing route)
-  route_if_none t shown standing route None f = route_left t shown standing route None refl (f refl)
-  route_if_none t shown standing route (Some p) f = tt
+  pub route_if_none : (t : Tree) → IsBalancedIndex v t → (go : ℕ → Ordering) (route : Route) (found : Option ℕ) → (found ≡ None → (low : Path) × (s : Tree) × IsFollowed go route.places route.turns route.depth found t low s) → IfNone found (IsRoute v go route)
+  route_if_none t shown go route None f = route_left t shown go route None refl (f refl)
+  route_if_none t shown go route (Some p) f = tt
 
   -- ---- a search for a place's own key
-  module _ {K : Type 0} (key : ℕ → Option K) (order : K → K → Ordering) (place : ℕ) (k : K) (is : key place ≡ Some k) (found : Option ℕ) (first : found ≡ first_equal (λ q. order_of order (key q) (key place)) (reading (tree_in ns root))) where
-    first_listed : found ≡ first_equal (λ q. order_of order (key q) (Some k)) v.places
+  module _ {K : Type 0} (key : ℕ → Option K) (order : K → K → Ordering) (place : ℕ) (k : K) (is : key place ≡ Some k) (found : Option ℕ) (first : found ≡ first_equal (λ q. standing order (key q) (key place)) (reading (tree_in ns root))) where
+    first_listed : found ≡ first_equal (λ q. standing order (key q) (Some k)) v.places
     first_listed =
-        subst (λ o. found ≡ first_equal (λ q. order_of order (key q) o) (reading (tree_in ns root))) is first
-        ∙ ap (λ x. first_equal (λ q. order_of order (key q) (Some k)) x) places_are
+        subst (λ o. found ≡ first_equal (λ q. standing order (key q) o) (reading (tree_in ns root))) is first
+        ∙ ap (λ x. first_equal (λ q. standing order (key q) (Some k)) x) places_are
 
     -- leads to no place, where no listed key is equal
-    pub place_route : ((p : ℕ) → Contains v.places p → standing key order k p ≡ Some Equal → ⊥) → (route : Route) → (low : Path) × (s : Tree) × IsFollowed (λ q. order_of order (key q) (key place)) route.places route.turns route.depth found (tree_in ns root) low s → IsRoute v (λ q. standing key order k q) route
+    pub place_route : ((p : ℕ) → Contains v.places p → standing order (key p) (Some k) ≡ Equal → ⊥) → (route : Route) → (low : Path) × (s : Tree) × IsFollowed (λ q. standing order (key q) (key place)) route.places route.turns route.depth found (tree_in ns root) low s → IsRoute v (λ q. standing order (key q) (Some k)) route
     place_route unequal route f =
-        route_left (tree_in ns root) shown_index (λ q. standing key order k q) route found (none_of (λ q. standing key order k q) v.places found first_listed unequal)
-        (subst (λ o. (low : Path) × (s : Tree) × IsFollowed (λ q. order_of order (key q) o) route.places route.turns route.depth found (tree_in ns root) low s) is f)
+        route_left (tree_in ns root) shown_index (λ q. standing order (key q) (Some k)) route found (none_of (λ q. standing order (key q) (Some k)) v.places found first_listed unequal)
+        (subst (λ o. (low : Path) × (s : Tree) × IsFollowed (λ q. standing order (key q) o) route.places route.turns route.depth found (tree_in ns root) low s) is f)
 
     -- leads to the place, where it is listed
     pub place_found : IsTotalOrder order → Ascends key order v.places → Contains v.places place → found ≡ Some place
     place_found total up listed =
-        one_of (λ q. order_of order (key q) (Some k)) v.places found place first_listed listed (own_key key order total place k is)
+        one_of (λ q. standing order (key q) (Some k)) v.places found place first_listed listed (own_key key order total place k is)
         (λ p c s. only_one key order total v.places up k p place c listed s (own_key key order total place k is))
 
   -- ---- a place put in at a route's end
-  module _ (standing : ℕ → Option Ordering) (route : Route) (r : IsRoute v standing route) where
+  module _ (go : ℕ → Ordering) (route : Route) (r : IsRoute v go route) where
     at_fields : IsIndex ns root (plug r.path leaf)
     at_fields = subst (λ x. IsIndex x.nodes x.root (plug r.path leaf)) (sym e) r.of_index.tree
 
@@ -216,12 +216,11 @@ module _ (ns : List Node) (root : Option ℕ) (len : ℕ) (v : Index) (w : IsWho
         pub put_cells : length ms ≡ length v.nodes
         put_cells = done.1.same_length ∙ nodes_are
 
-        pub put_ascends : {K : Type 0} (key : ℕ → Option K) (order : K → K → Ordering) → IsTotalOrder order → Ascends key order v.places → (k : K) → key place ≡ Some k → ((q : ℕ) → or_greater (standing q) ≡ order_of order (key q) (Some k)) → Ascends key order (reading (tree_in ms last))
+        pub put_ascends : {K : Type 0} (key : ℕ → Option K) (order : K → K → Ordering) → IsTotalOrder order → Ascends key order v.places → (k : K) → key place ≡ Some k → (go ≡ (λ q. standing order (key q) (Some k))) → Ascends key order (reading (tree_in ms last))
         put_ascends key order total up k is same =
             let parts : Ascends key order (front r.path ++ back r.path) = subst (λ x. Ascends key order x) read_before up in
-            let divided : IsSplit (λ q. order_of order (key q) (Some k)) (reading (plug r.path leaf)) = split key order total k (reading (plug r.path leaf)) (subst (λ x. Ascends key order x) (sym r.of_index.in_order) up) in
-            let wants : Wants (λ q. order_of order (key q) (Some k)) r.path = Wants-alike (λ q. or_greater (standing q)) (λ q. order_of order (key q) (Some k)) r.path (λ q n. sym (same q)) r.wants in
-            let (less, more) = beside (λ q. order_of order (key q) (Some k)) r.path leaf divided wants in
+            let divided : IsSplit (λ q. standing order (key q) (Some k)) (reading (plug r.path leaf)) = split key order total k (reading (plug r.path leaf)) (subst (λ x. Ascends key order x) (sym r.of_index.in_order) up) in
+            let (less, more) = beside (λ q. standing order (key q) (Some k)) r.path leaf divided (subst (λ g. Wants g r.path) same r.wants) in
             subst (λ x. Ascends key order x) (sym (reads ∙ read_now))
             (ascends_with key order total (front r.path) (back r.path) place k is less more parts)
 

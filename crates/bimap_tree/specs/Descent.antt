@@ -1,11 +1,10 @@
 -- What a search tells that is under way.
-use Rattle.std.specs.Prelude.{◌≡◌, ℕ, true, cond, List, Option, Some}
+use Rattle.std.specs.Prelude.{◌≡◌, ℕ, true, cond, List, Some}
 use Rattle.std.specs.declared.cmp.Ordering.{Ordering}
 use Rattle.std.specs.declared.cmp.Ordering.TheVariants.{Equal}
 use Rattle.bimap_base.specs.declared.cells.Node.{Node}
 use Rattle.bimap_tree.specs.Tree.{Tree, root_of}
 use Rattle.bimap_tree.specs.Index.{Index, IsBalancedIndex, height_at}
-use Rattle.bimap_tree.specs.Order.{or_greater}
 use Rattle.bimap_tree.specs.Path.{Path, plug, steps, Follows, Wants}
 use Rattle.bimap_tree.specs.declared.descent.Descent.{Descent}
 use Rattle.bimap_tree.specs.declared.route.Route.{Route}
@@ -16,12 +15,12 @@ levels_left nodes descent = cond descent.is_found 0 (height_at nodes descent.roo
 
 -- the search has come down the index's tree, as places that stand so to a key want, to a subtree; where it has found
 -- the key, it is that of the place at the top there
-pub record IsUnderWay (index : Index) (standing : ℕ → Option Ordering) (descent : Descent) (route : Route) : Type 0 where
+pub record IsUnderWay (index : Index) (go : ℕ → Ordering) (descent : Descent) (route : Route) : Type 0 where
   pub path : Path
   pub rest : Tree
   pub of_index : IsBalancedIndex index (plug path rest)
   pub root_is : root_of rest ≡ descent.root
   pub follows : Follows route.places route.turns path
   pub depth_is : descent.depth ≡ steps path
-  pub wants : Wants (λ q. or_greater (standing q)) path
-  pub found : descent.is_found ≡ true → (place : ℕ) × (descent.root ≡ Some place) × (standing place ≡ Some Equal)
+  pub wants : Wants go path
+  pub found : descent.is_found ≡ true → (place : ℕ) × (descent.root ≡ Some place) × (go place ≡ Equal)

@@ -2,7 +2,6 @@ pub mod Tree
 pub mod Filled
 pub mod Index
 pub mod Order
-pub mod Start
 pub mod Search
 pub mod Link
 pub mod RankedSubtree

@@ -1,18 +1,8 @@
 -- Lists of places as seen from one key.
-use Rattle.std.specs.Prelude.{◌≡◌, ◌⊎◌, ℕ, ◌+◌, cond, List, [], ◌∷◌, Option, Some, None, option_map}
+use Rattle.std.specs.Prelude.{◌≡◌, ◌⊎◌, ℕ, ◌+◌, cond, List, [], ◌∷◌, Option, Some, None}
 use Rattle.std.specs.Ordering.{is_lt, is_eq}
 use Rattle.std.specs.declared.cmp.Ordering.{Ordering}
 use Rattle.std.specs.declared.cmp.Ordering.TheVariants.{Less, Equal, Greater}
-
--- how a place stands; one that has no key stands behind all others
-abbrev pub or_greater : Option Ordering → Ordering
-or_greater None = Greater
-or_greater (Some how) = how
-
--- how a key stands to another, where both are there
-abbrev pub order_of : {K : Type 0} → (K → K → Ordering) → Option K → Option K → Ordering
-order_of order first None = Greater
-order_of order first (Some key) = or_greater (option_map (λ k. order k key) first)
 
 -- how a place stands to a position just after the key
 abbrev pub after_key : Ordering → Ordering

@@ -4,18 +4,17 @@ use Rattle.std.specs.declared.cmp.Ordering.{Ordering}
 use Rattle.bimap_base.specs.declared.cells.Node.{Node}
 use Rattle.bimap_tree.specs.Tree.{Tree, leaf, height, root_of}
 use Rattle.bimap_tree.specs.Index.{Index, IsBalancedIndex}
-use Rattle.bimap_tree.specs.Order.{or_greater}
 use Rattle.bimap_tree.specs.Path.{Path, plug, steps, Follows, Wants}
 use Rattle.bimap_tree.specs.Search.{CanSeek}
 use Rattle.bimap_tree.specs.declared.route.Route.{Route}
 
 -- the route leads down the index's tree, as places that stand so to a key want, to where no place is
-pub record IsRoute (index : Index) (standing : ℕ → Option Ordering) (route : Route) : Type 0 where
+pub record IsRoute (index : Index) (go : ℕ → Ordering) (route : Route) : Type 0 where
   pub path : Path
   pub of_index : IsBalancedIndex index (plug path leaf)
   pub follows : Follows route.places route.turns path
   pub depth_is : route.depth ≡ steps path
-  pub wants : Wants (λ q. or_greater (standing q)) path
+  pub wants : Wants go path
 
 -- the search has come along the path to the subtree s, and may go on
 pub record CanFollow (nodes : List Node) (root : Option ℕ) (live : ℕ → Type 0) (go : ℕ → Ordering) (places : List ℕ) (turns : List Bool) (depth : ℕ) (path : Path) (s : Tree) : Type 0 where

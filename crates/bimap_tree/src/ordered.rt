@@ -1,6 +1,8 @@
 //! The listed places in the order of their keys. It knows places, ranks and counts, and no key's value.
-ghost use Rattle.std.specs.Prelude.{◌≡◌, ◌≢◌, ◌⊎◌, ℕ, ◌+◌, ◌-◌, ◌*◌, ◌<◌, ◌≤◌, [], length, max, slice_get, Option, Some, None, true, IsOk, OnOk, OnErr, IsSome, IfSome, IfNone};
+ghost use Rattle.std.specs.Prelude.{◌≡◌, ◌≢◌, ◌⊎◌, ℕ, ◌+◌, ◌-◌, ◌*◌, ◌<◌, ◌≤◌, [], length, max, slice_get, Some, None, true, IsOk, OnOk, OnErr, IsSome, IfSome, IfNone};
 ghost use Rattle.std.specs.List.{AllPairs, Contains};
+ghost use Rattle.std.specs.Range.Bound.{bound_map};
+ghost use Rattle.std.specs.BTreeMap.Range.{is_from_start};
 ghost use Rattle.std.specs.declared.cmp.Ordering.{Ordering};
 ghost use Rattle.std.specs.declared.cmp.Ordering.TheVariants.{Equal};
 ghost use Rattle.bimap_base.specs.Digits.{most_height};
@@ -10,7 +12,7 @@ ghost use Rattle.bimap_tree.specs.Filled.{IsRow};
 ghost use Rattle.bimap_tree.specs.Tree.{Tree, height};
 ghost use Rattle.bimap_tree.specs.Index.{IsBalancedIndex};
 ghost use Rattle.bimap_tree.specs.Route.{IsRoute};
-ghost use Rattle.bimap_tree.specs.Start.{IsStart};
+ghost use Rattle.bimap_tree.specs.Spans.{IsCut};
 
 use crate::by_width::{
     fill_around, find_in_tree, finish_in_tree, place_in_tree, put_at, rank_in_tree, route_in_tree,
@@ -81,8 +83,8 @@ impl Ordered {
         ensures enough { to ≤ length self.old.nodes → IsOk result }
         ensures unchanged { to ≤ length self.old.nodes → self.new ≡ self.old }
         ensures err { OnErr result (self.new ≡ self.old) }
-        ensures routes { (standing : _) (route : _) → IsRoute self.old standing route →
-            IsRoute self.new standing route }
+        ensures routes { (go : _) (route : _) → IsRoute self.old go route →
+            IsRoute self.new go route }
     {
         self.cells.grow(to)
     }
@@ -100,9 +102,9 @@ impl Ordered {
     pub fn find<K: Keys, M: Meter>(&self, keys: &K, key: &K::Key, meter: &mut M) -> Option<usize>
         requires { Ascends (K.key_at keys.now) K.order self.now.places }
         ensures found { IfSome result (λ p. Contains self.now.places p
-            × (standing (K.key_at keys.now) K.order key.now p ≡ Some Equal)) }
+            × (standing K.order (K.key_at keys.now p) (Some key.now) ≡ Equal)) }
         ensures none { IfNone result ((p : ℕ) → Contains self.now.places p →
-            standing (K.key_at keys.now) K.order key.now p ≡ Some Equal → ⊥) }
+            standing K.order (K.key_at keys.now p) (Some key.now) ≡ Equal → ⊥) }
         ensures comparisons { M.comparisons meter.new ≤ M.comparisons meter.old
             + most_height (length self.now.places) }
         ensures touches { M.touches meter.new ≤ M.touches meter.old
@@ -113,8 +115,8 @@ impl Ordered {
 
     /// A search that has not gone down yet, for `step` and `finish`.
     pub fn start(&self) -> Descent
-        ensures under_way { (standing : ℕ → Option Ordering) (route : Route) →
-            IsUnderWay self.now standing result route }
+        ensures under_way { (go : ℕ → Ordering) (route : Route) →
+            IsUnderWay self.now go result route }
         ensures left { levels_left self.now.nodes result ≤ most_height (length self.now.places) }
     {
         Descent::new(self.root)
@@ -130,10 +132,10 @@ impl Ordered {
         meter: &mut M,
     ) -> bool
         requires ascends { Ascends (K.key_at keys.now) K.order self.now.places }
-        requires under_way { IsUnderWay self.now (λ q. standing
-            (K.key_at keys.now) K.order key.now q) descent.old route.old }
-        ensures under_way { IsUnderWay self.now (λ q. standing
-            (K.key_at keys.now) K.order key.now q) descent.new route.new }
+        requires under_way { IsUnderWay self.now (λ q. standing K.order
+            (K.key_at keys.now q) (Some key.now)) descent.old route.old }
+        ensures under_way { IsUnderWay self.now (λ q. standing K.order
+            (K.key_at keys.now q) (Some key.now)) descent.new route.new }
         ensures went { result ≡ true → levels_left self.now.nodes descent.new
             < levels_left self.now.nodes descent.old }
         ensures comparisons { M.comparisons meter.new
@@ -156,14 +158,14 @@ impl Ordered {
         meter: &mut M,
     ) -> Option<usize>
         requires ascends { Ascends (K.key_at keys.now) K.order self.now.places }
-        requires under_way { IsUnderWay self.now (λ q. standing
-            (K.key_at keys.now) K.order key.now q) descent route.old }
+        requires under_way { IsUnderWay self.now (λ q. standing K.order
+            (K.key_at keys.now q) (Some key.now)) descent route.old }
         ensures found { IfSome result (λ p. Contains self.now.places p
-            × (standing (K.key_at keys.now) K.order key.now p ≡ Some Equal)) }
+            × (standing K.order (K.key_at keys.now p) (Some key.now) ≡ Equal)) }
         ensures none { IfNone result ((p : ℕ) → Contains self.now.places p →
-            standing (K.key_at keys.now) K.order key.now p ≡ Some Equal → ⊥) }
+            standing K.order (K.key_at keys.now p) (Some key.now) ≡ Equal → ⊥) }
         ensures route { IfNone result (IsRoute self.now
-            (λ q. standing (K.key_at keys.now) K.order key.now q) route.new) }
+            (λ q. standing K.order (K.key_at keys.now q) (Some key.now)) route.new) }
         ensures comparisons { M.comparisons meter.new ≤ M.comparisons meter.old
             + levels_left self.now.nodes descent }
         ensures touches { M.touches meter.new ≤ M.touches meter.old
@@ -186,9 +188,9 @@ impl Ordered {
         requires unlisted { Contains self.old.places place → ⊥ }
         requires unequal { (p : ℕ) (k : _) → Contains self.old.places p →
             K.key_at keys.now place ≡ Some k →
-            standing (K.key_at keys.now) K.order k p ≡ Some Equal → ⊥ }
+            standing K.order (K.key_at keys.now p) (Some k) ≡ Equal → ⊥ }
         requires route { (k : _) → K.key_at keys.now place ≡ Some k →
-            IsRoute self.old (λ q. standing (K.key_at keys.now) K.order k q) route.now }
+            IsRoute self.old (λ q. standing K.order (K.key_at keys.now q) (Some k)) route.now }
         ensures len { length self.new.places ≡ length self.old.places + 1 }
         ensures adds { Adds self.old.places place self.new.places }
         ensures ascends { Ascends (K.key_at keys.now) K.order self.new.places }
@@ -211,7 +213,7 @@ impl Ordered {
         requires unlisted { Contains self.old.places place → ⊥ }
         requires unequal { (p : ℕ) (k : _) → Contains self.old.places p →
             K.key_at keys.now place ≡ Some k →
-            standing (K.key_at keys.now) K.order k p ≡ Some Equal → ⊥ }
+            standing K.order (K.key_at keys.now p) (Some k) ≡ Equal → ⊥ }
         ensures len { length self.new.places ≡ length self.old.places + 1 }
         ensures adds { Adds self.old.places place self.new.places }
         ensures ascends { Ascends (K.key_at keys.now) K.order self.new.places }
@@ -273,9 +275,9 @@ impl Ordered {
     ) -> Option<usize>
         requires { Ascends (K.key_at keys.now) K.order self.old.places }
         ensures found { IfSome result (λ p. Contains self.old.places p
-            × (standing (K.key_at keys.now) K.order key.now p ≡ Some Equal)) }
+            × (standing K.order (K.key_at keys.now p) (Some key.now) ≡ Equal)) }
         ensures none { IfNone result ((p : ℕ) → Contains self.old.places p →
-            standing (K.key_at keys.now) K.order key.now p ≡ Some Equal → ⊥) }
+            standing K.order (K.key_at keys.now p) (Some key.now) ≡ Equal → ⊥) }
         ensures len { IfSome result (λ _. length self.new.places + 1 ≡ length self.old.places) }
         ensures drops { IfSome result (λ p. Drops self.old.places p self.new.places) }
         ensures unchanged { IfNone result (self.new ≡ self.old) }
@@ -308,7 +310,8 @@ impl Ordered {
         meter: &mut M,
     ) -> usize
         requires { Ascends (K.key_at keys.now) K.order self.now.places }
-        ensures start { IsStart (K.key_at keys.now) K.order bound.entry self.now.places result }
+        ensures cut { IsCut (is_from_start K.order (bound_map (λ x. x.now) bound.entry))
+            (K.key_at keys.now) self.now.places result }
         ensures comparisons { M.comparisons meter.new ≤ M.comparisons meter.old
             + most_height (length self.now.places) }
         ensures touches { M.touches meter.new ≤ M.touches meter.old

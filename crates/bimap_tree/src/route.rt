@@ -1,5 +1,5 @@
 //! The way of a search down a tree. It knows which way a key wants, and not the key.
-ghost use Rattle.std.specs.Prelude.{◌≡◌, ℕ, ◌+◌, ◌<◌, ◌≤◌, Option, Some, None, slice_get, slice_set};
+ghost use Rattle.std.specs.Prelude.{◌≡◌, ℕ, ◌+◌, ◌<◌, ◌≤◌, Some, None, slice_get, slice_set};
 ghost use Rattle.std.specs.declared.cmp.Ordering.{Ordering};
 ghost use Rattle.bimap_tree.specs.Tree.{Tree, leaf, Stands, height, reading};
 ghost use Rattle.bimap_tree.specs.Order.{first_equal};
@@ -24,8 +24,8 @@ pub struct Route {
 impl Route {
     /// A route of no steps, for `Ordered::step` and `finish` to write.
     pub fn new() -> Self
-        ensures { (index : Index) (standing : ℕ → Option Ordering) → IsBalancedIndex index leaf →
-            IsRoute index standing result }
+        ensures { (index : Index) (go : ℕ → Ordering) → IsBalancedIndex index leaf →
+            IsRoute index go result }
     {
         Route {
             places: [0; 128],

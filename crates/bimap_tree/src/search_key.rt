@@ -1,7 +1,7 @@
 //! What a descent seeks: how a place stands to it. It knows keys through `Keys` alone, and no tree.
 ghost use Rattle.std.specs.Prelude.{◌≡◌, ℕ, ◌+◌, Some, IsSome};
 ghost use Rattle.std.specs.declared.cmp.Ordering.{Ordering};
-ghost use Rattle.bimap_tree.specs.Order.{order_of};
+ghost use Rattle.bimap_base.specs.Keyed.{standing};
 ghost use Rattle.bimap_tree.specs.Order.{after_key};
 
 use bimap_base::{Keys, Meter};
@@ -41,7 +41,7 @@ pub struct ToKey<'a, K: Keys> {
 impl<K: Keys> SearchKey for ToKey<'_, K> {
     ghost live = { λ s p. IsSome (K.key_at s.keys.now p) };
 
-    ghost go = { λ s p. order_of K.order (K.key_at s.keys.now p) (Some s.key.now) };
+    ghost go = { λ s p. standing K.order (K.key_at s.keys.now p) (Some s.key.now) };
 
     fn side<M: Meter>(&self, place: usize, meter: &mut M) -> Ordering {
         self.keys.compare(place, self.key, meter)
@@ -61,7 +61,7 @@ pub struct ToPlace<'a, K: Keys> {
 impl<K: Keys> SearchKey for ToPlace<'_, K> {
     ghost live = { λ s p. IsSome (K.key_at s.keys.now p) × IsSome (K.key_at s.keys.now s.place) };
 
-    ghost go = { λ s p. order_of K.order (K.key_at s.keys.now p) (K.key_at s.keys.now s.place) };
+    ghost go = { λ s p. standing K.order (K.key_at s.keys.now p) (K.key_at s.keys.now s.place) };
 
     fn side<M: Meter>(&self, place: usize, meter: &mut M) -> Ordering {
         self.keys.compare_places(place, self.place, meter)
@@ -82,7 +82,7 @@ pub struct AfterKey<'a, K: Keys> {
 impl<K: Keys> SearchKey for AfterKey<'_, K> {
     ghost live = { λ s p. IsSome (K.key_at s.keys.now p) };
 
-    ghost go = { λ s p. after_key (order_of K.order (K.key_at s.keys.now p) (Some s.key.now)) };
+    ghost go = { λ s p. after_key (standing K.order (K.key_at s.keys.now p) (Some s.key.now)) };
 
     fn side<M: Meter>(&self, place: usize, meter: &mut M) -> Ordering {
         match self.keys.compare(place, self.key, meter) {

@@ -1,7 +1,7 @@
 //! The ranks of a range of keys. It knows an index and its keys, and no node.
 ghost use Rattle.std.specs.Prelude.{◌≡◌, ◌≤◌, ◌+◌, ◌*◌, length};
 ghost use Rattle.std.specs.Range.Bound.{bound_map};
-ghost use Rattle.std.specs.BTreeMap.Range.{range_contains, is_from_start, is_past_end};
+ghost use Rattle.std.specs.BTreeMap.Range.{range_contains, is_past_end};
 ghost use Rattle.bimap_base.specs.Digits.{most_height};
 ghost use Rattle.bimap_base.specs.Keyed.{Ascends};
 ghost use Rattle.bimap_tree.specs.Spans.{IsCut, IsSpan};
@@ -15,24 +15,6 @@ use std::ops::{Bound, RangeBounds};
 pub struct Span {
     pub front: usize,
     pub back: usize,
-}
-
-// The first rank whose key is not before a start.
-fn rank_of_start<K: Keys, M: Meter>(
-    index: &Ordered,
-    keys: &K,
-    start: Bound<&K::Key>,
-    meter: &mut M,
-) -> usize
-    requires { Ascends (K.key_at keys.now) K.order index.now.places }
-    ensures cut { IsCut (is_from_start K.order (bound_map (λ x. x.now) start.entry))
-        (K.key_at keys.now) index.now.places result }
-    ensures comparisons { M.comparisons meter.new ≤ M.comparisons meter.old
-        + most_height (length index.now.places) }
-    ensures touches { M.touches meter.new ≤ M.touches meter.old
-        + 2 * most_height (length index.now.places) }
-{
-    index.rank_from(keys, start, meter)
 }
 
 // The first rank whose key is past an end.
@@ -52,8 +34,8 @@ fn rank_of_end<K: Keys, M: Meter>(
 {
     match end {
         Bound::Unbounded => index.len(),
-        Bound::Included(key) => rank_of_start(index, keys, Bound::Excluded(key), meter),
-        Bound::Excluded(key) => rank_of_start(index, keys, Bound::Included(key), meter),
+        Bound::Included(key) => index.rank_from(keys, Bound::Excluded(key), meter),
+        Bound::Excluded(key) => index.rank_from(keys, Bound::Included(key), meter),
     }
 }
 
@@ -77,7 +59,7 @@ impl Span {
         ensures touches { M.touches meter.new ≤ M.touches meter.old
             + 4 * most_height (length index.now.places) }
     {
-        let front = rank_of_start(index, keys, range.start_bound(), meter);
+        let front = index.rank_from(keys, range.start_bound(), meter);
         let back = rank_of_end(index, keys, range.end_bound(), meter);
         Span {
             front,

@@ -19,4 +19,4 @@ pub returns-clause-rank : goal.returns-clause-rank
 returns-clause-rank g c =
     let t = c.args.self.now.table in
     let walk = order_walk (λ p. p.1) g.met.R.Ord.total g.met.R.Ord.matches_eq t.pairs t.right.places t.right_listing in
-    count_below (λ p. p.1) g.R.Ord.cmp t.pairs t.right.places walk c.args.right c.rank_from.result (rw (c.new-rights.ensures, c.new.ensures) at c.rank_from.ensures.start)
+    count_below (λ p. p.1) g.R.Ord.cmp g.met.R.Ord.total t.pairs t.right.places walk c.args.right.now c.rank_from.result (rw (c.new-rights.ensures, c.new.ensures) at c.rank_from.ensures.cut)

@@ -20,4 +20,4 @@ pub returns-clause-rank : goal.returns-clause-rank
 returns-clause-rank g c =
     let t = c.args.self.now.table in
     let walk = order_walk (λ p. p.0) g.met.L.Ord.total g.met.L.Ord.matches_eq t.pairs t.left.places t.left_listing in
-    count_below (λ p. p.0) g.L.Ord.cmp t.pairs t.left.places walk c.args.left c.rank_from.result (rw (c.new-lefts.ensures, c.new.ensures) at c.rank_from.ensures.start)
+    count_below (λ p. p.0) g.L.Ord.cmp g.met.L.Ord.total t.pairs t.left.places walk c.args.left.now c.rank_from.result (rw (c.new-lefts.ensures, c.new.ensures) at c.rank_from.ensures.cut)

@@ -2,7 +2,7 @@ use Rattle.std.proofs.Common.{arith, ap, ◌∙◌, Some}
 use Rattle.bimap_base.specs.Keyed.{standing}
 use Rattle.bimap_base.specs.NodesInCells.{nodes_in}
 use Rattle.bimap_tree.specs.Index.{tree_in}
-use Rattle.bimap_tree.specs.Order.{first_equal, order_of}
+use Rattle.bimap_tree.specs.Order.{first_equal}
 use Rattle.bimap_tree.proofs.Found.{found_in, none_in}
 use Rattle.bimap_tree.proofs.Whole.{can_seek, places_are, height_within}
 use Rattle.bimap_tree.proofs.ordered.Ordered.find.Goals as goal
@@ -14,10 +14,10 @@ pub returns : goal.returns
 returns g c =
     let s = can_seek _ _ _ _ c.self.invariant c.self.view_is _ _ g.met.K.Keys.total c.requires c.args.key.now in
     let first = c.find_in_tree.ensures.found _ s
-    ∙ ap (λ x. first_equal (λ q. order_of g.K.Keys.order (g.K.Keys.key_at c.args.keys.now q) (Some c.args.key.now)) x) (places_are _ _ _ _ c.self.invariant c.self.view_is) in
+    ∙ ap (λ x. first_equal (λ q. standing g.K.Keys.order (g.K.Keys.key_at c.args.keys.now q) (Some c.args.key.now)) x) (places_are _ _ _ _ c.self.invariant c.self.view_is) in
     record {
-      found = found_in (λ q. standing (g.K.Keys.key_at c.args.keys.now) g.K.Keys.order c.args.key.now q) _ _ first;
-      none = none_in (λ q. standing (g.K.Keys.key_at c.args.keys.now) g.K.Keys.order c.args.key.now q) _ _ first;
+      found = found_in (λ q. standing g.K.Keys.order (g.K.Keys.key_at c.args.keys.now q) (Some c.args.key.now)) _ _ first;
+      none = none_in (λ q. standing g.K.Keys.order (g.K.Keys.key_at c.args.keys.now q) (Some c.args.key.now)) _ _ first;
       comparisons = omega (arith, c.find_in_tree.ensures.comparisons _ c.self.invariant.index.tree, height_within _ _ _ _ c.self.invariant c.self.view_is);
       touches = omega (arith, c.find_in_tree.ensures.touches _ c.self.invariant.index.tree, height_within _ _ _ _ c.self.invariant c.self.view_is);
     }

@@ -1,4 +1,4 @@
-use Rattle.std.proofs.Common.{arith, rules, sym, ◌∙◌}
+use Rattle.std.proofs.Common.{Some, arith, rules, sym, ◌∙◌}
 use Rattle.bimap_base.specs.Keyed.{standing}
 use Rattle.bimap_tree.proofs.Found.{found_in, none_in}
 use Rattle.bimap_tree.proofs.UnderWay.{goes_on_down}
@@ -15,10 +15,10 @@ returns g c =
     let (can, found) = goes_on_down _ _ _ _ c.self.invariant c.self.view_is _ _ g.met.K.Keys.total c.requires.ascends c.args.key.now c.args.descent c.args.route.now (omega arith) (omega arith) c.requires.under_way in
     let first = c.finish_in_tree.ensures.found _ _ can ∙ sym found in
     record {
-      found = found_in (λ q. standing (g.K.Keys.key_at c.args.keys.now) g.K.Keys.order c.args.key.now q) _ _ first;
-      none = none_in (λ q. standing (g.K.Keys.key_at c.args.keys.now) g.K.Keys.order c.args.key.now q) _ _ first;
+      found = found_in (λ q. standing g.K.Keys.order (g.K.Keys.key_at c.args.keys.now q) (Some c.args.key.now)) _ _ first;
+      none = none_in (λ q. standing g.K.Keys.order (g.K.Keys.key_at c.args.keys.now q) (Some c.args.key.now)) _ _ first;
       route = route_if_none _ _ _ _ c.self.invariant c.self.view_is _ c.requires.under_way.of_index
-          (λ q. standing (g.K.Keys.key_at c.args.keys.now) g.K.Keys.order c.args.key.now q) _ _ (c.finish_in_tree.ensures.follows _ _ can);
+          (λ q. standing g.K.Keys.order (g.K.Keys.key_at c.args.keys.now q) (Some c.args.key.now)) _ _ (c.finish_in_tree.ensures.follows _ _ can);
       comparisons = search rules;
       touches = search rules;
     }

@@ -13,6 +13,6 @@ pub returns-clause-places : goal.returns-clause-places
 returns-clause-places c = places_grown _ _ _ _ c.self.invariant c.self.view_is _ c.grow.ensures.kept
 
 pub returns-clause-routes : goal.returns-clause-routes
-returns-clause-routes c standing route =
+returns-clause-routes c go route =
     let places = places_grown _ _ _ _ c.self.invariant c.self.view_is _ c.grow.ensures.kept ∙ sym (places_are _ _ _ _ c.self.invariant c.self.view_is) in
-    subst (λ v. IsRoute v standing route → IsRoute (index_of (nodes_in c.grow.new.self) c.self.inside.root) standing route) c.self.view_is (IsRoute-grown (index_of (nodes_in c.self.inside.cells) c.self.inside.root) (index_of (nodes_in c.grow.new.self) c.self.inside.root) standing route c.grow.ensures.kept refl places)
+    subst (λ v. IsRoute v go route → IsRoute (index_of (nodes_in c.grow.new.self) c.self.inside.root) go route) c.self.view_is (IsRoute-grown (index_of (nodes_in c.self.inside.cells) c.self.inside.root) (index_of (nodes_in c.grow.new.self) c.self.inside.root) go route c.grow.ensures.kept refl places)

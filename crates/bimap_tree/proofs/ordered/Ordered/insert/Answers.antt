@@ -16,11 +16,11 @@ route_in_tree-self-inside-requires g c =
     (top, tree_in (nodes_in c.self.inside.cells) c.self.inside.root, can_follow _ _ _ _ c.self.invariant c.self.view_is _ _ _ _ (omega arith) (omega arith) (can_seek_place _ _ _ _ c.self.invariant c.self.view_is _ _ g.met.K.Keys.total c.requires.ascends _ k is))
 
 -- the route that the search leaves
-the_route : (g : Over) (c : After-route_in_tree-self-inside g) → (k : _) × (g.K.Keys.key_at c.args.keys.now c.args.place ≡ Some k) × IsRoute c.args.self.now (λ q. standing (g.K.Keys.key_at c.args.keys.now) g.K.Keys.order k q) c.route_in_tree-self-inside.new.route
+the_route : (g : Over) (c : After-route_in_tree-self-inside g) → (k : _) × (g.K.Keys.key_at c.args.keys.now c.args.place ≡ Some k) × IsRoute c.args.self.now (λ q. standing g.K.Keys.order (g.K.Keys.key_at c.args.keys.now q) (Some k)) c.route_in_tree-self-inside.new.route
 the_route g c =
     let (k, is) = key_is (g.K.Keys.key_at c.args.keys.now) g.K.Keys.order _ c.requires.live in
     let f = can_follow _ _ _ _ c.self.invariant c.self.view_is _ _ c.new-route.result.places c.new-route.result.turns (omega arith) (omega arith) (can_seek_place _ _ _ _ c.self.invariant c.self.view_is _ _ g.met.K.Keys.total c.requires.ascends c.args.place k is) in
-    (k, is, place_route _ _ _ _ c.self.invariant c.self.view_is _ _ _ k is _ (c.route_in_tree-self-inside.ensures.found _ _ f) (λ p listed same. c.requires.unequal p k listed is same) _ (c.route_in_tree-self-inside.ensures.follows _ _ f))
+    (k, is, place_route _ _ _ _ c.self.invariant c.self.view_is (g.K.Keys.key_at c.args.keys.now) g.K.Keys.order c.args.place k is _ (c.route_in_tree-self-inside.ensures.found _ _ f) (λ p listed same. c.requires.unequal p k listed is same) _ (c.route_in_tree-self-inside.ensures.follows _ _ f))
 
 pub put_at-self-inside-requires : goal.put_at-self-inside-requires
 put_at-self-inside-requires g c =
@@ -45,7 +45,7 @@ returns g c =
     record {
       len = put_length _ _ _ _ c.self.invariant c.self.view_is _ _ r _ _ c.requires.cell c.requires.unlisted c.places.ensures (omega arith) _ _ done;
       adds = put_adds _ _ _ _ c.self.invariant c.self.view_is _ _ r _ _ c.requires.cell c.requires.unlisted c.places.ensures (omega arith) _ _ done;
-      ascends = put_ascends _ _ _ _ c.self.invariant c.self.view_is _ _ r _ _ c.requires.cell c.requires.unlisted c.places.ensures (omega arith) _ _ done _ _ g.met.K.Keys.total c.requires.ascends k is (λ q. refl);
+      ascends = put_ascends _ _ _ _ c.self.invariant c.self.view_is _ _ r _ _ c.requires.cell c.requires.unlisted c.places.ensures (omega arith) _ _ done _ _ g.met.K.Keys.total c.requires.ascends k is refl;
       cells = put_cells _ _ _ _ c.self.invariant c.self.view_is _ _ r _ _ c.requires.cell c.requires.unlisted c.places.ensures (omega arith) _ _ done;
       comparisons = omega (arith, c.route_in_tree-self-inside.ensures.comparisons _ c.self.invariant.index.tree, height_within _ _ _ _ c.self.invariant c.self.view_is);
       touches = omega (arith, c.route_in_tree-self-inside.ensures.touches _ c.self.invariant.index.tree, c.put_at-self-inside.ensures.touches, height_within _ _ _ _ c.self.invariant c.self.view_is, route_depth _ _ _ _ c.self.invariant c.self.view_is _ _ r);

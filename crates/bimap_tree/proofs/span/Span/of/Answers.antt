@@ -9,9 +9,9 @@ returns-clause-inside g c = λ bounds.
     let keys = g.K.Keys.key_at c.args.keys.now in
     let places = c.args.index.now.places in
     let order = g.K.Keys.order in
-    let start = subst (λ b. IsCut (is_from_start order b) keys places c.rank_of_start-front.result) (c.start_bound.ensures bounds) c.rank_of_start-front.ensures.cut in
+    let start = subst (λ b. IsCut (is_from_start order b) keys places c.rank_from-front.result) (c.start_bound.ensures bounds) c.rank_from-front.ensures.cut in
     let end = subst (λ b. IsCut (is_past_end order b) keys places c.rank_of_end-back.result) (c.end_bound.ensures bounds) c.rank_of_end-back.ensures.cut in
-    span_from_cuts keys order (g.A.RangeBounds.start_bound c.args.range.now) (g.A.RangeBounds.end_bound c.args.range.now) places c.rank_of_start-front.result c.rank_of_end-back.result c.max.result start end (omega (arith, c.max.ensures))
+    span_from_cuts keys order (g.A.RangeBounds.start_bound c.args.range.now) (g.A.RangeBounds.end_bound c.args.range.now) places c.rank_from-front.result c.rank_of_end-back.result c.max.result start end (omega (arith, c.max.ensures))
 
 pub returns-clause-ordered : goal.returns-clause-ordered
 returns-clause-ordered g c = omega (arith, c.max.ensures)
