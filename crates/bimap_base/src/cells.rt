@@ -1,5 +1,5 @@
 //! The nodes of an index, one for each place.
-ghost use Rattle.std.specs.Prelude.{◌≡◌, ℕ, ◌+◌, ◌<◌, ◌≤◌, ◌^◌, max, true, false, Some, [], length, map, slice_get, slice_set, vec_len, OnOk, OnErr, IfOk, IsOk};
+ghost use Rattle.std.specs.Prelude.{◌≡◌, ℕ, ◌+◌, ◌<◌, ◌≤◌, ◌^◌, max, true, false, cond, Some, [], length, map, slice_get, slice_set, vec_len, OnOk, OnErr, IfOk, IsOk};
 ghost use Rattle.bimap_base.specs.Digits.{most_height};
 ghost use Rattle.bimap_base.specs.declared.cells.Node.{Node};
 ghost use Rattle.bimap_base.specs.NodesInCells.{IsThere, IsAmong, CanCount, recounted, link_of, narrow_node, wide_node, nodes_in};
@@ -42,6 +42,10 @@ pub trait Cell: Copy + Drop {
     /// The node that it keeps.
     fn node(self) -> Node
         ensures { result ≡ node_in self };
+
+    /// That node's child on the side of the turn, right if it is true, without the rest of the node.
+    fn child(self, turn: bool) -> Option<usize>
+        ensures { result ≡ cond turn (node_in self).right (node_in self).left };
 
     /// The cell that keeps the same node with this child on the side of the turn, and a place more or less below it.
     fn recounted(self, turn: bool, child: Option<usize>, grew: bool) -> Self
@@ -86,7 +90,7 @@ impl<C: Cell> Model for Nodes<C> {
     ghost invariant = { λ n. length n.cells.items < C.most };
 }
 
-/// A node for each place below a number, in 12 bytes where there are fewer than 2^26, and else in 32. There is no way to a node but `read`, `write` and `recount`, which count a touch each.
+/// A node for each place below a number, in 12 bytes where there are fewer than 2^26, and else in 32. There is no way to a node but `read`, `cell`, `write` and `recount`, which count a touch each.
 #[derive(Drop)]
 pub enum Cells {
     Narrow(Nodes<NarrowCell>),
@@ -144,6 +148,12 @@ impl Cell for NarrowCell {
     }
 
     #[inline(always)]
+    fn child(self, turn: bool) -> Option<usize> {
+        let link = if turn { self.right } else { self.left };
+        child_of(link as usize)
+    }
+
+    #[inline(always)]
     fn recounted(self, turn: bool, child: Option<usize>, grew: bool) -> Self {
         let link = link_to(child) as u32;
         NarrowCell {
@@ -177,6 +187,11 @@ impl Cell for WideCell {
             height: self.height,
             size: self.size,
         }
+    }
+
+    #[inline(always)]
+    fn child(self, turn: bool) -> Option<usize> {
+        child_of(if turn { self.right } else { self.left })
     }
 
     #[inline(always)]
@@ -236,8 +251,19 @@ impl<C: Cell> Nodes<C> {
         ensures comparisons { M.comparisons meter.new ≡ M.comparisons meter.old }
         ensures touches { M.touches meter.new ≡ M.touches meter.old + 1 }
     {
+        self.cell(place, meter).node()
+    }
+
+    /// The cell that keeps the node of a place.
+    #[inline(always)]
+    pub fn cell<M: Meter>(&self, place: usize, meter: &mut M) -> C
+        requires { place < length self.now }
+        ensures node { slice_get self.now place ≡ Some (C.node_in result) }
+        ensures comparisons { M.comparisons meter.new ≡ M.comparisons meter.old }
+        ensures touches { M.touches meter.new ≡ M.touches meter.old + 1 }
+    {
         meter.touched();
-        self.cells[place].node()
+        self.cells[place]
     }
 
     /// Makes this the node of a place.

@@ -264,8 +264,8 @@ module _ (ns : List Node) (live : ℕ → Type 0) (go : ℕ → Ordering) (top :
             );
       }
 
-      pub goes_right : (turn : Bool) → turn ≡ true → go at ≡ Less → (noted : List ℕ) (ways : List Bool) → noted ≡ slice_set places depth at → ways ≡ slice_set others depth turn → Goes node.right noted ways (depth + 1)
-      goes_right turn right less noted ways a b = goes_down true less node.right refl noted ways a (b ∙ ap (λ x. slice_set others depth x) right)
+      pub goes_right : (turn : Bool) → turn ≡ true → go at ≡ Less → (next : Option ℕ) → next ≡ node.right → (noted : List ℕ) (ways : List Bool) → noted ≡ slice_set places depth at → ways ≡ slice_set others depth turn → Goes next noted ways (depth + 1)
+      goes_right turn right less next e noted ways a b = goes_down true less next e noted ways a (b ∙ ap (λ x. slice_set others depth x) right)
 
 -- ---- the way to a tree's first place
 module _ (ns : List Node) (top start : ℕ) (old : Route) where

@@ -7,7 +7,6 @@ ghost use Rattle.bimap_tree.specs.Path.{Path, plug};
 ghost use Rattle.bimap_tree.specs.Route.{CanFollow, IsFollowed};
 ghost use Rattle.bimap_tree.specs.Tree.{Tree, reading};
 
-use crate::link::child;
 use crate::route::{Route, route_in_tree, turns_by_branch};
 use crate::search_key::SearchKey;
 use bimap_base::{Cell, Meter, Nodes};
@@ -71,7 +70,7 @@ pub fn step_in_tree<C: Cell, S: SearchKey, M: Meter>(
     let (Some(at), false) = (descent.root, descent.is_found) else {
         return false;
     };
-    let node = cells.read(at, meter);
+    let cell = cells.cell(at, meter);
     let side = sought.side(at, meter);
     if side.is_eq() {
         descent.is_found = true;
@@ -80,7 +79,7 @@ pub fn step_in_tree<C: Cell, S: SearchKey, M: Meter>(
     let turn = side.is_lt();
     route.note(descent.depth, at, turn);
     descent.depth += 1;
-    descent.root = child(node, turn);
+    descent.root = cell.child(turn);
     true
 }
 

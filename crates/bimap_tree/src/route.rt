@@ -7,7 +7,6 @@ ghost use Rattle.bimap_tree.specs.Index.{Index, IsBalancedIndex};
 ghost use Rattle.bimap_tree.specs.Path.{Path, plug};
 ghost use Rattle.bimap_tree.specs.Route.{CanFollow, IsFollowed, IsRoute};
 
-use crate::link::child;
 use crate::search_key::SearchKey;
 use bimap_base::{Cell, Meter, Nodes};
 
@@ -103,7 +102,7 @@ pub fn route_in_tree<C: Cell, S: SearchKey, M: Meter>(
     let mut root = root;
     let mut depth = depth;
     while let Some(at) = root {
-        let node = cells.read(at, meter);
+        let cell = cells.cell(at, meter);
         let side = sought.side(at, meter);
         if side.is_eq() {
             break;
@@ -112,12 +111,12 @@ pub fn route_in_tree<C: Cell, S: SearchKey, M: Meter>(
         route.note(depth, at, turn);
         depth += 1;
         if is_far && turn {
-            root = node.right;
+            root = cell.child(true);
             if root.is_none() {
                 break;
             }
         } else {
-            root = child(node, turn);
+            root = cell.child(turn);
         }
     }
     route.depth = depth;

@@ -27,19 +27,19 @@ pub fn find_in_tree<C: Cell, S: SearchKey, M: Meter>(
     let is_far = turns_by_branch::<C, S>(cells);
     let mut root = root;
     while let Some(at) = root {
-        let node = cells.read(at, meter);
+        let cell = cells.cell(at, meter);
         let side = sought.side(at, meter);
         if side.is_eq() {
             return Some(at);
         }
         let turn = side.is_lt();
         if is_far && turn {
-            root = node.right;
+            root = cell.child(true);
             if root.is_none() {
                 break;
             }
         } else {
-            root = child(node, turn);
+            root = cell.child(turn);
         }
     }
     None
