@@ -31,6 +31,7 @@ use Rattle.bimap_core.proofs.Ascending.{order_walk, order_ascends}
 use Rattle.bimap_core.proofs.Permuted.{walk_apart, walk_permuted}
 use Rattle.bimap_core.specs.Store.{holding_of}
 use Rattle.bimap_core.specs.declared.table.Table.{Table}
+use Rattle.bimap_kinds.specs.HeldTable.{held, held_by_right}
 use Rattle.bimap_kinds.specs.Sorted.{IsByRight}
 
 -- the holding of a store whose pairs are walked by these places
@@ -115,15 +116,6 @@ pairs_kept {P} old new places places' kept same = ap (pairs_at new) same ∙ eac
         by None e rest = rw (kept p, e) rest
         by (Some x) e rest = rw (kept p, e) (ap (λ xs. x ∷ xs) rest)
 
--- nothing changed where an `Err` left the store and the listed places
-pub unchanged_walked : {T E L R : Type 0} (r : Result T E) (slots slots' : List (Option (L × R))) (places places' : List ℕ) → OnErr r (slots' ≡ slots) → OnErr r (places' ≡ places) → OnErr r (walked_by slots' places' ≡ walked_by slots places)
-unchanged_walked (Ok x) slots slots' places places' e f = tt
-unchanged_walked (Err x) slots slots' places places' e f = λ i. record { pairs = pairs_at (e i) (f i); room = length (e i) }
-
--- nothing changed where the store and the listed places are the same
-pub walked_same : {L R : Type 0} (slots slots' : List (Option (L × R))) (places places' : List ℕ) → slots' ≡ slots → places' ≡ places → walked_by slots' places' ≡ walked_by slots places
-walked_same slots slots' places places' e f = λ i. record { pairs = pairs_at (e i) (f i); room = length (e i) }
-
 -- what `retain` leaves, in the order of a walk
 module _ {F L R : Type 0} (g : Mut F (Bor L × (Bor R × Unit {0})) Bool) {same_left : L → L → Bool} {same_right : R → R → Bool} (equal_left : IsEquivalence same_left) (equal_right : IsEquivalence same_right)
     (slots : List (Option (L × R))) (places : List ℕ) (walk : IsWalk slots places) (apart : IsApart same_left same_right (pairs_in slots)) where
@@ -169,18 +161,18 @@ hash_walk {P} {K} key {same} {number} slots numbers h =
     let walk = walk_of key slots (places_from 0 numbers) (hash_listed same number numbers side listing) (hash_distinct same number numbers side listing) in
     pairs_by_place slots (places_from 0 numbers) (hash_by_place same number numbers side listing) walk.live
 
--- what a bimap says of its table
-abbrev pub AreFacts : {L R : Type 0} → (L → L → Bool) → (R → R → Bool) → (L → L → Ordering) → List (Option (L × R)) → List ℕ → List ℕ → Type 0
-AreFacts same_left same_right order slots places places' = record {
-  apart : IsApart same_left same_right (pairs_at slots places);
-  ascending : AllPairs (λ p q. order p.0 q.0 ≡ Less) (pairs_at slots places);
-  fits : length (pairs_at slots places) ≤ length slots;
-  lefts : length places ≡ length (pairs_at slots places);
-  rights : length places' ≡ length (pairs_at slots places);
+-- what a bimap says of what its table holds
+abbrev pub AreFacts : {L R : Type 0} → (L → L → Bool) → (R → R → Bool) → (L → L → Ordering) → Holding L R → List ℕ → List ℕ → Type 0
+AreFacts same_left same_right order holding places places' = record {
+  apart : IsApart same_left same_right holding.pairs;
+  ascending : AllPairs (λ p q. order p.0 q.0 ≡ Less) holding.pairs;
+  fits : length holding.pairs ≤ holding.room;
+  lefts : length places ≡ length holding.pairs;
+  rights : length places' ≡ length holding.pairs;
 }
 
 -- it has a walk by either index, of which that by the left ascends
-pub facts_walked : {L R : Type 0} {same_left : L → L → Bool} {same_right : R → R → Bool} → IsEquivalence same_left → IsEquivalence same_right → (order : L → L → Ordering) (slots : List (Option (L × R))) (places : List ℕ) → IsWalk slots places → AllPairs (λ p q. order p.0 q.0 ≡ Less) (pairs_at slots places) → (places' : List ℕ) → IsWalk slots places' → IsApart same_left same_right (pairs_in slots) → AreFacts same_left same_right order slots places places'
+pub facts_walked : {L R : Type 0} {same_left : L → L → Bool} {same_right : R → R → Bool} → IsEquivalence same_left → IsEquivalence same_right → (order : L → L → Ordering) (slots : List (Option (L × R))) (places : List ℕ) → IsWalk slots places → AllPairs (λ p q. order p.0 q.0 ≡ Less) (pairs_at slots places) → (places' : List ℕ) → IsWalk slots places' → IsApart same_left same_right (pairs_in slots) → AreFacts same_left same_right order (walked_by slots places) places places'
 facts_walked lefts rights order slots places walk ascending places' walk' apart = record {
   apart = walk_apart lefts rights slots places walk apart;
   ascending = ascending;
@@ -195,10 +187,12 @@ module _ {L R I J LeftSpot LeftSearch RightSpot RightSearch : Type 0} {left_eq :
     pub left_walk : IsWalk table.pairs (left.places table.left)
     left_walk = the_walk (λ p. p.0) left.is_listing left.places listed distinct settled table.pairs table.left table.left_listing
 
-    pub table_alike : AreAlike (holding_of table.pairs) (walked_by table.pairs (left.places table.left))
+    pub table_alike : AreAlike (holding_of table.pairs) (held table)
+    unfolding held
     table_alike = alike table.pairs (left.places table.left) left_walk
 
-    pub table_facts : ((index : I) (f : ℕ → Option L) → left.is_listing index f → AllPairs (λ a b. (k l : L) → f a ≡ Some k → f b ≡ Some l → left.walk_order index k l ≡ Less) (left.places index)) → IsEquivalence left_eq.eq → IsEquivalence right_eq.eq → (places' : List ℕ) → IsWalk table.pairs places' → AreFacts left_eq.eq right_eq.eq (left.walk_order table.left) table.pairs (left.places table.left) places'
+    pub table_facts : ((index : I) (f : ℕ → Option L) → left.is_listing index f → AllPairs (λ a b. (k l : L) → f a ≡ Some k → f b ≡ Some l → left.walk_order index k l ≡ Less) (left.places index)) → IsEquivalence left_eq.eq → IsEquivalence right_eq.eq → (places' : List ℕ) → IsWalk table.pairs places' → AreFacts left_eq.eq right_eq.eq (left.walk_order table.left) (held table) (left.places table.left) places'
+    unfolding held
     table_facts in_order lefts rights places' walk' =
         facts_walked lefts rights (left.walk_order table.left) table.pairs (left.places table.left) left_walk
         (ordered table.pairs (left.places table.left) left_walk (left.walk_order table.left) (in_order table.left _ (settled table.left _ table.left_listing))) places' walk' table.apart
@@ -207,12 +201,24 @@ module _ {L R I J LeftSpot LeftSearch RightSpot RightSearch : Type 0} {left_eq :
   pub right_walk : ((index : J) (f : ℕ → Option R) → right.is_listing index f → (p : ℕ) → Contains (right.places index) p ↔ IsSome (f p)) → ((index : J) (f : ℕ → Option R) → right.is_listing index f → AllPairs (λ a b. a ≢ b) (right.places index)) → ((index : J) (f : ℕ → Option R) → ∥ right.is_listing index f ∥₁ → right.is_listing index f) → IsWalk table.pairs (right.places table.right)
   right_walk listed distinct settled = the_walk (λ p. p.1) right.is_listing right.places listed distinct settled table.pairs table.right table.right_listing
 
--- the walk by an ordered right
-pub sorted_walk : {L R : Type 0} {order : R → R → Ordering} {same : R → R → Bool} → IsTotalOrder order → ((x y : R) → same x y ≡ eq_by_cmp order x y) → (slots : List (Option (L × R))) (places : List ℕ) → IsWalk slots places → (places' : List ℕ) → ∥ ListsByOrder order places' (right_at slots) ∥₁ → IsByRight order (pairs_at slots places) (pairs_at slots places')
-sorted_walk {L} {R} {order} {same} total agrees slots places walk places' h =
-    let walk' = order_walk (λ p. p.1) total agrees slots places' h in
-    record {
-      same = λ p. let v = walked slots places walk p in let w = walked slots places' walk' p in (λ c. w.0 (v.1 c), λ c. v.0 (w.1 c));
-      ascends = order_ascends (λ p. p.1) total agrees slots places' h;
-      count = long_walked slots places' walk' ∙ sym (long_walked slots places walk);
-    }
+  -- the walk by an ordered right
+  pub sorted_walk : {order : R → R → Ordering} {same : R → R → Bool} → IsTotalOrder order → ((x y : R) → same x y ≡ eq_by_cmp order x y) → IsWalk table.pairs (left.places table.left) → ∥ ListsByOrder order (right.places table.right) (right_at table.pairs) ∥₁ → IsByRight order (held table).pairs (held_by_right table)
+  unfolding held held_by_right
+  sorted_walk {order} {same} total agrees walk h =
+      let slots = table.pairs in
+      let walk' = order_walk (λ p. p.1) total agrees slots (right.places table.right) h in
+      record {
+        same = λ p. let v = walked slots _ walk p in let w = walked slots _ walk' p in (λ c. w.0 (v.1 c), λ c. v.0 (w.1 c));
+        ascends = order_ascends (λ p. p.1) total agrees slots (right.places table.right) h;
+        count = long_walked slots _ walk' ∙ sym (long_walked slots _ walk);
+      }
+
+  -- where the store and the listed places are the same, so is what is held
+  module _ (after : Table L R I J LeftSpot LeftSearch RightSpot RightSearch left_eq right_eq left right) where
+    pub held_same : after.pairs ≡ table.pairs → left.places after.left ≡ left.places table.left → held after ≡ held table
+    unfolding held
+    held_same e f = λ i. record { pairs = pairs_at (e i) (f i); room = length (e i) }
+
+    pub held_unchanged : {T E : Type 0} (r : Result T E) → OnErr r (after.pairs ≡ table.pairs) → OnErr r (left.places after.left ≡ left.places table.left) → OnErr r (held after ≡ held table)
+    held_unchanged (Ok x) e f = tt
+    held_unchanged (Err x) e f = held_same e f

@@ -1,14 +1,14 @@
 -- What a contract sees of a bimap.
-use Rattle.std.specs.Prelude.{List, length}
+use Rattle.std.specs.Prelude.{List}
 use Rattle.bimap_base.specs.Holding.{Holding}
-use Rattle.bimap_base.specs.PairsAt.{pairs_at}
+use Rattle.bimap_kinds.specs.HeldTable.{held, held_by_right}
 use Rattle.bimap_kinds.specs.declared.map.BijectiveMap.{BijectiveMap}
 
 module _ {L R I J LeftSpot LeftSearch RightSpot RightSearch : Type 0} {left_eq : _} {right_eq : _} {left : _} {right : _} where
   -- the pairs held, each once, in the order of a walk by the left, and the number of places
   abbrev pub holding : BijectiveMap L R I J LeftSpot LeftSearch RightSpot RightSearch left_eq right_eq left right → Holding L R
-  holding bimap = record { pairs = pairs_at bimap.table.pairs (left.places bimap.table.left); room = length bimap.table.pairs }
+  holding bimap = held bimap.table
 
   -- the pairs held, in the order of a walk by the right
   abbrev pub by_right : BijectiveMap L R I J LeftSpot LeftSearch RightSpot RightSearch left_eq right_eq left right → List (L × R)
-  by_right bimap = pairs_at bimap.table.pairs (right.places bimap.table.right)
+  by_right bimap = held_by_right bimap.table

@@ -1,2 +1,3 @@
 pub mod Held
+pub mod HeldTable
 pub mod Sorted

@@ -3,8 +3,8 @@ ghost use Rattle.std.specs.Prelude.{◌≡◌, ◌≤◌, length};
 ghost use Rattle.std.specs.List.{AllPairs};
 ghost use Rattle.std.specs.declared.cmp.Ordering.TheVariants.{Less};
 ghost use Rattle.std.proofs.Props.{props};
-ghost use Rattle.bimap_base.specs.PairsAt.{pairs_at};
 ghost use Rattle.bimap_base.specs.Sets.{IsApart};
+ghost use Rattle.bimap_kinds.specs.HeldTable.{held};
 
 use bimap_core::Table;
 use bimap_index::{HashIndex, Index};
@@ -30,14 +30,14 @@ use std::hash::{BuildHasherDefault, FoldHasher};
 pub struct BijectiveMap<L: Eq, R: Eq, I: Index<L>, J: Index<R>> {
     pub(crate) table: Table<L, R, I, J>,
     /// No two of the pairs share a value.
-    pub ghost apart: { IsApart L.eq R.eq (pairs_at table.pairs (I.places table.left)) } by { Prim.hlevel props },
+    pub ghost apart: { IsApart L.eq R.eq (held table).pairs } by { Prim.hlevel props },
     /// The pairs ascend by left, where the left is ordered.
-    pub ghost ascending: { AllPairs (λ p q. I.walk_order table.left p.0 q.0 ≡ Less) (pairs_at table.pairs (I.places table.left)) } by { Prim.hlevel props },
+    pub ghost ascending: { AllPairs (λ p q. I.walk_order table.left p.0 q.0 ≡ Less) (held table).pairs } by { Prim.hlevel props },
     /// There is a place for each pair.
-    pub ghost fits: { length (pairs_at table.pairs (I.places table.left)) ≤ length table.pairs },
+    pub ghost fits: { length (held table).pairs ≤ (held table).room },
     // Each index lists as many places as pairs are held, so what a table says of its indexes is said of the length.
-    ghost lefts: { length (I.places table.left) ≡ length (pairs_at table.pairs (I.places table.left)) },
-    ghost rights: { length (J.places table.right) ≡ length (pairs_at table.pairs (I.places table.left)) },
+    ghost lefts: { length (I.places table.left) ≡ length (held table).pairs },
+    ghost rights: { length (J.places table.right) ≡ length (held table).pairs },
 }
 
 /// A bimap with both sides ordered: iterators and ranges go in order by either.

@@ -1,9 +1,7 @@
 use Rattle.std.proofs.Common.{arith}
-use Rattle.bimap_base.specs.PairsAt.{pairs_at}
 use Rattle.bimap_kinds.proofs.LastTaken.{last_taken}
 use Rattle.bimap_kinds.proofs.ends.BijectiveMap+L+R+I+Ordered.pop_last_by_right_metered.Goals as goal
 
 pub returns-clause-taken : goal.returns-clause-taken
 returns-clause-taken g c =
-    last_taken (pairs_at c.args.self.now.table.pairs c.args.self.now.table.right.places) (pairs_at c.take_at_right_rank.new.self.table.pairs c.take_at_right_rank.new.self.table.right.places)
-    c.take_at_right_rank.result c.saturating_sub-last.result (omega (arith, c.saturating_sub-last.ensures, c.len.ensures, c.take_at_right_rank.ensures.sorted.count)) c.take_at_right_rank.ensures.pair c.take_at_right_rank.ensures.rest
+    last_taken _ _ c.take_at_right_rank.result c.saturating_sub-last.result (omega (arith, c.saturating_sub-last.ensures, c.len.ensures, c.take_at_right_rank.ensures.sorted.count)) c.take_at_right_rank.ensures.pair c.take_at_right_rank.ensures.rest

@@ -1,9 +1,7 @@
 use Rattle.std.proofs.Common.{arith}
-use Rattle.bimap_base.specs.PairsAt.{pairs_at}
 use Rattle.bimap_kinds.proofs.LastTaken.{last_taken}
 use Rattle.bimap_kinds.proofs.ends.BijectiveMap+L+R+Ordered+J.pop_last_by_left_metered.Goals as goal
 
 pub returns-clause-taken : goal.returns-clause-taken
 returns-clause-taken g c =
-    last_taken (pairs_at c.args.self.now.table.pairs c.args.self.now.table.left.places) (pairs_at c.take_at_left_rank.new.self.table.pairs c.take_at_left_rank.new.self.table.left.places)
-    c.take_at_left_rank.result c.saturating_sub-last.result (omega (arith, c.saturating_sub-last.ensures, c.len.ensures)) c.take_at_left_rank.ensures.pair c.take_at_left_rank.ensures.rest
+    last_taken _ _ c.take_at_left_rank.result c.saturating_sub-last.result (omega (arith, c.saturating_sub-last.ensures, c.len.ensures)) c.take_at_left_rank.ensures.pair c.take_at_left_rank.ensures.rest

@@ -1,4 +1,5 @@
 use Rattle.bimap_core.proofs.Ascending.{order_walk}
+use Rattle.bimap_kinds.specs.HeldTable.{held}
 use Rattle.bimap_kinds.proofs.Walk.{all_live}
 use Rattle.bimap_kinds.proofs.loops.BijectiveMapOrderedIntoIterator.into_iter.Goals as goal
 
@@ -10,4 +11,5 @@ into_iter-requires g c = record {
 }
 
 pub returns : goal.returns
+unfolding held
 returns g c = search

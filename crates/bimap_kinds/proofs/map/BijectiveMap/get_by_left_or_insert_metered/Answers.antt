@@ -1,6 +1,6 @@
 use Rattle.std.proofs.Common.{rules}
 use Rattle.bimap_base.proofs.HoldingsAlike.{interning_alike}
-use Rattle.bimap_kinds.proofs.Walk.{table_alike, right_walk, table_facts, unchanged_walked, walked_same}
+use Rattle.bimap_kinds.proofs.Walk.{table_alike, right_walk, table_facts, held_same, held_unchanged}
 use Rattle.bimap_kinds.proofs.map.BijectiveMap.get_by_left_or_insert_metered.Goals as goal
 
 pub invariant_of-self : goal.invariant_of-self
@@ -9,8 +9,8 @@ invariant_of-self g c = table_facts c.get_by_left_or_insert.new.self g.met.I.Ind
 pub returns-clause-answer : goal.returns-clause-answer
 returns-clause-answer g c =
     interning_alike _ _ (table_alike c.args.self.now.table g.met.I.Index.listed g.met.I.Index.distinct g.met.I.Index.settled) _ _ (table_alike c.get_by_left_or_insert.new.self g.met.I.Index.listed g.met.I.Index.distinct g.met.I.Index.settled) g.L.PartialEq.eq g.R.PartialEq.eq (c.args.left, c.args.right) c.get_by_left_or_insert.result
-    (λ has. walked_same _ _ _ _ (c.get_by_left_or_insert.ensures.held_slots has) (c.get_by_left_or_insert.ensures.held_places has))
-    (unchanged_walked c.get_by_left_or_insert.result _ _ _ _ c.get_by_left_or_insert.ensures.slots c.get_by_left_or_insert.ensures.places) c.get_by_left_or_insert.ensures.answer
+    (λ has. held_same c.args.self.now.table c.get_by_left_or_insert.new.self (c.get_by_left_or_insert.ensures.held_slots has) (c.get_by_left_or_insert.ensures.held_places has))
+    (held_unchanged c.args.self.now.table c.get_by_left_or_insert.new.self c.get_by_left_or_insert.result c.get_by_left_or_insert.ensures.slots c.get_by_left_or_insert.ensures.places) c.get_by_left_or_insert.ensures.answer
 
 pub returns-clause-comparisons : goal.returns-clause-comparisons
 returns-clause-comparisons g c = search rules

@@ -13,7 +13,7 @@ walk-requires-clause-listing g c =
 pub returns-clause-sorted : goal.returns-clause-sorted
 returns-clause-sorted g c =
     let table = c.args.self.now.table in
-    sorted_walk g.met.R.Ord.total g.met.R.Ord.matches_eq table.pairs _ (left_walk table g.met.I.Index.listed g.met.I.Index.distinct g.met.I.Index.settled) table.right.places table.right_listing
+    sorted_walk table g.met.R.Ord.total g.met.R.Ord.matches_eq (left_walk table g.met.I.Index.listed g.met.I.Index.distinct g.met.I.Index.settled) table.right_listing
 
 pub returns-clause-runs : goal.returns-clause-runs
 returns-clause-runs g c = shows_in_order deref
