@@ -2,7 +2,6 @@ use Rattle.bimap_base.specs.Slots.{right_at}
 use Rattle.bimap_index.specs.OrderLaws.{order_settled}
 use Rattle.bimap_core.proofs.Ascending.{order_walk}
 use Rattle.bimap_core.proofs.Below.{count_below}
-use Rattle.bimap_kinds.specs.HeldTable.{held_by_right}
 use Rattle.bimap_kinds.proofs.Walk.{left_walk, sorted_walk}
 use Rattle.bimap_kinds.proofs.ends.BijectiveMap+L+R+I+Ordered.right_rank_metered.Goals as goal
 
@@ -17,7 +16,7 @@ rank_from-requires g c =
     rw (c.new-rights.ensures, c.new.ensures) (order_settled g.R.Ord.cmp g.R.PartialEq.eq g.met.R.Ord.total g.met.R.Ord.matches_eq t.right.places (right_at t.pairs) t.right_listing).up
 
 pub returns-clause-rank : goal.returns-clause-rank
-unfolding held_by_right
+unfolding Rattle.bimap_kinds.specs.HeldTable.held_by_right
 returns-clause-rank g c =
     let t = c.args.self.now.table in
     let walk = order_walk (λ p. p.1) g.met.R.Ord.total g.met.R.Ord.matches_eq t.pairs t.right.places t.right_listing in

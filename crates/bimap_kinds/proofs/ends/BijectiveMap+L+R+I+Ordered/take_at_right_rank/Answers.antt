@@ -1,6 +1,5 @@
 use Rattle.std.proofs.lemmas.Option.{IfSome_then}
 use Rattle.bimap_core.proofs.Ascending.{order_walk}
-use Rattle.bimap_kinds.specs.HeldTable.{held}
 use Rattle.bimap_kinds.proofs.Walk.{left_walk, table_facts, sorted_walk, removing_walked}
 use Rattle.bimap_kinds.proofs.ends.BijectiveMap+L+R+I+Ordered.take_at_right_rank.Goals as goal
 
@@ -15,5 +14,5 @@ returns-clause-sorted g c =
     sorted_walk table g.met.R.Ord.total g.met.R.Ord.matches_eq (left_walk table g.met.I.Index.listed g.met.I.Index.distinct g.met.I.Index.settled) table.right_listing
 
 pub returns-clause-removed : goal.returns-clause-removed
-unfolding held
+unfolding Rattle.bimap_kinds.specs.HeldTable.held
 returns-clause-removed g c = IfSome_then c.take_at_right_rank.result c.take_at_right_rank.ensures.taken.removed (removing_walked _ _ (left_walk c.args.self.now.table g.met.I.Index.listed g.met.I.Index.distinct g.met.I.Index.settled) _ _ (left_walk c.take_at_right_rank.new.self g.met.I.Index.listed g.met.I.Index.distinct g.met.I.Index.settled))

@@ -3,7 +3,6 @@ use Rattle.bimap_index.specs.OrderLaws.{order_settled}
 use Rattle.bimap_core.proofs.Ascending.{order_walk}
 use Rattle.bimap_core.proofs.Below.{count_below}
 use Rattle.std.proofs.Common.{rules}
-use Rattle.bimap_kinds.specs.HeldTable.{held}
 use Rattle.bimap_kinds.proofs.ends.BijectiveMap+L+R+Ordered+J.left_rank_metered.Goals as goal
 
 pub returns-clause-comparisons : goal.returns-clause-comparisons
@@ -18,7 +17,7 @@ rank_from-requires g c =
     rw (c.new-lefts.ensures, c.new.ensures) (order_settled g.L.Ord.cmp g.L.PartialEq.eq g.met.L.Ord.total g.met.L.Ord.matches_eq t.left.places (left_at t.pairs) t.left_listing).up
 
 pub returns-clause-rank : goal.returns-clause-rank
-unfolding held
+unfolding Rattle.bimap_kinds.specs.HeldTable.held
 returns-clause-rank g c =
     let t = c.args.self.now.table in
     let walk = order_walk (λ p. p.0) g.met.L.Ord.total g.met.L.Ord.matches_eq t.pairs t.left.places t.left_listing in

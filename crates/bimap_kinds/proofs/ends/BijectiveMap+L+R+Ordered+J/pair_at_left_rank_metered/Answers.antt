@@ -1,10 +1,9 @@
 use Rattle.bimap_core.proofs.Ascending.{order_walk}
-use Rattle.bimap_kinds.specs.HeldTable.{held}
 use Rattle.bimap_kinds.proofs.Walk.{all_live}
 use Rattle.bimap_kinds.proofs.ends.BijectiveMap+L+R+Ordered+J.pair_at_left_rank_metered.Goals as goal
 
 pub returns-clause-pair : goal.returns-clause-pair
-unfolding held
+unfolding Rattle.bimap_kinds.specs.HeldTable.held
 returns-clause-pair g c = search
 
 pub pair_at_rank-requires : goal.pair_at_rank-requires

@@ -1,5 +1,4 @@
 use Rattle.bimap_core.proofs.Ascending.{order_walk}
-use Rattle.bimap_kinds.specs.HeldTable.{held}
 use Rattle.bimap_kinds.proofs.Walk.{all_live}
 use Rattle.bimap_kinds.proofs.loops.BijectiveMapOrderedIntoIterator.into_iter.Goals as goal
 
@@ -11,5 +10,5 @@ into_iter-requires g c = record {
 }
 
 pub returns : goal.returns
-unfolding held
+unfolding Rattle.bimap_kinds.specs.HeldTable.held
 returns g c = search

@@ -1,5 +1,4 @@
 use Rattle.bimap_base.proofs.CopiesAlike.{copy_alike}
-use Rattle.bimap_kinds.specs.HeldTable.{held}
 use Rattle.bimap_kinds.proofs.Walk.{table_alike, right_walk, table_facts}
 use Rattle.bimap_kinds.proofs.map.BijectiveMap.clone.Goals as goal
 
@@ -22,5 +21,5 @@ returns-clause-pairs g c =
     (record { left = λ p there. c.requires.equal.left p ((alike.members p).0 there); right = λ p there. c.requires.equal.right p ((alike.members p).0 there) }) (rw c.in_ok-table.was at c.clone.ensures.pairs)
 
 pub returns-clause-room : goal.returns-clause-room
-unfolding held
+unfolding Rattle.bimap_kinds.specs.HeldTable.held
 returns-clause-room g c = rw c.in_ok-table.was at c.clone.ensures.room

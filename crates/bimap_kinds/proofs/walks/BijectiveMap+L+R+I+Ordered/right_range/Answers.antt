@@ -1,6 +1,5 @@
 use Rattle.bimap_base.specs.Slots.{right_at}
 use Rattle.bimap_index.specs.OrderLaws.{order_settled}
-use Rattle.bimap_kinds.specs.HeldTable.{held_by_right}
 use Rattle.bimap_kinds.proofs.Walk.{left_walk, sorted_walk}
 use Rattle.bimap_kinds.proofs.walks.BijectiveMap+L+R+I+Ordered.right_range.Goals as goal
 
@@ -15,5 +14,5 @@ returns-clause-sorted g c =
     sorted_walk table g.met.R.Ord.total g.met.R.Ord.matches_eq (left_walk table g.met.I.Index.listed g.met.I.Index.distinct g.met.I.Index.settled) table.right_listing
 
 pub returns-clause-rest : goal.returns-clause-rest
-unfolding held_by_right
+unfolding Rattle.bimap_kinds.specs.HeldTable.held_by_right
 returns-clause-rest g c = search
