@@ -32,8 +32,7 @@ impl<L: Ord + Drop, R: Eq + Drop, J: Index<R> + Drop> IntoIterator
     ghost into_iter_gives = { λ m r. (r ≡ (holding m).pairs) × GivesInOrder (L × R) × GivesInReverse (L × R) };
 
     fn into_iter(self) -> by_rank::IntoIter<L, R> {
-        let BijectiveMap { table } = self;
-        let Table { pairs, left, .. } = table;
+        let Table { pairs, left, .. } = self.into_table();
         by_rank::into_iter(pairs, left)
     }
 }
@@ -60,8 +59,7 @@ impl<L: Eq + Hash + Drop, R: Eq + Drop, LS: BuildHasher + Drop, J: Index<R> + Dr
     ghost into_iter_gives = { λ m r. (r ≡ (holding m).pairs) × GivesInOrder (L × R) };
 
     fn into_iter(self) -> by_place::IntoIter<L, R> {
-        let BijectiveMap { table } = self;
-        let Table { pairs, .. } = table;
+        let Table { pairs, .. } = self.into_table();
         by_place::into_iter(pairs)
     }
 }

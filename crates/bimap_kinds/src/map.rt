@@ -26,7 +26,6 @@ use std::hash::{BuildHasherDefault, FoldHasher};
 /// - *Meters.* A call `.._metered` is the one without the ending, and counts its comparisons and touches of nodes.
 ///
 /// Contracts bound these counts. They say nothing of time, nor of how far an insertion grows the capacity.
-#[derive(Drop)]
 pub struct BijectiveMap<L: Eq, R: Eq, I: Index<L>, J: Index<R>> {
     pub(crate) table: Table<L, R, I, J>,
     /// No two of the pairs share a value.
@@ -38,6 +37,24 @@ pub struct BijectiveMap<L: Eq, R: Eq, I: Index<L>, J: Index<R>> {
     // Each index lists as many places as pairs are held, so what a table says of its indexes is said of the length.
     ghost lefts: { length (I.places table.left) ≡ length (held table).pairs },
     ghost rights: { length (J.places table.right) ≡ length (held table).pairs },
+}
+
+// By hand, so that a proof sees one step where a bimap is dropped, and nothing of its inside.
+impl<L: Eq + Drop, R: Eq + Drop, I: Index<L> + Drop, J: Index<R> + Drop> Drop
+    for BijectiveMap<L, R, I, J> {
+    fn drop(self) {
+        let BijectiveMap { table: _table } = self;
+    }
+}
+
+impl<L: Eq, R: Eq, I: Index<L>, J: Index<R>> BijectiveMap<L, R, I, J> {
+    // The table alone.
+    pub(crate) fn into_table(self) -> Table<L, R, I, J>
+        ensures { result ≡ self.table }
+    {
+        let BijectiveMap { table } = self;
+        table
+    }
 }
 
 /// A bimap with both sides ordered: iterators and ranges go in order by either.
