@@ -1,7 +1,7 @@
 -- What a loop down a tree keeps: what it costs, and what it finds from where it has come.
-use Rattle.std.proofs.Common.{◌≡◌, ◌≢◌, ℕ, ◌+◌, ◌-◌, ◌*◌, ◌≤◌, ◌<◌, ◌^◌, Bool, true, false, List, Option, Some, None, length, length-set, refl, sym, ◌∙◌, ap, arith, inl, inr}
+use Rattle.std.proofs.Common.{◌≡◌, ◌≢◌, ℕ, ◌+◌, ◌-◌, ◌*◌, ◌≤◌, ◌<◌, ◌^◌, Bool, true, false, List, Option, Some, None, length, subst, refl, sym, ◌∙◌, ap, arith, inl, inr}
 use Rattle.std.proofs.Math.Nat.{mul-le-mul_left, mul-suc}
-use Rattle.std.specs.Prelude.{slice_get, slice_set}
+use Rattle.std.specs.Prelude.{slice_get}
 use Rattle.std.specs.Ordering.{is_eq, is_lt}
 use Rattle.std.specs.declared.cmp.Ordering.{Ordering}
 use Rattle.std.specs.declared.cmp.Ordering.TheVariants.{Less, Equal, Greater}
@@ -9,7 +9,8 @@ use Rattle.bimap_base.specs.declared.cells.Node.{Node}
 use Rattle.bimap_tree.specs.Tree.{Tree, Stands, reading, height, size, branch, near_of}
 use Rattle.bimap_tree.specs.Index.{height_at}
 use Rattle.bimap_tree.specs.Order.{first_equal, count_below}
-use Rattle.bimap_tree.specs.Path.{Path, below, plug, wanted}
+use Rattle.bimap_tree.specs.Path.{Path, below, plug, wanted, Follows}
+use Rattle.bimap_tree.specs.Steps.{IsNoted, step_at}
 use Rattle.bimap_tree.specs.Remove.{CanDescend, IsFirst}
 use Rattle.bimap_tree.specs.Route.{CanFollow, IsFollowed}
 use Rattle.bimap_tree.specs.declared.route.Route.{Route}
@@ -220,63 +221,61 @@ module _ (ns : List Node) (top : Option ℕ) (first : ℕ) where
         }
 
 -- ---- a way that is noted
-module _ (ns : List Node) (live : ℕ → Type 0) (go : ℕ → Ordering) (top : Option ℕ) (first : List ℕ) (turns : List Bool) (start : ℕ) where
+module _ (ns : List Node) (live : ℕ → Type 0) (go : ℕ → Ordering) (top : Option ℕ) (first : Route) (start : ℕ) where
   -- the way has come on to here, from where it finds what it would find at first
-  pub record Goes (root : Option ℕ) (places : List ℕ) (others : List Bool) (depth : ℕ) : Type 0 where
-    pub alike : (path : Path) (s : Tree) → CanFollow ns top live go first turns start path s → (low : Path) × (e : Tree) × CanFollow ns root live go places others depth low e × (plug low e ≡ plug path s) × (first_equal go (reading s) ≡ first_equal go (reading e))
+  pub record Goes (root : Option ℕ) (now : Route) (depth : ℕ) : Type 0 where
+    pub alike : (path : Path) (s : Tree) → CanFollow ns top live go first start path s → (low : Path) × (e : Tree) × CanFollow ns root live go now depth low e × (plug low e ≡ plug path s) × (first_equal go (reading s) ≡ first_equal go (reading e))
 
-  pub goes_top : Goes top first turns start
+  pub goes_top : Goes top first start
   goes_top = record { alike = λ path s h. (path, s, h, refl, refl) }
 
-  module _ (root : Option ℕ) (places : List ℕ) (others : List Bool) (depth : ℕ) (d : Goes root places others depth) where
-    pub goes_none : root ≡ None → (path : Path) (s : Tree) → CanFollow ns top live go first turns start path s → None ≡ first_equal go (reading s)
+  module _ (root : Option ℕ) (now : Route) (depth : ℕ) (d : Goes root now depth) where
+    pub goes_none : root ≡ None → (path : Path) (s : Tree) → CanFollow ns top live go first start path s → None ≡ first_equal go (reading s)
     goes_none e path s h = let (low, x, k, w, f) = d.alike path s h in sym (f ∙ none_here ns live go root x k.seek e)
 
     -- where it ends, it has come all the way
-    pub goes_end : (found : Option ℕ) → found ≡ root → (path : Path) (s : Tree) → CanFollow ns top live go first turns start path s → (low : Path) × (e : Tree) × IsFollowed go places others depth found (plug path s) low e
-    goes_end found same path s h =
+    pub goes_end : (found : Option ℕ) → found ≡ root → (last : Route) → step_at last ≡ step_at now → (path : Path) (s : Tree) → CanFollow ns top live go first start path s → (low : Path) × (e : Tree) × IsFollowed go last depth found (plug path s) low e
+    goes_end found same last noted path s h =
         let (low, x, k, w, f) = d.alike path s h in
-        (low, x, record { whole = w; follows = k.follows; depth_is = k.depth_is; wants = k.wants; root_is = k.seek.tree.root_is ∙ sym same })
+        (low, x, record { whole = w; follows = subst (λ x. Follows x low) (sym noted) k.follows; depth_is = k.depth_is; wants = k.wants; root_is = k.seek.tree.root_is ∙ sym same })
 
     module _ (at : ℕ) (is : root ≡ Some at) (node : Node) (told : slice_get ns at ≡ Some node) where
-      pub goes_live : (path : Path) (s : Tree) → CanFollow ns top live go first turns start path s → live at
+      pub goes_live : (path : Path) (s : Tree) → CanFollow ns top live go first start path s → live at
       goes_live path s h = let (low, x, k, w, f) = d.alike path s h in live_here ns live go root at node x k.seek is told
 
-      pub goes_deep : (path : Path) (s : Tree) → CanFollow ns top live go first turns start path s → depth < 128
+      pub goes_deep : (path : Path) (s : Tree) → CanFollow ns top live go first start path s → depth < 128
       goes_deep path s h =
           let (low, x, k, w, f) = d.alike path s h in
           let (near, far, o) = step_on ns live go root at node true x k.seek is told in
           omega (arith, k.deep, ap height o.is)
 
-      pub goes_here : go at ≡ Equal → (path : Path) (s : Tree) → CanFollow ns top live go first turns start path s → Some at ≡ first_equal go (reading s)
+      pub goes_here : go at ≡ Equal → (path : Path) (s : Tree) → CanFollow ns top live go first start path s → Some at ≡ first_equal go (reading s)
       goes_here same path s h = let (low, x, k, w, f) = d.alike path s h in sym (f ∙ here ns live go root at node x k.seek is told same)
 
-      pub goes_down : (turn : Bool) → go at ≡ wanted turn → (next : Option ℕ) → next ≡ near_of turn node → (noted : List ℕ) (ways : List Bool) → noted ≡ slice_set places depth at → ways ≡ slice_set others depth turn → Goes next noted ways (depth + 1)
-      goes_down turn w next e noted ways a b = record {
+      pub goes_down : (turn : Bool) → go at ≡ wanted turn → (next : Option ℕ) → next ≡ near_of turn node → (then : Route) → IsNoted (step_at now) depth (at, turn) (step_at then) → Goes next then (depth + 1)
+      goes_down turn w next e then noted = record {
         alike = λ path s h. let (low, x, k, whole, f) = d.alike path s h in
             let (near, far, o) = step_on ns live go root at node turn x k.seek is told in
             let can : CanSeek ns next live go near = rw e o.can in (
               below low turn at far,
               near,
-              goes_on ns root next live go places noted others ways depth low x k turn near far at o.is can w a b,
+              goes_on ns root next live go now then depth low x k turn near far at o.is can w noted,
               ap (λ y. plug low y) (sym o.is) ∙ whole,
               f ∙ o.found w,
             );
       }
 
-      pub goes_right : (turn : Bool) → turn ≡ true → go at ≡ Less → (next : Option ℕ) → next ≡ node.right → (noted : List ℕ) (ways : List Bool) → noted ≡ slice_set places depth at → ways ≡ slice_set others depth turn → Goes next noted ways (depth + 1)
-      goes_right turn right less next e noted ways a b = goes_down true less next e noted ways a (b ∙ ap (λ x. slice_set others depth x) right)
+      pub goes_right : (turn : Bool) → turn ≡ true → go at ≡ Less → (next : Option ℕ) → next ≡ node.right → (then : Route) → IsNoted (step_at now) depth (at, turn) (step_at then) → Goes next then (depth + 1)
+      goes_right turn right less next e then noted = goes_down turn (less ∙ ap wanted (sym right)) next (e ∙ ap (λ x. near_of x node) (sym right)) then noted
 
 -- ---- the way to a tree's first place
 module _ (ns : List Node) (top start : ℕ) (old : Route) where
   -- what the way from here on notes is noted of the way from the top
   pub record Descends (at depth : ℕ) (now : Route) : Type 0 where
-    pub rooms : length now.places ≡ 128
-    pub more : length now.turns ≡ 128
     pub alike : (s : Tree) → CanDescend ns top start s → (e : Tree) × CanDescend ns at depth e × ((last : Route) (first low : ℕ) → (lefts : List (ℕ × Tree)) × (rest : Tree) × IsFirst now last depth e first low lefts rest → (lefts : List (ℕ × Tree)) × (rest : Tree) × IsFirst old last start s first low lefts rest)
 
-  pub descends_top : length old.places ≡ 128 → length old.turns ≡ 128 → Descends top start old
-  descends_top a b = record { rooms = a; more = b; alike = λ s h. (s, h, λ last first low i. i) }
+  pub descends_top : Descends top start old
+  descends_top = record { alike = λ s h. (s, h, λ last first low i. i) }
 
   module _ (at depth : ℕ) (now : Route) (d : Descends at depth now) (node : Node) (told : slice_get ns at ≡ Some node) where
     pub descends_deep : (s : Tree) → CanDescend ns top start s → depth < 128
@@ -285,16 +284,12 @@ module _ (ns : List Node) (top start : ℕ) (old : Route) where
     pub descends_end : node.left ≡ None → (s : Tree) → CanDescend ns top start s → (lefts : List (ℕ × Tree)) × (rest : Tree) × IsFirst old now start s at depth lefts rest
     descends_end none s h = let (e, k, f) = d.alike s h in f now at depth (first_here ns at depth node e k told none now)
 
-    pub descends_on : (left : ℕ) → node.left ≡ Some left → (s : Tree) → CanDescend ns top start s → (next : Route) → next.places ≡ slice_set now.places depth at → next.turns ≡ slice_set now.turns depth false → Descends left (depth + 1) next
-    descends_on left is s0 h0 next a b =
-        let deep = descends_deep s0 h0 in
-        record {
-          rooms = ap length a ∙ length-set now.places depth at ∙ d.rooms;
-          more = ap length b ∙ length-set now.turns depth false ∙ d.more;
-          alike = λ s h. let (e, k, f) = d.alike s h in
-              let (l, r, i) = descent ns at depth node e k told in (
-                l,
-                record { tree = Stands-at ns node.left (Some left) l is i.left_stands; deep = i.deeper },
-                λ last first low w. f last first low (first_left ns at depth node e k told now next last l r i a b (omega (arith, deep, d.rooms)) (omega (arith, deep, d.more)) first low w),
-              );
-        }
+    pub descends_on : (left : ℕ) → node.left ≡ Some left → (next : Route) → IsNoted (step_at now) depth (at, false) (step_at next) → Descends left (depth + 1) next
+    descends_on left is next noted = record {
+      alike = λ s h. let (e, k, f) = d.alike s h in
+          let (l, r, i) = descent ns at depth node e k told in (
+            l,
+            record { tree = Stands-at ns node.left (Some left) l is i.left_stands; deep = i.deeper },
+            λ last first low w. f last first low (first_left ns at depth node e k told now next last l r i noted first low w),
+          );
+    }

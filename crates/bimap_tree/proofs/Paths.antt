@@ -1,15 +1,16 @@
 -- Ways down a tree.
-use Rattle.std.proofs.Common.{◌≡◌, ℕ, ◌+◌, ◌≤◌, ◌<◌, Bool, true, false, List, [], ◌∷◌, ◌++◌, length, sym, subst, ◌∙◌, arith, append_assoc, append-nil}
-use Rattle.std.specs.Prelude.{slice_get, slice_set}
+use Rattle.std.proofs.Common.{◌≡◌, ℕ, ◌+◌, ◌≤◌, ◌<◌, Bool, true, false, List, [], ◌∷◌, ◌++◌, sym, subst, ◌∙◌, ap, arith, append_assoc, append-nil}
+use Rattle.std.specs.Prelude.{slice_get}
 use Rattle.std.specs.declared.cmp.Ordering.{Ordering}
 use Rattle.std.specs.declared.cmp.Ordering.TheVariants.{Less, Greater}
 use Rattle.bimap_base.specs.declared.cells.Node.{Node}
 use Rattle.bimap_tree.specs.Tree.{Tree, fork, reading, height, size, occurs, IsBalanced, Shows, branch, node_on}
 use Rattle.bimap_tree.specs.Order.{AllStand, IsSplit}
+use Rattle.bimap_tree.specs.Steps.{IsNoted}
 use Rattle.bimap_tree.specs.Path.{Path, top, below, plug, steps, front, back, occurs_on, size_on, Follows, Wants, Tells, Holds}
 use Rattle.bimap_tree.proofs.Branch.{height-branch, size-branch, occurs-branch, far-node_on, height-node_on, size-node_on, parts, level, IsBalanced-branch}
 use Rattle.bimap_tree.proofs.Distinct.{all_append}
-use Rattle.bimap_tree.proofs.Shown.{is_at-same, Shows-frame, get-written, get-elsewhere}
+use Rattle.bimap_tree.proofs.Shown.{is_at-same, Shows-frame}
 use Rattle.bimap_tree.proofs.Split.{split_below, split_above}
 
 -- what a whole tree has, it has beside the subtree or in it
@@ -54,24 +55,14 @@ Holds-frame ns ms (below up turn p sister) s same h = (
   Holds-frame ns ms up (branch turn s p sister) (λ q o. same q (omega arith)) h.2,
 )
 
--- lists that agree as far as the path goes follow it too
-pub Follows-frame : (places other : List ℕ) (turns others : List Bool) (path : Path) → ((i : ℕ) → i < steps path → slice_get other i ≡ slice_get places i) → ((i : ℕ) → i < steps path → slice_get others i ≡ slice_get turns i) → Follows places turns path → Follows other others path
-Follows-frame places other turns others top a b h = tt
-Follows-frame places other turns others (below up turn p sister) a b h = (
-  a (steps up) (omega arith) ∙ h.0,
-  b (steps up) (omega arith) ∙ h.1,
-  Follows-frame places other turns others up (λ i l. a i (omega arith)) (λ i l. b i (omega arith)) h.2,
-)
+-- steps that agree as far as the path goes follow it too
+pub Follows-frame : (noted other : ℕ → ℕ × Bool) (path : Path) → ((i : ℕ) → i < steps path → other i ≡ noted i) → Follows noted path → Follows other path
+Follows-frame noted other top same h = tt
+Follows-frame noted other (below up turn p sister) same h = (same (steps up) (omega arith) ∙ h.0, Follows-frame noted other up (λ i l. same i (omega arith)) h.1)
 
 -- a step noted at the path's end
-pub Follows-noted : (places : List ℕ) (turns : List Bool) (path : Path) (turn : Bool) (p : ℕ) (sister : Tree) → steps path < length places → steps path < length turns → Follows places turns path → Follows (slice_set places (steps path) p) (slice_set turns (steps path) turn) (below path turn p sister)
-Follows-noted places turns path turn p sister a b h = (
-  get-written places (steps path) p a,
-  get-written turns (steps path) turn b,
-  Follows-frame places (slice_set places (steps path) p) turns (slice_set turns (steps path) turn) path
-      (λ i l. get-elsewhere places (steps path) i p (λ e. absurd (omega arith)))
-      (λ i l. get-elsewhere turns (steps path) i turn (λ e. absurd (omega arith))) h,
-)
+pub Follows-noted : (old new : ℕ → ℕ × Bool) (path : Path) (turn : Bool) (p : ℕ) (sister : Tree) (depth : ℕ) → depth ≡ steps path → IsNoted old depth (p, turn) new → Follows old path → Follows new (below path turn p sister)
+Follows-noted old new path turn p sister depth is n h = (ap new (sym is) ∙ n.here, Follows-frame old new path (λ i l. n.elsewhere i (λ e. absurd (omega arith))) h)
 
 -- ---- what stands before the path's end is below the key, and what stands behind it is above
 pub beside : (go : ℕ → Ordering) (path : Path) (t : Tree) → IsSplit go (reading (plug path t)) → Wants go path → AllStand go Less (front path) × AllStand go Greater (back path)

@@ -7,6 +7,7 @@ use Rattle.bimap_base.specs.Digits.{most_height}
 use Rattle.bimap_tree.specs.Tree.{Tree, leaf, fork, reading, height, size, occurs, is_at, node_of, IsBalanced, Shows, Stands}
 use Rattle.bimap_tree.specs.Path.{Path, top, below, plug, steps, front, back, occurs_on, size_on, Follows, Tells, Holds, Moves, CanRise, IsRisen}
 use Rattle.bimap_tree.specs.Remove.{hang, onward, FollowsOn, CanDescend, IsFirst, CanTake, IsTaken}
+use Rattle.bimap_tree.specs.Steps.{IsNoted, step_at}
 use Rattle.bimap_tree.specs.declared.route.Route.{Route}
 use Rattle.bimap_tree.proofs.Paths.{occurs-plug, size-plug, reading-plug, steps_within, balanced_inside, tells, holds_of, Holds-frame, Holds-alike, IsBalanced-alike, Follows-frame, Follows-noted}
 use Rattle.bimap_tree.proofs.Heights.{low}
@@ -42,29 +43,21 @@ module _ (nodes : List Node) (at depth : ℕ) (node : Node) (s : Tree) (h : CanD
           whole = d.is ∙ ap (λ x. fork x at r) no;
           low_is = omega arith;
           follows = tt;
-          same_places = λ i few. refl;
-          same_turns = λ i few. refl;
-          as_long = (refl, refl);
+          same_above = λ i few. refl;
         },
       )
 
   -- it is the first place of the left tree
-  pub first_left : (old mid new : Route) (l r : Tree) → Descent l r → mid.places ≡ slice_set old.places depth at → mid.turns ≡ slice_set old.turns depth false → depth < length old.places → depth < length old.turns → (first low : ℕ) → (lefts : List (ℕ × Tree)) × (rest : Tree) × IsFirst mid new (depth + 1) l first low lefts rest → (lefts : List (ℕ × Tree)) × (rest : Tree) × IsFirst old new depth s first low lefts rest
-  first_left old mid new l r d e f a b first low (lefts, rest, i) =
+  pub first_left : (old mid new : Route) (l r : Tree) → Descent l r → IsNoted (step_at old) depth (at, false) (step_at mid) → (first low : ℕ) → (lefts : List (ℕ × Tree)) × (rest : Tree) × IsFirst mid new (depth + 1) l first low lefts rest → (lefts : List (ℕ × Tree)) × (rest : Tree) × IsFirst old new depth s first low lefts rest
+  first_left old mid new l r d noted first low (lefts, rest, i) =
       let next : depth + 1 ≡ suc depth = omega arith in (
         (at, r) ∷ lefts,
         rest,
         record {
           whole = d.is ∙ ap (λ x. fork x at r) i.whole;
           low_is = omega (arith, i.low_is);
-          follows = (
-            i.same_places depth (omega arith) ∙ ap (λ x. slice_get x depth) e ∙ get-written old.places depth at a,
-            i.same_turns depth (omega arith) ∙ ap (λ x. slice_get x depth) f ∙ get-written old.turns depth false b,
-            subst (λ x. FollowsOn new.places new.turns x lefts) next i.follows,
-          );
-          same_places = λ j few. i.same_places j (omega arith) ∙ ap (λ x. slice_get x j) e ∙ get-elsewhere old.places depth j at (λ w. absurd (omega arith));
-          same_turns = λ j few. i.same_turns j (omega arith) ∙ ap (λ x. slice_get x j) f ∙ get-elsewhere old.turns depth j false (λ w. absurd (omega arith));
-          as_long = (i.as_long.0 ∙ ap length e ∙ length-set old.places depth at, i.as_long.1 ∙ ap length f ∙ length-set old.turns depth false);
+          follows = (i.same_above depth (omega arith) ∙ noted.here, subst (λ x. FollowsOn (step_at new) x lefts) next i.follows);
+          same_above = λ j few. i.same_above j (omega arith) ∙ noted.elsewhere j (λ w. absurd (omega arith));
         },
       )
 
@@ -90,17 +83,16 @@ reading-hang : (lefts : List (ℕ × Tree)) (first : ℕ) (rest : Tree) → read
 reading-hang [] first rest = refl
 reading-hang (x ∷ xs) first rest = ap (λ z. z ++ x.0 ∷ reading x.1) (reading-hang xs first rest)
 
-Follows-onward : (places : List ℕ) (turns : List Bool) (path : Path) (lefts : List (ℕ × Tree)) → Follows places turns path → FollowsOn places turns (steps path) lefts → Follows places turns (onward path lefts)
-Follows-onward places turns path [] h on = h
-Follows-onward places turns path (x ∷ xs) h on = Follows-onward places turns (below path false x.0 x.1) xs (on.0, on.1, h) on.2
+Follows-onward : (noted : ℕ → ℕ × Bool) (path : Path) (lefts : List (ℕ × Tree)) → Follows noted path → FollowsOn noted (steps path) lefts → Follows noted (onward path lefts)
+Follows-onward noted path [] h on = h
+Follows-onward noted path (x ∷ xs) h on = Follows-onward noted (below path false x.0 x.1) xs (on.0, h) on.1
 
 -- a step noted above them leaves them as they are
-FollowsOn-keeps : (places : List ℕ) (turns : List Bool) (n p : ℕ) (turn : Bool) (depth : ℕ) (lefts : List (ℕ × Tree)) → n < depth → FollowsOn places turns depth lefts → FollowsOn (slice_set places n p) (slice_set turns n turn) depth lefts
-FollowsOn-keeps places turns n p turn depth [] few on = tt
-FollowsOn-keeps places turns n p turn depth (x ∷ xs) few on = (
-  get-elsewhere places n depth p (λ e. absurd (omega arith)) ∙ on.0,
-  get-elsewhere turns n depth turn (λ e. absurd (omega arith)) ∙ on.1,
-  FollowsOn-keeps places turns n p turn (suc depth) xs (omega arith) on.2,
+FollowsOn-keeps : (old new : ℕ → ℕ × Bool) (n : ℕ) (step : ℕ × Bool) (depth : ℕ) (lefts : List (ℕ × Tree)) → IsNoted old n step new → n < depth → FollowsOn old depth lefts → FollowsOn new depth lefts
+FollowsOn-keeps old new n step depth [] noted few on = tt
+FollowsOn-keeps old new n step depth (x ∷ xs) noted few on = (
+  noted.elsewhere depth (λ e. absurd (omega arith)) ∙ on.0,
+  FollowsOn-keeps old new n step (suc depth) xs noted (omega arith) on.1,
 )
 
 -- the nodes of a tree hold the turns to its first place, above a subtree that they show
@@ -156,7 +148,7 @@ module _ (nodes : List Node) (route : Route) (path : Path) (l : Tree) (at : ℕ)
   balanced_here = balanced_inside path (fork l at r) h.balanced
 
   -- a tree that is all there is below the place rises in its position
-  rises : (t : Tree) → Shows nodes t → IsBalanced t → ((q : ℕ) → occurs q t ≤ occurs q (fork l at r)) → Moves false (fork l at r) t → CanRise nodes route.places route.turns path false (fork l at r) t
+  rises : (t : Tree) → Shows nodes t → IsBalanced t → ((q : ℕ) → occurs q t ≤ occurs q (fork l at r)) → Moves false (fork l at r) t → CanRise nodes route path false (fork l at r) t
   rises t shown balanced few moves = record {
     follows = h.follows;
     holds = (holds_of nodes path (fork l at r) h.shown).0;
@@ -182,12 +174,12 @@ module _ (nodes : List Node) (route : Route) (path : Path) (l : Tree) (at : ℕ)
 
   -- there is no left tree, and it is the right one, or the other way round
   module _ (node : Node) (e : slice_get nodes at ≡ Some node) where
-    pub rises_right : node.left ≡ None → CanRise nodes route.places route.turns path false (fork l at r) r
+    pub rises_right : node.left ≡ None → CanRise nodes route path false (fork l at r) r
     rises_right none =
         let no = no_root l ((left_tree node e).root_is ∙ none) in
         rises r shown_here.2 balanced_here.3 (λ q. omega arith) (one_less (fork l at r) r (omega (arith, ap size no)) (omega (arith, ap height no)))
 
-    pub rises_left : node.right ≡ None → CanRise nodes route.places route.turns path false (fork l at r) l
+    pub rises_left : node.right ≡ None → CanRise nodes route path false (fork l at r) l
     rises_left none =
         let no = no_root r ((right_tree node e).root_is ∙ none) in
         rises l shown_here.1 balanced_here.2 (λ q. omega arith) (one_less (fork l at r) l (omega (arith, ap size no)) (omega (arith, ap height no)))
@@ -273,8 +265,8 @@ module _ (nodes : List Node) (route : Route) (path : Path) (l : Tree) (at first 
         Holds-onward nodes new (below path true first l) lefts (fork leaf first rest) (λ q o. same_but_first q (let d = each_once q in omega arith)) step whole_shown.2
 
     -- the first place is taken out of its tree
-    pub rises_first : (places : List ℕ) (turns : List Bool) → Follows places turns (onward (below path true first l) lefts) → CanRise new places turns (onward (below path true first l) lefts) false (fork leaf first rest) rest
-    rises_first places turns follows =
+    pub rises_first : (last : Route) → Follows (step_at last) (onward (below path true first l) lefts) → CanRise new last (onward (below path true first l) lefts) false (fork leaf first rest) rest
+    rises_first last follows =
         let bal = balanced_here nodes route path l at (hang lefts (fork leaf first rest)) h in
         record {
           follows = follows;
@@ -305,11 +297,11 @@ module _ (nodes : List Node) (route : Route) (path : Path) (l : Tree) (at first 
     )
 
 -- the route that was noted to the first place
-pub first_followed : (path : Path) (l : Tree) (old mid : Route) (places : List ℕ) (turns : List Bool) (depth first low : ℕ) (s : Tree) (lefts : List (ℕ × Tree)) (rest : Tree) → Follows old.places old.turns path → depth ≡ steps path → IsFirst old mid (depth + 1) s first low lefts rest → depth < length old.places → depth < length old.turns → places ≡ slice_set mid.places depth first → turns ≡ slice_set mid.turns depth true → Follows places turns (onward (below path true first l) lefts) × (low ≡ steps (onward (below path true first l) lefts))
-first_followed path l old mid places turns depth first low s lefts rest follows is i a b e f =
-    let kept = Follows-frame old.places mid.places old.turns mid.turns path (λ j few. i.same_places j (omega (arith, is, few))) (λ j few. i.same_turns j (omega (arith, is, few))) follows in
-    let noted = Follows-noted mid.places mid.turns path true first l (omega (arith, is, a, i.as_long.0)) (omega (arith, is, b, i.as_long.1)) kept in
-    let on : FollowsOn mid.places mid.turns (suc (steps path)) lefts = subst (λ d. FollowsOn mid.places mid.turns d lefts) (omega (arith, is)) i.follows in (
-      rw (e, f, is) (Follows-onward _ _ (below path true first l) lefts noted (FollowsOn-keeps mid.places mid.turns (steps path) first true (suc (steps path)) lefts (omega arith) on)),
+pub first_followed : (path : Path) (l : Tree) (old mid last : Route) (depth first low : ℕ) (s : Tree) (lefts : List (ℕ × Tree)) (rest : Tree) → Follows (step_at old) path → depth ≡ steps path → IsFirst old mid (depth + 1) s first low lefts rest → IsNoted (step_at mid) depth (first, true) (step_at last) → Follows (step_at last) (onward (below path true first l) lefts) × (low ≡ steps (onward (below path true first l) lefts))
+first_followed path l old mid last depth first low s lefts rest follows is i noted =
+    let kept = Follows-frame (step_at old) (step_at mid) path (λ j few. i.same_above j (omega (arith, is, few))) follows in
+    let here = Follows-noted (step_at mid) (step_at last) path true first l depth is noted kept in
+    let on : FollowsOn (step_at mid) (suc (steps path)) lefts = subst (λ d. FollowsOn (step_at mid) d lefts) (omega (arith, is)) i.follows in (
+      Follows-onward (step_at last) (below path true first l) lefts here (FollowsOn-keeps (step_at mid) (step_at last) depth (first, true) (suc (steps path)) lefts noted (omega (arith, is)) on),
       omega (arith, i.low_is, is, steps-onward (below path true first l) lefts),
     )

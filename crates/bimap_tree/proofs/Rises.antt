@@ -8,6 +8,8 @@ use Rattle.bimap_base.specs.NodesInCells.{IsThere, CanCount, recounted}
 use Rattle.bimap_tree.specs.Tree.{Tree, leaf, fork, reading, height, size, root_of, Stands, branch, node_on, near_of, far_of}
 use Rattle.bimap_tree.specs.Link.{CanRebalance, IsRebalanced}
 use Rattle.bimap_tree.specs.Path.{Path, top, below, steps, front, back, Tells, one_if, Moves, CanRise, CanRelink, CanPut, IsRisen}
+use Rattle.bimap_tree.specs.Steps.{step_at}
+use Rattle.bimap_tree.specs.declared.route.Route.{Route}
 use Rattle.bimap_tree.proofs.Branch.{height-branch, size-branch, height-node_on, size-node_on, near-node_on, far-node_on, node_is, level, Shows-linked}
 use Rattle.bimap_tree.proofs.Paths.{balanced_inside, Holds-frame, holds_of}
 use Rattle.bimap_tree.proofs.Rotate.{can_link, no_rotation}
@@ -108,25 +110,22 @@ module _ (nodes : List Node) (at : ℕ) (turn grew : Bool) (node : Node) (sister
       (omega arith, omega arith)
 
 -- ---- a step of the path
-module _ (nodes : List Node) (places : List ℕ) (turns : List Bool) (grew : Bool) (s u : Tree) where
+module _ (nodes : List Node) (route : Route) (grew : Bool) (s u : Tree) where
   -- the path's last step
   pub record LastStep (depth at : ℕ) (turn : Bool) (path up : Path) (sister : Tree) : Type 0 where
     pub is : path ≡ below up turn at sister
     pub above : depth - 1 ≡ steps up
-    pub here : CanRise nodes places turns (below up turn at sister) grew s u
+    pub here : CanRise nodes route (below up turn at sister) grew s u
 
-  pub last_step : (depth : ℕ) (path : Path) → CanRise nodes places turns path grew s u → depth ≡ steps path → depth ≢ 0 → (at : ℕ) (turn : Bool) → slice_get places (depth - 1) ≡ Some at → slice_get turns (depth - 1) ≡ Some turn → (up : Path) × (sister : Tree) × LastStep depth at turn path up sister
-  last_step depth top c e n at turn p t = absurd (n e)
-  last_step depth (below up way place sister) c e n at turn p t =
+  pub last_step : (depth : ℕ) (path : Path) → CanRise nodes route path grew s u → depth ≡ steps path → depth ≢ 0 → (at : ℕ) (turn : Bool) → (at, turn) ≡ step_at route (depth - 1) → (up : Path) × (sister : Tree) × LastStep depth at turn path up sister
+  last_step depth top c e n at turn step = absurd (n e)
+  last_step depth (below up way place sister) c e n at turn step =
       let above : depth - 1 ≡ steps up = omega (arith, e) in
-      let p2 : Some place ≡ Some at = sym c.follows.0 ∙ ap (λ i. slice_get places i) (sym above) ∙ p in
-      let t2 : Some way ≡ Some turn = sym c.follows.1 ∙ ap (λ i. slice_get turns i) (sym above) ∙ t in
-      let place_is : place ≡ at = cc in
-      let way_is : way ≡ turn = cc in
-      let is : below up way place sister ≡ below up turn at sister = ap (λ x. below up x place sister) way_is ∙ ap (λ x. below up turn x sister) place_is in
-      (up, sister, record { is = is; above = above; here = subst (λ x. CanRise nodes places turns x grew s u) is c })
+      let same : (place, way) ≡ (at, turn) = sym c.follows.0 ∙ ap (step_at route) (sym above) ∙ sym step in
+      let is : below up way place sister ≡ below up turn at sister = ap (λ x. below up x.1 x.0 sister) same in
+      (up, sister, record { is = is; above = above; here = subst (λ x. CanRise nodes route x grew s u) is c })
 
-  module _ (up : Path) (turn : Bool) (at : ℕ) (sister : Tree) (c : CanRise nodes places turns (below up turn at sister) grew s u) where
+  module _ (up : Path) (turn : Bool) (at : ℕ) (sister : Tree) (c : CanRise nodes route (below up turn at sister) grew s u) where
     pub within : at < length nodes
     within = slice_get_within nodes at c.holds.0.0 c.holds.0.1
 
@@ -147,9 +146,9 @@ module _ (nodes : List Node) (places : List ℕ) (turns : List Bool) (grew : Boo
           moves = c.moves;
         }
 
-    pub can_rise : (new : List Node) (t : Tree) → IsRebalanced nodes new turn at u sister t → Moves grew (branch turn s at sister) t → CanRise new places turns up grew (branch turn s at sister) t
+    pub can_rise : (new : List Node) (t : Tree) → IsRebalanced nodes new turn at u sister t → Moves grew (branch turn s at sister) t → CanRise new route up grew (branch turn s at sister) t
     can_rise new t b m = record {
-      follows = c.follows.2;
+      follows = c.follows.1;
       holds = Holds-frame nodes new up (branch turn s at sister) (λ q o. b.same_elsewhere q (let d = c.distinct q in omega arith)) c.holds.2;
       shown = b.shown;
       distinct = λ q. let d = c.distinct q in omega (arith, b.same_places q);
@@ -176,8 +175,8 @@ risen_on nodes new last path up turn at sister u t root v is b r =
     subst (λ x. IsRisen nodes last x u root v) (sym is) done
 
 -- the way up is at its end
-pub at_top : (nodes : List Node) (places : List ℕ) (turns : List Bool) (path : Path) (grew : Bool) (s u : Tree) (depth : ℕ) (root : Option ℕ) → CanRise nodes places turns path grew s u → depth ≡ steps path → depth ≡ 0 → root_of u ≡ root → (v : Tree) × IsRisen nodes nodes path u root v
-at_top nodes places turns top grew s u depth root c e n r = (
+pub at_top : (nodes : List Node) (route : Route) (path : Path) (grew : Bool) (s u : Tree) (depth : ℕ) (root : Option ℕ) → CanRise nodes route path grew s u → depth ≡ steps path → depth ≡ 0 → root_of u ≡ root → (v : Tree) × IsRisen nodes nodes path u root v
+at_top nodes route top grew s u depth root c e n r = (
   u,
   record {
     tree = record { root_is = r; shown = c.shown };
@@ -187,11 +186,11 @@ at_top nodes places turns top grew s u depth root c e n r = (
     same_length = refl;
   },
 )
-at_top nodes places turns (below up turn p sister) grew s u depth root c e n r = absurd (omega (arith, e, n))
+at_top nodes route (below up turn p sister) grew s u depth root c e n r = absurd (omega (arith, e, n))
 
 -- ---- a place alone at a path's end
-module _ (nodes : List Node) (places : List ℕ) (turns : List Bool) (depth : ℕ) (path : Path) (place : ℕ) (h : CanPut nodes places turns depth path place) (new : List Node) (e : new ≡ slice_set nodes place (node_on false leaf leaf)) where
-  pub can_put : CanRise new places turns path true leaf (fork leaf place leaf)
+module _ (nodes : List Node) (route : Route) (path : Path) (place : ℕ) (h : CanPut nodes route path place) (new : List Node) (e : new ≡ slice_set nodes place (node_on false leaf leaf)) where
+  pub can_put : CanRise new route path true leaf (fork leaf place leaf)
   can_put =
       let (holds, none) = holds_of nodes path leaf h.shown in
       let z = is_at-same place in

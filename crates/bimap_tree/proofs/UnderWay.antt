@@ -74,8 +74,8 @@ module _ (ns : List Node) (root : Option ℕ) (len : ℕ) (v : Index) (w : IsWho
 
 module _ (ns : List Node) (root : Option ℕ) (len : ℕ) (v : Index) (w : IsWhole ns root len) (e : index_of ns root ≡ v) {K : Type 0} (key : ℕ → Option K) (order : K → K → Ordering) (total : IsTotalOrder order) (up : Ascends key order v.places) (k : K) (descent : Descent) where
   -- a search that is under way may go on, and finds what it would have found from the top
-  pub goes_on_down : (route : Route) → length route.places ≡ 128 → length route.turns ≡ 128 → (u : IsUnderWay v (λ q. standing order (key q) (Some k)) descent route) → CanFollow ns descent.root (λ q. IsSome (key q)) (λ q. standing order (key q) (Some k)) route.places route.turns descent.depth u.path u.rest × (first_equal (λ q. standing order (key q) (Some k)) v.places ≡ first_equal (λ q. standing order (key q) (Some k)) (reading u.rest))
-  goes_on_down route a b u =
+  pub goes_on_down : (route : Route) (u : IsUnderWay v (λ q. standing order (key q) (Some k)) descent route) → CanFollow ns descent.root (λ q. IsSome (key q)) (λ q. standing order (key q) (Some k)) route descent.depth u.path u.rest × (first_equal (λ q. standing order (key q) (Some k)) v.places ≡ first_equal (λ q. standing order (key q) (Some k)) (reading u.rest))
+  goes_on_down route u =
       let go : ℕ → Ordering = λ q. standing order (key q) (Some k) in
       let whole = can_seek_of ns root len v w e key order total up (plug u.path u.rest) u.of_index k in
       let (can, found) = seek_along ns (λ q. IsSome (key q)) go root u.path u.rest whole u.wants in (
@@ -85,14 +85,12 @@ module _ (ns : List Node) (root : Option ℕ) (len : ℕ) (v : Index) (w : IsWho
           depth_is = u.depth_is;
           wants = u.wants;
           deep = omega (arith, u.depth_is, steps_within u.path u.rest, few_levels (plug u.path u.rest) u.of_index.tree.balanced whole.fits);
-          rooms = a;
-          more = b;
         },
         ap (λ x. first_equal go x) (sym u.of_index.in_order) ∙ found,
       )
 
   -- where it has come after a step
-  pub goes_further : (old next : Route) (u : IsUnderWay v (λ q. standing order (key q) (Some k)) descent old) (later : Descent) → (low : Path) × (rest : Tree) × IsFollowed (λ q. standing order (key q) (Some k)) next.places next.turns later.depth later.root (plug u.path u.rest) low rest → (later.is_found ≡ true → (later ≡ descent) ⊎ ((place : ℕ) × (later.root ≡ Some place) × (standing order (key place) (Some k) ≡ Equal))) → IsUnderWay v (λ q. standing order (key q) (Some k)) later next
+  pub goes_further : (old next : Route) (u : IsUnderWay v (λ q. standing order (key q) (Some k)) descent old) (later : Descent) → (low : Path) × (rest : Tree) × IsFollowed (λ q. standing order (key q) (Some k)) next later.depth later.root (plug u.path u.rest) low rest → (later.is_found ≡ true → (later ≡ descent) ⊎ ((place : ℕ) × (later.root ≡ Some place) × (standing order (key place) (Some k) ≡ Equal))) → IsUnderWay v (λ q. standing order (key q) (Some k)) later next
   goes_further old next u later (low, rest, f) found = record {
     path = low;
     rest = rest;

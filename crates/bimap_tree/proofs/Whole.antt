@@ -1,5 +1,5 @@
 -- The fields of an index, and what it shows.
-use Rattle.std.proofs.Common.{◌≡◌, ℕ, ◌+◌, ◌-◌, ◌*◌, ◌^◌, ◌≤◌, ◌<◌, Bool, List, [], ◌∷◌, ◌++◌, Option, Some, None, length, refl, sym, subst, ◌∙◌, ap, arith, append_assoc, append-nil, length-append}
+use Rattle.std.proofs.Common.{◌≡◌, ℕ, ◌+◌, ◌-◌, ◌*◌, ◌^◌, ◌≤◌, ◌<◌, List, [], ◌∷◌, ◌++◌, Option, Some, None, length, refl, sym, subst, ◌∙◌, ap, arith, append_assoc, append-nil, length-append}
 use Rattle.std.specs.Prelude.{IsSome, IfNone, slice_get}
 use Rattle.std.specs.Cmp.{IsTotalOrder}
 use Rattle.std.specs.List.{Contains}
@@ -97,19 +97,17 @@ module _ (ns : List Node) (root : Option ℕ) (len : ℕ) (v : Index) (w : IsWho
         subst (λ o. CanSeek ns root (λ q. IsSome (key q) × IsSome o) (λ q. standing order (key q) o) (tree_in ns root)) (sym is)
         (record { tree = (can_seek k).tree; all_live = λ q n. ((can_seek k).all_live q n, refl); in_order = (can_seek k).in_order; fits = few })
 
-  pub can_follow : (live : ℕ → Type 0) (go : ℕ → Ordering) (places : List ℕ) (turns : List Bool) → length places ≡ 128 → length turns ≡ 128 → CanSeek ns root live go (tree_in ns root) → CanFollow ns root live go places turns 0 top (tree_in ns root)
-  can_follow live go places turns a b h = record {
+  pub can_follow : (live : ℕ → Type 0) (go : ℕ → Ordering) (route : Route) → CanSeek ns root live go (tree_in ns root) → CanFollow ns root live go route 0 top (tree_in ns root)
+  can_follow live go route h = record {
     seek = h;
     follows = tt;
     depth_is = refl;
     wants = tt;
     deep = omega (arith, few_levels (tree_in ns root) w.index.balanced few);
-    rooms = a;
-    more = b;
   }
 
   -- the route that a search without success leaves
-  pub route_left : (t : Tree) → IsBalancedIndex v t → (go : ℕ → Ordering) (route : Route) (found : Option ℕ) → found ≡ None → (low : Path) × (s : Tree) × IsFollowed go route.places route.turns route.depth found t low s → IsRoute v go route
+  pub route_left : (t : Tree) → IsBalancedIndex v t → (go : ℕ → Ordering) (route : Route) (found : Option ℕ) → found ≡ None → (low : Path) × (s : Tree) × IsFollowed go route route.depth found t low s → IsRoute v go route
   route_left t shown go route found none (low, s, f) =
       let no : s ≡ leaf = no_root s (f.root_is ∙ none) in
       let is : t ≡ plug low leaf = sym f.whole ∙ ap (λ x. plug low x) no in
@@ -121,7 +119,7 @@ module _ (ns : List Node) (root : Option ℕ) (len : ℕ) (v : Index) (w : IsWho
         wants = f.wants;
       }
 
-  pub route_if_none : (t : Tree) → IsBalancedIndex v t → (go : ℕ → Ordering) (route : Route) (found : Option ℕ) → (found ≡ None → (low : Path) × (s : Tree) × IsFollowed go route.places route.turns route.depth found t low s) → IfNone found (IsRoute v go route)
+  pub route_if_none : (t : Tree) → IsBalancedIndex v t → (go : ℕ → Ordering) (route : Route) (found : Option ℕ) → (found ≡ None → (low : Path) × (s : Tree) × IsFollowed go route route.depth found t low s) → IfNone found (IsRoute v go route)
   route_if_none t shown go route None f = route_left t shown go route None refl (f refl)
   route_if_none t shown go route (Some p) f = tt
 
@@ -133,10 +131,10 @@ module _ (ns : List Node) (root : Option ℕ) (len : ℕ) (v : Index) (w : IsWho
         ∙ ap (λ x. first_equal (λ q. standing order (key q) (Some k)) x) places_are
 
     -- leads to no place, where no listed key is equal
-    pub place_route : ((p : ℕ) → Contains v.places p → standing order (key p) (Some k) ≡ Equal → ⊥) → (route : Route) → (low : Path) × (s : Tree) × IsFollowed (λ q. standing order (key q) (key place)) route.places route.turns route.depth found (tree_in ns root) low s → IsRoute v (λ q. standing order (key q) (Some k)) route
+    pub place_route : ((p : ℕ) → Contains v.places p → standing order (key p) (Some k) ≡ Equal → ⊥) → (route : Route) → (low : Path) × (s : Tree) × IsFollowed (λ q. standing order (key q) (key place)) route route.depth found (tree_in ns root) low s → IsRoute v (λ q. standing order (key q) (Some k)) route
     place_route unequal route f =
         route_left (tree_in ns root) shown_index (λ q. standing order (key q) (Some k)) route found (none_of (λ q. standing order (key q) (Some k)) v.places found first_listed unequal)
-        (subst (λ o. (low : Path) × (s : Tree) × IsFollowed (λ q. standing order (key q) o) route.places route.turns route.depth found (tree_in ns root) low s) is f)
+        (subst (λ o. (low : Path) × (s : Tree) × IsFollowed (λ q. standing order (key q) o) route route.depth found (tree_in ns root) low s) is f)
 
     -- leads to the place, where it is listed
     pub place_found : IsTotalOrder order → Ascends key order v.places → Contains v.places place → found ≡ Some place
@@ -165,7 +163,7 @@ module _ (ns : List Node) (root : Option ℕ) (len : ℕ) (v : Index) (w : IsWho
       room : size (plug r.path leaf) + 1 ≤ length ns
       room = size_room ns (plug r.path leaf) place at_fields.tree.shown within (λ q. with_absent (plug r.path leaf) place q at_fields.distinct none)
 
-      pub can_put : CanPut ns route.places route.turns route.depth r.path place
+      pub can_put : CanPut ns route r.path place
       can_put = record {
         follows = r.follows;
         depth_is = r.depth_is;
@@ -225,7 +223,7 @@ module _ (ns : List Node) (root : Option ℕ) (len : ℕ) (v : Index) (w : IsWho
             (ascends_with key order total (front r.path) (back r.path) place k is less more parts)
 
   -- ---- the place at a route's end taken out
-  module _ (go : ℕ → Ordering) (route : Route) (found : ℕ) (low : Path) (s : Tree) (f : IsFollowed go route.places route.turns route.depth (Some found) (tree_in ns root) low s) where
+  module _ (go : ℕ → Ordering) (route : Route) (found : ℕ) (low : Path) (s : Tree) (f : IsFollowed go route route.depth (Some found) (tree_in ns root) low s) where
     pub end : (l : Tree) × (r : Tree) × (s ≡ fork l found r)
     end = a_fork s found f.root_is
 

@@ -5,6 +5,7 @@ pub mod Order
 pub mod Search
 pub mod Link
 pub mod RankedSubtree
+pub mod Steps
 pub mod Path
 pub mod Route
 pub mod Descent

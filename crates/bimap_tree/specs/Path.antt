@@ -3,6 +3,8 @@ use Rattle.std.specs.Prelude.{◌≡◌, ℕ, suc, ◌+◌, ◌≤◌, ◌<◌, 
 use Rattle.std.specs.declared.cmp.Ordering.{Ordering}
 use Rattle.std.specs.declared.cmp.Ordering.TheVariants.{Less, Greater}
 use Rattle.bimap_base.specs.declared.cells.Node.{Node}
+use Rattle.bimap_tree.specs.declared.route.Route.{Route}
+use Rattle.bimap_tree.specs.Steps.{step_at}
 use Rattle.bimap_tree.specs.Tree.{Tree, leaf, reading, height, size, occurs, is_at, root_of, IsBalanced, Shows, Stands, branch, far_of}
 
 -- no step, or a path, and below it a turn at a place, to its right if the turn is true, away from the sister tree
@@ -41,10 +43,10 @@ abbrev pub size_on : Path → ℕ
 size_on top = 0
 size_on (below up turn p sister) = size_on up + size sister + 1
 
--- the places and turns at the depths of the path are its own
-abbrev pub Follows : List ℕ → List Bool → Path → Type 0
-Follows places turns top = Unit {0}
-Follows places turns (below up turn p sister) = (slice_get places (steps up) ≡ Some p) × (slice_get turns (steps up) ≡ Some turn) × Follows places turns up
+-- the steps noted at the depths of the path are its own
+abbrev pub Follows : (ℕ → ℕ × Bool) → Path → Type 0
+Follows noted top = Unit {0}
+Follows noted (below up turn p sister) = (noted (steps up) ≡ (p, turn)) × Follows noted up
 
 -- the way that a key wants at a turn
 abbrev pub wanted : Bool → Ordering
@@ -79,8 +81,8 @@ pub record Moves (grew : Bool) (s u : Tree) : Type 0 where
   pub not_higher : height u ≤ height s + one_if grew
 
 -- at the path's end the tree u stands in place of s, of which the places above do not know yet
-pub record CanRise (nodes : List Node) (places : List ℕ) (turns : List Bool) (path : Path) (grew : Bool) (s u : Tree) : Type 0 where
-  pub follows : Follows places turns path
+pub record CanRise (nodes : List Node) (route : Route) (path : Path) (grew : Bool) (s u : Tree) : Type 0 where
+  pub follows : Follows (step_at route) path
   pub holds : Holds nodes path s
   pub shown : Shows nodes u
   pub distinct : (q : ℕ) → occurs_on q path + occurs q u ≤ 1
@@ -111,10 +113,10 @@ pub record IsRisen (old new : List Node) (path : Path) (u : Tree) (root : Option
   pub same_length : length new ≡ length old
 
 -- a place may be put at the path's end, where no place is
-pub record CanPut (nodes : List Node) (places : List ℕ) (turns : List Bool) (depth : ℕ) (path : Path) (place : ℕ) : Type 0 where
-  pub follows : Follows places turns path
-  pub depth_is : depth ≡ steps path
-  pub deep : depth ≤ 128
+pub record CanPut (nodes : List Node) (route : Route) (path : Path) (place : ℕ) : Type 0 where
+  pub follows : Follows (step_at route) path
+  pub depth_is : route.depth ≡ steps path
+  pub deep : route.depth ≤ 128
   pub shown : Shows nodes (plug path leaf)
   pub distinct : (q : ℕ) → occurs_on q path + is_at q place ≤ 1
   pub balanced : IsBalanced (plug path leaf)

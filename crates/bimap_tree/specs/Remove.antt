@@ -1,8 +1,9 @@
 -- Taking out the place at a path's end.
-use Rattle.std.specs.Prelude.{◌≡◌, ℕ, suc, ◌+◌, ◌≤◌, ◌<◌, ◌^◌, Bool, false, List, [], ◌∷◌, ◌++◌, Option, Some, slice_get, length}
+use Rattle.std.specs.Prelude.{◌≡◌, ℕ, suc, ◌+◌, ◌≤◌, ◌<◌, ◌^◌, Bool, false, List, [], ◌∷◌, ◌++◌, Option, Some, length}
 use Rattle.bimap_base.specs.declared.cells.Node.{Node}
 use Rattle.bimap_tree.specs.Tree.{Tree, leaf, fork, reading, height, size, occurs, IsBalanced, IsDistinctTree, Shows, Stands}
 use Rattle.bimap_tree.specs.Path.{Path, below, plug, steps, front, back, occurs_on, Follows}
+use Rattle.bimap_tree.specs.Steps.{step_at}
 use Rattle.bimap_tree.specs.declared.route.Route.{Route}
 
 -- the way to a tree's first place: a tree at the end of turns to the left, each away from a place and its right tree
@@ -15,10 +16,10 @@ abbrev pub onward : Path → List (ℕ × Tree) → Path
 onward path [] = path
 onward path (x ∷ xs) = onward (below path false x.0 x.1) xs
 
--- the places and turns from a depth on are those of the turns to the left
-abbrev pub FollowsOn : List ℕ → List Bool → ℕ → List (ℕ × Tree) → Type 0
-FollowsOn places turns depth [] = Unit {0}
-FollowsOn places turns depth (x ∷ xs) = (slice_get places depth ≡ Some x.0) × (slice_get turns depth ≡ Some false) × FollowsOn places turns (suc depth) xs
+-- the steps noted from a depth on are those of the turns to the left
+abbrev pub FollowsOn : (ℕ → ℕ × Bool) → ℕ → List (ℕ × Tree) → Type 0
+FollowsOn noted depth [] = Unit {0}
+FollowsOn noted depth (x ∷ xs) = (noted depth ≡ (x.0, false)) × FollowsOn noted (suc depth) xs
 
 -- the way to the first place of this tree fits a route
 pub record CanDescend (nodes : List Node) (at depth : ℕ) (s : Tree) : Type 0 where
@@ -29,14 +30,12 @@ pub record CanDescend (nodes : List Node) (at depth : ℕ) (s : Tree) : Type 0 w
 pub record IsFirst (old new : Route) (depth : ℕ) (s : Tree) (first low : ℕ) (lefts : List (ℕ × Tree)) (rest : Tree) : Type 0 where
   pub whole : s ≡ hang lefts (fork leaf first rest)
   pub low_is : low ≡ depth + length lefts
-  pub follows : FollowsOn new.places new.turns depth lefts
-  pub same_places : (i : ℕ) → i < depth → slice_get new.places i ≡ slice_get old.places i
-  pub same_turns : (i : ℕ) → i < depth → slice_get new.turns i ≡ slice_get old.turns i
-  pub as_long : (length new.places ≡ length old.places) × (length new.turns ≡ length old.turns)
+  pub follows : FollowsOn (step_at new) depth lefts
+  pub same_above : (i : ℕ) → i < depth → step_at new i ≡ step_at old i
 
 -- the place at the route's end may be taken out
 pub record CanTake (nodes : List Node) (route : Route) (path : Path) (l : Tree) (at : ℕ) (r : Tree) : Type 0 where
-  pub follows : Follows route.places route.turns path
+  pub follows : Follows (step_at route) path
   pub depth_is : route.depth ≡ steps path
   pub shown : Shows nodes (plug path (fork l at r))
   pub distinct : IsDistinctTree (plug path (fork l at r))

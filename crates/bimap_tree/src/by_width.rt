@@ -50,16 +50,16 @@ pub fn route_in_tree<S: SearchKey, M: Meter>(
 ) -> Option<usize>
     requires { (path : Path) × (s : Tree)
         × CanFollow (nodes_in cells.now) root (S.live sought.now)
-        (S.go sought.now) route.old.places route.old.turns depth path s }
+        (S.go sought.now) route.old depth path s }
     ensures found { (path : Path) (s : Tree) →
         CanFollow (nodes_in cells.now) root (S.live sought.now)
-        (S.go sought.now) route.old.places route.old.turns depth path s →
+        (S.go sought.now) route.old depth path s →
         result ≡ first_equal (S.go sought.now) (reading s) }
     ensures follows { (path : Path) (s : Tree) →
         CanFollow (nodes_in cells.now) root (S.live sought.now)
-        (S.go sought.now) route.old.places route.old.turns depth path s →
+        (S.go sought.now) route.old depth path s →
         (low : Path) × (e : Tree)
-        × IsFollowed (S.go sought.now) route.new.places route.new.turns route.new.depth result
+        × IsFollowed (S.go sought.now) route.new route.new.depth result
         (plug path s) low e }
     ensures comparisons { (s : Tree) → Stands (nodes_in cells.now) root s →
         M.comparisons meter.new ≤ M.comparisons meter.old + height s }
@@ -82,12 +82,12 @@ pub fn step_in_tree<S: SearchKey, M: Meter>(
 ) -> bool
     requires { (path : Path) × (s : Tree)
         × CanFollow (nodes_in cells.now) descent.old.root (S.live sought.now)
-        (S.go sought.now) route.old.places route.old.turns descent.old.depth path s }
+        (S.go sought.now) route.old descent.old.depth path s }
     ensures goes { (path : Path) (s : Tree) →
         CanFollow (nodes_in cells.now) descent.old.root (S.live sought.now)
-        (S.go sought.now) route.old.places route.old.turns descent.old.depth path s →
+        (S.go sought.now) route.old descent.old.depth path s →
         (low : Path) × (e : Tree)
-        × IsFollowed (S.go sought.now) route.new.places route.new.turns descent.new.depth
+        × IsFollowed (S.go sought.now) route.new descent.new.depth
         descent.new.root (plug path s) low e }
     ensures found { descent.new.is_found ≡ true →
         (descent.new ≡ descent.old)
@@ -116,18 +116,18 @@ pub fn finish_in_tree<S: SearchKey, M: Meter>(
 ) -> Option<usize>
     requires follows { (path : Path) × (s : Tree)
         × CanFollow (nodes_in cells.now) descent.root (S.live sought.now)
-        (S.go sought.now) route.old.places route.old.turns descent.depth path s }
+        (S.go sought.now) route.old descent.depth path s }
     requires over { descent.is_found ≡ true →
         (place : ℕ) × (descent.root ≡ Some place) × (S.go sought.now place ≡ Equal) }
     ensures found { (path : Path) (s : Tree) →
         CanFollow (nodes_in cells.now) descent.root (S.live sought.now)
-        (S.go sought.now) route.old.places route.old.turns descent.depth path s →
+        (S.go sought.now) route.old descent.depth path s →
         result ≡ first_equal (S.go sought.now) (reading s) }
     ensures follows { (path : Path) (s : Tree) →
         CanFollow (nodes_in cells.now) descent.root (S.live sought.now)
-        (S.go sought.now) route.old.places route.old.turns descent.depth path s → result ≡ None →
+        (S.go sought.now) route.old descent.depth path s → result ≡ None →
         (low : Path) × (e : Tree)
-        × IsFollowed (S.go sought.now) route.new.places route.new.turns route.new.depth result
+        × IsFollowed (S.go sought.now) route.new route.new.depth result
         (plug path s) low e }
     ensures comparisons { M.comparisons meter.new ≤ M.comparisons meter.old
         + levels_left (nodes_in cells.now) descent }
@@ -215,10 +215,8 @@ pub fn put_at<M: Meter>(
     place: usize,
     meter: &mut M,
 ) -> Option<usize>
-    requires { (path : Path) × CanPut (nodes_in cells.old) route.now.places route.now.turns
-        route.now.depth path place }
-    ensures tree { (path : Path) → CanPut (nodes_in cells.old) route.now.places route.now.turns
-        route.now.depth path place →
+    requires { (path : Path) × CanPut (nodes_in cells.old) route.now path place }
+    ensures tree { (path : Path) → CanPut (nodes_in cells.old) route.now path place →
         (v : Tree) × IsRisen (nodes_in cells.old) (nodes_in cells.new) path
         (fork leaf place leaf) result v }
     ensures comparisons { M.comparisons meter.new ≡ M.comparisons meter.old }

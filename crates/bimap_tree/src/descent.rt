@@ -45,12 +45,12 @@ pub fn step_in_tree<C: Cell, S: SearchKey, M: Meter>(
 ) -> bool
     requires { (path : Path) × (s : Tree)
         × CanFollow cells.now descent.old.root (S.live sought.now)
-        (S.go sought.now) route.old.places route.old.turns descent.old.depth path s }
+        (S.go sought.now) route.old descent.old.depth path s }
     ensures goes { (path : Path) (s : Tree) →
         CanFollow cells.now descent.old.root (S.live sought.now)
-        (S.go sought.now) route.old.places route.old.turns descent.old.depth path s →
+        (S.go sought.now) route.old descent.old.depth path s →
         (low : Path) × (e : Tree)
-        × IsFollowed (S.go sought.now) route.new.places route.new.turns descent.new.depth
+        × IsFollowed (S.go sought.now) route.new descent.new.depth
         descent.new.root (plug path s) low e }
     ensures found { descent.new.is_found ≡ true →
         (descent.new ≡ descent.old)
@@ -93,18 +93,18 @@ pub fn finish_in_tree<C: Cell, S: SearchKey, M: Meter>(
 ) -> Option<usize>
     requires follows { (path : Path) × (s : Tree)
         × CanFollow cells.now descent.root (S.live sought.now)
-        (S.go sought.now) route.old.places route.old.turns descent.depth path s }
+        (S.go sought.now) route.old descent.depth path s }
     requires over { descent.is_found ≡ true →
         (place : ℕ) × (descent.root ≡ Some place) × (S.go sought.now place ≡ Equal) }
     ensures found { (path : Path) (s : Tree) →
         CanFollow cells.now descent.root (S.live sought.now)
-        (S.go sought.now) route.old.places route.old.turns descent.depth path s →
+        (S.go sought.now) route.old descent.depth path s →
         result ≡ first_equal (S.go sought.now) (reading s) }
     ensures follows { (path : Path) (s : Tree) →
         CanFollow cells.now descent.root (S.live sought.now)
-        (S.go sought.now) route.old.places route.old.turns descent.depth path s → result ≡ None →
+        (S.go sought.now) route.old descent.depth path s → result ≡ None →
         (low : Path) × (e : Tree)
-        × IsFollowed (S.go sought.now) route.new.places route.new.turns route.new.depth result
+        × IsFollowed (S.go sought.now) route.new route.new.depth result
         (plug path s) low e }
     ensures comparisons { M.comparisons meter.new ≤ M.comparisons meter.old
         + levels_left cells.now descent }

@@ -50,10 +50,10 @@ fn recount<C: Cell, M: Meter>(
     meter: &mut M,
 ) -> Option<usize>
     requires { (path : Path) × (s : Tree) × (u : Tree)
-        × CanRise cells.old route.now.places route.now.turns path grew s u × (depth ≡ steps path)
+        × CanRise cells.old route.now path grew s u × (depth ≡ steps path)
         × (depth ≤ 128) × (root_of u ≡ child) × (height u ≡ height s) }
     ensures tree { (path : Path) (s u : Tree) →
-        CanRise cells.old route.now.places route.now.turns path grew s u → depth ≡ steps path →
+        CanRise cells.old route.now path grew s u → depth ≡ steps path →
         root_of u ≡ child → height u ≡ height s →
         (v : Tree) × IsRisen cells.old cells.new path u result v }
     ensures comparisons { M.comparisons meter.new ≡ M.comparisons meter.old }
@@ -81,10 +81,10 @@ pub fn rise<C: Cell, M: Meter>(
     meter: &mut M,
 ) -> Option<usize>
     requires { (path : Path) × (s : Tree) × (u : Tree)
-        × CanRise cells.old route.now.places route.now.turns path grew s u × (depth ≡ steps path)
+        × CanRise cells.old route.now path grew s u × (depth ≡ steps path)
         × (depth ≤ 128) × Measures child u × (was ≡ height s) }
     ensures tree { (path : Path) (s u : Tree) →
-        CanRise cells.old route.now.places route.now.turns path grew s u → depth ≡ steps path →
+        CanRise cells.old route.now path grew s u → depth ≡ steps path →
         Measures child u → was ≡ height s →
         (v : Tree) × IsRisen cells.old cells.new path u result v }
     ensures comparisons { M.comparisons meter.new ≡ M.comparisons meter.old }
@@ -113,10 +113,9 @@ pub fn put_at<C: Cell, M: Meter>(
     place: usize,
     meter: &mut M,
 ) -> Option<usize>
-    requires { (path : Path) × CanPut cells.old route.now.places route.now.turns
-        route.now.depth path place }
-    ensures tree { (path : Path) → CanPut cells.old route.now.places route.now.turns route.now.depth
-        path place → (v : Tree) × IsRisen cells.old cells.new path (fork leaf place leaf) result v }
+    requires { (path : Path) × CanPut cells.old route.now path place }
+    ensures tree { (path : Path) → CanPut cells.old route.now path place →
+        (v : Tree) × IsRisen cells.old cells.new path (fork leaf place leaf) result v }
     ensures comparisons { M.comparisons meter.new ≡ M.comparisons meter.old }
     ensures touches { M.touches meter.new ≤ M.touches meter.old + 11 * route.now.depth + 1 }
 {

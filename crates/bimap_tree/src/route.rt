@@ -1,11 +1,12 @@
 //! The way of a search down a tree. It knows which way a key wants, and not the key.
-ghost use Rattle.std.specs.Prelude.{◌≡◌, ℕ, ◌+◌, ◌<◌, ◌≤◌, Some, None, slice_get, slice_set};
+ghost use Rattle.std.specs.Prelude.{◌≡◌, ℕ, ◌+◌, ◌<◌, ◌≤◌};
 ghost use Rattle.std.specs.declared.cmp.Ordering.{Ordering};
 ghost use Rattle.bimap_tree.specs.Tree.{Tree, leaf, Stands, height, reading};
 ghost use Rattle.bimap_tree.specs.Order.{first_equal};
 ghost use Rattle.bimap_tree.specs.Index.{Index, IsBalancedIndex};
 ghost use Rattle.bimap_tree.specs.Path.{Path, plug};
 ghost use Rattle.bimap_tree.specs.Route.{CanFollow, IsFollowed, IsRoute};
+ghost use Rattle.bimap_tree.specs.Steps.{IsNoted, step_at};
 
 use crate::search_key::SearchKey;
 use bimap_base::{Cell, Meter, Nodes};
@@ -43,8 +44,7 @@ impl Route {
     // The place and the turn at a depth.
     pub(crate) fn step(&self, depth: usize) -> (usize, bool)
         requires { depth < 128 }
-        ensures place { slice_get self.now.places depth ≡ Some result.0 }
-        ensures turn { slice_get self.now.turns depth ≡ Some result.1 }
+        ensures { result ≡ step_at self.now depth }
     {
         (self.places[depth], self.turns[depth])
     }
@@ -52,8 +52,7 @@ impl Route {
     // Notes the place and the turn at a depth.
     pub(crate) fn note(&mut self, depth: usize, place: usize, turn: bool)
         requires { depth < 128 }
-        ensures places { self.new.places ≡ slice_set self.old.places depth place }
-        ensures turns { self.new.turns ≡ slice_set self.old.turns depth turn }
+        ensures noted { IsNoted (step_at self.old) depth (place, turn) (step_at self.new) }
         ensures depth { self.new.depth ≡ self.old.depth }
     {
         self.places[depth] = place;
@@ -82,16 +81,16 @@ pub fn route_in_tree<C: Cell, S: SearchKey, M: Meter>(
 ) -> Option<usize>
     requires { (path : Path) × (s : Tree)
         × CanFollow cells.now root (S.live sought.now)
-        (S.go sought.now) route.old.places route.old.turns depth path s }
+        (S.go sought.now) route.old depth path s }
     ensures found { (path : Path) (s : Tree) →
         CanFollow cells.now root (S.live sought.now)
-        (S.go sought.now) route.old.places route.old.turns depth path s →
+        (S.go sought.now) route.old depth path s →
         result ≡ first_equal (S.go sought.now) (reading s) }
     ensures follows { (path : Path) (s : Tree) →
         CanFollow cells.now root (S.live sought.now)
-        (S.go sought.now) route.old.places route.old.turns depth path s →
+        (S.go sought.now) route.old depth path s →
         (low : Path) × (e : Tree)
-        × IsFollowed (S.go sought.now) route.new.places route.new.turns route.new.depth result
+        × IsFollowed (S.go sought.now) route.new route.new.depth result
         (plug path s) low e }
     ensures comparisons { (s : Tree) → Stands cells.now root s →
         M.comparisons meter.new ≤ M.comparisons meter.old + height s }

@@ -3,7 +3,7 @@ use Rattle.bimap_tree.proofs.Descents.{costs_none, costs_on, costs_last, cell_wi
 use Rattle.bimap_tree.proofs.remove.first_in_tree.Goals as goal
 
 pub loop-left-init : goal.loop-left-init
-loop-left-init g c = record { descends = descends_top _ _ _ _ (omega arith) (omega arith); compared = refl; touched = costs_none _ _ 1 _ }
+loop-left-init g c = record { descends = descends_top _ _ _ _; compared = refl; touched = costs_none _ _ 1 _ }
 
 pub read-requires : goal.read-requires
 read-requires g c = cell_within _ _ _ _ _ _ c.loop-left.invariant.touched _ refl _ c.requires.1.tree
@@ -20,7 +20,7 @@ loop-left-smaller g c = falls _ _ _ _ _ _ c.loop-left.invariant.touched _ refl _
 pub loop-left-preserved : goal.loop-left-preserved
 loop-left-preserved g c =
     record {
-      descends = descends_on _ _ _ _ _ _ _ c.loop-left.invariant.descends _ c.read.ensures.node _ c.in-Some.is _ c.requires.1 _ c.note.ensures.places c.note.ensures.turns;
+      descends = descends_on _ _ _ _ _ _ _ c.loop-left.invariant.descends _ c.read.ensures.node _ c.in-Some.is _ c.note.ensures.noted;
       compared = omega arith;
       touched = costs_on _ _ _ _ _ _ c.loop-left.invariant.touched _ refl _ c.read.ensures.node false _ (sym c.in-Some.is) _ (omega arith);
     }

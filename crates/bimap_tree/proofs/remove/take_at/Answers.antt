@@ -93,21 +93,20 @@ rise-requires-2 g c =
     let h2 = taking _ _ _ _ _ _ _ h i.whole in
     let few = low_within _ _ _ _ _ _ h _ _ _ _ _ lefts rest c.depth-depth.ensures i in
     let is = c.depth-depth.ensures ∙ h.depth_is in
-    let (follows, low) = first_followed c.requires.0 c.requires.1 _ _ _ _ _ _ _ _ lefts rest h.follows is i (omega (arith, is, h.deep, few.1)) (omega (arith, is, h.deep, few.1)) c.note.ensures.places c.note.ensures.turns in
+    let (follows, low) = first_followed c.requires.0 c.requires.1 c.args.route.now c.first_in_tree-first.new.route c.note.new.self _ _ _ _ lefts rest h.follows is i c.note.ensures.noted in
     let stands = rest_stands _ c.args.route.now c.requires.0 c.requires.1 c.args.at _ lefts rest h2 _ c.read-last.ensures.node in
-    (_, _, rest, rises_first _ _ c.requires.0 c.requires.1 c.args.at _ lefts rest h2 _ c.read-node.ensures.node _ c.write.ensures.written _ _ follows, low, omega (arith, h.deep, few.0), c.measure-rest.ensures.measured rest stands, was_height _ c.args.route.now c.requires.0 c.requires.1 c.args.at _ lefts rest h2 _ c.read-last.ensures.node)
+    (_, _, rest, rises_first _ _ c.requires.0 c.requires.1 c.args.at _ lefts rest h2 _ c.read-node.ensures.node _ c.write.ensures.written _ follows, low, omega (arith, h.deep, few.0), c.measure-rest.ensures.measured rest stands, was_height _ c.args.route.now c.requires.0 c.requires.1 c.args.at _ lefts rest h2 _ c.read-last.ensures.node)
 
 pub returns-clause-tree : goal.returns-clause-tree
 returns-clause-tree g c path l r h =
     let (lefts, rest, i) = c.first_in_tree-first.ensures.first r (can_descend _ _ path l _ r h _ c.read-node.ensures.node _ c.in-Some.is _ c.depth-depth.ensures) in
     let h2 = taking _ _ path l _ r _ h i.whole in
-    let few = low_within _ _ path l _ r h _ _ _ _ _ lefts rest c.depth-depth.ensures i in
     let is = c.depth-depth.ensures ∙ h.depth_is in
-    let (follows, low) = first_followed path l _ _ _ _ _ _ _ r lefts rest h.follows is i (omega (arith, is, h.deep, few.1)) (omega (arith, is, h.deep, few.1)) c.note.ensures.places c.note.ensures.turns in
+    let (follows, low) = first_followed path l c.args.route.now c.first_in_tree-first.new.route c.note.new.self _ _ _ r lefts rest h.follows is i c.note.ensures.noted in
     let stands = rest_stands _ _ path l c.args.at _ lefts rest h2 _ c.read-last.ensures.node in
     taken_of _ _ path l r _ _ i.whole
     (taken_first _ _ path l c.args.at _ lefts rest h2 _ c.read-node.ensures.node _ c.write.ensures.written _ _
-    (c.rise-2.ensures.tree _ _ rest (rises_first _ _ path l c.args.at _ lefts rest h2 _ c.read-node.ensures.node _ c.write.ensures.written _ _ follows) low (c.measure-rest.ensures.measured rest stands) (was_height _ _ path l c.args.at _ lefts rest h2 _ c.read-last.ensures.node)))
+    (c.rise-2.ensures.tree _ _ rest (rises_first _ _ path l c.args.at _ lefts rest h2 _ c.read-node.ensures.node _ c.write.ensures.written _ follows) low (c.measure-rest.ensures.measured rest stands) (was_height _ _ path l c.args.at _ lefts rest h2 _ c.read-last.ensures.node)))
 
 pub returns-clause-touches : goal.returns-clause-touches
 returns-clause-touches g c path l r h =

@@ -14,12 +14,12 @@ link-alone-requires g c = (leaf, leaf, record { has_cell = c.requires.1.has_cell
 pub rise-requires : goal.rise-requires
 rise-requires g c =
     let h = c.requires.1 in
-    (_, leaf, fork leaf c.args.place leaf, can_put _ _ _ _ _ _ h _ (c.link-alone.ensures.linked leaf leaf nothing nothing), c.depth.ensures ∙ h.depth_is, rw c.depth.ensures h.deep, c.link-alone.ensures.measured leaf leaf nothing nothing, refl)
+    (_, leaf, fork leaf c.args.place leaf, can_put _ _ _ _ h _ (c.link-alone.ensures.linked leaf leaf nothing nothing), c.depth.ensures ∙ h.depth_is, rw c.depth.ensures h.deep, c.link-alone.ensures.measured leaf leaf nothing nothing, refl)
 
 pub returns-clause-tree : goal.returns-clause-tree
 returns-clause-tree g c path h =
     let e = c.link-alone.ensures.linked leaf leaf nothing nothing in
-    put_risen _ _ _ _ path _ h _ e _ _ (c.rise.ensures.tree path leaf _ (can_put _ _ _ _ path _ h _ e) (c.depth.ensures ∙ h.depth_is) (c.link-alone.ensures.measured leaf leaf nothing nothing) refl)
+    put_risen _ _ path _ h _ e _ _ (c.rise.ensures.tree path leaf _ (can_put _ _ path _ h _ e) (c.depth.ensures ∙ h.depth_is) (c.link-alone.ensures.measured leaf leaf nothing nothing) refl)
 
 pub returns-clause-touches : goal.returns-clause-touches
 returns-clause-touches g c = omega arith

@@ -4,29 +4,29 @@ use Rattle.bimap_tree.proofs.Rises.{as_told}
 use Rattle.bimap_tree.proofs.rise.rise.Goals as goal
 
 pub loop-child-init : goal.loop-child-init
-loop-child-init g c = record { climbs = climbs_none _ _ _ _ _ _ c.requires.5; compared = refl; touched = omega arith }
+loop-child-init g c = record { climbs = climbs_none _ _ _ _ _ c.requires.5; compared = refl; touched = omega arith }
 
 pub returns-then-depth-eq0-clause-tree : goal.returns-then-depth-eq0-clause-tree
 returns-then-depth-eq0-clause-tree g c path s u rise e child was =
-    climbs_end _ _ _ _ _ _ _ _ _ c.loop-child.invariant.climbs (omega arith) _ (λ x t known. known.measured.root_is) path s u record { rise = rise; start_is = e; known = record { measured = child; was_high = was } }
+    climbs_end _ _ _ _ _ _ _ _ c.loop-child.invariant.climbs (omega arith) _ (λ x t known. known.measured.root_is) path s u record { rise = rise; start_is = e; known = record { measured = child; was_high = was } }
 
 pub step-at-requires : goal.step-at-requires
 step-at-requires g c = omega (arith, c.loop-child.invariant.climbs.deep)
 
 pub read-node-requires : goal.read-node-requires
 read-node-requires g c =
-    let (node, sister, x, t, h, known) = relinked _ _ _ _ _ _ _ _ _ c.loop-child.invariant.climbs _ _ (omega arith) c.step-at.ensures.place c.step-at.ensures.turn _ _ _ record { rise = c.requires.3; start_is = c.requires.4; known = record { measured = c.requires.6; was_high = c.requires.7 } } in
+    let (node, sister, x, t, h, known) = relinked _ _ _ _ _ _ _ _ c.loop-child.invariant.climbs _ _ (omega arith) c.step-at.ensures _ _ _ record { rise = c.requires.3; start_is = c.requires.4; known = record { measured = c.requires.6; was_high = c.requires.7 } } in
     h.has_cell
 
 pub relink-child-requires : goal.relink-child-requires
 relink-child-requires g c =
-    let (sister, x, t, h, known) = relinks _ _ _ _ _ _ _ _ _ c.loop-child.invariant.climbs _ _ (omega arith) c.step-at.ensures.place c.step-at.ensures.turn _ _ _ record { rise = c.requires.3; start_is = c.requires.4; known = record { measured = c.requires.6; was_high = c.requires.7 } } _ c.read-node.ensures.node in
+    let (sister, x, t, h, known) = relinks _ _ _ _ _ _ _ _ c.loop-child.invariant.climbs _ _ (omega arith) c.step-at.ensures _ _ _ record { rise = c.requires.3; start_is = c.requires.4; known = record { measured = c.requires.6; was_high = c.requires.7 } } _ c.read-node.ensures.node in
     (sister, x, t, h, known.measured)
 
 pub loop-child-preserved : goal.loop-child-preserved
 loop-child-preserved g c =
     record {
-      climbs = climbs_on _ _ _ _ _ _ _ _ _ c.loop-child.invariant.climbs _ _ (omega arith) c.step-at.ensures.place c.step-at.ensures.turn _ c.read-node.ensures.node _ _ (λ sister x t h known.
+      climbs = climbs_on _ _ _ _ _ _ _ _ c.loop-child.invariant.climbs _ _ (omega arith) c.step-at.ensures _ c.read-node.ensures.node _ _ (λ sister x t h known.
           let (y, m, b, moves) = c.relink-child.ensures.tree sister x t h known.measured in
           (y, record { tree = b; moves = moves; known = record { measured = m; was_high = as_told _ _ _ _ _ sister x t h } }));
       compared = omega arith;

@@ -13,13 +13,13 @@ use Rattle.bimap_tree.proofs.ordered.Ordered.insert.Goals.{After-route_in_tree-s
 pub route_in_tree-self-inside-requires : goal.route_in_tree-self-inside-requires
 route_in_tree-self-inside-requires g c =
     let (k, is) = key_is (g.K.Keys.key_at c.args.keys.now) g.K.Keys.order _ c.requires.live in
-    (top, tree_in (nodes_in c.self.inside.cells) c.self.inside.root, can_follow _ _ _ _ c.self.invariant c.self.view_is _ _ _ _ (omega arith) (omega arith) (can_seek_place _ _ _ _ c.self.invariant c.self.view_is _ _ g.met.K.Keys.total c.requires.ascends _ k is))
+    (top, tree_in (nodes_in c.self.inside.cells) c.self.inside.root, can_follow _ _ _ _ c.self.invariant c.self.view_is _ _ _ (can_seek_place _ _ _ _ c.self.invariant c.self.view_is _ _ g.met.K.Keys.total c.requires.ascends _ k is))
 
 -- the route that the search leaves
 the_route : (g : Over) (c : After-route_in_tree-self-inside g) → (k : _) × (g.K.Keys.key_at c.args.keys.now c.args.place ≡ Some k) × IsRoute c.args.self.now (λ q. standing g.K.Keys.order (g.K.Keys.key_at c.args.keys.now q) (Some k)) c.route_in_tree-self-inside.new.route
 the_route g c =
     let (k, is) = key_is (g.K.Keys.key_at c.args.keys.now) g.K.Keys.order _ c.requires.live in
-    let f = can_follow _ _ _ _ c.self.invariant c.self.view_is _ _ c.new-route.result.places c.new-route.result.turns (omega arith) (omega arith) (can_seek_place _ _ _ _ c.self.invariant c.self.view_is _ _ g.met.K.Keys.total c.requires.ascends c.args.place k is) in
+    let f = can_follow _ _ _ _ c.self.invariant c.self.view_is _ _ c.new-route.result (can_seek_place _ _ _ _ c.self.invariant c.self.view_is _ _ g.met.K.Keys.total c.requires.ascends c.args.place k is) in
     (k, is, place_route _ _ _ _ c.self.invariant c.self.view_is (g.K.Keys.key_at c.args.keys.now) g.K.Keys.order c.args.place k is _ (c.route_in_tree-self-inside.ensures.found _ _ f) (λ p listed same. c.requires.unequal p k listed is same) _ (c.route_in_tree-self-inside.ensures.follows _ _ f))
 
 pub put_at-self-inside-requires : goal.put_at-self-inside-requires

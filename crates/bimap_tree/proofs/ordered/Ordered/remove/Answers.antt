@@ -14,15 +14,15 @@ use Rattle.bimap_tree.proofs.ordered.Ordered.remove.Goals.{After-route_in_tree-s
 pub route_in_tree-self-inside-requires : goal.route_in_tree-self-inside-requires
 route_in_tree-self-inside-requires g c =
     let (k, is) = key_listed (g.K.Keys.key_at c.args.keys.now) g.K.Keys.order _ c.requires.ascends _ c.requires.listed in
-    (top, tree_in (nodes_in c.self.inside.cells) c.self.inside.root, can_follow _ _ _ _ c.self.invariant c.self.view_is _ _ _ _ (omega arith) (omega arith) (can_seek_place _ _ _ _ c.self.invariant c.self.view_is _ _ g.met.K.Keys.total c.requires.ascends _ k is))
+    (top, tree_in (nodes_in c.self.inside.cells) c.self.inside.root, can_follow _ _ _ _ c.self.invariant c.self.view_is _ _ _ (can_seek_place _ _ _ _ c.self.invariant c.self.view_is _ _ g.met.K.Keys.total c.requires.ascends _ k is))
 
 -- the way that the search went, to the place
-the_way : (g : Over) (c : After-route_in_tree-self-inside g) → (low : Path) × (s : Tree) × IsFollowed (λ q. standing g.K.Keys.order (g.K.Keys.key_at c.args.keys.now q) (g.K.Keys.key_at c.args.keys.now c.args.place)) c.route_in_tree-self-inside.new.route.places c.route_in_tree-self-inside.new.route.turns c.route_in_tree-self-inside.new.route.depth (Some c.args.place) (tree_in (nodes_in c.self.inside.cells) c.self.inside.root) low s
+the_way : (g : Over) (c : After-route_in_tree-self-inside g) → (low : Path) × (s : Tree) × IsFollowed (λ q. standing g.K.Keys.order (g.K.Keys.key_at c.args.keys.now q) (g.K.Keys.key_at c.args.keys.now c.args.place)) c.route_in_tree-self-inside.new.route c.route_in_tree-self-inside.new.route.depth (Some c.args.place) (tree_in (nodes_in c.self.inside.cells) c.self.inside.root) low s
 the_way g c =
     let (k, is) = key_listed (g.K.Keys.key_at c.args.keys.now) g.K.Keys.order _ c.requires.ascends _ c.requires.listed in
-    let f = can_follow _ _ _ _ c.self.invariant c.self.view_is _ _ c.new-route.result.places c.new-route.result.turns (omega arith) (omega arith) (can_seek_place _ _ _ _ c.self.invariant c.self.view_is _ _ g.met.K.Keys.total c.requires.ascends c.args.place k is) in
+    let f = can_follow _ _ _ _ c.self.invariant c.self.view_is _ _ c.new-route.result (can_seek_place _ _ _ _ c.self.invariant c.self.view_is _ _ g.met.K.Keys.total c.requires.ascends c.args.place k is) in
     let found = place_found _ _ _ _ c.self.invariant c.self.view_is _ _ _ k is _ (c.route_in_tree-self-inside.ensures.found _ _ f) g.met.K.Keys.total c.requires.ascends c.requires.listed in
-    subst (λ o. (low : Path) × (s : Tree) × IsFollowed (λ q. standing g.K.Keys.order (g.K.Keys.key_at c.args.keys.now q) (g.K.Keys.key_at c.args.keys.now c.args.place)) c.route_in_tree-self-inside.new.route.places c.route_in_tree-self-inside.new.route.turns c.route_in_tree-self-inside.new.route.depth o (tree_in (nodes_in c.self.inside.cells) c.self.inside.root) low s) found (c.route_in_tree-self-inside.ensures.follows _ _ f)
+    subst (λ o. (low : Path) × (s : Tree) × IsFollowed (λ q. standing g.K.Keys.order (g.K.Keys.key_at c.args.keys.now q) (g.K.Keys.key_at c.args.keys.now c.args.place)) c.route_in_tree-self-inside.new.route c.route_in_tree-self-inside.new.route.depth o (tree_in (nodes_in c.self.inside.cells) c.self.inside.root) low s) found (c.route_in_tree-self-inside.ensures.follows _ _ f)
 
 pub take_at-self-inside-requires : goal.take_at-self-inside-requires
 take_at-self-inside-requires g c =

@@ -14,12 +14,12 @@ use Rattle.bimap_tree.proofs.ordered.Ordered.remove_key.Goals.{After-route_in_tr
 
 pub route_in_tree-requires : goal.route_in_tree-requires
 route_in_tree-requires g c =
-    (top, tree_in (nodes_in c.self.inside.cells) c.self.inside.root, can_follow _ _ _ _ c.self.invariant c.self.view_is _ _ _ _ (omega arith) (omega arith) (can_seek _ _ _ _ c.self.invariant c.self.view_is _ _ g.met.K.Keys.total c.requires _))
+    (top, tree_in (nodes_in c.self.inside.cells) c.self.inside.root, can_follow _ _ _ _ c.self.invariant c.self.view_is _ _ _ (can_seek _ _ _ _ c.self.invariant c.self.view_is _ _ g.met.K.Keys.total c.requires _))
 
 -- what the search answers is the first equal one
 first : (g : Over) (c : After-route_in_tree g) → c.route_in_tree.result ≡ first_equal (λ q. standing g.K.Keys.order (g.K.Keys.key_at c.args.keys.now q) (Some c.args.key.now)) c.args.self.now.places
 first g c =
-    let f = can_follow _ _ _ _ c.self.invariant c.self.view_is _ _ c.new-route.result.places c.new-route.result.turns (omega arith) (omega arith) (can_seek _ _ _ _ c.self.invariant c.self.view_is _ _ g.met.K.Keys.total c.requires c.args.key.now) in
+    let f = can_follow _ _ _ _ c.self.invariant c.self.view_is _ _ c.new-route.result (can_seek _ _ _ _ c.self.invariant c.self.view_is _ _ g.met.K.Keys.total c.requires c.args.key.now) in
     c.route_in_tree.ensures.found _ _ f ∙ ap (λ x. first_equal (λ q. standing g.K.Keys.order (g.K.Keys.key_at c.args.keys.now q) (Some c.args.key.now)) x) (places_are _ _ _ _ c.self.invariant c.self.view_is)
 
 pub returns-in_err-found-clause-none : goal.returns-in_err-found-clause-none
@@ -33,10 +33,10 @@ pub returns-in_err-found-clause-touches : goal.returns-in_err-found-clause-touch
 returns-in_err-found-clause-touches g c = omega (arith, c.route_in_tree.ensures.touches _ c.self.invariant.index.tree, height_within _ _ _ _ c.self.invariant c.self.view_is)
 
 -- the way that it went, to the place found
-the_way : (g : Over) (c : In_ok-found g) → (low : Path) × (s : Tree) × IsFollowed (λ q. standing g.K.Keys.order (g.K.Keys.key_at c.args.keys.now q) (Some c.args.key.now)) c.route_in_tree.new.route.places c.route_in_tree.new.route.turns c.route_in_tree.new.route.depth (Some c.in_ok-found.found) (tree_in (nodes_in c.self.inside.cells) c.self.inside.root) low s
+the_way : (g : Over) (c : In_ok-found g) → (low : Path) × (s : Tree) × IsFollowed (λ q. standing g.K.Keys.order (g.K.Keys.key_at c.args.keys.now q) (Some c.args.key.now)) c.route_in_tree.new.route c.route_in_tree.new.route.depth (Some c.in_ok-found.found) (tree_in (nodes_in c.self.inside.cells) c.self.inside.root) low s
 the_way g c =
-    let f = can_follow _ _ _ _ c.self.invariant c.self.view_is _ _ c.new-route.result.places c.new-route.result.turns (omega arith) (omega arith) (can_seek _ _ _ _ c.self.invariant c.self.view_is _ _ g.met.K.Keys.total c.requires c.args.key.now) in
-    subst (λ o. (low : Path) × (s : Tree) × IsFollowed (λ q. standing g.K.Keys.order (g.K.Keys.key_at c.args.keys.now q) (Some c.args.key.now)) c.route_in_tree.new.route.places c.route_in_tree.new.route.turns c.route_in_tree.new.route.depth o (tree_in (nodes_in c.self.inside.cells) c.self.inside.root) low s) c.in_ok-found.was (c.route_in_tree.ensures.follows _ _ f)
+    let f = can_follow _ _ _ _ c.self.invariant c.self.view_is _ _ c.new-route.result (can_seek _ _ _ _ c.self.invariant c.self.view_is _ _ g.met.K.Keys.total c.requires c.args.key.now) in
+    subst (λ o. (low : Path) × (s : Tree) × IsFollowed (λ q. standing g.K.Keys.order (g.K.Keys.key_at c.args.keys.now q) (Some c.args.key.now)) c.route_in_tree.new.route c.route_in_tree.new.route.depth o (tree_in (nodes_in c.self.inside.cells) c.self.inside.root) low s) c.in_ok-found.was (c.route_in_tree.ensures.follows _ _ f)
 
 pub take_at-self-inside-requires : goal.take_at-self-inside-requires
 take_at-self-inside-requires g c =
