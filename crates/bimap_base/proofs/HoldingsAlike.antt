@@ -5,13 +5,13 @@ use Rattle.std.specs.Borrow.{Bor}
 use Rattle.std.proofs.lemmas.Option.{IfSome_then}
 use Rattle.std.proofs.lemmas.Result.{IfOk-weaker, IfErr-weaker, on_ok_weaker, on_err_weaker}
 use Rattle.bimap_base.specs.Sets.{IsSameSet, HasLeft}
-use Rattle.bimap_base.specs.Holding.{Holding, IsFull, IsFoundByLeft, IsFoundByRight, IsRemovalByLeft, IsRemovalByRight, IsRoomAfter, IsInsertionUnder, IsInterning, IsUndoing}
+use Rattle.bimap_base.specs.Holding.{Holding, IsFull, IsPartner, IsRemoval, IsRoomAfter, IsInsertionUnder, IsInterning, IsUndoing}
 use Rattle.bimap_base.specs.declared.overwritten.Overwritten.{Overwritten}
 use Rattle.bimap_base.specs.declared.policy.Policy.{Policy}
 use Rattle.bimap_base.specs.declared.refusal.NotInserted.{NotInserted}
 use Rattle.bimap_base.specs.declared.refusal.NotInsertedWith.{NotInsertedWith}
 use Rattle.bimap_base.specs.declared.refusal.UndoStopped.{UndoStopped}
-use Rattle.bimap_base.proofs.SetsAlike.{turned, HasLeft-same, LacksLeft-same, LacksRight-same, IsWithoutLeft-same, IsWithoutRight-same, SomeShares-back, IsAnswer-same, IsAllowed-same, IsRefusal-same, IsRefusalUnder-same, IsWithPut-same, IsUndone-same}
+use Rattle.bimap_base.proofs.SetsAlike.{turned, HasLeft-same, LacksLeft-same, SomeShares-back, IsAnswer-same, IsAllowed-same, IsRefusal-same, IsRefusalUnder-same, IsWithPut-same, IsUndone-same}
 
 module _ {T : Type 0} where
   MatchOption-then : {P P' : Type 0} {Q Q' : T → Type 0} (o : Option T) → (P → P') → ((x : T) → Q x → Q' x) → MatchOption o P Q → MatchOption o P' Q'
@@ -32,33 +32,21 @@ module _ {L R : Type 0} where
     pub full_alike : IsFull h → IsFull k
     full_alike full = like.long ∙ full ∙ sym like.room
 
-    pub found_left_alike : (same : L → L → Bool) (left : L) (result : Option (Bor R)) → IsFoundByLeft same h left result → IsFoundByLeft same k left result
-    found_left_alike same left result f = record {
-      found = IfSome_then result f.found (λ right w. (w.0, (like.members (w.0, right.now)).0 w.1, w.2));
-      none = IfNone-then result (LacksLeft-same (Contains h.pairs) (Contains k.pairs) like.members same left) f.none;
-    }
-
-    pub found_right_alike : (same : R → R → Bool) (right : R) (result : Option (Bor L)) → IsFoundByRight same h right result → IsFoundByRight same k right result
-    found_right_alike same right result f = record {
-      found = IfSome_then result f.found (λ left w. (w.0, (like.members (left.now, w.0)).0 w.1, w.2));
-      none = IfNone-then result (LacksRight-same (Contains h.pairs) (Contains k.pairs) like.members same right) f.none;
+    pub found_alike : {X Y : Type 0} (pair : X → Y → L × R) (passes : L × R → Bool) (result : Option (Bor Y)) → IsPartner pair passes h result → IsPartner pair passes k result
+    found_alike pair passes result f = record {
+      found = IfSome_then result f.found (λ y w. (w.0, (like.members (pair w.0 y.now)).0 w.1, w.2));
+      none = IfNone-then result (λ lacks p there. lacks p ((like.members p).1 there)) f.none;
     }
 
     module _ (h' k' : Holding L R) (after : AreAlike h' k') where
-      pub removal_left_alike : (same : L → L → Bool) (left : L) (result : Option (L × R)) → IsRemovalByLeft same h left result h' → IsRemovalByLeft same k left result k'
-      removal_left_alike same left result r = record {
+      pub removal_alike : (passes : L × R → Bool) (result : Option (L × R)) → IsRemoval passes h result h' → IsRemoval passes k result k'
+      removal_alike passes result r = record {
         removed = IfSome_then result r.removed (λ p w. ((like.members p).0 w.0, w.1));
-        none = IfNone-then result (LacksLeft-same (Contains h.pairs) (Contains k.pairs) like.members same left) r.none;
-        without = IsWithoutLeft-same (Contains h.pairs) (Contains k.pairs) like.members same (Contains h'.pairs) (Contains k'.pairs) left after.members r.without;
-        count = MatchOption-then result (λ e. after.long ∙ e ∙ sym like.long) (λ p e. omega (arith, after.long, e, like.long)) r.count;
-        room = after.room ∙ r.room ∙ sym like.room;
-      }
-
-      pub removal_right_alike : (same : R → R → Bool) (right : R) (result : Option (L × R)) → IsRemovalByRight same h right result h' → IsRemovalByRight same k right result k'
-      removal_right_alike same right result r = record {
-        removed = IfSome_then result r.removed (λ p w. ((like.members p).0 w.0, w.1));
-        none = IfNone-then result (LacksRight-same (Contains h.pairs) (Contains k.pairs) like.members same right) r.none;
-        without = IsWithoutRight-same (Contains h.pairs) (Contains k.pairs) like.members same (Contains h'.pairs) (Contains k'.pairs) right after.members r.without;
+        none = IfNone-then result (λ lacks p there. lacks p ((like.members p).1 there)) r.none;
+        without = λ p. (
+          λ there. let w = (r.without p).0 ((after.members p).1 there) in ((like.members p).0 w.0, w.1),
+          λ w. (after.members p).0 ((r.without p).1 ((like.members p).1 w.0, w.1)),
+        );
         count = MatchOption-then result (λ e. after.long ∙ e ∙ sym like.long) (λ p e. omega (arith, after.long, e, like.long)) r.count;
         room = after.room ∙ r.room ∙ sym like.room;
       }

@@ -1,6 +1,6 @@
 -- What is said of a set is said of one with the same members.
 use Rattle.std.proofs.Common.{Bool, inl, inr}
-use Rattle.bimap_base.specs.Sets.{IsSameSet, NoneShares, SomeShares, IsWithPut, HasLeft, LacksLeft, HasRight, LacksRight, IsWithoutLeft, IsWithoutRight}
+use Rattle.bimap_base.specs.Sets.{IsSameSet, NoneShares, SomeShares, IsWithPut, HasLeft, LacksLeft, HasRight, LacksRight}
 use Rattle.bimap_base.specs.Answer.{IsAnswer, IsOnlyStruck, IsAllowed, IsRefusal, IsRefusalUnder}
 use Rattle.bimap_base.specs.Undoing.{IsUndoable, IsUndone}
 use Rattle.bimap_base.specs.declared.overwritten.Overwritten.{Overwritten}
@@ -23,18 +23,6 @@ module _ {L R : Type 0} (S T : L × R → Type 0) (same : IsSameSet S T) where
 
   pub LacksRight-same : (eqr : R → R → Bool) (r : R) → LacksRight eqr S r → LacksRight eqr T r
   LacksRight-same eqr r h q there = h q ((same q).1 there)
-
-  pub IsWithoutLeft-same : (eql : L → L → Bool) (U V : L × R → Type 0) (l : L) → IsSameSet U V → IsWithoutLeft eql S l U → IsWithoutLeft eql T l V
-  IsWithoutLeft-same eql U V l after without q = (
-    λ there. let w = (without q).0 ((after q).1 there) in ((same q).0 w.0, w.1),
-    λ w. (after q).0 ((without q).1 ((same q).1 w.0, w.1)),
-  )
-
-  pub IsWithoutRight-same : (eqr : R → R → Bool) (U V : L × R → Type 0) (r : R) → IsSameSet U V → IsWithoutRight eqr S r U → IsWithoutRight eqr T r V
-  IsWithoutRight-same eqr U V r after without q = (
-    λ there. let w = (without q).0 ((after q).1 there) in ((same q).0 w.0, w.1),
-    λ w. (after q).0 ((without q).1 ((same q).1 w.0, w.1)),
-  )
 
   module _ (eql : L → L → Bool) (eqr : R → R → Bool) where
     pub NoneShares-same : (p : L × R) → NoneShares eql eqr S p → NoneShares eql eqr T p

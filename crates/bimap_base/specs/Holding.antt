@@ -1,8 +1,8 @@
 -- What a contract sees of a bimap, and what each call answers and leaves: one record a call, one fact a field.
-use Rattle.std.specs.Prelude.{◌≡◌, ℕ, ◌<◌, ◌≤◌, ◌+◌, ◌*◌, max, Bool, true, Option, Result, List, length, Contains, IfSome, IfNone, IfOk, IfErr, IsOk, OnOk, OnErr, MatchOption}
+use Rattle.std.specs.Prelude.{◌≡◌, ◌↔◌, ℕ, ◌<◌, ◌≤◌, ◌+◌, ◌*◌, max, Bool, true, false, Option, Result, List, length, Contains, IfSome, IfNone, IfOk, IfErr, IsOk, OnOk, OnErr, MatchOption}
 use Rattle.std.specs.Borrow.{Bor}
 use denote.Param.Members.{Mut}
-use Rattle.bimap_base.specs.Sets.{NoneShares, SomeShares, IsWithPut, HasLeft, LacksLeft, IsWithoutLeft, LacksRight, IsWithoutRight}
+use Rattle.bimap_base.specs.Sets.{NoneShares, SomeShares, IsWithPut, HasLeft, LacksLeft}
 use Rattle.bimap_base.specs.Answer.{IsAnswer, IsRefusal, IsAllowed, IsRefusalUnder, IsBoth, named_count}
 use Rattle.bimap_base.specs.Kept.{IsKept, IsKeptInTurn}
 use Rattle.bimap_base.specs.Undoing.{IsUndone}
@@ -30,33 +30,36 @@ pub record IsRoomAfter {L R : Type 0} (old : Holding L R) (InPlace : Type 0) (ne
   pub had_place : length old.pairs < old.room → new.room ≡ old.room
   pub in_place : InPlace → new.room ≡ old.room
 
-module _ {L R : Type 0} (same_left : L → L → Bool) where
+-- the partner of a value whose pair passes the test, or that no pair passes it; `pair` makes a pair of the two
+pub record IsPartner {L R X Y : Type 0} (pair : X → Y → L × R) (passes : L × R → Bool) (held : Holding L R) (result : Option (Bor Y)) : Type 0 where
+  pub found : IfSome result (λ y. (x : X) × Contains held.pairs (pair x y.now) × (passes (pair x y.now) ≡ true))
+  pub none : IfNone result ((p : L × R) → Contains held.pairs p → passes p ≡ false)
+
+-- what a removal of the pair that passes the test answers and leaves
+pub record IsRemoval {L R : Type 0} (passes : L × R → Bool) (old : Holding L R) (result : Option (L × R)) (new : Holding L R) : Type 0 where
+  pub removed : IfSome result (λ p. Contains old.pairs p × (passes p ≡ true))
+  pub none : IfNone result ((p : L × R) → Contains old.pairs p → passes p ≡ false)
+  pub without : (p : L × R) → Contains new.pairs p ↔ (Contains old.pairs p × (passes p ≡ false))
+  pub count : MatchOption result (length new.pairs ≡ length old.pairs) (λ _. length new.pairs + 1 ≡ length old.pairs)
+  pub room : new.room ≡ old.room
+
+module _ {L R Q : Type 0} (same_left : L → Q → Bool) where
   -- the answer of a look-up by left
-  pub record IsFoundByLeft (held : Holding L R) (left : L) (result : Option (Bor R)) : Type 0 where
-    pub found : IfSome result (λ right. (l : L) × Contains held.pairs (l, right.now) × (same_left l left ≡ true))
-    pub none : IfNone result (LacksLeft same_left (Contains held.pairs) left)
+  abbrev pub IsFoundByLeft : Holding L R → Q → Option (Bor R) → Type 0
+  IsFoundByLeft held left = IsPartner (λ l r. (l, r)) (λ p. same_left p.0 left) held
 
   -- what a removal by left answers and leaves
-  pub record IsRemovalByLeft (old : Holding L R) (left : L) (result : Option (L × R)) (new : Holding L R) : Type 0 where
-    pub removed : IfSome result (λ p. Contains old.pairs p × (same_left p.0 left ≡ true))
-    pub none : IfNone result (LacksLeft same_left (Contains old.pairs) left)
-    pub without : IsWithoutLeft same_left (Contains old.pairs) left (Contains new.pairs)
-    pub count : MatchOption result (length new.pairs ≡ length old.pairs) (λ _. length new.pairs + 1 ≡ length old.pairs)
-    pub room : new.room ≡ old.room
+  abbrev pub IsRemovalByLeft : Holding L R → Q → Option (L × R) → Holding L R → Type 0
+  IsRemovalByLeft old left = IsRemoval (λ p. same_left p.0 left) old
 
-module _ {L R : Type 0} (same_right : R → R → Bool) where
+module _ {L R Q : Type 0} (same_right : R → Q → Bool) where
   -- the answer of a look-up by right
-  pub record IsFoundByRight (held : Holding L R) (right : R) (result : Option (Bor L)) : Type 0 where
-    pub found : IfSome result (λ left. (r : R) × Contains held.pairs (left.now, r) × (same_right r right ≡ true))
-    pub none : IfNone result (LacksRight same_right (Contains held.pairs) right)
+  abbrev pub IsFoundByRight : Holding L R → Q → Option (Bor L) → Type 0
+  IsFoundByRight held right = IsPartner (λ r l. (l, r)) (λ p. same_right p.1 right) held
 
   -- and one by right
-  pub record IsRemovalByRight (old : Holding L R) (right : R) (result : Option (L × R)) (new : Holding L R) : Type 0 where
-    pub removed : IfSome result (λ p. Contains old.pairs p × (same_right p.1 right ≡ true))
-    pub none : IfNone result (LacksRight same_right (Contains old.pairs) right)
-    pub without : IsWithoutRight same_right (Contains old.pairs) right (Contains new.pairs)
-    pub count : MatchOption result (length new.pairs ≡ length old.pairs) (λ _. length new.pairs + 1 ≡ length old.pairs)
-    pub room : new.room ≡ old.room
+  abbrev pub IsRemovalByRight : Holding L R → Q → Option (L × R) → Holding L R → Type 0
+  IsRemovalByRight old right = IsRemoval (λ p. same_right p.1 right) old
 
 module _ {L R : Type 0} (same_left : L → L → Bool) (same_right : R → R → Bool) where
   -- what `insert` answers and leaves

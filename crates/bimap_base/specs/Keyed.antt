@@ -1,15 +1,21 @@
 -- Places in the order of their keys.
-use Rattle.std.specs.Prelude.{◌≡◌, ◌⊎◌, ◌↔◌, ℕ, ◌<◌, List, length, Option, Some, None, IsSome, slice_index}
+use Rattle.std.specs.Prelude.{◌≡◌, ◌⊎◌, ◌↔◌, ℕ, ◌<◌, List, length, Option, Some, None, IsSome, IsTrue, slice_index}
 use Rattle.std.specs.List.{Contains}
+use Rattle.std.specs.Ordering.{is_le}
 use Rattle.std.specs.declared.cmp.Ordering.{Ordering}
 use Rattle.std.specs.declared.cmp.Ordering.TheVariants.{Less, Greater}
 
 module _ {K : Type 0} where
-  -- how a key stands to another: behind it, where either is not there
-  abbrev pub standing : (K → K → Ordering) → Option K → Option K → Ordering
-  standing order first None = Greater
-  standing order None (Some key) = Greater
-  standing order (Some k) (Some key) = order k key
+  module _ {Q : Type 0} where
+    -- how a key stands to another, or to a query: behind it, where either is not there
+    abbrev pub standing : (K → Q → Ordering) → Option K → Option Q → Ordering
+    standing order first None = Greater
+    standing order None (Some key) = Greater
+    standing order (Some k) (Some key) = order k key
+
+    -- a key below one that isn't above a query is below the query
+    abbrev pub Follows : (K → K → Ordering) → (K → Q → Ordering) → Type 0
+    Follows order to = (q : Q) (x y : K) → order x y ≡ Less → IsTrue (is_le (to y q)) → to x q ≡ Less
 
   -- each place of the list has a key, and the keys rise strictly
   pub record Ascends (key_at : ℕ → Option K) (order : K → K → Ordering) (places : List ℕ) : Type 0 where

@@ -19,3 +19,4 @@ pub mod Numbered
 pub mod NodesInCells
 pub mod Places
 pub mod PairsAt
+pub mod QueryLaws

@@ -27,28 +27,28 @@ module _ {L R : Type 0} (same_left : L → L → Bool) (same_right : R → R →
   abbrev pub IsWithPut : (L × R → Type 0) → L × R → (L × R → Type 0) → Type 0
   IsWithPut S p T = (q : L × R) → T q ↔ ((q ≡ p) ⊎ (S q × (shares q p ≡ false)))
 
-module _ {L R : Type 0} (same_left : L → L → Bool) where
+module _ {L R Q : Type 0} (same_left : L → Q → Bool) where
   -- a member of S has this left
-  abbrev pub HasLeft : (L × R → Type 0) → L → Type 0
+  abbrev pub HasLeft : (L × R → Type 0) → Q → Type 0
   HasLeft S l = (q : L × R) × S q × (same_left q.0 l ≡ true)
 
   -- no member of S has it
-  abbrev pub LacksLeft : (L × R → Type 0) → L → Type 0
+  abbrev pub LacksLeft : (L × R → Type 0) → Q → Type 0
   LacksLeft S l = (q : L × R) → S q → same_left q.0 l ≡ false
 
   -- T is S without the pairs that have it
-  abbrev pub IsWithoutLeft : (L × R → Type 0) → L → (L × R → Type 0) → Type 0
+  abbrev pub IsWithoutLeft : (L × R → Type 0) → Q → (L × R → Type 0) → Type 0
   IsWithoutLeft S l T = (q : L × R) → T q ↔ (S q × (same_left q.0 l ≡ false))
 
-module _ {L R : Type 0} (same_right : R → R → Bool) where
+module _ {L R Q : Type 0} (same_right : R → Q → Bool) where
   -- a member of S has this right
-  abbrev pub HasRight : (L × R → Type 0) → R → Type 0
+  abbrev pub HasRight : (L × R → Type 0) → Q → Type 0
   HasRight S r = (q : L × R) × S q × (same_right q.1 r ≡ true)
 
   -- no member of S has it
-  abbrev pub LacksRight : (L × R → Type 0) → R → Type 0
+  abbrev pub LacksRight : (L × R → Type 0) → Q → Type 0
   LacksRight S r = (q : L × R) → S q → same_right q.1 r ≡ false
 
   -- T is S without the pairs that have it
-  abbrev pub IsWithoutRight : (L × R → Type 0) → R → (L × R → Type 0) → Type 0
+  abbrev pub IsWithoutRight : (L × R → Type 0) → Q → (L × R → Type 0) → Type 0
   IsWithoutRight S r T = (q : L × R) → T q ↔ (S q × (same_right q.1 r ≡ false))

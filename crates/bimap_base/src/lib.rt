@@ -15,6 +15,7 @@ mod numbered;
 mod overwritten;
 mod pairs;
 mod policy;
+mod query;
 mod refusal;
 mod replace;
 mod side;
@@ -33,6 +34,7 @@ pub use numbered::hash_number;
 pub use overwritten::Overwritten;
 pub use pairs::Pairs;
 pub use policy::{OnHeld, Policy};
+pub use query::{HashQuery, OrderQuery, Query};
 pub use refusal::{
     ExtendStopped, ItemRefused, NoMemory, NoRoom, NotInserted, NotInsertedWith, NotReplaced,
     UndoStopped,

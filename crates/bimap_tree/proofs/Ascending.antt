@@ -4,7 +4,7 @@ use Rattle.std.specs.Prelude.{is_some, IsSome, slice_index}
 use Rattle.std.specs.Cmp.{IsTotalOrder}
 use Rattle.std.specs.List.{AllByRecursion, Contains}
 use Rattle.std.specs.List.Sorted.{IsStrictlySortedBy}
-use Rattle.std.specs.Ordering.{ordering_reverse}
+use Rattle.std.specs.Ordering.{is_le, ordering_reverse}
 use Rattle.std.specs.declared.cmp.Ordering.{Ordering}
 use Rattle.std.specs.declared.cmp.Ordering.TheVariants.{Less, Equal, Greater}
 use Rattle.std.proofs.lemmas.Map.Keys.{Less-from_sorted, sorted_head, sorted_tail}
@@ -12,7 +12,7 @@ use Rattle.std.proofs.lemmas.List.Elements.{All-from_recursion, recursion_from_A
 use Rattle.std.proofs.lemmas.Bool.Decides.{leb_tells}
 use Rattle.std.proofs.lemmas.Cmp.{tied_itself}
 use Rattle.std.proofs.lemmas.List.{get_or_default}
-use Rattle.bimap_base.specs.Keyed.{standing, Ascends}
+use Rattle.bimap_base.specs.Keyed.{standing, Ascends, Follows}
 use Rattle.bimap_tree.specs.Order.{AllStand, IsSplit, after_key}
 use Rattle.bimap_tree.proofs.Distinct.{all_front, all_behind, all_append, all_both}
 use Rattle.bimap_tree.proofs.Split.{less_or_not}
@@ -95,34 +95,52 @@ module _ {K : Type 0} (key : ℕ → Option K) (order : K → K → Ordering) wh
       (all_without (λ q. IsSome (key q)) xs ys p (live_all (xs ++ p ∷ ys) up))
       (sorted_without stand xs ys p (rising (xs ++ p ∷ ys) up))
 
-  module _ (total : IsTotalOrder order) where
-    -- ---- as seen from one key
-    -- a key above one that is not below the sought one is above that
-    above_step : (x y k : K) (o : Ordering) → order x k ≡ o → o ≢ Less → order x y ≡ Less → order y k ≡ Greater
-    above_step x y k Less e n h = absurd (n refl)
-    above_step x y k Equal e n h =
-        let a : order k y ≡ Less = sym (total.congr x k y e) ∙ h in
-        total.antisymm y k ∙ ap ordering_reverse a
-    above_step x y k Greater e n h =
-        let a : order k x ≡ Less = total.antisymm k x ∙ ap ordering_reverse e in
-        total.antisymm y k ∙ ap ordering_reverse (total.trans k x y a h)
-
-    above : (a b : Option K) (k : K) → standing order a (Some k) ≢ Less → standing order a b ≡ Less → standing order b (Some k) ≡ Greater
+  -- ---- as seen from a query
+  module _ {Q : Type 0} (to : K → Q → Ordering) (follows : Follows order to) where
+    -- a key above one that is not below the query is above it
+    above : (a b : Option K) (k : Q) → standing to a (Some k) ≢ Less → standing order a b ≡ Less → standing to b (Some k) ≡ Greater
     above a None k n h = refl
-    above (Some a) (Some b) k n h = above_step a b k (order a k) refl n h
     above None (Some b) k n h = absurd (let x : Greater ≡ Less = h in cc)
+    above (Some a) (Some b) k n h = by (to b k) refl
+      where
+        by : (o : Ordering) → to b k ≡ o → to b k ≡ Greater
+        by Less e = absurd (n (follows k a b h (ap is_le e)))
+        by Equal e = absurd (n (follows k a b h (ap is_le e)))
+        by Greater e = e
 
-    pub split : (k : K) (xs : List ℕ) → Ascends key order xs → IsSplit (λ q. standing order (key q) (Some k)) xs
+    pub split : (k : Q) (xs : List ℕ) → Ascends key order xs → IsSplit (λ q. standing to (key q) (Some k)) xs
     split k [] up = tt
     split k (x ∷ xs) up =
         let less = sorted_head stand x xs (rising (x ∷ xs) up) in (
-          elim (less_or_not (standing order (key x) (Some k))) [
+          elim (less_or_not (standing to (key x) (Some k))) [
             | inl w ↦ inl w
-            | inr n ↦ inr (all_both (λ y. stand x y ≡ Less) (λ y. stand x y ≡ Less) (λ y. standing order (key y) (Some k) ≡ Greater) (λ y h _. above (key x) (key y) k n h) xs less less)
+            | inr n ↦ inr (all_both (λ y. stand x y ≡ Less) (λ y. stand x y ≡ Less) (λ y. standing to (key y) (Some k) ≡ Greater) (λ y h _. above (key x) (key y) k n h) xs less less)
           ],
           split k xs (ascends_tail x xs up),
         )
 
+    -- only one place of a list has a key that stands equal
+    apart : (a b : Option K) (k : Q) → standing order a b ≡ Less → standing to a (Some k) ≡ Equal → standing to b (Some k) ≡ Equal → ⊥
+    apart (Some a) (Some b) k less first second =
+        let x : Less ≡ Equal = sym (follows k a b less (ap is_le second)) ∙ first in
+        cc
+    apart None b k less first second = let x : Greater ≡ Equal = first in cc
+    apart (Some a) None k less first second = let x : Greater ≡ Equal = second in cc
+
+    pub only_one : (xs : List ℕ) → Ascends key order xs → (k : Q) (p q : ℕ) → Contains xs p → Contains xs q → standing to (key p) (Some k) ≡ Equal → standing to (key q) (Some k) ≡ Equal → p ≡ q
+    only_one xs up k p q (i, few, e) (j, less, f) a b =
+        let here : slice_index xs i ≡ p = get_or_default xs i 0 p few ∙ e in
+        let there : slice_index xs j ≡ q = get_or_default xs j 0 q less ∙ f in
+        let ordered : (n m : ℕ) → n < m → m < length xs → stand (slice_index xs n) (slice_index xs m) ≡ Less = λ n m lt within. Less-from_sorted stand xs n m 0 (rising xs up) lt within in
+        elim (leb_tells (i + 1) j) [
+          | inl w ↦ absurd (apart (key p) (key q) k (rw (sym here, sym there) (ordered i j (omega (arith, w.1)) less)) a b)
+          | inr w ↦ elim (leb_tells (j + 1) i) [
+            | inl v ↦ absurd (apart (key q) (key p) k (rw (sym here, sym there) (ordered j i (omega (arith, v.1)) few)) b a)
+            | inr v ↦ let same : i ≡ j = omega arith in sym here ∙ ap (λ n. slice_index xs n) same ∙ there
+          ]
+        ]
+
+  module _ (total : IsTotalOrder order) where
     -- ---- a list into which a place was put
     flipped : (a : Option K) (k : K) → IsSome a → standing order a (Some k) ≡ Greater → standing order (Some k) a ≡ Less
     flipped (Some a) k some h = total.antisymm k a ∙ ap ordering_reverse h
@@ -138,29 +156,7 @@ module _ {K : Type 0} (key : ℕ → Option K) (order : K → K → Ordering) wh
         (all_both (λ q. IsSome (key q)) (λ q. standing order (key q) (Some k) ≡ Greater) (λ y. stand p y ≡ Less) (λ y l h. ap (λ o. standing order o (key y)) e ∙ flipped (key y) k l h) ys (all_behind (λ q. IsSome (key q)) xs ys live) b)
         (rising (xs ++ ys) up))
 
-    -- ---- only one place of a list has a key equal to this one
-    apart : (a b k : Option K) → standing order a b ≡ Less → standing order a k ≡ Equal → standing order b k ≡ Equal → ⊥
-    apart (Some a) (Some b) (Some k) less first second =
-        let x : Less ≡ Equal = sym less ∙ total.congr a k b first ∙ total.antisymm k b ∙ ap ordering_reverse second in
-        cc
-    apart a b None less first second = let x : Greater ≡ Equal = first in cc
-    apart None b (Some k) less first second = let x : Greater ≡ Equal = first in cc
-    apart (Some a) None (Some k) less first second = let x : Greater ≡ Equal = second in cc
-
-    pub only_one : (xs : List ℕ) → Ascends key order xs → (k : K) (p q : ℕ) → Contains xs p → Contains xs q → standing order (key p) (Some k) ≡ Equal → standing order (key q) (Some k) ≡ Equal → p ≡ q
-    only_one xs up k p q (i, few, e) (j, less, f) a b =
-        let here : slice_index xs i ≡ p = get_or_default xs i 0 p few ∙ e in
-        let there : slice_index xs j ≡ q = get_or_default xs j 0 q less ∙ f in
-        let ordered : (n m : ℕ) → n < m → m < length xs → stand (slice_index xs n) (slice_index xs m) ≡ Less = λ n m lt within. Less-from_sorted stand xs n m 0 (rising xs up) lt within in
-        elim (leb_tells (i + 1) j) [
-          | inl w ↦ absurd (apart (key p) (key q) (Some k) (rw (sym here, sym there) (ordered i j (omega (arith, w.1)) less)) a b)
-          | inr w ↦ elim (leb_tells (j + 1) i) [
-            | inl v ↦ absurd (apart (key q) (key p) (Some k) (rw (sym here, sym there) (ordered j i (omega (arith, v.1)) few)) b a)
-            | inr v ↦ let same : i ≡ j = omega arith in sym here ∙ ap (λ n. slice_index xs n) same ∙ there
-          ]
-        ]
-
-    -- and a listed place with this key is it
+    -- the key of a place stands equal to itself
     pub own_key : (p : ℕ) (k : K) → key p ≡ Some k → standing order (key p) (Some k) ≡ Equal
     own_key p k e = ap (λ o. standing order o (Some k)) e ∙ tied_itself total k
 

@@ -9,6 +9,7 @@ use Rattle.std.specs.declared.cmp.Ordering.TheVariants.{Less, Equal, Greater}
 use Rattle.std.specs.declared.ops.Bound.{Bound}
 use Rattle.std.specs.declared.ops.Bound.TheVariants.{Included, Excluded, Unbounded}
 use Rattle.bimap_base.specs.Keyed.{standing, Ascends}
+use Rattle.bimap_base.specs.QueryLaws.{follows_itself}
 use Rattle.bimap_tree.specs.Order.{after_key, count_below, IsSplit}
 use Rattle.bimap_tree.specs.Spans.{IsCut, IsSpan}
 use Rattle.bimap_tree.proofs.Ascending.{split, split_after}
@@ -40,12 +41,12 @@ module _ {K : Type 0} (key : ℕ → Option K) (order : K → K → Ordering) (t
 
   pub cut_included : (bound : K) (rank : ℕ) → rank ≡ count_below (λ q. standing order (key q) (Some bound)) xs → IsCut (is_from_start order (Included bound)) key xs rank
   cut_included bound =
-      cuts (λ q. standing order (key q) (Some bound)) (split key order total bound xs up) (λ k. is_le (order bound k))
+      cuts (λ q. standing order (key q) (Some bound)) (split key order order (follows_itself total) bound xs up) (λ k. is_le (order bound k))
       (λ p k has. le_turned (order bound k) ∙ ap (λ o. not (is_lt o)) (seen bound k p has))
 
   pub cut_excluded : (bound : K) (rank : ℕ) → rank ≡ count_below (λ q. after_key (standing order (key q) (Some bound))) xs → IsCut (is_from_start order (Excluded bound)) key xs rank
   cut_excluded bound =
-      cuts (λ q. after_key (standing order (key q) (Some bound))) (split_after (λ q. standing order (key q) (Some bound)) xs (split key order total bound xs up)) (λ k. is_lt (order bound k))
+      cuts (λ q. after_key (standing order (key q) (Some bound))) (split_after (λ q. standing order (key q) (Some bound)) xs (split key order order (follows_itself total) bound xs up)) (λ k. is_lt (order bound k))
       (λ p k has. lt_turned (order bound k) ∙ ap (λ o. not (is_lt (after_key o))) (seen bound k p has))
 
   pub cut_unbounded : IsCut (is_from_start order Unbounded) key xs 0

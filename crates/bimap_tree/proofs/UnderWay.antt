@@ -7,6 +7,7 @@ use Rattle.std.specs.declared.cmp.Ordering.TheVariants.{Equal}
 use Rattle.bimap_base.specs.declared.cells.Node.{Node}
 use Rattle.bimap_base.specs.Digits.{most_height}
 use Rattle.bimap_base.specs.Keyed.{standing, Ascends}
+use Rattle.bimap_base.specs.QueryLaws.{follows_itself}
 use Rattle.bimap_tree.specs.Tree.{Tree, Shows, fork, reading, root_of, branch, node_of}
 use Rattle.bimap_tree.specs.Index.{Index, IsBalancedIndex, IsWhole, index_of, tree_in, height_at}
 use Rattle.bimap_tree.specs.Order.{first_equal}
@@ -77,7 +78,7 @@ module _ (ns : List Node) (root : Option ℕ) (len : ℕ) (v : Index) (w : IsWho
   pub goes_on_down : (route : Route) (u : IsUnderWay v (λ q. standing order (key q) (Some k)) descent route) → CanFollow ns descent.root (λ q. IsSome (key q)) (λ q. standing order (key q) (Some k)) route descent.depth u.path u.rest × (first_equal (λ q. standing order (key q) (Some k)) v.places ≡ first_equal (λ q. standing order (key q) (Some k)) (reading u.rest))
   goes_on_down route u =
       let go : ℕ → Ordering = λ q. standing order (key q) (Some k) in
-      let whole = can_seek_of ns root len v w e key order total up (plug u.path u.rest) u.of_index k in
+      let whole = can_seek_of ns root len v w e key order order (follows_itself total) up (plug u.path u.rest) u.of_index k in
       let (can, found) = seek_along ns (λ q. IsSome (key q)) go root u.path u.rest whole u.wants in (
         record {
           seek = subst (λ x. CanSeek ns x (λ q. IsSome (key q)) go u.rest) u.root_is can;

@@ -7,7 +7,8 @@ use Rattle.std.specs.declared.cmp.Ordering.{Ordering}
 use Rattle.std.specs.declared.cmp.Ordering.TheVariants.{Equal}
 use Rattle.bimap_base.specs.declared.cells.Node.{Node}
 use Rattle.bimap_base.specs.Digits.{bits, most_height}
-use Rattle.bimap_base.specs.Keyed.{standing, Ascends, Adds, Drops}
+use Rattle.bimap_base.specs.Keyed.{standing, Ascends, Follows, Adds, Drops}
+use Rattle.bimap_base.specs.QueryLaws.{follows_itself}
 use Rattle.bimap_base.proofs.Digits.{bits-least}
 use Rattle.bimap_tree.specs.Tree.{Tree, leaf, fork, reading, height, size, occurs, is_at, IsBalanced, IsDistinctTree, Stands, Shows}
 use Rattle.bimap_tree.specs.Index.{Index, IsIndex, IsBalancedIndex, IsWhole, index_of, tree_in}
@@ -74,28 +75,29 @@ module _ (ns : List Node) (root : Option ℕ) (len : ℕ) (v : Index) (w : IsWho
     places_grown = ap reading (tree_in-shown ms root (tree_in ns root) still_stands) ∙ places_are
 
   -- ---- searches
-  module _ {K : Type 0} (key : ℕ → Option K) (order : K → K → Ordering) (total : IsTotalOrder order) (up : Ascends key order v.places) where
+  module _ {K Q : Type 0} (key : ℕ → Option K) (order : K → K → Ordering) (to : K → Q → Ordering) (follows : Follows order to) (up : Ascends key order v.places) where
     -- in each form of the tree
-    pub can_seek_of : (t : Tree) → IsBalancedIndex v t → (k : K) → CanSeek ns root (λ q. IsSome (key q)) (λ q. standing order (key q) (Some k)) t
+    pub can_seek_of : (t : Tree) → IsBalancedIndex v t → (k : Q) → CanSeek ns root (λ q. IsSome (key q)) (λ q. standing to (key q) (Some k)) t
     can_seek_of t shown k =
         let ascends : Ascends key order (reading t) = subst (λ x. Ascends key order x) (sym shown.in_order) up in
         record {
           tree = subst (λ x. Stands x.nodes x.root t) (sym e) shown.tree.tree;
           all_live = occurs_all (λ q. IsSome (key q)) t (live_all key order (reading t) ascends);
-          in_order = split key order total k (reading t) ascends;
+          in_order = split key order to follows k (reading t) ascends;
           fits = omega (arith, size-reading t, ap length shown.in_order, length_is, w.few);
         }
 
-    pub can_seek : (k : K) → CanSeek ns root (λ q. IsSome (key q)) (λ q. standing order (key q) (Some k)) (tree_in ns root)
+    pub can_seek : (k : Q) → CanSeek ns root (λ q. IsSome (key q)) (λ q. standing to (key q) (Some k)) (tree_in ns root)
     can_seek = can_seek_of (tree_in ns root) shown_index
 
-    pub can_seek_after : (k : K) → CanSeek ns root (λ q. IsSome (key q)) (λ q. after_key (standing order (key q) (Some k))) (tree_in ns root)
-    can_seek_after k = record { tree = (can_seek k).tree; all_live = (can_seek k).all_live; in_order = split_after (λ q. standing order (key q) (Some k)) (reading (tree_in ns root)) (can_seek k).in_order; fits = few }
+    pub can_seek_after : (k : Q) → CanSeek ns root (λ q. IsSome (key q)) (λ q. after_key (standing to (key q) (Some k))) (tree_in ns root)
+    can_seek_after k = record { tree = (can_seek k).tree; all_live = (can_seek k).all_live; in_order = split_after (λ q. standing to (key q) (Some k)) (reading (tree_in ns root)) (can_seek k).in_order; fits = few }
 
-    pub can_seek_place : (place : ℕ) (k : K) → key place ≡ Some k → CanSeek ns root (λ q. IsSome (key q) × IsSome (key place)) (λ q. standing order (key q) (key place)) (tree_in ns root)
-    can_seek_place place k is =
-        subst (λ o. CanSeek ns root (λ q. IsSome (key q) × IsSome o) (λ q. standing order (key q) o) (tree_in ns root)) (sym is)
-        (record { tree = (can_seek k).tree; all_live = λ q n. ((can_seek k).all_live q n, refl); in_order = (can_seek k).in_order; fits = few })
+  pub can_seek_place : {K : Type 0} (key : ℕ → Option K) (order : K → K → Ordering) → IsTotalOrder order → Ascends key order v.places → (place : ℕ) (k : K) → key place ≡ Some k → CanSeek ns root (λ q. IsSome (key q) × IsSome (key place)) (λ q. standing order (key q) (key place)) (tree_in ns root)
+  can_seek_place key order total up place k is =
+      let seek = can_seek key order order (follows_itself total) up k in
+      subst (λ o. CanSeek ns root (λ q. IsSome (key q) × IsSome o) (λ q. standing order (key q) o) (tree_in ns root)) (sym is)
+      (record { tree = seek.tree; all_live = λ q n. (seek.all_live q n, refl); in_order = seek.in_order; fits = few })
 
   pub can_follow : (live : ℕ → Type 0) (go : ℕ → Ordering) (route : Route) → CanSeek ns root live go (tree_in ns root) → CanFollow ns root live go route 0 top (tree_in ns root)
   can_follow live go route h = record {
@@ -140,7 +142,7 @@ module _ (ns : List Node) (root : Option ℕ) (len : ℕ) (v : Index) (w : IsWho
     pub place_found : IsTotalOrder order → Ascends key order v.places → Contains v.places place → found ≡ Some place
     place_found total up listed =
         one_of (λ q. standing order (key q) (Some k)) v.places found place first_listed listed (own_key key order total place k is)
-        (λ p c s. only_one key order total v.places up k p place c listed s (own_key key order total place k is))
+        (λ p c s. only_one key order order (follows_itself total) v.places up k p place c listed s (own_key key order total place k is))
 
   -- ---- a place put in at a route's end
   module _ (go : ℕ → Ordering) (route : Route) (r : IsRoute v go route) where
@@ -217,7 +219,7 @@ module _ (ns : List Node) (root : Option ℕ) (len : ℕ) (v : Index) (w : IsWho
         pub put_ascends : {K : Type 0} (key : ℕ → Option K) (order : K → K → Ordering) → IsTotalOrder order → Ascends key order v.places → (k : K) → key place ≡ Some k → (go ≡ (λ q. standing order (key q) (Some k))) → Ascends key order (reading (tree_in ms last))
         put_ascends key order total up k is same =
             let parts : Ascends key order (front r.path ++ back r.path) = subst (λ x. Ascends key order x) read_before up in
-            let divided : IsSplit (λ q. standing order (key q) (Some k)) (reading (plug r.path leaf)) = split key order total k (reading (plug r.path leaf)) (subst (λ x. Ascends key order x) (sym r.of_index.in_order) up) in
+            let divided : IsSplit (λ q. standing order (key q) (Some k)) (reading (plug r.path leaf)) = split key order order (follows_itself total) k (reading (plug r.path leaf)) (subst (λ x. Ascends key order x) (sym r.of_index.in_order) up) in
             let (less, more) = beside (λ q. standing order (key q) (Some k)) r.path leaf divided (subst (λ g. Wants g r.path) same r.wants) in
             subst (λ x. Ascends key order x) (sym (reads ∙ read_now))
             (ascends_with key order total (front r.path) (back r.path) place k is less more parts)

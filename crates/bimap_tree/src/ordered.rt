@@ -20,10 +20,10 @@ use crate::by_width::{
 };
 use crate::descent::Descent;
 use crate::route::Route;
-use crate::search_key::{AfterKey, ToKey, ToPlace};
-use bimap_base::{Cells, Keys, Meter, NoMemory};
+use crate::search_key::{AfterKey, ToKey, ToPlace, ToQuery};
+use bimap_base::{Cells, Keys, Meter, NoMemory, OrderQuery, Side};
 use std::alloc::Global;
-use std::marker::Model;
+use std::marker::{Model, PhantomData};
 use std::ops::Bound;
 
 /// Places in the strictly ascending order of their keys, as a balanced tree with a cell for each place.
@@ -98,19 +98,29 @@ impl Ordered {
         self.len = 0;
     }
 
-    /// The listed place whose key is equal, in time logarithmic in the length.
-    pub fn find<K: Keys, M: Meter>(&self, keys: &K, key: &K::Key, meter: &mut M) -> Option<usize>
-        requires { Ascends (K.key_at keys.now) K.order self.now.places }
+    /// The listed place whose key the query asks for, in time logarithmic in the length.
+    pub fn find<K: Ord, S: Side<K>, Q: OrderQuery<K>, M: Meter>(
+        &self,
+        side: S,
+        query: Q,
+        meter: &mut M,
+    ) -> Option<usize>
+        requires { Ascends (S.key_at side) K.cmp self.now.places }
         ensures found { IfSome result (λ p. Contains self.now.places p
-            × (standing K.order (K.key_at keys.now p) (Some key.now) ≡ Equal)) }
+            × (standing Q.order (S.key_at side p) (Some query) ≡ Equal)) }
         ensures none { IfNone result ((p : ℕ) → Contains self.now.places p →
-            standing K.order (K.key_at keys.now p) (Some key.now) ≡ Equal → ⊥) }
+            standing Q.order (S.key_at side p) (Some query) ≡ Equal → ⊥) }
         ensures comparisons { M.comparisons meter.new ≤ M.comparisons meter.old
             + most_height (length self.now.places) }
         ensures touches { M.touches meter.new ≤ M.touches meter.old
             + most_height (length self.now.places) }
     {
-        find_in_tree(&self.cells, self.root, &ToKey { keys, key }, meter)
+        let sought = ToQuery {
+            side,
+            query,
+            of: PhantomData,
+        };
+        find_in_tree(&self.cells, self.root, &sought, meter)
     }
 
     /// A search that has not gone down yet, for `step` and `finish`.
@@ -266,34 +276,39 @@ impl Ordered {
         self.len -= 1;
     }
 
-    /// Takes the place whose key is equal off the list, and answers it. Where there is none, nothing is written.
-    pub fn remove_key<K: Keys, M: Meter>(
+    /// Takes the place whose key the query asks for off the list, and answers it. Where there is none, nothing is written.
+    pub fn remove_key<K: Ord, S: Side<K>, Q: OrderQuery<K>, M: Meter>(
         &mut self,
-        keys: &K,
-        key: &K::Key,
+        side: S,
+        query: Q,
         meter: &mut M,
     ) -> Option<usize>
-        requires { Ascends (K.key_at keys.now) K.order self.old.places }
+        requires { Ascends (S.key_at side) K.cmp self.old.places }
         ensures found { IfSome result (λ p. Contains self.old.places p
-            × (standing K.order (K.key_at keys.now p) (Some key.now) ≡ Equal)) }
+            × (standing Q.order (S.key_at side p) (Some query) ≡ Equal)) }
         ensures none { IfNone result ((p : ℕ) → Contains self.old.places p →
-            standing K.order (K.key_at keys.now p) (Some key.now) ≡ Equal → ⊥) }
+            standing Q.order (S.key_at side p) (Some query) ≡ Equal → ⊥) }
         ensures len { IfSome result (λ _. length self.new.places + 1 ≡ length self.old.places) }
         ensures drops { IfSome result (λ p. Drops self.old.places p self.new.places) }
         ensures unchanged { IfNone result (self.new ≡ self.old) }
-        ensures ascends { Ascends (K.key_at keys.now) K.order self.new.places }
+        ensures ascends { Ascends (S.key_at side) K.cmp self.new.places }
         ensures cells { length self.new.nodes ≡ length self.old.nodes }
         ensures comparisons { M.comparisons meter.new ≤ M.comparisons meter.old
             + most_height (length self.old.places) }
         ensures touches { M.touches meter.new ≤ M.touches meter.old
             + 64 * (most_height (length self.old.places) + 1) }
     {
+        let sought = ToQuery {
+            side,
+            query,
+            of: PhantomData,
+        };
         let mut route = Route::new();
         let found = route_in_tree(
             &self.cells,
             self.root,
             0,
-            &ToKey { keys, key },
+            &sought,
             &mut route,
             meter,
         )?;

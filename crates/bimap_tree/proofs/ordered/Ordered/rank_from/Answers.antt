@@ -2,6 +2,7 @@ use Rattle.std.proofs.Common.{arith, ap, sym, subst, ◌∙◌, Some}
 use Rattle.std.specs.Range.Bound.{bound_map}
 use Rattle.std.specs.BTreeMap.Range.{is_from_start}
 use Rattle.bimap_base.specs.Keyed.{standing}
+use Rattle.bimap_base.specs.QueryLaws.{follows_itself}
 use Rattle.bimap_base.specs.NodesInCells.{nodes_in}
 use Rattle.bimap_tree.specs.Index.{tree_in}
 use Rattle.bimap_tree.specs.Order.{count_below, after_key}
@@ -16,14 +17,14 @@ returns-in-Unbounded-clause-cut g c =
     (cut_unbounded _ _ g.met.K.Keys.total _ c.requires)
 
 pub rank_in_tree-requires : goal.rank_in_tree-requires
-rank_in_tree-requires g c = (tree_in (nodes_in c.self.inside.cells) c.self.inside.root, can_seek _ _ _ _ c.self.invariant c.self.view_is _ _ g.met.K.Keys.total c.requires _)
+rank_in_tree-requires g c = (tree_in (nodes_in c.self.inside.cells) c.self.inside.root, can_seek _ _ _ _ c.self.invariant c.self.view_is _ _ _ (follows_itself g.met.K.Keys.total) c.requires _)
 
 pub rank_in_tree-requires-in-Excluded : goal.rank_in_tree-requires-in-Excluded
-rank_in_tree-requires-in-Excluded g c = (tree_in (nodes_in c.self.inside.cells) c.self.inside.root, can_seek_after _ _ _ _ c.self.invariant c.self.view_is _ _ g.met.K.Keys.total c.requires _)
+rank_in_tree-requires-in-Excluded g c = (tree_in (nodes_in c.self.inside.cells) c.self.inside.root, can_seek_after _ _ _ _ c.self.invariant c.self.view_is _ _ _ (follows_itself g.met.K.Keys.total) c.requires _)
 
 pub returns-in-Included : goal.returns-in-Included
 returns-in-Included g c =
-    let s = can_seek _ _ _ _ c.self.invariant c.self.view_is _ _ g.met.K.Keys.total c.requires c.in-Included.key.now in
+    let s = can_seek _ _ _ _ c.self.invariant c.self.view_is _ _ _ (follows_itself g.met.K.Keys.total) c.requires c.in-Included.key.now in
     let rank = c.rank_in_tree.ensures.rank _ s
     ∙ ap (λ x. count_below (λ q. standing g.K.Keys.order (g.K.Keys.key_at c.args.keys.now q) (Some c.in-Included.key.now)) x) (places_are _ _ _ _ c.self.invariant c.self.view_is) in
     record {
@@ -34,7 +35,7 @@ returns-in-Included g c =
 
 pub returns-in-Excluded : goal.returns-in-Excluded
 returns-in-Excluded g c =
-    let s = can_seek_after _ _ _ _ c.self.invariant c.self.view_is _ _ g.met.K.Keys.total c.requires c.in-Excluded.key.now in
+    let s = can_seek_after _ _ _ _ c.self.invariant c.self.view_is _ _ _ (follows_itself g.met.K.Keys.total) c.requires c.in-Excluded.key.now in
     let rank = c.rank_in_tree-in-Excluded.ensures.rank _ s
     ∙ ap (λ x. count_below (λ q. after_key (standing g.K.Keys.order (g.K.Keys.key_at c.args.keys.now q) (Some c.in-Excluded.key.now))) x) (places_are _ _ _ _ c.self.invariant c.self.view_is) in
     record {

@@ -1,5 +1,5 @@
 use Rattle.std.proofs.Common.{rules}
-use Rattle.bimap_base.proofs.by_hash.ByHashSpread.hash_key.Goals as goal
+use Rattle.bimap_base.proofs.by_hash.ByHashSpread.hash_query.Goals as goal
 
 pub returns : goal.returns
 returns g c = search rules
