@@ -74,22 +74,22 @@ impl<L: Link> Threads<L> {
         }
     }
 
-    /// The listed place with an equal key, by the number of the key.
+    /// The listed place whose key the query asks for, by the number of the query.
     #[inline(always)]
     pub(crate) fn find_numbered<S: Spread>(
         &self,
         spread: &S,
         number: u32,
-        key: &S::Key,
+        query: S::Query,
     ) -> Option<usize>
         requires sound { IsSound self.now }
         requires numbered { AreNumbered (S.key_at spread.now) (S.number_of spread.now)
             (numbers_of self.now) }
-        requires number { number ≡ S.number_of spread.now key.now }
-        ensures found { IfSome result (Matches (S.key_at spread.now) (λ k. S.same_key k key.now)
+        requires number { number ≡ S.query_number spread.now query }
+        ensures found { IfSome result (Matches (S.key_at spread.now) (λ k. S.same_key k query)
             (numbers_of self.now)) }
         ensures absent { IfNone result ((p : ℕ) →
-            ¬ Matches (S.key_at spread.now) (λ k. S.same_key k key.now) (numbers_of self.now) p) }
+            ¬ Matches (S.key_at spread.now) (λ k. S.same_key k query) (numbers_of self.now) p) }
     {
         if self.buckets() == 0 {
             return None;
@@ -98,7 +98,7 @@ impl<L: Link> Threads<L> {
         let mut end = self.len();
         let mut at = self.head(bucket);
         while let Some(place) = at {
-            if self.has_number(place, number) && spread.same(place, key) {
+            if self.has_number(place, number) && spread.same(place, query) {
                 return Some(place);
             }
             end = place;

@@ -70,31 +70,31 @@ impl Hashed {
         }
     }
 
-    /// The listed place with an equal key.
+    /// The listed place whose key the query asks for.
     #[inline(always)]
-    pub fn find<S: Spread>(&self, spread: &S, key: &S::Key) -> Option<usize>
+    pub fn find<S: Spread>(&self, spread: &S, query: S::Query) -> Option<usize>
         requires { AreNumbered (S.key_at spread.now) (S.number_of spread.now) self.now }
         ensures found { IfSome result (Matches (S.key_at spread.now)
-            (λ k. S.same_key k key.now) self.now) }
+            (λ k. S.same_key k query) self.now) }
         ensures absent { IfNone result ((p : ℕ) →
-            ¬ Matches (S.key_at spread.now) (λ k. S.same_key k key.now) self.now p) }
+            ¬ Matches (S.key_at spread.now) (λ k. S.same_key k query) self.now p) }
     {
-        self.find_numbered(spread, spread.hash_key(key), key)
+        self.find_numbered(spread, spread.hash_query(query), query)
     }
 
     /// As `find`, by a number that the caller has.
     #[inline(always)]
-    pub fn find_numbered<S: Spread>(&self, spread: &S, number: u32, key: &S::Key) -> Option<usize>
+    pub fn find_numbered<S: Spread>(&self, spread: &S, number: u32, query: S::Query) -> Option<usize>
         requires numbered { AreNumbered (S.key_at spread.now) (S.number_of spread.now) self.now }
-        requires number { number ≡ S.number_of spread.now key.now }
+        requires number { number ≡ S.query_number spread.now query }
         ensures found { IfSome result (Matches (S.key_at spread.now)
-            (λ k. S.same_key k key.now) self.now) }
+            (λ k. S.same_key k query) self.now) }
         ensures absent { IfNone result ((p : ℕ) →
-            ¬ Matches (S.key_at spread.now) (λ k. S.same_key k key.now) self.now p) }
+            ¬ Matches (S.key_at spread.now) (λ k. S.same_key k query) self.now p) }
     {
         match &self.by_width {
-            ByWidth::Narrow(threads) => threads.find_numbered(spread, number, key),
-            ByWidth::Wide(threads) => threads.find_numbered(spread, number, key),
+            ByWidth::Narrow(threads) => threads.find_numbered(spread, number, query),
+            ByWidth::Wide(threads) => threads.find_numbered(spread, number, query),
         }
     }
 

@@ -25,25 +25,25 @@ loop-at-smaller g c = (arrived _ _ _ _ _ c.loop-at.invariant.at_last c.loop-at.i
 pub same-requires : goal.same-requires
 same-requires g c = record {
   live =
-      keyed _ _ (λ k. g.S.Spread.same_key k c.args.key.now) (numbers_of c.args.self.now) c.in-Some.place c.args.number c.requires.numbered
+      keyed _ _ (λ k. g.S.Spread.same_key k c.args.query) (numbers_of c.args.self.now) c.in-Some.place c.args.number c.requires.numbered
       (is_some_of _ _ c.has_number.ensures c.if-has_number.true);
 }
 
 pub returns-then-same-clause-found : goal.returns-then-same-clause-found
 returns-then-same-clause-found g c =
-    hit _ _ (λ k. g.S.Spread.same_key k c.args.key.now) (numbers_of c.args.self.now) c.in-Some.place c.args.number c.same.result c.requires.numbered
+    hit _ _ (λ k. g.S.Spread.same_key k c.args.query) (numbers_of c.args.self.now) c.in-Some.place c.args.number c.same.result c.requires.numbered
     (is_some_of _ _ c.has_number.ensures c.if-has_number.true) c.same.ensures c.if-same.true
 
--- an equal key has the number sought
-own : (g : Over) (c : After-len-end g) (k : g.row.S-Key.Denot) → IsTrue (g.S.Spread.same_key k c.args.key.now) → g.S.Spread.number_of c.args.spread.now k ≡ c.args.number
-own g c k t = g.met.S.Spread.alike c.args.spread.now k c.args.key.now t ∙ sym c.requires.number
+-- a key that is asked for has the number sought
+own : (g : Over) (c : After-len-end g) (k : g.row.S-Key.Denot) → IsTrue (g.S.Spread.same_key k c.args.query) → g.S.Spread.number_of c.args.spread.now k ≡ c.args.number
+own g c k t = g.met.S.Spread.alike c.args.spread.now k c.args.query t ∙ sym c.requires.number
 
 pub loop-at-preserved : goal.loop-at-preserved
 loop-at-preserved g c =
     let numbers = numbers_of c.args.self.now in
     let key_at = g.S.Spread.key_at c.args.spread.now in
     let number_of = g.S.Spread.number_of c.args.spread.now in
-    let test : g.row.S-Key.Denot → Bool = λ k. g.S.Spread.same_key k c.args.key.now in
+    let test : g.row.S-Key.Denot → Bool = λ k. g.S.Spread.same_key k c.args.query in
     let same = own g (goal.at.loop-at-preserved g c).After-len-end in
     let absent : Matches key_at test numbers c.in-Some.place → ⊥ =
     elim c.else-has_number.branch [
@@ -54,5 +54,5 @@ loop-at-preserved g c =
 
 pub returns-clause-absent : goal.returns-clause-absent
 returns-clause-absent g c =
-    nothing_left (g.S.Spread.key_at c.args.spread.now) (g.S.Spread.number_of c.args.spread.now) (λ k. g.S.Spread.same_key k c.args.key.now) _ _ _ c.args.number _
+    nothing_left (g.S.Spread.key_at c.args.spread.now) (g.S.Spread.number_of c.args.spread.now) (λ k. g.S.Spread.same_key k c.args.query) _ _ _ c.args.number _
     c.requires.numbered (own g (goal.at.returns-clause-absent g c).After-len-end) c.bucket-bucket.ensures.value c.loop-at.invariant c.in_default.is

@@ -5,7 +5,7 @@ use Rattle.bimap_chain.proofs.threads.Threads.find_numbered.Given as goal
 
 abbrev pub invariant-loop-at : goal.invariant-loop-at
 invariant-loop-at g l =
-    Searched (g.S.Spread.key_at l.spread) (λ k. g.S.Spread.same_key k l.key) (numbers_of l.self) (length l.self.heads) l.bucket l.end l.at
+    Searched (g.S.Spread.key_at l.spread) (λ k. g.S.Spread.same_key k l.query) (numbers_of l.self) (length l.self.heads) l.bucket l.end l.at
 
 abbrev pub decreases-loop-at : goal.decreases-loop-at
 decreases-loop-at g l = l.end
