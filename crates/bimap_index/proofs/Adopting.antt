@@ -14,6 +14,7 @@ use Rattle.bimap_base.proofs.Walk.{listed_long, some_at}
 use Rattle.bimap_index.specs.ByOrder.{ListsByOrder}
 use Rattle.bimap_index.specs.Listed.{IsCompactedSide}
 use Rattle.bimap_index.specs.OrderLaws.{order_walk_of}
+use Rattle.bimap_base.specs.QueryLaws.{follows_itself}
 use Rattle.bimap_tree.proofs.Ascending.{only_one, own_key}
 use Rattle.bimap_index.proofs.Ascending.{equal_is}
 use Rattle.bimap_index.proofs.Compaction.{live_in, rank_of, compacted_apart}
@@ -71,11 +72,11 @@ module _ {K : Type 0} (order : K → K → Ordering) (same : K → K → Bool) (
   -- no two of them are equal
   pub compacted_unequal : (place p : ℕ) (k : K) → p < place → g place ≡ Some k → standing order (g p) (Some k) ≡ Equal → ⊥
   compacted_unequal place p k before is e =
-      let s = equal_is order same total agrees (g p) k e in
+      let s = equal_is order (g p) k e in
       compacted_apart side (λ k l. order k l ≡ Equal → ⊥) (λ k l differ tie. differ (tied_back total l k tie)) unequal p place s.0 k (λ at. absurd (omega (arith, before, at))) s.1 is s.2
     where
       unequal : (a b : ℕ) (k l : K) → a ≢ b → f a ≡ Some k → f b ≡ Some l → order k l ≡ Equal → ⊥
-      unequal a b k l away first second tie = away (only_one f order total places listing.up l a b (listing.lists a (ap is_some first)) (listing.lists b (ap is_some second)) (rw first tie) (own_key f order total b l second))
+      unequal a b k l away first second tie = away (only_one f order order (follows_itself total) places listing.up l a b (listing.lists a (ap is_some first)) (listing.lists b (ap is_some second)) (rw first tie) (own_key f order total b l second))
 
   -- so the whole side is listed
   pub all_listed : (new : List ℕ) → IsListedUpTo order g (length places) new → ListsByOrder order new g

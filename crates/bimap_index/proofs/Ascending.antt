@@ -3,12 +3,13 @@ use Rattle.std.proofs.Common.{get_or, ◌≡◌, ℕ, zero, suc, ◌+◌, ◌*�
 use Rattle.std.specs.Prelude.{IfSome, IfNone, IsSomeAnd}
 use Rattle.std.specs.declared.cmp.Ordering.{Ordering}
 use Rattle.std.specs.declared.cmp.Ordering.TheVariants.{Equal}
-use Rattle.std.specs.Cmp.{IsTotalOrder}
-use Rattle.std.specs.Ordering.{eq_by_cmp}
+use Rattle.std.specs.Cmp.{IsTotalOrder, Equal-is}
+use Rattle.std.specs.Ordering.{is_eq, eq_by_cmp}
 use Rattle.std.proofs.lemmas.Bool.{cases_eq}
 use Rattle.std.proofs.lemmas.List.{get_or_default}
 use Rattle.bimap_base.specs.Digits.{bits, most_height}
-use Rattle.bimap_base.specs.Keyed.{standing, Ascends, Adds, Drops}
+use Rattle.bimap_base.specs.Keyed.{standing, Ascends, Follows, Adds, Drops}
+use Rattle.bimap_base.specs.QueryLaws.{follows_itself}
 use Rattle.bimap_base.proofs.Digits.{bits-enough, bits-least}
 use Rattle.bimap_tree.specs.Index.{Index}
 use Rattle.bimap_tree.specs.Route.{IsRoute}
@@ -17,7 +18,7 @@ use Rattle.bimap_tree.proofs.Ascending.{only_one}
 use Rattle.bimap_tree.proofs.Routes.{IsRoute-alike}
 use Rattle.bimap_index.specs.Listed.{IsFoundBy, IsWithout, MayLink}
 use Rattle.bimap_index.specs.ByOrder.{ListsByOrder}
-use Rattle.bimap_index.specs.OrderLaws.{equal_from, equal_to, live_listed}
+use Rattle.bimap_index.specs.OrderLaws.{equal_from, live_listed}
 
 -- a search of a list of fewer places is no longer
 pub effort_least : (n m : ℕ) → n ≤ m → most_height n ≤ most_height m
@@ -34,16 +35,35 @@ not_true : (b : Bool) → (b ≡ true → ⊥) → b ≡ false
 not_true true never = absurd (never refl)
 not_true false _ = refl
 
-module _ {K : Type 0} (order : K → K → Ordering) (same : K → K → Bool) (total : IsTotalOrder order) (agrees : (x y : K) → same x y ≡ eq_by_cmp order x y) where
+module _ {K Q : Type 0} (to : K → Q → Ordering) where
   -- a key that stands equal is there
-  pub equal_is : (o : Option K) (key : K) → standing order o (Some key) ≡ Equal → (k : K) × (o ≡ Some k) × (order k key ≡ Equal)
+  pub equal_is : (o : Option K) (key : Q) → standing to o (Some key) ≡ Equal → (k : K) × (o ≡ Some k) × (to k key ≡ Equal)
   equal_is None key e = absurd (cc)
   equal_is (Some k) key e = (k, refl, e)
 
+module _ {K Q : Type 0} (order : K → K → Ordering) (to : K → Q → Ordering) (follows : Follows order to) (same : K → Q → Bool) (agrees : (q : Q) (x : K) → same x q ≡ is_eq (to x q)) where
   -- the key of a place that is the same as another stands equal to it
-  pub stands : (o : Option K) (k key : K) → o ≡ Some k → same k key ≡ true → standing order o (Some key) ≡ Equal
-  stands o k key is e = rw is (equal_to order same total agrees k key e)
+  stands : (o : Option K) (k : K) (key : Q) → o ≡ Some k → same k key ≡ true → standing to o (Some key) ≡ Equal
+  stands o k key is e = rw is ((Equal-is (to k key)).0 (sym (agrees key k) ∙ e))
 
+  -- what was sought and found
+  pub found_by_order : (places : List ℕ) (f : ℕ → Option K) (key : Q) (r : Option ℕ) → ListsByOrder order places f
+      → IfSome r (λ p. Contains places p × (standing to (f p) (Some key) ≡ Equal))
+      → IfNone r ((p : ℕ) → Contains places p → standing to (f p) (Some key) ≡ Equal → ⊥) → IsFoundBy f same key r
+  found_by_order places f key None listing found none =
+      record {
+        here = tt;
+        elsewhere = λ place k away is. not_true (same k key) (λ e. none place (listing.lists place (ap is_some is)) (stands (f place) k key is e));
+      }
+  found_by_order places f key (Some p) listing found none =
+      let (k, is, equal) = equal_is to (f p) key found.1 in
+      record {
+        here = subst (λ z. IsSomeAnd z (λ k. same k key ≡ true)) (sym is) (agrees key k ∙ (Equal-is (to k key)).1 equal);
+        elsewhere = λ place l away has. not_true (same l key)
+            (λ e. away (ap Some (only_one f order to follows places listing.up key p place found.0 (listing.lists place (ap is_some has)) found.1 (stands (f place) l key has e))));
+      }
+
+module _ {K : Type 0} (order : K → K → Ordering) (same : K → K → Bool) (total : IsTotalOrder order) (agrees : (x y : K) → same x y ≡ eq_by_cmp order x y) where
   -- the keys of the listed places are as before
   ascends_same : (f g : ℕ → Option K) (places : List ℕ) → ((p : ℕ) → Contains places p → g p ≡ f p) → Ascends f order places → Ascends g order places
   ascends_same f g places kept up =
@@ -55,26 +75,9 @@ module _ {K : Type 0} (order : K → K → Ordering) (same : K → K → Bool) (
             up.rises i j k l before inside (sym e ∙ first) (sym h ∙ second);
       }
 
-  -- what was sought and found
-  pub found_by_order : (places : List ℕ) (f : ℕ → Option K) (key : K) (r : Option ℕ) → ListsByOrder order places f
-      → IfSome r (λ p. Contains places p × (standing order (f p) (Some key) ≡ Equal))
-      → IfNone r ((p : ℕ) → Contains places p → standing order (f p) (Some key) ≡ Equal → ⊥) → IsFoundBy f same key r
-  found_by_order places f key None listing found none =
-      record {
-        here = tt;
-        elsewhere = λ place k away is. not_true (same k key) (λ e. none place (listing.lists place (ap is_some is)) (stands (f place) k key is e));
-      }
-  found_by_order places f key (Some p) listing found none =
-      let (k, is, equal) = equal_is (f p) key found.1 in
-      record {
-        here = subst (λ z. IsSomeAnd z (λ k. same k key ≡ true)) (sym is) (equal_from order same total agrees k key equal);
-        elsewhere = λ place l away has. not_true (same l key)
-            (λ e. away (ap Some (only_one f order total places listing.up key p place found.0 (listing.lists place (ap is_some has)) found.1 (stands (f place) l key has e))));
-      }
-
   -- one place whose key compares as equal
   pub known_by_order : (places : List ℕ) (f : ℕ → Option K) (key : K) (place : ℕ) → ListsByOrder order places f → IsSome (f place) → standing order (f place) (Some key) ≡ Equal → IsFoundBy f same key (Some place)
-  known_by_order places f key place listing live e = found_by_order places f key (Some place) listing (listing.lists place live, e) tt
+  known_by_order places f key place listing live e = found_by_order order order (follows_itself total) same (λ q x. agrees x q) places f key (Some place) listing (listing.lists place live, e) tt
 
   -- a search compares at least once where a place is listed
   pub effort_some : (places : List ℕ) (f : ℕ → Option K) (place : ℕ) → ListsByOrder order places f → IsSome (f place) → 1 ≤ most_height (length places)
@@ -94,7 +97,7 @@ module _ {K : Type 0} (order : K → K → Ordering) (same : K → K → Bool) (
 
     pub link_unequal : (p : ℕ) (k : K) → Contains index.places p → g place ≡ Some k → standing order (g p) (Some k) ≡ Equal → ⊥
     link_unequal p k there is e =
-        let s = equal_is (g p) k e in
+        let s = equal_is order (g p) k e in
         let alike : key ≡ k = let l = m.live in cc in
         let no = m.absent p s.0 (λ at. link_off (subst (Contains index.places) at there)) s.1 in
         true≢false (sym (equal_from order same total agrees s.0 k s.2) ∙ ap (same s.0) (sym alike) ∙ no)

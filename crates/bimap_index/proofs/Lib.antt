@@ -2,3 +2,4 @@ pub mod Adopting
 pub mod Ascending
 pub mod Compaction
 pub mod Grown
+pub mod Hashing

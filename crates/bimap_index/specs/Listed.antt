@@ -4,10 +4,14 @@ use Rattle.bimap_base.specs.Slots.{pair_at}
 use Rattle.bimap_base.specs.Places.{pairs_in, compacted}
 
 module _ {K : Type 0} where
-  -- the place has an equal key, if one is told, and no other place has one
-  pub record IsFoundBy (key_at : ℕ → Option K) (same : K → K → Bool) (key : K) (found : Option ℕ) : Type 0 where
-    pub here : IfSome found (λ place. IsSomeAnd (key_at place) (λ k. same k key ≡ true))
-    pub elsewhere : (place : ℕ) (k : K) → (found ≡ Some place → ⊥) → key_at place ≡ Some k → same k key ≡ false
+  -- the place has a key that passes the test, if one is told, and no other place has one
+  pub record IsFound (key_at : ℕ → Option K) (passes : K → Bool) (found : Option ℕ) : Type 0 where
+    pub here : IfSome found (λ place. IsSomeAnd (key_at place) (λ k. passes k ≡ true))
+    pub elsewhere : (place : ℕ) (k : K) → (found ≡ Some place → ⊥) → key_at place ≡ Some k → passes k ≡ false
+
+  -- the same of the test whether a key is the one asked for
+  abbrev pub IsFoundBy : {Q : Type 0} → (ℕ → Option K) → (K → Q → Bool) → Q → Option ℕ → Type 0
+  IsFoundBy key_at same key = IsFound key_at (λ k. same k key)
 
   -- no other place has an equal key
   abbrev pub IsAbsentElsewhere : (ℕ → Option K) → (K → K → Bool) → K → ℕ → Type 0

@@ -1,16 +1,17 @@
 //! A hashed index of a side, with its builder. It knows numbers and places, and no chain.
-ghost use Rattle.std.specs.Prelude.{◌≡◌, ◌≤◌, ◌%◌, ⊤, [], length};
+ghost use Rattle.std.specs.Prelude.{◌≡◌, ◌+◌, ◌≤◌, ◌%◌, ⊤, ℕ, Option, [], length, IfSome, IfNone};
 ghost use Rattle.std.specs.declared.cmp.Ordering.TheVariants.{Less};
 ghost use Rattle.std.specs.List.{fold};
 ghost use Rattle.std.proofs.Common.{ap};
 ghost use Rattle.bimap_base.specs.Numbered.{number_by};
 ghost use Rattle.bimap_base.specs.Places.{pairs_in, compacted};
 ghost use Rattle.bimap_index.specs.ByHash.{ListsByHash, places_from};
+ghost use Rattle.bimap_index.specs.Listed.{IsFoundBy, IsWithout};
 ghost use Rattle.bimap_index.specs.HashLaws.{hash_listed, hash_distinct, hash_in_order, hash_respects, hash_settled, hash_walks_alike};
 
 use crate::constructors::{CompactedIndex, CopiedIndex, DefaultIndex, EmptyIndex};
 use crate::index::Index;
-use bimap_base::{ByHash, Meter, NoMemory, Side, Spread, hash_number};
+use bimap_base::{ByHash, HashQuery, Meter, NoMemory, Side, Spread, hash_number};
 use bimap_chain::Hashed;
 use std::alloc::Global;
 use std::hash::{BuildHasher, BuildHasherDefault, FoldHasher, Hash};
@@ -32,6 +33,48 @@ impl<B> HashIndex<B> {
             hashed: Hashed::new(alloc),
             builder,
         }
+    }
+}
+
+impl<B: BuildHasher> HashIndex<B> {
+    // The place whose key the query asks for. It counts nothing.
+    pub(crate) fn find_hashed<K: Eq + Hash, S: Side<K>, Q: HashQuery<K>, M: Meter>(
+        &self,
+        side: S,
+        query: Q,
+        _meter: &mut M,
+    ) -> Option<usize>
+        requires { ListsByHash K.eq (number_by B.Hasher.finish B.Hasher.write B.build_hasher
+            K.hash_input self.now.builder) self.now.hashed (S.key_at side) }
+        ensures found { IsFoundBy (S.key_at side) Q.same query result }
+        ensures comparisons { M.comparisons _meter.new ≤ M.comparisons _meter.old }
+        ensures touches { M.touches _meter.new ≤ M.touches _meter.old }
+    {
+        self.hashed.find(&ByHash::new(side, &self.builder), query)
+    }
+
+    // Takes the place whose key the query asks for off the list, and answers it. It counts nothing.
+    pub(crate) fn unlink_hashed<K: Eq + Hash, S: Side<K>, Q: HashQuery<K>, M: Meter>(
+        &mut self,
+        side: S,
+        query: Q,
+        meter: &mut M,
+    ) -> Option<usize>
+        requires { ListsByHash K.eq (number_by B.Hasher.finish B.Hasher.write B.build_hasher
+            K.hash_input self.old.builder) self.old.hashed (S.key_at side) }
+        ensures found { IsFoundBy (S.key_at side) Q.same query result }
+        ensures listing { IfSome result (λ place. (f : ℕ → Option K) →
+            IsWithout f (S.key_at side) place →
+            ListsByHash K.eq (number_by B.Hasher.finish B.Hasher.write B.build_hasher
+            K.hash_input self.new.builder) self.new.hashed f) }
+        ensures unchanged { IfNone result (self.new ≡ self.old) }
+        ensures cells { length self.new.hashed ≡ length self.old.hashed }
+        ensures comparisons { M.comparisons meter.new ≤ M.comparisons meter.old }
+        ensures touches { M.touches meter.new ≤ M.touches meter.old + 64 }
+    {
+        let place = self.find_hashed(side, query, meter)?;
+        self.hashed.remove(place);
+        Some(place)
     }
 }
 
@@ -67,8 +110,8 @@ impl<K: Eq + Hash, B: BuildHasher> Index<K> for HashIndex<B> {
         hash_number(&self.builder, key)
     }
 
-    fn find<S: Side<K>, M: Meter>(&self, side: S, key: &K, _meter: &mut M) -> Option<usize> {
-        self.hashed.find(&ByHash::new(side, &self.builder), key)
+    fn find<S: Side<K>, M: Meter>(&self, side: S, key: &K, meter: &mut M) -> Option<usize> {
+        self.find_hashed(side, key, meter)
     }
 
     fn start(&self) {}
@@ -82,7 +125,7 @@ impl<K: Eq + Hash, B: BuildHasher> Index<K> for HashIndex<B> {
         _meter: &mut M,
     ) -> Option<usize> {
         let spread = ByHash::new(side, &self.builder);
-        let number = spread.hash_key(key);
+        let number = spread.hash_query(key);
         *spot = number;
         self.hashed.find_numbered(&spread, number, key)
     }
@@ -113,11 +156,9 @@ impl<K: Eq + Hash, B: BuildHasher> Index<K> for HashIndex<B> {
         &mut self,
         side: S,
         key: &K,
-        _meter: &mut M,
+        meter: &mut M,
     ) -> Option<usize> {
-        let place = self.hashed.find(&ByHash::new(side, &self.builder), key)?;
-        self.hashed.remove(place);
-        Some(place)
+        self.unlink_hashed(side, key, meter)
     }
 
     fn grow(&mut self, to: usize) -> Result<(), NoMemory> {

@@ -7,8 +7,10 @@
 mod constructors;
 mod hash_index;
 mod index;
+mod lookup;
 mod ordered;
 
 pub use constructors::{CompactedIndex, CopiedIndex, DefaultIndex, EmptyIndex};
 pub use hash_index::HashIndex;
 pub use index::Index;
+pub use lookup::Lookup;

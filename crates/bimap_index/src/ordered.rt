@@ -1,18 +1,57 @@
 //! The ordered index as an index of a side. It knows places and routes, and no node.
-ghost use Rattle.std.specs.Prelude.{◌≡◌, ◌≤◌, ⊤, [], Some, length};
+ghost use Rattle.std.specs.Prelude.{◌≡◌, ◌+◌, ◌*◌, ◌≤◌, ⊤, ℕ, Option, [], Some, length, IfSome, IfNone};
 ghost use Rattle.bimap_base.specs.Digits.{most_height};
 ghost use Rattle.bimap_base.specs.Keyed.{standing};
 ghost use Rattle.bimap_tree.specs.Descent.{IsUnderWay, levels_left};
 ghost use Rattle.bimap_tree.specs.Route.{IsRoute};
 ghost use Rattle.bimap_index.specs.ByOrder.{ListsByOrder};
+ghost use Rattle.bimap_index.specs.Listed.{IsFoundBy, IsWithout};
 ghost use Rattle.bimap_index.specs.OrderLaws.{order_listed, order_distinct, order_in_order, order_respects, order_settled, order_walks_alike};
 
 use crate::constructors::{CompactedIndex, CopiedIndex, DefaultIndex, EmptyIndex};
 use crate::index::Index;
-use bimap_base::{ByOrder, Keys, Meter, NoMemory, Side};
+use bimap_base::{ByOrder, Keys, Meter, NoMemory, OrderQuery, Side};
 use bimap_tree::{Descent, Ordered, Route};
 use std::alloc::Global;
 use std::cmp::Ordering;
+
+// The place whose key the query asks for.
+pub(crate) fn find_in_order<K: Ord, S: Side<K>, Q: OrderQuery<K>, M: Meter>(
+    index: &Ordered,
+    side: S,
+    query: Q,
+    meter: &mut M,
+) -> Option<usize>
+    requires { ListsByOrder K.cmp index.now.places (S.key_at side) }
+    ensures found { IsFoundBy (S.key_at side) Q.same query result }
+    ensures comparisons { M.comparisons meter.new ≤ M.comparisons meter.old
+        + most_height (length index.now.places) }
+    ensures touches { M.touches meter.new ≤ M.touches meter.old
+        + most_height (length index.now.places) }
+{
+    index.find(side, query, meter)
+}
+
+// Takes the place whose key the query asks for off the list, and answers it.
+pub(crate) fn unlink_in_order<K: Ord, S: Side<K>, Q: OrderQuery<K>, M: Meter>(
+    index: &mut Ordered,
+    side: S,
+    query: Q,
+    meter: &mut M,
+) -> Option<usize>
+    requires { ListsByOrder K.cmp index.old.places (S.key_at side) }
+    ensures found { IsFoundBy (S.key_at side) Q.same query result }
+    ensures listing { IfSome result (λ place. (f : ℕ → Option K) →
+        IsWithout f (S.key_at side) place → ListsByOrder K.cmp index.new.places f) }
+    ensures unchanged { IfNone result (index.new ≡ index.old) }
+    ensures cells { length index.new.nodes ≡ length index.old.nodes }
+    ensures comparisons { M.comparisons meter.new ≤ M.comparisons meter.old
+        + most_height (length index.old.places) }
+    ensures touches { M.touches meter.new ≤ M.touches meter.old
+        + 64 * (most_height (length index.old.places) + 1) }
+{
+    index.remove_key(side, query, meter)
+}
 
 impl<K: Ord> Index<K> for Ordered {
     type Spot = Route;
@@ -46,7 +85,7 @@ impl<K: Ord> Index<K> for Ordered {
     }
 
     fn find<S: Side<K>, M: Meter>(&self, side: S, key: &K, meter: &mut M) -> Option<usize> {
-        self.find(&ByOrder::new(side), key, meter)
+        find_in_order(self, side, key, meter)
     }
 
     fn start(&self) -> Descent {
@@ -112,7 +151,7 @@ impl<K: Ord> Index<K> for Ordered {
         key: &K,
         meter: &mut M,
     ) -> Option<usize> {
-        self.remove_key(&ByOrder::new(side), key, meter)
+        unlink_in_order(self, side, key, meter)
     }
 
     fn grow(&mut self, to: usize) -> Result<(), NoMemory> {

@@ -1,8 +1,9 @@
+use Rattle.bimap_base.specs.QueryLaws.{follows_itself}
 use Rattle.bimap_index.proofs.Ascending.{found_by_order}
 use Rattle.bimap_index.proofs.ordered.OrderedIndex.finish.Goals as goal
 
 pub returns-clause-found : goal.returns-clause-found
-returns-clause-found g c = found_by_order g.K.Ord.cmp g.K.PartialEq.eq g.met.K.Ord.total g.met.K.Ord.matches_eq c.args.self.now.places (g.S.Side.key_at c.args.side) c.args.key.now c.finish.result c.requires.listing (rw c.new.ensures at c.finish.ensures.found) (rw c.new.ensures at c.finish.ensures.none)
+returns-clause-found g c = found_by_order g.K.Ord.cmp g.K.Ord.cmp (follows_itself g.met.K.Ord.total) g.K.PartialEq.eq (λ q x. g.met.K.Ord.matches_eq x q) c.args.self.now.places (g.S.Side.key_at c.args.side) c.args.key.now c.finish.result c.requires.listing (rw c.new.ensures at c.finish.ensures.found) (rw c.new.ensures at c.finish.ensures.none)
 
 pub returns-clause-leads : goal.returns-clause-leads
 returns-clause-leads g c = rw c.new.ensures at c.finish.ensures.route

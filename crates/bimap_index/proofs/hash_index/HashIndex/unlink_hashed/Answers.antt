@@ -1,5 +1,5 @@
 use Rattle.std.proofs.Common.{rules}
-use Rattle.bimap_index.proofs.hash_index.HashIndexIndex.unlink_key.Goals as goal
+use Rattle.bimap_index.proofs.hash_index.HashIndex.unlink_hashed.Goals as goal
 
 pub returns-clause-found : goal.returns-clause-found
 returns-clause-found g c = search rules

@@ -1,0 +1,80 @@
+//! Look-ups by a query, in an index of any kind.
+ghost use Rattle.std.specs.Prelude.{◌≡◌, ◌+◌, ◌*◌, ◌≤◌, ℕ, Option, length, IfSome, IfNone};
+ghost use Rattle.bimap_index.specs.Listed.{IsFoundBy, IsWithout};
+
+use crate::hash_index::HashIndex;
+use crate::index::Index;
+use crate::ordered::{find_in_order, unlink_in_order};
+use bimap_base::{Meter, Query, Side};
+use bimap_tree::Ordered;
+use std::alloc::Allocator;
+use std::hash::{BuildHasher, Hash};
+
+/// An index that is asked for a key by such a query. Any is by a key.
+pub trait Lookup<K: Eq, Q: Query<K>>: Index<K> {
+    /// The place whose key the query asks for.
+    fn find_by<S: Side<K>, M: Meter>(&self, side: S, query: Q, meter: &mut M) -> Option<usize>
+        requires listing { Self.is_listing self.now (S.key_at side) }
+        ensures found { IsFoundBy (S.key_at side) Q.same query result }
+        ensures comparisons { M.comparisons meter.new ≤ M.comparisons meter.old
+            + Self.effort (length (Self.places self.now)) }
+        ensures touches { M.touches meter.new ≤ M.touches meter.old
+            + Self.effort (length (Self.places self.now)) };
+
+    /// Takes the place whose key the query asks for off the list, and answers it. Where there is none, nothing changes.
+    fn unlink_by<S: Side<K>, M: Meter>(&mut self, side: S, query: Q, meter: &mut M) -> Option<usize>
+        requires listing { Self.is_listing self.old (S.key_at side) }
+        ensures found { IsFoundBy (S.key_at side) Q.same query result }
+        ensures listing { IfSome result (λ place. (f : ℕ → Option K) →
+            IsWithout f (S.key_at side) place → Self.is_listing self.new f) }
+        ensures unchanged { IfNone result (self.new ≡ self.old) }
+        ensures cells { Self.cells self.new ≡ Self.cells self.old }
+        ensures comparisons { M.comparisons meter.new ≤ M.comparisons meter.old
+            + Self.effort (length (Self.places self.old)) }
+        ensures touches { M.touches meter.new ≤ M.touches meter.old
+            + 64 * (Self.effort (length (Self.places self.old)) + 1) };
+}
+
+impl<K: Eq, I: Index<K>> Lookup<K, &K> for I {
+    fn find_by<S: Side<K>, M: Meter>(&self, side: S, query: &K, meter: &mut M) -> Option<usize> {
+        self.find(side, query, meter)
+    }
+
+    fn unlink_by<S: Side<K>, M: Meter>(
+        &mut self,
+        side: S,
+        query: &K,
+        meter: &mut M,
+    ) -> Option<usize> {
+        self.unlink_key(side, query, meter)
+    }
+}
+
+// Either kind of index is asked by a borrowed form of a key; the bounds are those of an ordered one and of a hashed one.
+macro_rules! asked {
+    ($query:ty => $key:ty; [$($ordered:tt)*]; [$($hashed:tt)*]) => {
+        impl<$($ordered)*> Lookup<$key, $query> for Ordered {
+            fn find_by<S: Side<$key>, M: Meter>(&self, side: S, query: $query, meter: &mut M) -> Option<usize> {
+                find_in_order(self, side, query, meter)
+            }
+
+            fn unlink_by<S: Side<$key>, M: Meter>(&mut self, side: S, query: $query, meter: &mut M) -> Option<usize> {
+                unlink_in_order(self, side, query, meter)
+            }
+        }
+
+        impl<$($hashed)*, B: BuildHasher> Lookup<$key, $query> for HashIndex<B> {
+            fn find_by<S: Side<$key>, M: Meter>(&self, side: S, query: $query, meter: &mut M) -> Option<usize> {
+                self.find_hashed(side, query, meter)
+            }
+
+            fn unlink_by<S: Side<$key>, M: Meter>(&mut self, side: S, query: $query, meter: &mut M) -> Option<usize> {
+                self.unlink_hashed(side, query, meter)
+            }
+        }
+    };
+}
+
+asked!(&'q str => String<A>; ['q, A: Allocator]; ['q, A: Allocator]);
+asked!(&'q str => &'k str; ['q, 'k]; ['q, 'k]);
+asked!(&'q [T] => Vec<T, A>; ['q, T: Ord, A: Allocator]; ['q, T: Eq + Hash, A: Allocator]);
