@@ -13,7 +13,7 @@ module _ {P : Type 0} where
   abbrev pub compacted : List P → ℕ → List (Option P)
   compacted pairs places = map Some pairs ++ replicate (places - length pairs) None
 
--- the place has a pair with an equal key, if it is told, and no other place has one
-pub record IsFoundAt {P K : Type 0} (key : P → K) (same : K → K → Bool) (slots : List (Option P)) (k : K) (found : Option ℕ) : Type 0 where
+-- the place has a pair with the key asked for, if it is told, and no other place has one
+pub record IsFoundAt {P K Q : Type 0} (key : P → K) (same : K → Q → Bool) (slots : List (Option P)) (k : Q) (found : Option ℕ) : Type 0 where
   pub here : IfSome found (λ place. IsSomeAnd (pair_at slots place) (λ p. same (key p) k ≡ true))
   pub elsewhere : (place : ℕ) (p : P) → (found ≡ Some place → ⊥) → pair_at slots place ≡ Some p → same (key p) k ≡ false

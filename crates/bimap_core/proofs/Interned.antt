@@ -11,7 +11,7 @@ use Rattle.bimap_base.specs.declared.policy.OnHeld.TheVariants.{Refuse}
 use Rattle.bimap_base.specs.declared.refusal.NotInserted.TheVariants.{Occupied, Memory}
 use Rattle.bimap_base.proofs.Room.{room_stays}
 use Rattle.bimap_core.specs.Store.{holding_of}
-use Rattle.bimap_core.proofs.Places.{held_at, left_lacking, length-pairs_in}
+use Rattle.bimap_core.proofs.Places.{held_at, length-pairs_in, key_lacking}
 use Rattle.bimap_core.proofs.Inserted.{right_held, put_new}
 use Rattle.bimap_core.proofs.Inserting.{right_of_two, none_shares}
 
@@ -41,7 +41,7 @@ module _ {L R : Type 0} (same_left : L → L → Bool) (same_right : R → R →
 
   module _ (by_left by_right : Option ℕ) (at_left : IsFoundAt (λ p. p.0) same_left slots l by_left) (at_right : IsFoundAt (λ p. p.1) same_right slots r by_right) (no_left : by_left ≡ None) where
     lacking : LacksLeft same_left (Contains (pairs_in slots)) l
-    lacking = left_lacking same_left slots l by_left at_left no_left
+    lacking = key_lacking (λ p. p.0) same_left slots l by_left at_left no_left
 
     -- so nothing need be said of where one is held
     pub lacks_held : {P : Type 0} → HasLeft same_left (Contains (pairs_in slots)) l → P

@@ -35,8 +35,8 @@ module _ {L R : Type 0} where
     }
 
   -- the same where the pair of a place is taken out, of which both indexes were left without
-  pub facts_taken : {same_left : L → L → Bool} {same_right : R → R → Bool} → IsEquivalence same_left → IsEquivalence same_right → (slots : List (Option (L × R))) (place : ℕ) (p : L × R) → pair_at slots place ≡ Some p → IsApart same_left same_right (pairs_in slots) → (LeftLists : (ℕ → Option L) → Type 0) (RightLists : (ℕ → Option R) → Type 0) → ((f : ℕ → Option L) → IsWithout f (keys_in (λ p. p.0) same_left slots) place → LeftLists f) → ((f : ℕ → Option R) → IsWithout f (keys_in (λ p. p.1) same_right slots) place → RightLists f)
-      → (left_cells right_cells : ℕ) → length slots ≤ left_cells → length slots ≤ right_cells → AreFacts same_left same_right (slice_set slots place None) (LeftLists (keys_in (λ p. p.0) same_left (slice_set slots place None))) (RightLists (keys_in (λ p. p.1) same_right (slice_set slots place None))) left_cells right_cells
+  pub facts_taken : {same_left : L → L → Bool} {same_right : R → R → Bool} → IsEquivalence same_left → IsEquivalence same_right → (slots : List (Option (L × R))) (place : ℕ) (p : L × R) → pair_at slots place ≡ Some p → IsApart same_left same_right (pairs_in slots) → (LeftLists : (ℕ → Option L) → Type 0) (RightLists : (ℕ → Option R) → Type 0) → ((f : ℕ → Option L) → IsWithout f (keys_in (λ p. p.0) slots) place → LeftLists f) → ((f : ℕ → Option R) → IsWithout f (keys_in (λ p. p.1) slots) place → RightLists f)
+      → (left_cells right_cells : ℕ) → length slots ≤ left_cells → length slots ≤ right_cells → AreFacts same_left same_right (slice_set slots place None) (LeftLists (keys_in (λ p. p.0) (slice_set slots place None))) (RightLists (keys_in (λ p. p.1) (slice_set slots place None))) left_cells right_cells
   facts_taken {same_left} {same_right} lefts rights slots place p was apart LeftLists RightLists left right left_cells right_cells in_left in_right =
       let inside = live_within slots place p was in
       record {
@@ -51,10 +51,10 @@ module _ {L R : Type 0} where
 -- what a listing again asks, where a pair was written over: of a spot of a new key, that it may be listed there; else, that the index still lists the side
 pub may_relist : {P K X Spot : Type 0} (key : P → K) {same : K → K → Bool} → IsEquivalence same → {IsListing : X → (ℕ → Option K) → Type 0} → ((index : X) (f g : ℕ → Option K) → ((p : ℕ) → IsAlike same (f p) (g p)) → IsListing index f → IsListing index g) → (IsFor : X → K → Spot → Type 0) (was now : X) (slots : List (Option P)) (place : ℕ) (old p : P) (spot : Option Spot)
     → pair_at slots place ≡ Some old → ((other : ℕ) (q : P) → other ≢ place → pair_at slots other ≡ Some q → same (key q) (key p) ≡ false) → MatchOption spot (IsSomeAnd (pair_at slots place) (λ q. same (key q) (key p) ≡ true)) (IsFor was (key p))
-    → ((k : K) (s : Spot) → IsFor was k s → IsFor now k s) → MatchBool (is_some spot) ((f : ℕ → Option K) → IsWithout f (keys_in key same slots) place → IsListing now f) (IsListing now (keys_in key same slots))
-    → MatchOption spot (IsListing now (keys_in key same (slice_set slots place (Some p)))) (λ s. (k : K) × MayLink IsListing same now (keys_in key same (slice_set slots place (Some p))) place k × IsFor now k s)
+    → ((k : K) (s : Spot) → IsFor was k s → IsFor now k s) → MatchBool (is_some spot) ((f : ℕ → Option K) → IsWithout f (keys_in key slots) place → IsListing now f) (IsListing now (keys_in key slots))
+    → MatchOption spot (IsListing now (keys_in key (slice_set slots place (Some p)))) (λ s. (k : K) × MayLink IsListing same now (keys_in key (slice_set slots place (Some p))) place k × IsFor now k s)
 may_relist key {same} equal {IsListing} respects IsFor was now slots place old p (Some spot) there alone spotted kept off =
     let inside = live_within slots place old there in
-    (key p, may_over key same slots place IsListing now p inside alone (off (keys_in key same (slice_set slots place None)) (taken_without key same slots place inside)), kept (key p) spot spotted)
+    (key p, may_over key same slots place IsListing now p inside alone (off (keys_in key (slice_set slots place None)) (taken_without key same slots place inside)), kept (key p) spot spotted)
 may_relist key {same} equal respects IsFor was now slots place old p None there alone alike kept off =
-    respects now (keys_in key same slots) (keys_in key same (slice_set slots place (Some p))) (alike_put key same slots place equal old p (live_within slots place old there) there (rw there at alike)) off
+    respects now (keys_in key slots) (keys_in key (slice_set slots place (Some p))) (alike_put key same slots place equal old p (live_within slots place old there) there (rw there at alike)) off

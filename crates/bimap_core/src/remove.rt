@@ -3,15 +3,21 @@ ghost use Rattle.std.specs.Prelude.{◌≡◌, ◌+◌, ◌*◌, ◌≤◌, leng
 ghost use Rattle.bimap_base.specs.Holding.{IsRemovalByLeft, IsRemovalByRight};
 
 use crate::table::Table;
-use bimap_base::{LeftSide, Meter, RightSide};
-use bimap_index::Index;
+use bimap_base::{LeftSide, Meter, Query, RightSide};
+use bimap_index::{Index, Lookup};
 
 impl<L: Eq, R: Eq, I: Index<L>, J: Index<R>> Table<L, R, I, J> {
     ghost use Rattle.bimap_core.specs.Store.{holding_of};
 
     /// Takes out the pair of a left, or answers `None` where it is not held. The room stays.
-    pub fn remove_by_left<M: Meter>(&mut self, left: &L, meter: &mut M) -> Option<(L, R)>
-        ensures answer { IsRemovalByLeft L.eq (holding_of self.old.pairs) left.now result
+    pub fn remove_by_left<Q: Query<L>, M: Meter>(
+        &mut self,
+        left: Q,
+        meter: &mut M,
+    ) -> Option<(L, R)>
+    where
+        I: Lookup<L, Q>,
+        ensures answer { IsRemovalByLeft Q.same (holding_of self.old.pairs) left result
             (holding_of self.new.pairs) }
         ensures comparisons { M.comparisons meter.new ≤ M.comparisons meter.old
             + I.effort (length (I.places self.old.left))
@@ -22,14 +28,20 @@ impl<L: Eq, R: Eq, I: Index<L>, J: Index<R>> Table<L, R, I, J> {
     {
         let place = self
             .left
-            .unlink_key(LeftSide::new(&self.pairs), left, meter)?;
+            .unlink_by(LeftSide::new(&self.pairs), left, meter)?;
         self.right.unlink(RightSide::new(&self.pairs), place, meter);
         Some(self.pairs.take(place))
     }
 
     /// Takes out the pair of a right, or answers `None` where it is not held. The room stays.
-    pub fn remove_by_right<M: Meter>(&mut self, right: &R, meter: &mut M) -> Option<(L, R)>
-        ensures answer { IsRemovalByRight R.eq (holding_of self.old.pairs) right.now result
+    pub fn remove_by_right<Q: Query<R>, M: Meter>(
+        &mut self,
+        right: Q,
+        meter: &mut M,
+    ) -> Option<(L, R)>
+    where
+        J: Lookup<R, Q>,
+        ensures answer { IsRemovalByRight Q.same (holding_of self.old.pairs) right result
             (holding_of self.new.pairs) }
         ensures comparisons { M.comparisons meter.new ≤ M.comparisons meter.old
             + I.effort (length (I.places self.old.left))
@@ -40,7 +52,7 @@ impl<L: Eq, R: Eq, I: Index<L>, J: Index<R>> Table<L, R, I, J> {
     {
         let place = self
             .right
-            .unlink_key(RightSide::new(&self.pairs), right, meter)?;
+            .unlink_by(RightSide::new(&self.pairs), right, meter)?;
         self.left.unlink(LeftSide::new(&self.pairs), place, meter);
         Some(self.pairs.take(place))
     }

@@ -6,8 +6,8 @@ ghost use Rattle.bimap_base.specs.Places.{pairs_in, IsFoundAt};
 ghost use Rattle.bimap_base.specs.Sets.{IsApart};
 ghost use Rattle.bimap_base.specs.Slots.{left_at, right_at, IsLive};
 
-use bimap_base::{LeftSide, Meter, Pairs, RightSide};
-use bimap_index::Index;
+use bimap_base::{LeftSide, Meter, Pairs, Query, RightSide};
+use bimap_index::{Index, Lookup};
 use std::alloc::Global;
 
 /// Pairs, each found by its left and by its right. No two of them share a value.
@@ -61,27 +61,39 @@ impl<L: Eq, R: Eq, I: Index<L>, J: Index<R>> Table<L, R, I, J> {
     }
 
     /// The partner of a left, or `None` where it is not held.
-    pub fn get_by_left<M: Meter>(&self, left: &L, meter: &mut M) -> Option<&R>
-        ensures answer { IsFoundByLeft L.eq (holding_of self.now.pairs) left.now result }
+    pub fn get_by_left<Q: Query<L>, M: Meter>(
+        &self,
+        left: Q,
+        meter: &mut M,
+    ) -> Option<&R>
+    where
+        I: Lookup<L, Q>,
+        ensures answer { IsFoundByLeft Q.same (holding_of self.now.pairs) left result }
         ensures comparisons { M.comparisons meter.new ≤ M.comparisons meter.old
             + I.effort (length (I.places self.now.left)) }
         ensures touches { M.touches meter.new ≤ M.touches meter.old
             + I.effort (length (I.places self.now.left)) }
     {
-        let place = self.left.find(LeftSide::new(&self.pairs), left, meter)?;
+        let place = self.left.find_by(LeftSide::new(&self.pairs), left, meter)?;
         let (_, right) = self.pairs.held(place);
         Some(right)
     }
 
     /// The partner of a right, or `None` where it is not held.
-    pub fn get_by_right<M: Meter>(&self, right: &R, meter: &mut M) -> Option<&L>
-        ensures answer { IsFoundByRight R.eq (holding_of self.now.pairs) right.now result }
+    pub fn get_by_right<Q: Query<R>, M: Meter>(
+        &self,
+        right: Q,
+        meter: &mut M,
+    ) -> Option<&L>
+    where
+        J: Lookup<R, Q>,
+        ensures answer { IsFoundByRight Q.same (holding_of self.now.pairs) right result }
         ensures comparisons { M.comparisons meter.new ≤ M.comparisons meter.old
             + J.effort (length (J.places self.now.right)) }
         ensures touches { M.touches meter.new ≤ M.touches meter.old
             + J.effort (length (J.places self.now.right)) }
     {
-        let place = self.right.find(RightSide::new(&self.pairs), right, meter)?;
+        let place = self.right.find_by(RightSide::new(&self.pairs), right, meter)?;
         let (left, _) = self.pairs.held(place);
         Some(left)
     }

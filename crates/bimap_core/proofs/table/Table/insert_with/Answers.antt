@@ -1,6 +1,6 @@
 use Rattle.std.proofs.Common.{◌∙◌, ap, sym, refl, Some, arith}
 use Rattle.bimap_base.proofs.Room.{room_stays}
-use Rattle.bimap_core.proofs.Places.{left_lacking, apart_at_places}
+use Rattle.bimap_core.proofs.Places.{apart_at_places, key_lacking}
 use Rattle.bimap_core.proofs.Inserted.{may, must, on_err, left_held, right_held, refused_memory, put_new, put_left, put_right, put_pair, put_both}
 use Rattle.bimap_core.proofs.table.Table.insert_with.Goals as goal
 
@@ -29,7 +29,7 @@ returns-then-keeps-2-clause-answer g c =
       count = tt;
       refused = (
         refl,
-        (λ e. left_lacking g.L.PartialEq.eq slots c.args.left c.finish_left-by_left.result c.finish_left-by_left.ensures.found (may _ _ c.if-keeps.false c.keeps.ensures e)),
+        (λ e. key_lacking (λ p. p.0) g.L.PartialEq.eq slots c.args.left c.finish_left-by_left.result c.finish_left-by_left.ensures.found (may _ _ c.if-keeps.false c.keeps.ensures e)),
         kept.1,
         right_held g.L.PartialEq.eq g.R.PartialEq.eq slots c.args.right c.finish_right-by_right.result c.finish_right-by_right.ensures.found kept.0,
       );

@@ -1,14 +1,14 @@
 use Rattle.std.proofs.Common.{◌∙◌, sym, inl, inr, refl, true≢false}
 use Rattle.bimap_base.specs.declared.overwritten.Overwritten.TheVariants.{Both}
 use Rattle.bimap_base.proofs.Fits.{names_one}
-use Rattle.bimap_core.proofs.Places.{left_lacking}
+use Rattle.bimap_core.proofs.Places.{key_lacking}
 use Rattle.bimap_core.proofs.Inserted.{on_err}
 use Rattle.bimap_core.proofs.Undoing.{alone_named, alone_grown, alone_beside, undone_neither, undone_one, undone_both, undo_refused}
 use Rattle.bimap_core.proofs.table.Table.undo_insert.Goals as goal
 
 pub unreachable-requires : goal.unreachable-requires
 unreachable-requires g c =
-    let lacking = left_lacking g.L.PartialEq.eq c.args.self.now.pairs c.args.left.now c.left_place.result c.left_place.ensures.found c.in_default.is in
+    let lacking = key_lacking (λ p. p.0) g.L.PartialEq.eq c.args.self.now.pairs c.args.left.now c.left_place.result c.left_place.ensures.found c.in_default.is in
     true≢false (sym c.requires.undoable.by_left ∙ lacking c.requires.undoable.pair c.requires.undoable.member)
 
 pub replace-requires-clause-alone : goal.replace-requires-clause-alone
