@@ -20,6 +20,7 @@ pub mod SameAscending
 pub mod SameSets
 pub mod SetsAlike
 pub mod Survivors
+pub mod Swapping
 pub mod Testing
 pub mod Undoing
 pub mod Walk

@@ -1,8 +1,11 @@
--- A pair that is taken out, and one that takes the place of another.
-use Rattle.std.specs.Prelude.{◌≡◌, ◌≢◌, ◌↔◌, ◌⊎◌, Bool, true, false, Result, List, length, Contains, IfOk, IfErr, OnErr}
+-- A pair that is taken out, one that takes the place of another, and two that swap their rights.
+use Rattle.std.specs.Prelude.{◌≡◌, ◌≢◌, ◌↔◌, ◌⊎◌, Bool, true, false, Result, List, length, Contains, OnOk, IfOk, IfErr, OnErr}
 use Rattle.bimap_base.specs.Holding.{Holding}
+use Rattle.bimap_base.specs.Sets.{HasLeft, LacksLeft}
 use Rattle.bimap_base.specs.declared.refusal.NotReplaced.{NotReplaced}
 use Rattle.bimap_base.specs.declared.refusal.NotReplaced.TheVariants.{Missing, Held}
+use Rattle.bimap_base.specs.declared.refusal.NotSwapped.{NotSwapped}
+use Rattle.bimap_base.specs.declared.refusal.NotSwapped.TheVariants.{FirstMissing, SecondMissing}
 
 -- A has the pair, and B is A without it
 pub record IsRemoving {L R : Type 0} (A : List (L × R)) (pair : L × R) (B : List (L × R)) : Type 0 where
@@ -51,3 +54,26 @@ module _ {L R : Type 0} where
   -- and of a right
   abbrev pub IsReplacementOfRight : (R → R → Bool) → Holding L R → R → R → Result R (NotReplaced R) → Holding L R → Type 0
   IsReplacementOfRight same_right old from to result new = IsReplacement (λ p. p.1) (λ r l. (l, r)) same_right old from to result new
+
+module _ {L R : Type 0} (same_left : L → L → Bool) where
+  -- S has a pair of each left, and T is S with each left in a pair with the right of the other
+  pub record AreSwapped (S : L × R → Type 0) (left other : L) (T : L × R → Type 0) : Type 0 where
+    pub first : L × R
+    pub second : L × R
+    pub by_left : S first × (same_left first.0 left ≡ true)
+    pub by_other : S second × (same_left second.0 other ≡ true)
+    pub swapped : (q : L × R) → T q ↔ ((q ≡ (first.0, second.1)) ⊎ (q ≡ (second.0, first.1)) ⊎ (S q × (q ≢ first) × (q ≢ second)))
+
+  -- why they were not
+  abbrev pub AreNotSwapped : (L × R → Type 0) → L → L → NotSwapped → Type 0
+  AreNotSwapped S left other FirstMissing = LacksLeft same_left S left
+  AreNotSwapped S left other SecondMissing = HasLeft same_left S left × LacksLeft same_left S other
+
+  -- what `swap_partners` answers and leaves
+  pub record IsSwap (old : Holding L R) (left other : L) (result : Result (Unit {0}) NotSwapped) (new : Holding L R) : Type 0 where
+    pub swapped : OnOk result (AreSwapped (Contains old.pairs) left other (Contains new.pairs))
+    pub refused : IfErr result (AreNotSwapped (Contains old.pairs) left other)
+    pub unchanged : OnErr result (new ≡ old)
+    pub equal : same_left left other ≡ true → new ≡ old
+    pub count : length new.pairs ≡ length old.pairs
+    pub room : new.room ≡ old.room

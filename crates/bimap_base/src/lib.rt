@@ -19,6 +19,7 @@ mod query;
 mod refusal;
 mod replace;
 mod side;
+mod swap;
 
 pub use bijection::Bijection;
 pub use by_hash::ByHash;
@@ -37,7 +38,8 @@ pub use policy::{OnHeld, Policy};
 pub use query::{HashQuery, OrderQuery, Query};
 pub use refusal::{
     ExtendStopped, ItemRefused, NoMemory, NoRoom, NotInserted, NotInsertedWith, NotReplaced,
-    UndoStopped,
+    NotSwapped, UndoStopped,
 };
 pub use replace::{replace_left, replace_right};
 pub use side::{LeftSide, RightSide, Side};
+pub use swap::swap_partners;

@@ -68,6 +68,17 @@ pub enum NotReplaced<V> {
     Held(V),
 }
 
+/// Why two lefts did not swap their rights. Nothing has changed.
+#[derive(Clone, Copy, Debug, Eq, Error, PartialEq)]
+pub enum NotSwapped {
+    /// The bimap doesn't contain the first left.
+    #[error("the first left is not contained")]
+    FirstMissing,
+    /// It contains that one, and not the second.
+    #[error("the second left is not contained")]
+    SecondMissing,
+}
+
 /// An item that the policy refused, or that was out of memory. The call says what became of those before it.
 #[derive(Debug, Drop, Eq, Error, PartialEq)]
 #[error("item {taken}: {why}")]

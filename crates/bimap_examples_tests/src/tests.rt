@@ -5,7 +5,6 @@ mod constructors;
 mod json;
 mod looks;
 mod marks;
-mod recipes;
 mod refusals;
 mod sides;
 

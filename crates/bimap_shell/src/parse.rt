@@ -38,7 +38,8 @@ fn words_of(name: &str) -> Option<Words> {
         | "insert_no_overwrite"
         | "get_by_left_or_insert"
         | "replace_left"
-        | "replace_right" => { Some(Words::Two) }
+        | "replace_right"
+        | "swap_partners" => { Some(Words::Two) }
         "insert_with" => Some(Words::PolicyTwo),
         "extend" | "from_iter" | "undo_run" => Some(Words::Pairs),
         "extend_with" | "from_iter_with" | "insert_all" => Some(Words::PolicyPairs),

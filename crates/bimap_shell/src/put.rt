@@ -2,7 +2,7 @@
 use crate::kind::say;
 use crate::request::Request;
 use crate::word::Word;
-use bimap::{Bijection, replace_left, replace_right};
+use bimap::{Bijection, replace_left, replace_right, swap_partners};
 use std::alloc::AllocError;
 
 fn undone<B: Bijection<Word, Word>>(
@@ -40,6 +40,7 @@ pub fn call<B: Bijection<Word, Word>>(
     match request.call {
         "replace_left" => say(replace_left(bimap, &left, right), said),
         "replace_right" => say(replace_right(bimap, &left, right), said),
+        "swap_partners" => say(swap_partners(bimap, &left, &right), said),
         "undo_insert" => undone(bimap, request, said),
         _ => removed(bimap, request, said),
     }

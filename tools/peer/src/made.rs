@@ -35,6 +35,14 @@ pub fn make<B: Kind>(bimap: &mut B, call: &str, words: &[&str]) -> Option<()> {
                 held.map(|(left, _)| bimap.insert(left, to));
             }
         }
+        ("swap_partners", [first, second]) => {
+            let (first, second) = (Word::read(first)?, Word::read(second)?);
+            if first != second && bimap.contains_left(&first) && bimap.contains_left(&second) {
+                let (first, second) = (bimap.remove_by_left(&first)?, bimap.remove_by_left(&second)?);
+                bimap.insert(first.0, second.1);
+                bimap.insert(second.0, first.1);
+            }
+        }
         ("pop_first_by_left" | "pop_last_by_left", []) => {
             let left = bimap.end(call);
             left.map(|left| bimap.remove_by_left(&left));

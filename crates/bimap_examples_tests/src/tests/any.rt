@@ -2,8 +2,8 @@
 use super::{PAIRS, Seats, holds, ordered};
 use bimap::{
     BiBTreeMap, Bijection, Call, Interning, ItemRefused, NoMemory, NotInserted, NotInsertedWith,
-    NotReplaced, OnHeld, Overwritten, Policy, Reply, extend_with, from_iter_with, perform,
-    replace_left, replace_right, run, undo_run,
+    NotReplaced, NotSwapped, OnHeld, Overwritten, Policy, Reply, extend_with, from_iter_with,
+    perform, replace_left, replace_right, run, swap_partners, undo_run,
 };
 use bimap_calls::insert_all;
 use bimap_famine::Famine;
@@ -182,6 +182,21 @@ fn numbers_and_replaces<B: Interning<&'static str, u32> + Drop>(rt: &impl Abort,
 #[test]
 fn interns_and_replaces(rt: HostRuntime) {
     numbers_and_replaces(&rt, BiBTreeMap::<&'static str, u32>::new(rt.alloc()));
+}
+
+fn swaps<B: Bijection<&'static str, u32> + Drop>(rt: &impl Abort, bimap: B) {
+    let mut seats = bimap;
+    assert!(rt; seats.insert("ann", 12) == Ok(Overwritten::Neither));
+    assert!(rt; seats.insert("bob", 7) == Ok(Overwritten::Neither));
+    assert!(rt; swap_partners(&mut seats, &"ann", &"bob") == Ok(()));
+    assert!(rt; swap_partners(&mut seats, &"ann", &"zoe") == Err(NotSwapped::SecondMissing));
+    assert!(rt; seats.get_by_left(&"ann") == Some(&7));
+    assert!(rt; seats.get_by_right(&12) == Some(&"bob"));
+}
+
+#[test]
+fn swaps_partners(rt: HostRuntime) {
+    swaps(&rt, BiBTreeMap::<&'static str, u32>::new(rt.alloc()));
 }
 
 fn made(alloc: Global) -> Result<Seats, ItemRefused<char, u32>> {
