@@ -10,6 +10,7 @@ pub mod Capacity
 pub mod Same
 pub mod Copies
 pub mod Exchange
+pub mod Put
 pub mod Extension
 pub mod Digits
 pub mod Slots

@@ -15,6 +15,7 @@ mod numbered;
 mod overwritten;
 mod pairs;
 mod policy;
+mod putting;
 mod query;
 mod refusal;
 mod replace;
@@ -35,6 +36,7 @@ pub use numbered::hash_number;
 pub use overwritten::Overwritten;
 pub use pairs::Pairs;
 pub use policy::{OnHeld, Policy};
+pub use putting::{contains_pair, put};
 pub use query::{HashQuery, OrderQuery, Query};
 pub use refusal::{
     ExtendStopped, ItemRefused, NoMemory, NoRoom, NotInserted, NotInsertedWith, NotReplaced,

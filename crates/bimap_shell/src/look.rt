@@ -2,7 +2,7 @@
 use crate::kind::say;
 use crate::request::Request;
 use crate::word::Word;
-use bimap::Bijection;
+use bimap::{Bijection, contains_pair};
 use std::alloc::AllocError;
 
 /// Makes the call, if it is one of these.
@@ -20,6 +20,7 @@ pub fn call<B: Bijection<Word, Word>>(
         "get_by_right" => say(bimap.get_by_right(word), said),
         "contains_left" => say(bimap.contains_left(word), said),
         "contains_right" => say(bimap.contains_right(word), said),
+        "contains_pair" => say(contains_pair(bimap, word, &request.second), said),
         "can_undo_insert" => say(bimap.can_undo_insert(word, &request.answer), said),
         _ => Ok(false),
     }

@@ -39,8 +39,9 @@ fn words_of(name: &str) -> Option<Words> {
         | "get_by_left_or_insert"
         | "replace_left"
         | "replace_right"
-        | "swap_partners" => { Some(Words::Two) }
-        "insert_with" => Some(Words::PolicyTwo),
+        | "swap_partners"
+        | "contains_pair" => { Some(Words::Two) }
+        "insert_with" | "put" => Some(Words::PolicyTwo),
         "extend" | "from_iter" | "undo_run" => Some(Words::Pairs),
         "extend_with" | "from_iter_with" | "insert_all" => Some(Words::PolicyPairs),
         "with_capacity"

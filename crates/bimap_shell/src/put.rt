@@ -2,7 +2,7 @@
 use crate::kind::say;
 use crate::request::Request;
 use crate::word::Word;
-use bimap::{Bijection, replace_left, replace_right, swap_partners};
+use bimap::{Bijection, put, replace_left, replace_right, swap_partners};
 use std::alloc::AllocError;
 
 fn undone<B: Bijection<Word, Word>>(
@@ -38,6 +38,7 @@ pub fn call<B: Bijection<Word, Word>>(
 ) -> Result<bool, AllocError> {
     let (left, right) = (request.first, request.second);
     match request.call {
+        "put" => say(put(bimap, left, right, request.policy), said),
         "replace_left" => say(replace_left(bimap, &left, right), said),
         "replace_right" => say(replace_right(bimap, &left, right), said),
         "swap_partners" => say(swap_partners(bimap, &left, &right), said),

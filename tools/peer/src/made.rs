@@ -4,8 +4,8 @@ use crate::kind::Kind;
 use crate::word::Word;
 
 /// Those that leave what is held.
-const KEEPING: [&str; 14] = [
-    "capacity", "for_each", "reserve", "shrink_to", "shrink_to_fit", "can_undo_insert", "undo_run", "first_by_left",
+const KEEPING: [&str; 15] = [
+    "capacity", "contains_pair", "for_each", "reserve", "shrink_to", "shrink_to_fit", "can_undo_insert", "undo_run", "first_by_left",
     "last_by_left", "first_by_right", "last_by_right", "left_rank", "right_rank", "json",
 ];
 
@@ -14,6 +14,11 @@ pub fn make<B: Kind>(bimap: &mut B, call: &str, words: &[&str]) -> Option<()> {
     match (call, words) {
         ("insert_with", [policy, left, right]) => {
             put(bimap, policy, Word::read(left)?, Word::read(right)?);
+        }
+        ("put", [policy, left, right]) => {
+            let (left, right) = (Word::read(left)?, Word::read(right)?);
+            let is_held = bimap.call("get_by_left", &[left]) == Some(format!("{:?}", Some(right)));
+            put(bimap, if is_held { "oo" } else { policy }, left, right);
         }
         ("extend_with", [policy, words @ ..]) => {
             put_all(bimap, policy, Word::read_pairs(words)?);

@@ -2,8 +2,8 @@
 use super::{PAIRS, Seats, holds, ordered};
 use bimap::{
     BiBTreeMap, Bijection, Call, Interning, ItemRefused, NoMemory, NotInserted, NotInsertedWith,
-    NotReplaced, NotSwapped, OnHeld, Overwritten, Policy, Reply, extend_with, from_iter_with,
-    perform, replace_left, replace_right, run, swap_partners, undo_run,
+    NotReplaced, NotSwapped, OnHeld, Overwritten, Policy, Reply, contains_pair, extend_with,
+    from_iter_with, perform, put, replace_left, replace_right, run, swap_partners, undo_run,
 };
 use bimap_calls::insert_all;
 use bimap_famine::Famine;
@@ -182,6 +182,24 @@ fn numbers_and_replaces<B: Interning<&'static str, u32> + Drop>(rt: &impl Abort,
 #[test]
 fn interns_and_replaces(rt: HostRuntime) {
     numbers_and_replaces(&rt, BiBTreeMap::<&'static str, u32>::new(rt.alloc()));
+}
+
+fn puts<B: Bijection<&'static str, u32> + Drop>(rt: &impl Abort, bimap: B) {
+    let mut seats = bimap;
+    assert!(rt; seats.insert("ann", 12) == Ok(Overwritten::Neither));
+    let is_hers = contains_pair(&seats, &"ann", &12);
+    assert!(rt; is_hers);
+    let once = Policy {
+        left: OnHeld::Refuse,
+        right: OnHeld::Refuse,
+    };
+    assert!(rt; put(&mut seats, "ann", 12, once) == Ok(Overwritten::Pair("ann", 12)));
+    assert!(rt; put(&mut seats, "bob", 12, once) == Err(NotInsertedWith::RightHeld("bob", 12)));
+}
+
+#[test]
+fn puts_a_pair_again(rt: HostRuntime) {
+    puts(&rt, BiBTreeMap::<&'static str, u32>::new(rt.alloc()));
 }
 
 fn swaps<B: Bijection<&'static str, u32> + Drop>(rt: &impl Abort, bimap: B) {
