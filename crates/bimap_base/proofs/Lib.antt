@@ -9,6 +9,7 @@ pub mod Extending
 pub mod Fits
 pub mod FreeList
 pub mod HoldingsAlike
+pub mod Interned
 pub mod Meeting
 pub mod Members
 pub mod NodesInCells

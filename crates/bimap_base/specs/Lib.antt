@@ -6,6 +6,7 @@ pub mod Visited
 pub mod Undoing
 pub mod Fitting
 pub mod Holding
+pub mod InterningByRight
 pub mod Capacity
 pub mod Same
 pub mod Copies

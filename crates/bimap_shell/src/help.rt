@@ -20,7 +20,7 @@ STEPS: front back len copy rest   RANGE: .. b.. b..d b..=d ..d ..=d, and >b.. wi
   show · len · is_empty · capacity · for_each
   get_by_left L · get_by_right R · contains_left L · contains_right R · contains_pair L R
   insert L R · insert_no_overwrite L R · insert_with POLICY L R · get_by_left_or_insert L R
-  put POLICY L R
+  put POLICY L R · get_by_right_or_insert L R · get_by_left_or_insert_with L R
   extend PAIRS · extend_with POLICY PAIRS
   remove_by_left L · remove_by_right R · clear · retain R     (keeps the rights from R on)
   replace_left L L · replace_right R R · swap_partners L L

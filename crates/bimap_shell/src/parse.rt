@@ -37,6 +37,8 @@ fn words_of(name: &str) -> Option<Words> {
         "insert"
         | "insert_no_overwrite"
         | "get_by_left_or_insert"
+        | "get_by_left_or_insert_with"
+        | "get_by_right_or_insert"
         | "replace_left"
         | "replace_right"
         | "swap_partners"

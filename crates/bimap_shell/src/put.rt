@@ -2,7 +2,10 @@
 use crate::kind::say;
 use crate::request::Request;
 use crate::word::Word;
-use bimap::{Bijection, put, replace_left, replace_right, swap_partners};
+use bimap::{
+    Bijection, get_by_left_or_insert_with, get_by_right_or_insert, put, replace_left, replace_right,
+    swap_partners,
+};
 use std::alloc::AllocError;
 
 fn undone<B: Bijection<Word, Word>>(
@@ -30,6 +33,22 @@ fn removed<B: Bijection<Word, Word>>(
     }
 }
 
+fn interned<B: Bijection<Word, Word>>(
+    bimap: &mut B,
+    request: &Request<'_>,
+    said: &mut String,
+) -> Result<bool, AllocError> {
+    let (left, right) = (request.first, request.second);
+    match request.call {
+        "get_by_left_or_insert_with" => {
+            let make = || right;
+            say(get_by_left_or_insert_with(bimap, left, make), said)
+        }
+        "get_by_right_or_insert" => say(get_by_right_or_insert(bimap, left, right), said),
+        _ => removed(bimap, request, said),
+    }
+}
+
 /// Makes the call, if it is one of these.
 pub fn call<B: Bijection<Word, Word>>(
     bimap: &mut B,
@@ -43,6 +62,6 @@ pub fn call<B: Bijection<Word, Word>>(
         "replace_right" => say(replace_right(bimap, &left, right), said),
         "swap_partners" => say(swap_partners(bimap, &left, &right), said),
         "undo_insert" => undone(bimap, request, said),
-        _ => removed(bimap, request, said),
+        _ => interned(bimap, request, said),
     }
 }

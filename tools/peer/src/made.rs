@@ -23,7 +23,7 @@ pub fn make<B: Kind>(bimap: &mut B, call: &str, words: &[&str]) -> Option<()> {
         ("extend_with", [policy, words @ ..]) => {
             put_all(bimap, policy, Word::read_pairs(words)?);
         }
-        ("get_by_left_or_insert", [left, right]) => {
+        ("get_by_left_or_insert" | "get_by_left_or_insert_with" | "get_by_right_or_insert", [left, right]) => {
             put(bimap, "rr", Word::read(left)?, Word::read(right)?);
         }
         ("replace_left", [from, to]) => {

@@ -149,7 +149,8 @@ impl<B: Kind> Held<B> {
         };
         match words {
             ["perform", call @ ..] => self.takes_memory(call),
-            ["insert" | "insert_no_overwrite" | "get_by_left_or_insert", left, right]
+            ["insert" | "insert_no_overwrite" | "get_by_left_or_insert" | "get_by_left_or_insert_with"
+            | "get_by_right_or_insert", left, right]
             | ["insert_with" | "put", _, left, right] => held(left, right) != Some(true),
             ["undo_insert", _, "Both", ..] => true,
             ["extend" | "extend_with" | "from_iter" | "from_iter_with" | "with_capacity" | "run" | "undo_run", ..] => {

@@ -3,7 +3,8 @@ use super::{PAIRS, Seats, holds, ordered};
 use bimap::{
     BiBTreeMap, Bijection, Call, Interning, ItemRefused, NoMemory, NotInserted, NotInsertedWith,
     NotReplaced, NotSwapped, OnHeld, Overwritten, Policy, Reply, contains_pair, extend_with,
-    from_iter_with, perform, put, replace_left, replace_right, run, swap_partners, undo_run,
+    from_iter_with, get_by_left_or_insert_with, get_by_right_or_insert, perform, put, replace_left,
+    replace_right, run, swap_partners, undo_run,
 };
 use bimap_calls::insert_all;
 use bimap_famine::Famine;
@@ -182,6 +183,20 @@ fn numbers_and_replaces<B: Interning<&'static str, u32> + Drop>(rt: &impl Abort,
 #[test]
 fn interns_and_replaces(rt: HostRuntime) {
     numbers_and_replaces(&rt, BiBTreeMap::<&'static str, u32>::new(rt.alloc()));
+}
+
+fn interns<B: Bijection<&'static str, u32> + Drop>(rt: &impl Abort, bimap: B) {
+    let mut numbers = bimap;
+    assert!(rt; get_by_left_or_insert_with(&mut numbers, "ann", || 12) == Ok(12));
+    assert!(rt; get_by_left_or_insert_with(&mut numbers, "ann", || 13) == Ok(12));
+    let mut seats = numbers;
+    assert!(rt; get_by_right_or_insert(&mut seats, "bob", 12) == Ok("ann"));
+    assert!(rt; get_by_right_or_insert(&mut seats, "bob", 7) == Ok("bob"));
+}
+
+#[test]
+fn interns_on_both_sides(rt: HostRuntime) {
+    interns(&rt, BiBTreeMap::<&'static str, u32>::new(rt.alloc()));
 }
 
 fn puts<B: Bijection<&'static str, u32> + Drop>(rt: &impl Abort, bimap: B) {
