@@ -20,6 +20,7 @@ mod map;
 mod remove;
 mod retain;
 mod room;
+mod subset;
 mod undo;
 mod walked_index;
 mod walks;

@@ -11,7 +11,7 @@ use std::hash::{BuildHasher, Hash};
 
 /// An index that leads an iterator through the pairs of a store.
 pub trait WalkedIndex<K: Eq>: Index<K> {
-    type Way: Course;
+    type Way: Course + 'static;
 
     /// Returns an iterator over all pairs of a store, of which the index lists a side.
     fn walk<'a, S: Side<K>, L, R>(

@@ -54,6 +54,8 @@ pub fn call<LS: BuildHasher + Clone + Drop, J: CopiedIndex<Word> + Drop>(
             Err(_) => Err(AllocError),
         },
         "eq" => say(bimap == other, said),
+        "is_subset_of" => say(bimap.is_subset_of(other), said),
+        "holds_same_pairs" => say(bimap.holds_same_pairs(other), said),
         _ => Ok(walk(bimap, request, said)? || insert(bimap, request, said)?),
     }
 }

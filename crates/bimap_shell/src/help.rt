@@ -32,7 +32,7 @@ STEPS: front back len copy rest   RANGE: .. b.. b..d b..=d ..d ..=d, and >b.. wi
   left_range RANGE STEPS · right_range RANGE STEPS
   first_by_left · last_by_left · pop_first_by_left · pop_last_by_left
   pair_at_left_rank N · left_rank L           all six also by right
-  clone · swap · eq · partial_cmp · cmp · hash     (with the other bimap, which clone makes)
+  clone · swap · eq · partial_cmp · cmp · hash · is_subset_of · holds_same_pairs     (with the other bimap, which clone makes)
   undoable insert L R · undoable insert_with POLICY L R · undoable insert_all POLICY PAIRS
   undoable replace_left L L · undoable replace_right R R
   undoable remove_by_left L · undoable remove_by_right R

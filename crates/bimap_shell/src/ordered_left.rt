@@ -25,6 +25,8 @@ fn compare<J: CopiedIndex<Word> + Drop>(
 ) -> Result<bool, AllocError> {
     match call {
         "eq" => say(bimap == other, said),
+        "is_subset_of" => say(bimap.is_subset_of(other), said),
+        "holds_same_pairs" => say(bimap.holds_same_pairs(other), said),
         "partial_cmp" => say(bimap.partial_cmp(other), said),
         "cmp" => say(bimap.cmp(other), said),
         "hash" => say(hash_of(bimap) == hash_of(other), said),

@@ -80,7 +80,9 @@ fn nothing_after(name: &str) -> bool {
         | "eq"
         | "partial_cmp"
         | "cmp"
-        | "hash" => true,
+        | "hash"
+        | "is_subset_of"
+        | "holds_same_pairs" => true,
         "first_by_left" | "last_by_left" | "pop_first_by_left" | "pop_last_by_left" => true,
         "first_by_right" | "last_by_right" | "pop_first_by_right" | "pop_last_by_right" => true,
         "last_change" | "mark" | "forget" | "held" | "into_inner" => true,

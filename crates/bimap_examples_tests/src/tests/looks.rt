@@ -1,6 +1,6 @@
 //! Examples of look-ups, ends and ranks.
 use super::{Seats, ordered};
-use bimap::Overwritten;
+use bimap::{BiHashMap, Overwritten};
 use std::process::Abort;
 
 fn counts(rt: &impl Abort, seats: &Seats) {
@@ -62,4 +62,18 @@ fn last_out(rt: &impl Abort, seats: &mut Seats, other: &mut Seats) {
 fn takes_the_ends_out(rt: HostRuntime) {
     first_out(&rt, &mut ordered(&rt), &mut ordered(&rt));
     last_out(&rt, &mut ordered(&rt), &mut ordered(&rt));
+}
+
+fn compares(rt: &impl Abort, seats: &Seats, hashed: &BiHashMap<char, u32>) {
+    assert!(rt; seats.is_subset_of(hashed));
+    assert!(rt; seats.holds_same_pairs(hashed));
+    assert!(rt; seats.is_subset_of(seats));
+}
+
+#[test]
+fn compares_two_kinds(rt: HostRuntime) {
+    let hashed = BiHashMap::from_iter(rt.alloc(), super::PAIRS)
+        .ok()
+        .expect(&rt, "no memory");
+    compares(&rt, &ordered(&rt), &hashed);
 }
