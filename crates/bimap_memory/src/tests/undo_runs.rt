@@ -5,7 +5,7 @@ ghost use Rattle.bimap.specs.Trail.{Leads};
 use bimap::{BiBTreeMap, Bijection, Overwritten, undo_run};
 use bimap_calls::{CopyKind, insert_all, shows};
 use bimap_famine::Famine;
-use std::alloc::Global;
+use std::alloc::{AllocError, Global};
 use std::test::Fail;
 
 /// Insertions, the entries that are left where the undoing of two pairs finds no place, and the pairs that are then held.
@@ -84,5 +84,42 @@ fn a_list_stops_where_no_place_is_free(rt: HostRuntime) -> Result<(), Fail> {
     for row in ROWS.iter() {
         assert!(rt; is_right::<BiBTreeMap<char, u32>>(rt.alloc(), row)?);
     }
+    Ok(())
+}
+
+// So many pairs that two bytes do not count them, and as many items as half of them, of which each strikes two.
+fn fill(pairs: &mut Vec<(char, u32)>, items: &mut Vec<(char, u32)>) -> Result<(), AllocError> {
+    for at in 0..140_000u32 {
+        if let Some(left) = char::from_u32(0x1_0000 + at) {
+            pairs.push((left, at))?;
+            if at % 2 == 0 {
+                items.push((left, at + 1))?;
+            }
+        }
+    }
+    Ok(())
+}
+
+// Whether a list as long as that is undone where no place is free.
+fn undoes_many<B: CopyKind<char, u32>>(
+    alloc: Global,
+    pairs: &[(char, u32)],
+    items: &[(char, u32)],
+) -> Result<bool, Fail> {
+    let mut bimap = B::empty(alloc);
+    bimap.add(pairs).ok().ok_or("no memory")?;
+    let entries = insert_all(alloc, &mut bimap, items)?;
+    bimap.shrink_to_fit()?;
+    let is_full = bimap.capacity() == items.len();
+    undo_run(&mut bimap, entries).ok().ok_or("no memory")?;
+    Ok(is_full && shows(&bimap, pairs))
+}
+
+#[test]
+fn a_long_list_makes_places(rt: HostRuntime) -> Result<(), Fail> {
+    let alloc = rt.alloc();
+    let (mut pairs, mut items) = (Vec::new(alloc), Vec::new(alloc));
+    fill(&mut pairs, &mut items)?;
+    assert!(rt; undoes_many::<BiBTreeMap<char, u32>>(alloc, pairs.as_slice(), items.as_slice())?);
     Ok(())
 }
