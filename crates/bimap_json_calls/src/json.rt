@@ -1,5 +1,5 @@
 //! JSON both ways: each type as both sides, and each as a left and as a right beside another.
-use crate::numbered::{numbered, repeated};
+use crate::texts::{numbered, repeated};
 use bimap::value::{JsonFault, JsonKey, JsonObject, JsonValue, read_text_with, reread};
 use bimap::{BiBTreeHashMap, BiBTreeMap, BiHashBTreeMap, BiHashMap, NoMemory, Policy};
 use serde_json::Value;

@@ -2,7 +2,7 @@
 #![tactic(auto)]
 
 mod json;
-mod numbered;
+mod texts;
 
 pub use json::{JsonCall, json_call};
-pub use numbered::{numbered, repeated};
+pub use texts::{numbered, repeated};
