@@ -1,5 +1,5 @@
 -- What a recorded removal answers and leaves, by its three ends. Once for both sides: `part` is the side.
-use Rattle.std.proofs.Common.{◌≡◌, ◌↔◌, ◌∙◌, ◌≤◌, Bool, true, false, List, [], ◌∷◌, ◌++◌, length, refl, sym, ap, arith, true≢false, length-append}
+use Rattle.std.proofs.Common.{◌≡◌, ◌↔◌, ◌∙◌, ◌+◌, ◌≤◌, Bool, true, false, List, [], ◌∷◌, ◌++◌, length, refl, sym, ap, arith, true≢false, length-append}
 use Rattle.std.specs.Prelude.{Contains, Result, Ok, Err, IsErr}
 use Rattle.bimap.specs.Sets.{IsApart}
 use Rattle.bimap.specs.Holding.{Holding}
@@ -19,6 +19,7 @@ module _ {L R K : Type 0} (same_left : L → L → Bool) (same_right : R → R �
     recorded = refl;
     last = tt;
     kept = keeps_all same_left same_right (marked old entries) (length entries);
+    count = tt;
     room = refl;
     refused = tt;
     unchanged = tt;
@@ -27,11 +28,11 @@ module _ {L R K : Type 0} (same_left : L → L → Bool) (same_right : R → R �
   -- there is no memory for the record
   pub refused : (r : Result Bool NoMemory) → IsErr r → (q : L × R) × Contains old.pairs q × (same (part q) value ≡ true) → entries' ≡ entries → IsRecordedRemoval same_left same_right part same (marked old entries) value r (marked old entries')
   refused (Ok b) no_ok has still = absurd cc
-  refused (Err e) some has still = record { found = tt; without = tt; recorded = tt; last = tt; kept = tt; room = refl; refused = has; unchanged = ap (marked old) still }
+  refused (Err e) some has still = record { found = tt; without = tt; recorded = tt; last = tt; kept = tt; count = tt; room = refl; refused = has; unchanged = ap (marked old) still }
 
   -- the pair is taken out and recorded
   module _ (removing : (A : List (L × R)) (p : L × R) (B : List (L × R)) → IsApart same_left same_right A → (k : K) → Contains A p → same (part p) k ≡ true → ((q : L × R) → Contains B q ↔ (Contains A q × (same (part q) k ≡ false))) → IsRemoving A p B)
-      (new : Holding L R) (p : L × R) (apart : IsApart same_left same_right old.pairs) (apart' : IsApart same_left same_right new.pairs) (removed : Contains old.pairs p × (same (part p) value ≡ true)) (without : (q : L × R) → Contains new.pairs q ↔ (Contains old.pairs q × (same (part q) value ≡ false))) (room : new.room ≡ old.room)
+      (new : Holding L R) (p : L × R) (apart : IsApart same_left same_right old.pairs) (apart' : IsApart same_left same_right new.pairs) (removed : Contains old.pairs p × (same (part p) value ≡ true)) (without : (q : L × R) → Contains new.pairs q ↔ (Contains old.pairs q × (same (part q) value ≡ false))) (count : length new.pairs + 1 ≡ length old.pairs) (room : new.room ≡ old.room)
       (between : List (Entry L R)) (pushed : entries' ≡ between ++ Removed p.0 p.1 ∷ []) (reserved : between ≡ entries) where
     grown : entries' ≡ entries ++ Removed p.0 p.1 ∷ []
     grown = pushed ∙ ap (λ es. es ++ Removed p.0 p.1 ∷ []) reserved
@@ -49,6 +50,7 @@ module _ {L R K : Type 0} (same_left : L → L → Bool) (same_right : R → R �
       recorded = ap length grown ∙ length-append entries (Removed p.0 p.1 ∷ []);
       last = (p, removed.0, removed.1, grown);
       kept = keeps_push same_left same_right (marked old entries) (marked new entries') (Removed p.0 p.1) grown apart' taken;
+      count = count;
       room = room;
       refused = tt;
       unchanged = tt;

@@ -16,13 +16,14 @@ module _ {L R K M : Type 0} (same_left : L → L → Bool) (same_right : R → R
     last = tt;
     recorded = tt;
     kept = tt;
+    count = ap (λ (held : Holding L R). length held.pairs) still;
     room = ap (λ (held : Holding L R). held.room) still;
     refused = is;
     unchanged = ap (λ (held : Holding L R). marked held entries') still ∙ ap (marked old) rest;
   }
 
   -- the value was replaced, and this recorded
-  module _ (left : L) (taken : K) (apart : IsApart same_left same_right new.pairs) (replaced : IsPartReplaced part pair same (Contains old.pairs) from to taken (Contains new.pairs)) (change : IsChange same_left same_right old.pairs (entry left taken) new.pairs) (room : new.room ≡ old.room) (between : List (Entry L R)) (pushed : entries' ≡ between ++ entry left taken ∷ []) (reserved : between ≡ entries) where
+  module _ (left : L) (taken : K) (apart : IsApart same_left same_right new.pairs) (replaced : IsPartReplaced part pair same (Contains old.pairs) from to taken (Contains new.pairs)) (change : IsChange same_left same_right old.pairs (entry left taken) new.pairs) (count : length new.pairs ≡ length old.pairs) (room : new.room ≡ old.room) (between : List (Entry L R)) (pushed : entries' ≡ between ++ entry left taken ∷ []) (reserved : between ≡ entries) where
     grown : entries' ≡ entries ++ entry left taken ∷ []
     grown = pushed ∙ ap (λ es. es ++ entry left taken ∷ []) reserved
 
@@ -34,6 +35,7 @@ module _ {L R K M : Type 0} (same_left : L → L → Bool) (same_right : R → R
       last = record { left = left; taken = taken; replaced = replaced; change = change; entries = grown };
       recorded = ap length grown ∙ length-append entries (entry left taken ∷ []);
       kept = keeps_push same_left same_right (marked old entries) (marked new entries') (entry left taken) grown apart change;
+      count = count;
       room = room;
       refused = tt;
       unchanged = tt;

@@ -5,7 +5,7 @@ use Rattle.bimap.specs.Sets.{IsApart, IsSameSet, SomeShares, IsWithPut, HasLeft,
 use Rattle.bimap.specs.Holding.{Holding, IsRoomAfter}
 use Rattle.bimap.specs.Undoing.{IsInserting}
 use Rattle.bimap.specs.Exchange.{IsRemoving, IsExchanged, IsPartReplaced, IsPartKept}
-use Rattle.bimap.specs.Answer.{IsAnswer, IsAllowed}
+use Rattle.bimap.specs.Answer.{IsAnswer, IsAllowed, named_count}
 use Rattle.bimap.specs.Types.{Overwritten, Policy, Refuse, NotInsertedWith}
 use Rattle.bimap.specs.declared.NotInsertedWith.TheVariants.{LeftHeld, RightHeld, Memory as MemoryWith}
 use Rattle.bimap.specs.declared.NoMemory.{NoMemory}
@@ -64,6 +64,7 @@ module _ {L R : Type 0} (same_left : L → L → Bool) (same_right : R → R →
     pub answer : Overwritten L R
     pub by_left : same_left pair.0 left ≡ true
     pub is_answer : IsAnswer same_left same_right (Contains old.held.pairs) pair answer
+    pub count : length new.held.pairs + named_count answer ≡ length old.held.pairs + 1
     pub entries : new.entries ≡ old.entries ++ Inserted left answer ∷ []
 
   -- what an insertion answers and leaves
@@ -119,6 +120,7 @@ module _ {L R : Type 0} (same_left : L → L → Bool) (same_right : R → R →
       pub last : OnOk result (IsReplacementLast old from to new)
       pub recorded : OnOk result (length new.entries ≡ length old.entries + 1)
       pub kept : OnOk result (KeepsMarks old (length old.entries) new)
+      pub count : length new.held.pairs ≡ length old.held.pairs
       pub room : new.held.room ≡ old.held.room
       pub refused : IfErr result (IsNotRecorded (Contains old.held.pairs) from to)
       pub unchanged : OnErr result (new ≡ old)
@@ -143,6 +145,7 @@ module _ {L R : Type 0} (same_left : L → L → Bool) (same_right : R → R →
     pub last : IfOk result (λ found. OnTrue found ((q : L × R) × Contains old.held.pairs q
         × (same (part q) value ≡ true) × (new.entries ≡ old.entries ++ Removed q.0 q.1 ∷ [])))
     pub kept : OnOk result (KeepsMarks old (length old.entries) new)
+    pub count : IfOk result (λ found. OnTrue found (length new.held.pairs + 1 ≡ length old.held.pairs))
     pub room : new.held.room ≡ old.held.room
     pub refused : OnErr result ((q : L × R) × Contains old.held.pairs q × (same (part q) value ≡ true))
     pub unchanged : OnErr result (new ≡ old)

@@ -45,6 +45,7 @@ returns g c =
         answer = c.in_ok-answer.answer;
         by_left = g.met.L.Eq.laws.symm c.args.left c.in-Ok.copy ∙ c.in-Ok.ensures;
         is_answer = c.in_ok-answer.ensures.answer;
+        count = c.in_ok-answer.ensures.count;
         entries = grown g c;
       };
       kept = keeps_push g.L.PartialEq.eq g.R.PartialEq.eq
