@@ -34,7 +34,10 @@ pub fn swap_partners<L: Eq + Drop, R: Eq + Drop, B: Bijection<L, R>>(
     let Some(second) = bimap.remove_by_left(other) else {
         unreachable!()
     };
-    match (bimap.insert(second.0, first.1), bimap.insert(first.0, second.1)) {
+    match (
+        bimap.insert(second.0, first.1),
+        bimap.insert(first.0, second.1),
+    ) {
         (Ok(_), Ok(_)) => Ok(()),
         _ => unreachable!(),
     }

@@ -84,7 +84,12 @@ impl Hashed {
 
     /// As `find`, by a number that the caller has.
     #[inline(always)]
-    pub fn find_numbered<S: Spread>(&self, spread: &S, number: u32, query: S::Query) -> Option<usize>
+    pub fn find_numbered<S: Spread>(
+        &self,
+        spread: &S,
+        number: u32,
+        query: S::Query,
+    ) -> Option<usize>
         requires numbered { AreNumbered (S.key_at spread.now) (S.number_of spread.now) self.now }
         requires number { number ≡ S.query_number spread.now query }
         ensures found { IfSome result (Matches (S.key_at spread.now)

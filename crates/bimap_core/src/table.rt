@@ -61,11 +61,7 @@ impl<L: Eq, R: Eq, I: Index<L>, J: Index<R>> Table<L, R, I, J> {
     }
 
     /// The partner of a left, or `None` where it is not held.
-    pub fn get_by_left<Q: Query<L>, M: Meter>(
-        &self,
-        left: Q,
-        meter: &mut M,
-    ) -> Option<&R>
+    pub fn get_by_left<Q: Query<L>, M: Meter>(&self, left: Q, meter: &mut M) -> Option<&R>
     where
         I: Lookup<L, Q>,
         ensures answer { IsFoundByLeft Q.same (holding_of self.now.pairs) left result }
@@ -80,11 +76,7 @@ impl<L: Eq, R: Eq, I: Index<L>, J: Index<R>> Table<L, R, I, J> {
     }
 
     /// The partner of a right, or `None` where it is not held.
-    pub fn get_by_right<Q: Query<R>, M: Meter>(
-        &self,
-        right: Q,
-        meter: &mut M,
-    ) -> Option<&L>
+    pub fn get_by_right<Q: Query<R>, M: Meter>(&self, right: Q, meter: &mut M) -> Option<&L>
     where
         J: Lookup<R, Q>,
         ensures answer { IsFoundByRight Q.same (holding_of self.now.pairs) right result }
@@ -93,7 +85,9 @@ impl<L: Eq, R: Eq, I: Index<L>, J: Index<R>> Table<L, R, I, J> {
         ensures touches { M.touches meter.new ≤ M.touches meter.old
             + J.effort (length (J.places self.now.right)) }
     {
-        let place = self.right.find_by(RightSide::new(&self.pairs), right, meter)?;
+        let place = self
+            .right
+            .find_by(RightSide::new(&self.pairs), right, meter)?;
         let (left, _) = self.pairs.held(place);
         Some(left)
     }

@@ -76,5 +76,7 @@ macro_rules! asked {
 }
 
 asked!(&'q str => String<A>; ['q, A: Allocator]; ['q, A: Allocator]);
+
 asked!(&'q str => &'k str; ['q, 'k]; ['q, 'k]);
+
 asked!(&'q [T] => Vec<T, A>; ['q, T: Ord, A: Allocator]; ['q, T: Eq + Hash, A: Allocator]);

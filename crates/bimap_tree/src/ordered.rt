@@ -304,14 +304,7 @@ impl Ordered {
             of: PhantomData,
         };
         let mut route = Route::new();
-        let found = route_in_tree(
-            &self.cells,
-            self.root,
-            0,
-            &sought,
-            &mut route,
-            meter,
-        )?;
+        let found = route_in_tree(&self.cells, self.root, 0, &sought, &mut route, meter)?;
         self.root = take_at(&mut self.cells, &mut route, found, meter);
         self.len -= 1;
         Some(found)
