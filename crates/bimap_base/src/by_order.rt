@@ -1,8 +1,9 @@
 //! A side of a store by the order of its keys.
 ghost use Rattle.std.specs.Prelude.{◌≡◌};
 
-use crate::keys::Keys;
+use crate::keys::{Keys, Sought};
 use crate::meter::Meter;
+use crate::query::OrderQuery;
 use crate::side::Side;
 use std::cmp::Ordering;
 use std::marker::PhantomData;
@@ -44,5 +45,16 @@ impl<K: Ord, S: Side<K>> Keys for ByOrder<K, S> {
     fn compare_places<M: Meter>(&self, a: usize, b: usize, meter: &mut M) -> Ordering {
         meter.compared();
         self.side.key(a).cmp(self.side.key(b))
+    }
+}
+
+impl<K: Ord, S: Side<K>, Q: OrderQuery<K>> Sought<ByOrder<K, S>> for Q {
+    ghost order = { Q.order };
+
+    ghost follows = { Q.follows };
+
+    fn compare<M: Meter>(&self, keys: &ByOrder<K, S>, place: usize, meter: &mut M) -> Ordering {
+        meter.compared();
+        self.order(keys.side.key(place))
     }
 }

@@ -2,7 +2,7 @@
 ghost use Rattle.std.specs.Prelude.{◌≡◌, ℕ, ◌+◌, Option, Some, IsSome};
 ghost use Rattle.std.specs.declared.cmp.Ordering.{Ordering};
 ghost use Rattle.std.specs.Cmp.{IsTotalOrder};
-ghost use Rattle.bimap_base.specs.Keyed.{standing};
+ghost use Rattle.bimap_base.specs.Keyed.{standing, Follows};
 
 use crate::meter::Meter;
 use std::cmp::Ordering;
@@ -34,4 +34,20 @@ pub trait Keys {
 
     /// The order is total, and `Equal` is an equivalence.
     ghost total: { IsTotalOrder order };
+}
+
+/// What places are found by. A call counts one comparison.
+pub trait Sought<K: Keys>: Copy {
+    /// How a key stands to what is sought.
+    ghost order: { K.Key → Self → Ordering };
+
+    /// How the key of a place stands to what is sought.
+    fn compare<M: Meter>(&self, keys: &K, place: usize, meter: &mut M) -> Ordering
+        requires live { IsSome (K.key_at keys.now place) }
+        ensures answer { result ≡ standing order (K.key_at keys.now place) (Some self.now) }
+        ensures comparisons { M.comparisons meter.new ≡ M.comparisons meter.old + 1 }
+        ensures touches { M.touches meter.new ≡ M.touches meter.old };
+
+    /// A key below one that isn't above what is sought is below it.
+    ghost follows: { Follows K.order order };
 }

@@ -30,7 +30,7 @@ pub use count::Count;
 pub use fill::{extend, extend_with, from_iter, from_iter_with};
 pub use hash_keys::Spread;
 pub use interning::{Interning, get_by_left_or_insert_with, get_by_right_or_insert};
-pub use keys::Keys;
+pub use keys::{Keys, Sought};
 pub use meter::Meter;
 pub use numbered::hash_number;
 pub use overwritten::Overwritten;

@@ -4,6 +4,7 @@
 //! no key.
 #![tactic(auto)]
 
+mod borrowed;
 mod constructors;
 mod hash_index;
 mod index;

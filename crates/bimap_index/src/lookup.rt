@@ -2,13 +2,8 @@
 ghost use Rattle.std.specs.Prelude.{◌≡◌, ◌+◌, ◌*◌, ◌≤◌, ℕ, Option, length, IfSome, IfNone};
 ghost use Rattle.bimap_index.specs.Listed.{IsFoundBy, IsWithout};
 
-use crate::hash_index::HashIndex;
 use crate::index::Index;
-use crate::ordered::{find_in_order, unlink_in_order};
 use bimap_base::{Meter, Query, Side};
-use bimap_tree::Ordered;
-use std::alloc::Allocator;
-use std::hash::{BuildHasher, Hash};
 
 /// An index that is asked for a key by such a query. Any is by a key.
 pub trait Lookup<K: Eq, Q: Query<K>>: Index<K> {
@@ -49,34 +44,3 @@ impl<K: Eq, I: Index<K>> Lookup<K, &K> for I {
         self.unlink_key(side, query, meter)
     }
 }
-
-// Either kind of index is asked by a borrowed form of a key; the bounds are those of an ordered one and of a hashed one.
-macro_rules! asked {
-    ($query:ty => $key:ty; [$($ordered:tt)*]; [$($hashed:tt)*]) => {
-        impl<$($ordered)*> Lookup<$key, $query> for Ordered {
-            fn find_by<S: Side<$key>, M: Meter>(&self, side: S, query: $query, meter: &mut M) -> Option<usize> {
-                find_in_order(self, side, query, meter)
-            }
-
-            fn unlink_by<S: Side<$key>, M: Meter>(&mut self, side: S, query: $query, meter: &mut M) -> Option<usize> {
-                unlink_in_order(self, side, query, meter)
-            }
-        }
-
-        impl<$($hashed)*, B: BuildHasher> Lookup<$key, $query> for HashIndex<B> {
-            fn find_by<S: Side<$key>, M: Meter>(&self, side: S, query: $query, meter: &mut M) -> Option<usize> {
-                self.find_hashed(side, query, meter)
-            }
-
-            fn unlink_by<S: Side<$key>, M: Meter>(&mut self, side: S, query: $query, meter: &mut M) -> Option<usize> {
-                self.unlink_hashed(side, query, meter)
-            }
-        }
-    };
-}
-
-asked!(&'q str => String<A>; ['q, A: Allocator]; ['q, A: Allocator]);
-
-asked!(&'q str => &'k str; ['q, 'k]; ['q, 'k]);
-
-asked!(&'q [T] => Vec<T, A>; ['q, T: Ord, A: Allocator]; ['q, T: Eq + Hash, A: Allocator]);

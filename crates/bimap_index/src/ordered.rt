@@ -29,7 +29,7 @@ pub(crate) fn find_in_order<K: Ord, S: Side<K>, Q: OrderQuery<K>, M: Meter>(
     ensures touches { M.touches meter.new ≤ M.touches meter.old
         + most_height (length index.now.places) }
 {
-    index.find(side, query, meter)
+    index.find(&ByOrder::new(side), query, meter)
 }
 
 // Takes the place whose key the query asks for off the list, and answers it.
@@ -50,7 +50,7 @@ pub(crate) fn unlink_in_order<K: Ord, S: Side<K>, Q: OrderQuery<K>, M: Meter>(
     ensures touches { M.touches meter.new ≤ M.touches meter.old
         + 64 * (most_height (length index.old.places) + 1) }
 {
-    index.remove_key(side, query, meter)
+    index.remove_key(&ByOrder::new(side), query, meter)
 }
 
 impl<K: Ord> Index<K> for Ordered {

@@ -4,8 +4,8 @@ ghost use Rattle.bimap_base.specs.Holding.{IsFoundByLeft, IsFoundByRight};
 ghost use Rattle.bimap_base.specs.Sets.{HasLeft, HasRight};
 
 use crate::map::BijectiveMap;
-use bimap_base::{Bijection, Count, Meter};
-use bimap_index::Index;
+use bimap_base::{Count, Meter, Query};
+use bimap_index::{Index, Lookup};
 
 impl<L: Eq, R: Eq, I: Index<L>, J: Index<R>> BijectiveMap<L, R, I, J> {
     ghost use Rattle.bimap_kinds.specs.Held.{holding};
@@ -40,8 +40,10 @@ impl<L: Eq, R: Eq, I: Index<L>, J: Index<R>> BijectiveMap<L, R, I, J> {
     /// Returns the right of a left, or `None` if the bimap doesn't contain the left.
     ///
     ///     seats.get_by_left(&'a'); // Some(&3)
-    pub fn get_by_left(&self, left: &L) -> Option<&R>
-        ensures { IsFoundByLeft L.eq (holding self.now) left.now result }
+    pub fn get_by_left<Q: Query<L>>(&self, left: Q) -> Option<&R>
+    where
+        I: Lookup<L, Q>,
+        ensures { IsFoundByLeft Q.same (holding self.now) left result }
     {
         self.get_by_left_metered(left, &mut Count::new())
     }
@@ -49,15 +51,41 @@ impl<L: Eq, R: Eq, I: Index<L>, J: Index<R>> BijectiveMap<L, R, I, J> {
     /// Returns the left of a right, or `None` if the bimap doesn't contain the right.
     ///
     ///     seats.get_by_right(&1); // Some(&'b')
-    pub fn get_by_right(&self, right: &R) -> Option<&L>
-        ensures { IsFoundByRight R.eq (holding self.now) right.now result }
+    pub fn get_by_right<Q: Query<R>>(&self, right: Q) -> Option<&L>
+    where
+        J: Lookup<R, Q>,
+        ensures { IsFoundByRight Q.same (holding self.now) right result }
     {
         self.get_by_right_metered(right, &mut Count::new())
     }
 
+    /// Returns whether the bimap contains the left.
+    ///
+    ///     seats.contains_left(&'d'); // false
+    pub fn contains_left<Q: Query<L>>(&self, left: Q) -> bool
+    where
+        I: Lookup<L, Q>,
+        ensures { IsTrue result ↔ HasLeft Q.same (Contains (holding self.now).pairs) left }
+    {
+        self.get_by_left(left).is_some()
+    }
+
+    /// Returns whether the bimap contains the right.
+    ///
+    ///     seats.contains_right(&2); // true
+    pub fn contains_right<Q: Query<R>>(&self, right: Q) -> bool
+    where
+        J: Lookup<R, Q>,
+        ensures { IsTrue result ↔ HasRight Q.same (Contains (holding self.now).pairs) right }
+    {
+        self.get_by_right(right).is_some()
+    }
+
     /// [`get_by_left`](Self::get_by_left), counted.
-    pub fn get_by_left_metered<M: Meter>(&self, left: &L, meter: &mut M) -> Option<&R>
-        ensures answer { IsFoundByLeft L.eq (holding self.now) left.now result }
+    pub fn get_by_left_metered<Q: Query<L>, M: Meter>(&self, left: Q, meter: &mut M) -> Option<&R>
+    where
+        I: Lookup<L, Q>,
+        ensures answer { IsFoundByLeft Q.same (holding self.now) left result }
         ensures comparisons { M.comparisons meter.new ≤ M.comparisons meter.old
             + I.effort (length (holding self.now).pairs) }
         ensures touches { M.touches meter.new ≤ M.touches meter.old
@@ -67,35 +95,15 @@ impl<L: Eq, R: Eq, I: Index<L>, J: Index<R>> BijectiveMap<L, R, I, J> {
     }
 
     /// [`get_by_right`](Self::get_by_right), counted.
-    pub fn get_by_right_metered<M: Meter>(&self, right: &R, meter: &mut M) -> Option<&L>
-        ensures answer { IsFoundByRight R.eq (holding self.now) right.now result }
+    pub fn get_by_right_metered<Q: Query<R>, M: Meter>(&self, right: Q, meter: &mut M) -> Option<&L>
+    where
+        J: Lookup<R, Q>,
+        ensures answer { IsFoundByRight Q.same (holding self.now) right result }
         ensures comparisons { M.comparisons meter.new ≤ M.comparisons meter.old
             + J.effort (length (holding self.now).pairs) }
         ensures touches { M.touches meter.new ≤ M.touches meter.old
             + J.effort (length (holding self.now).pairs) }
     {
         self.table.get_by_right(right, meter)
-    }
-}
-
-impl<L: Eq + Drop, R: Eq + Drop, I: Index<L>, J: Index<R>> BijectiveMap<L, R, I, J> {
-    ghost use Rattle.bimap_kinds.specs.Held.{holding};
-
-    /// Returns whether the bimap contains the left.
-    ///
-    ///     seats.contains_left(&'d'); // false
-    pub fn contains_left(&self, left: &L) -> bool
-        ensures { IsTrue result ↔ HasLeft L.eq (Contains (holding self.now).pairs) left.now }
-    {
-        Bijection::contains_left(self, left)
-    }
-
-    /// Returns whether the bimap contains the right.
-    ///
-    ///     seats.contains_right(&2); // true
-    pub fn contains_right(&self, right: &R) -> bool
-        ensures { IsTrue result ↔ HasRight R.eq (Contains (holding self.now).pairs) right.now }
-    {
-        Bijection::contains_right(self, right)
     }
 }

@@ -3,8 +3,8 @@ ghost use Rattle.std.specs.Prelude.{◌≡◌, ◌+◌, ◌*◌, ◌≤◌, [], 
 ghost use Rattle.bimap_base.specs.Holding.{IsRemovalByLeft, IsRemovalByRight};
 
 use crate::map::BijectiveMap;
-use bimap_base::{Count, Meter};
-use bimap_index::Index;
+use bimap_base::{Count, Meter, Query};
+use bimap_index::{Index, Lookup};
 
 impl<L: Eq, R: Eq, I: Index<L>, J: Index<R>> BijectiveMap<L, R, I, J> {
     ghost use Rattle.bimap_kinds.specs.Held.{holding};
@@ -12,8 +12,10 @@ impl<L: Eq, R: Eq, I: Index<L>, J: Index<R>> BijectiveMap<L, R, I, J> {
     /// Removes the pair of a left and returns it, or `None` if the bimap doesn't contain the left.
     ///
     ///     seats.remove_by_left(&'a'); // Some(('a', 3))
-    pub fn remove_by_left(&mut self, left: &L) -> Option<(L, R)>
-        ensures { IsRemovalByLeft L.eq (holding self.old) left.now result (holding self.new) }
+    pub fn remove_by_left<Q: Query<L>>(&mut self, left: Q) -> Option<(L, R)>
+    where
+        I: Lookup<L, Q>,
+        ensures { IsRemovalByLeft Q.same (holding self.old) left result (holding self.new) }
     {
         self.remove_by_left_metered(left, &mut Count::new())
     }
@@ -21,8 +23,10 @@ impl<L: Eq, R: Eq, I: Index<L>, J: Index<R>> BijectiveMap<L, R, I, J> {
     /// Removes the pair of a right and returns it, or `None` if the bimap doesn't contain the right.
     ///
     ///     seats.remove_by_right(&4); // None
-    pub fn remove_by_right(&mut self, right: &R) -> Option<(L, R)>
-        ensures { IsRemovalByRight R.eq (holding self.old) right.now result (holding self.new) }
+    pub fn remove_by_right<Q: Query<R>>(&mut self, right: Q) -> Option<(L, R)>
+    where
+        J: Lookup<R, Q>,
+        ensures { IsRemovalByRight Q.same (holding self.old) right result (holding self.new) }
     {
         self.remove_by_right_metered(right, &mut Count::new())
     }
@@ -42,9 +46,14 @@ impl<L: Eq, R: Eq, I: Index<L>, J: Index<R>> BijectiveMap<L, R, I, J> {
     }
 
     /// [`remove_by_left`](Self::remove_by_left), counted.
-    pub fn remove_by_left_metered<M: Meter>(&mut self, left: &L, meter: &mut M) -> Option<(L, R)>
-        ensures answer { IsRemovalByLeft L.eq (holding self.old) left.now result
-            (holding self.new) }
+    pub fn remove_by_left_metered<Q: Query<L>, M: Meter>(
+        &mut self,
+        left: Q,
+        meter: &mut M,
+    ) -> Option<(L, R)>
+    where
+        I: Lookup<L, Q>,
+        ensures answer { IsRemovalByLeft Q.same (holding self.old) left result (holding self.new) }
         ensures comparisons { let n = length (holding self.old).pairs in
             M.comparisons meter.new ≤ M.comparisons meter.old + I.effort n + J.effort n }
         ensures touches { let n = length (holding self.old).pairs in
@@ -55,9 +64,14 @@ impl<L: Eq, R: Eq, I: Index<L>, J: Index<R>> BijectiveMap<L, R, I, J> {
     }
 
     /// [`remove_by_right`](Self::remove_by_right), counted.
-    pub fn remove_by_right_metered<M: Meter>(&mut self, right: &R, meter: &mut M) -> Option<(L, R)>
-        ensures answer { IsRemovalByRight R.eq (holding self.old) right.now result
-            (holding self.new) }
+    pub fn remove_by_right_metered<Q: Query<R>, M: Meter>(
+        &mut self,
+        right: Q,
+        meter: &mut M,
+    ) -> Option<(L, R)>
+    where
+        J: Lookup<R, Q>,
+        ensures answer { IsRemovalByRight Q.same (holding self.old) right result (holding self.new) }
         ensures comparisons { let n = length (holding self.old).pairs in
             M.comparisons meter.new ≤ M.comparisons meter.old + I.effort n + J.effort n }
         ensures touches { let n = length (holding self.old).pairs in

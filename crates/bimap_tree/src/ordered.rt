@@ -21,9 +21,9 @@ use crate::by_width::{
 use crate::descent::Descent;
 use crate::route::Route;
 use crate::search_key::{AfterKey, ToKey, ToPlace, ToQuery};
-use bimap_base::{Cells, Keys, Meter, NoMemory, OrderQuery, Side};
+use bimap_base::{Cells, Keys, Meter, NoMemory, Sought};
 use std::alloc::Global;
-use std::marker::{Model, PhantomData};
+use std::marker::Model;
 use std::ops::Bound;
 
 /// Places in the strictly ascending order of their keys, as a balanced tree with a cell for each place.
@@ -99,28 +99,23 @@ impl Ordered {
     }
 
     /// The listed place whose key the query asks for, in time logarithmic in the length.
-    pub fn find<K: Ord, S: Side<K>, Q: OrderQuery<K>, M: Meter>(
+    pub fn find<K: Keys, Q: Sought<K>, M: Meter>(
         &self,
-        side: S,
+        keys: &K,
         query: Q,
         meter: &mut M,
     ) -> Option<usize>
-        requires { Ascends (S.key_at side) K.cmp self.now.places }
+        requires { Ascends (K.key_at keys.now) K.order self.now.places }
         ensures found { IfSome result (λ p. Contains self.now.places p
-            × (standing Q.order (S.key_at side p) (Some query) ≡ Equal)) }
+            × (standing Q.order (K.key_at keys.now p) (Some query) ≡ Equal)) }
         ensures none { IfNone result ((p : ℕ) → Contains self.now.places p →
-            standing Q.order (S.key_at side p) (Some query) ≡ Equal → ⊥) }
+            standing Q.order (K.key_at keys.now p) (Some query) ≡ Equal → ⊥) }
         ensures comparisons { M.comparisons meter.new ≤ M.comparisons meter.old
             + most_height (length self.now.places) }
         ensures touches { M.touches meter.new ≤ M.touches meter.old
             + most_height (length self.now.places) }
     {
-        let sought = ToQuery {
-            side,
-            query,
-            of: PhantomData,
-        };
-        find_in_tree(&self.cells, self.root, &sought, meter)
+        find_in_tree(&self.cells, self.root, &ToQuery { keys, query }, meter)
     }
 
     /// A search that has not gone down yet, for `step` and `finish`.
@@ -277,34 +272,36 @@ impl Ordered {
     }
 
     /// Takes the place whose key the query asks for off the list, and answers it. Where there is none, nothing is written.
-    pub fn remove_key<K: Ord, S: Side<K>, Q: OrderQuery<K>, M: Meter>(
+    pub fn remove_key<K: Keys, Q: Sought<K>, M: Meter>(
         &mut self,
-        side: S,
+        keys: &K,
         query: Q,
         meter: &mut M,
     ) -> Option<usize>
-        requires { Ascends (S.key_at side) K.cmp self.old.places }
+        requires { Ascends (K.key_at keys.now) K.order self.old.places }
         ensures found { IfSome result (λ p. Contains self.old.places p
-            × (standing Q.order (S.key_at side p) (Some query) ≡ Equal)) }
+            × (standing Q.order (K.key_at keys.now p) (Some query) ≡ Equal)) }
         ensures none { IfNone result ((p : ℕ) → Contains self.old.places p →
-            standing Q.order (S.key_at side p) (Some query) ≡ Equal → ⊥) }
+            standing Q.order (K.key_at keys.now p) (Some query) ≡ Equal → ⊥) }
         ensures len { IfSome result (λ _. length self.new.places + 1 ≡ length self.old.places) }
         ensures drops { IfSome result (λ p. Drops self.old.places p self.new.places) }
         ensures unchanged { IfNone result (self.new ≡ self.old) }
-        ensures ascends { Ascends (S.key_at side) K.cmp self.new.places }
+        ensures ascends { Ascends (K.key_at keys.now) K.order self.new.places }
         ensures cells { length self.new.nodes ≡ length self.old.nodes }
         ensures comparisons { M.comparisons meter.new ≤ M.comparisons meter.old
             + most_height (length self.old.places) }
         ensures touches { M.touches meter.new ≤ M.touches meter.old
             + 64 * (most_height (length self.old.places) + 1) }
     {
-        let sought = ToQuery {
-            side,
-            query,
-            of: PhantomData,
-        };
         let mut route = Route::new();
-        let found = route_in_tree(&self.cells, self.root, 0, &sought, &mut route, meter)?;
+        let found = route_in_tree(
+            &self.cells,
+            self.root,
+            0,
+            &ToQuery { keys, query },
+            &mut route,
+            meter,
+        )?;
         self.root = take_at(&mut self.cells, &mut route, found, meter);
         self.len -= 1;
         Some(found)

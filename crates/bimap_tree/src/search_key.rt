@@ -1,12 +1,11 @@
-//! What a descent seeks: how a place stands to it. It knows keys through `Keys` and queries alone, and no tree.
+//! What a descent seeks: how a place stands to it. It knows keys through `Keys` alone, and no tree.
 ghost use Rattle.std.specs.Prelude.{◌≡◌, ℕ, ◌+◌, Some, IsSome};
 ghost use Rattle.std.specs.declared.cmp.Ordering.{Ordering};
 ghost use Rattle.bimap_base.specs.Keyed.{standing};
 ghost use Rattle.bimap_tree.specs.Order.{after_key};
 
-use bimap_base::{Keys, Meter, OrderQuery, Side};
+use bimap_base::{Keys, Meter, Sought};
 use std::cmp::Ordering;
-use std::marker::PhantomData;
 use std::mem::{ManuallyDrop, size_of, size_of_val};
 
 pub trait SearchKey {
@@ -55,24 +54,22 @@ impl<K: Keys> SearchKey for ToKey<'_, K> {
 
 // To the key that a query asks for.
 #[derive(Drop)]
-pub struct ToQuery<K, S, Q> {
-    pub side: S,
+pub struct ToQuery<'a, K, Q> {
+    pub keys: &'a K,
     pub query: Q,
-    pub of: PhantomData<K>,
 }
 
-impl<K: Ord, S: Side<K>, Q: OrderQuery<K>> SearchKey for ToQuery<K, S, Q> {
-    ghost live = { λ s p. IsSome (S.key_at s.side p) };
+impl<K: Keys, Q: Sought<K>> SearchKey for ToQuery<'_, K, Q> {
+    ghost live = { λ s p. IsSome (K.key_at s.keys.now p) };
 
-    ghost go = { λ s p. standing Q.order (S.key_at s.side p) (Some s.query) };
+    ghost go = { λ s p. standing Q.order (K.key_at s.keys.now p) (Some s.query) };
 
     fn side<M: Meter>(&self, place: usize, meter: &mut M) -> Ordering {
-        meter.compared();
-        self.query.order(self.side.key(place))
+        self.query.compare(self.keys, place, meter)
     }
 
     fn has_wide_keys() -> bool {
-        is_wide::<K>()
+        is_wide::<K::Key>()
     }
 }
 

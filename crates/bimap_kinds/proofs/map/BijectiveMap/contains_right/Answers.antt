@@ -1,4 +1,8 @@
+use Rattle.std.specs.Prelude.{Contains}
+use Rattle.bimap_base.proofs.Members.{found_tells}
+use Rattle.bimap_kinds.specs.Held.{holding}
 use Rattle.bimap_kinds.proofs.map.BijectiveMap.contains_right.Goals as goal
 
 pub returns : goal.returns
-returns g c = search
+returns g c =
+    rw c.is_some.ensures (found_tells _ (Contains (holding c.args.self.now).pairs) (λ (p : g.row.L.Denot × g.row.R.Denot). g.Q.Query.same p.1 c.args.right) c.get_by_right.result c.get_by_right.ensures.found c.get_by_right.ensures.none (λ y h. ((y.now, h.0), h.1, h.2)))

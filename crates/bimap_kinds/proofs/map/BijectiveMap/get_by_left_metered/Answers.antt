@@ -1,11 +1,11 @@
 use Rattle.std.proofs.Common.{rules}
-use Rattle.bimap_base.proofs.HoldingsAlike.{found_left_alike}
+use Rattle.bimap_base.proofs.HoldingsAlike.{found_alike}
 use Rattle.bimap_kinds.proofs.Walk.{table_alike}
 use Rattle.bimap_kinds.proofs.map.BijectiveMap.get_by_left_metered.Goals as goal
 
 pub returns-clause-answer : goal.returns-clause-answer
 returns-clause-answer g c =
-    found_left_alike _ _ (table_alike c.args.self.now.table g.met.I.Index.listed g.met.I.Index.distinct g.met.I.Index.settled) g.L.PartialEq.eq c.args.left.now c.get_by_left.result c.get_by_left.ensures.answer
+    found_alike _ _ (table_alike c.args.self.now.table g.met.I.Index.listed g.met.I.Index.distinct g.met.I.Index.settled) _ _ c.get_by_left.result c.get_by_left.ensures.answer
 
 pub returns-clause-comparisons : goal.returns-clause-comparisons
 returns-clause-comparisons g c = search rules

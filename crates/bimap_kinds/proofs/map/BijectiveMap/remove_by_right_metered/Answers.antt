@@ -1,5 +1,5 @@
 use Rattle.std.proofs.Common.{rules}
-use Rattle.bimap_base.proofs.HoldingsAlike.{removal_right_alike}
+use Rattle.bimap_base.proofs.HoldingsAlike.{removal_alike}
 use Rattle.bimap_kinds.proofs.Walk.{table_alike, right_walk, table_facts}
 use Rattle.bimap_kinds.proofs.map.BijectiveMap.remove_by_right_metered.Goals as goal
 
@@ -8,7 +8,7 @@ invariant_of-self g c = table_facts c.remove_by_right.new.self g.met.I.Index.lis
 
 pub returns-clause-answer : goal.returns-clause-answer
 returns-clause-answer g c =
-    removal_right_alike _ _ (table_alike c.args.self.now.table g.met.I.Index.listed g.met.I.Index.distinct g.met.I.Index.settled) _ _ (table_alike c.remove_by_right.new.self g.met.I.Index.listed g.met.I.Index.distinct g.met.I.Index.settled) g.R.PartialEq.eq c.args.right.now c.remove_by_right.result c.remove_by_right.ensures.answer
+    removal_alike _ _ (table_alike c.args.self.now.table g.met.I.Index.listed g.met.I.Index.distinct g.met.I.Index.settled) _ _ (table_alike c.remove_by_right.new.self g.met.I.Index.listed g.met.I.Index.distinct g.met.I.Index.settled) _ c.remove_by_right.result c.remove_by_right.ensures.answer
 
 pub returns-clause-comparisons : goal.returns-clause-comparisons
 returns-clause-comparisons g c = search rules

@@ -8,16 +8,16 @@ use Rattle.bimap_tree.proofs.Whole.{can_seek, places_are, height_within}
 use Rattle.bimap_tree.proofs.ordered.Ordered.find.Goals as goal
 
 pub find_in_tree-requires : goal.find_in_tree-requires
-find_in_tree-requires g c = (tree_in (nodes_in c.self.inside.cells) c.self.inside.root, can_seek _ _ _ _ c.self.invariant c.self.view_is _ _ _ g.met.Q.OrderQuery.follows c.requires _)
+find_in_tree-requires g c = (tree_in (nodes_in c.self.inside.cells) c.self.inside.root, can_seek _ _ _ _ c.self.invariant c.self.view_is _ _ _ g.met.Q.Sought.follows c.requires _)
 
 pub returns : goal.returns
 returns g c =
-    let s = can_seek _ _ _ _ c.self.invariant c.self.view_is _ _ _ g.met.Q.OrderQuery.follows c.requires c.args.query in
+    let s = can_seek _ _ _ _ c.self.invariant c.self.view_is _ _ _ g.met.Q.Sought.follows c.requires c.args.query in
     let first = c.find_in_tree.ensures.found _ s
-    ∙ ap (λ x. first_equal (λ q. standing g.Q.OrderQuery.order (g.S.Side.key_at c.args.side q) (Some c.args.query)) x) (places_are _ _ _ _ c.self.invariant c.self.view_is) in
+    ∙ ap (λ x. first_equal (λ q. standing g.Q.Sought.order (g.K.Keys.key_at c.args.keys.now q) (Some c.args.query)) x) (places_are _ _ _ _ c.self.invariant c.self.view_is) in
     record {
-      found = found_in (λ q. standing g.Q.OrderQuery.order (g.S.Side.key_at c.args.side q) (Some c.args.query)) _ _ first;
-      none = none_in (λ q. standing g.Q.OrderQuery.order (g.S.Side.key_at c.args.side q) (Some c.args.query)) _ _ first;
+      found = found_in (λ q. standing g.Q.Sought.order (g.K.Keys.key_at c.args.keys.now q) (Some c.args.query)) _ _ first;
+      none = none_in (λ q. standing g.Q.Sought.order (g.K.Keys.key_at c.args.keys.now q) (Some c.args.query)) _ _ first;
       comparisons = omega (arith, c.find_in_tree.ensures.comparisons _ c.self.invariant.index.tree, height_within _ _ _ _ c.self.invariant c.self.view_is);
       touches = omega (arith, c.find_in_tree.ensures.touches _ c.self.invariant.index.tree, height_within _ _ _ _ c.self.invariant c.self.view_is);
     }

@@ -14,17 +14,17 @@ use Rattle.bimap_tree.proofs.ordered.Ordered.remove_key.Goals.{After-route_in_tr
 
 pub route_in_tree-requires : goal.route_in_tree-requires
 route_in_tree-requires g c =
-    (top, tree_in (nodes_in c.self.inside.cells) c.self.inside.root, can_follow _ _ _ _ c.self.invariant c.self.view_is _ _ _ (can_seek _ _ _ _ c.self.invariant c.self.view_is _ _ _ g.met.Q.OrderQuery.follows c.requires _))
+    (top, tree_in (nodes_in c.self.inside.cells) c.self.inside.root, can_follow _ _ _ _ c.self.invariant c.self.view_is _ _ _ (can_seek _ _ _ _ c.self.invariant c.self.view_is _ _ _ g.met.Q.Sought.follows c.requires _))
 
 -- what the search answers is the first equal one
-first : (g : Over) (c : After-route_in_tree g) → c.route_in_tree.result ≡ first_equal (λ q. standing g.Q.OrderQuery.order (g.S.Side.key_at c.args.side q) (Some c.args.query)) c.args.self.now.places
+first : (g : Over) (c : After-route_in_tree g) → c.route_in_tree.result ≡ first_equal (λ q. standing g.Q.Sought.order (g.K.Keys.key_at c.args.keys.now q) (Some c.args.query)) c.args.self.now.places
 first g c =
-    let f = can_follow _ _ _ _ c.self.invariant c.self.view_is _ _ c.new-route.result (can_seek _ _ _ _ c.self.invariant c.self.view_is _ _ _ g.met.Q.OrderQuery.follows c.requires c.args.query) in
-    c.route_in_tree.ensures.found _ _ f ∙ ap (λ x. first_equal (λ q. standing g.Q.OrderQuery.order (g.S.Side.key_at c.args.side q) (Some c.args.query)) x) (places_are _ _ _ _ c.self.invariant c.self.view_is)
+    let f = can_follow _ _ _ _ c.self.invariant c.self.view_is _ _ c.new-route.result (can_seek _ _ _ _ c.self.invariant c.self.view_is _ _ _ g.met.Q.Sought.follows c.requires c.args.query) in
+    c.route_in_tree.ensures.found _ _ f ∙ ap (λ x. first_equal (λ q. standing g.Q.Sought.order (g.K.Keys.key_at c.args.keys.now q) (Some c.args.query)) x) (places_are _ _ _ _ c.self.invariant c.self.view_is)
 
 pub returns-in_err-found-clause-none : goal.returns-in_err-found-clause-none
 returns-in_err-found-clause-none g c =
-    none_told (λ q. standing g.Q.OrderQuery.order (g.S.Side.key_at c.args.side q) (Some c.args.query)) _ _ _ (c.in_err-found.was) (first g (goal.at.returns-in_err-found-clause-none g c).After-route_in_tree)
+    none_told (λ q. standing g.Q.Sought.order (g.K.Keys.key_at c.args.keys.now q) (Some c.args.query)) _ _ _ (c.in_err-found.was) (first g (goal.at.returns-in_err-found-clause-none g c).After-route_in_tree)
 
 pub returns-in_err-found-clause-comparisons : goal.returns-in_err-found-clause-comparisons
 returns-in_err-found-clause-comparisons g c = omega (arith, c.route_in_tree.ensures.comparisons _ c.self.invariant.index.tree, height_within _ _ _ _ c.self.invariant c.self.view_is)
@@ -33,10 +33,10 @@ pub returns-in_err-found-clause-touches : goal.returns-in_err-found-clause-touch
 returns-in_err-found-clause-touches g c = omega (arith, c.route_in_tree.ensures.touches _ c.self.invariant.index.tree, height_within _ _ _ _ c.self.invariant c.self.view_is)
 
 -- the way that it went, to the place found
-the_way : (g : Over) (c : In_ok-found g) → (low : Path) × (s : Tree) × IsFollowed (λ q. standing g.Q.OrderQuery.order (g.S.Side.key_at c.args.side q) (Some c.args.query)) c.route_in_tree.new.route c.route_in_tree.new.route.depth (Some c.in_ok-found.found) (tree_in (nodes_in c.self.inside.cells) c.self.inside.root) low s
+the_way : (g : Over) (c : In_ok-found g) → (low : Path) × (s : Tree) × IsFollowed (λ q. standing g.Q.Sought.order (g.K.Keys.key_at c.args.keys.now q) (Some c.args.query)) c.route_in_tree.new.route c.route_in_tree.new.route.depth (Some c.in_ok-found.found) (tree_in (nodes_in c.self.inside.cells) c.self.inside.root) low s
 the_way g c =
-    let f = can_follow _ _ _ _ c.self.invariant c.self.view_is _ _ c.new-route.result (can_seek _ _ _ _ c.self.invariant c.self.view_is _ _ _ g.met.Q.OrderQuery.follows c.requires c.args.query) in
-    subst (λ o. (low : Path) × (s : Tree) × IsFollowed (λ q. standing g.Q.OrderQuery.order (g.S.Side.key_at c.args.side q) (Some c.args.query)) c.route_in_tree.new.route c.route_in_tree.new.route.depth o (tree_in (nodes_in c.self.inside.cells) c.self.inside.root) low s) c.in_ok-found.was (c.route_in_tree.ensures.follows _ _ f)
+    let f = can_follow _ _ _ _ c.self.invariant c.self.view_is _ _ c.new-route.result (can_seek _ _ _ _ c.self.invariant c.self.view_is _ _ _ g.met.Q.Sought.follows c.requires c.args.query) in
+    subst (λ o. (low : Path) × (s : Tree) × IsFollowed (λ q. standing g.Q.Sought.order (g.K.Keys.key_at c.args.keys.now q) (Some c.args.query)) c.route_in_tree.new.route c.route_in_tree.new.route.depth o (tree_in (nodes_in c.self.inside.cells) c.self.inside.root) low s) c.in_ok-found.was (c.route_in_tree.ensures.follows _ _ f)
 
 pub take_at-self-inside-requires : goal.take_at-self-inside-requires
 take_at-self-inside-requires g c =
@@ -54,7 +54,7 @@ returns g c =
     let can = can_take _ _ _ _ c.self.invariant c.self.view_is _ _ _ low s f in
     let done = c.take_at-self-inside.ensures.tree low _ _ can in
     record {
-      found = found_in (λ q. standing g.Q.OrderQuery.order (g.S.Side.key_at c.args.side q) (Some c.args.query)) _ (Some c.in_ok-found.found) (sym c.in_ok-found.was ∙ first g (goal.at.returns g c).After-route_in_tree);
+      found = found_in (λ q. standing g.Q.Sought.order (g.K.Keys.key_at c.args.keys.now q) (Some c.args.query)) _ (Some c.in_ok-found.found) (sym c.in_ok-found.was ∙ first g (goal.at.returns g c).After-route_in_tree);
       none = tt;
       unchanged = tt;
       len = take_length _ _ _ _ c.self.invariant c.self.view_is _ _ _ low s f _ _ done;
