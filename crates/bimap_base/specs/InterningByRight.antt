@@ -1,6 +1,6 @@
 -- What interning by a right answers and leaves, as `IsInterning` of a left.
 use Rattle.std.specs.Prelude.{◌≡◌, ◌+◌, Bool, true, Result, length, Contains, IfOk, IfErr, IsOk, OnOk, OnErr}
-use Rattle.bimap_base.specs.Sets.{IsWithPut, HasRight, LacksRight}
+use Rattle.bimap_base.specs.Sets.{SomeShares, IsWithPut, HasRight, LacksRight}
 use Rattle.bimap_base.specs.Answer.{IsRefusal}
 use Rattle.bimap_base.specs.Holding.{Holding, IsFull, IsRoomAfter}
 use Rattle.bimap_base.specs.declared.refusal.NotInserted.{NotInserted}
@@ -14,4 +14,4 @@ pub record IsInterningByRight {L R : Type 0} (same_left : L → L → Bool) (sam
   pub kept : (p : L × R) → Contains old.pairs p → Contains new.pairs p
   pub refused : IfErr result (IsRefusal same_left same_right (Contains old.pairs) (IsFull old) pair)
   pub unchanged : OnErr result (new ≡ old)
-  pub room : IsRoomAfter same_left same_right old pair new
+  pub room : IsRoomAfter old (SomeShares same_left same_right (Contains old.pairs) pair) new
