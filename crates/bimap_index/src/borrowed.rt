@@ -12,21 +12,41 @@ use std::hash::{BuildHasher, Hash};
 macro_rules! asked {
     ($query:ty => $key:ty; [$($ordered:tt)*]; [$($hashed:tt)*]) => {
         impl<$($ordered)*> Lookup<$key, $query> for Ordered {
-            fn find_by<S: Side<$key>, M: Meter>(&self, side: S, query: $query, meter: &mut M) -> Option<usize> {
+            fn find_by<S: Side<$key>, M: Meter>(
+                &self,
+                side: S,
+                query: $query,
+                meter: &mut M,
+            ) -> Option<usize> {
                 find_in_order(self, side, query, meter)
             }
 
-            fn unlink_by<S: Side<$key>, M: Meter>(&mut self, side: S, query: $query, meter: &mut M) -> Option<usize> {
+            fn unlink_by<S: Side<$key>, M: Meter>(
+                &mut self,
+                side: S,
+                query: $query,
+                meter: &mut M,
+            ) -> Option<usize> {
                 unlink_in_order(self, side, query, meter)
             }
         }
 
         impl<$($hashed)*, B: BuildHasher> Lookup<$key, $query> for HashIndex<B> {
-            fn find_by<S: Side<$key>, M: Meter>(&self, side: S, query: $query, meter: &mut M) -> Option<usize> {
+            fn find_by<S: Side<$key>, M: Meter>(
+                &self,
+                side: S,
+                query: $query,
+                meter: &mut M,
+            ) -> Option<usize> {
                 self.find_hashed(side, query, meter)
             }
 
-            fn unlink_by<S: Side<$key>, M: Meter>(&mut self, side: S, query: $query, meter: &mut M) -> Option<usize> {
+            fn unlink_by<S: Side<$key>, M: Meter>(
+                &mut self,
+                side: S,
+                query: $query,
+                meter: &mut M,
+            ) -> Option<usize> {
                 self.unlink_hashed(side, query, meter)
             }
         }

@@ -6,11 +6,10 @@ ghost use Rattle.bimap_base.specs.Digits.{most_height};
 ghost use Rattle.bimap_base.specs.Exchange.{IsRemoving};
 
 use crate::map::BijectiveMap;
-use bimap_base::{ByOrder, Count, LeftSide, Meter, RightSide};
+use bimap_base::{ByOrder, Count, LeftSide, Meter, OrderQuery, RightSide};
 use bimap_core::pair_at_rank;
 use bimap_index::Index;
 use bimap_tree::Ordered;
-use std::ops::Bound;
 
 impl<L: Ord, R: Eq, J: Index<R>> BijectiveMap<L, R, Ordered, J> {
     ghost use Rattle.bimap_kinds.specs.Held.{holding};
@@ -46,8 +45,8 @@ impl<L: Ord, R: Eq, J: Index<R>> BijectiveMap<L, R, Ordered, J> {
     /// Returns how many lefts are below this one, which the bimap need not contain.
     ///
     ///     seats.left_rank(&'c'); // 2
-    pub fn left_rank(&self, left: &L) -> usize
-        ensures { result ≡ count_by (λ p. is_lt (L.cmp p.0 left.now)) (holding self.now).pairs }
+    pub fn left_rank<Q: OrderQuery<L>>(&self, left: Q) -> usize
+        ensures { result ≡ count_by (λ p. is_lt (Q.order p.0 left)) (holding self.now).pairs }
     {
         self.left_rank_metered(left, &mut Count::new())
     }
@@ -110,8 +109,8 @@ impl<L: Ord, R: Eq, J: Index<R>> BijectiveMap<L, R, Ordered, J> {
     }
 
     /// [`left_rank`](Self::left_rank), counted.
-    pub fn left_rank_metered<M: Meter>(&self, left: &L, meter: &mut M) -> usize
-        ensures rank { result ≡ count_by (λ p. is_lt (L.cmp p.0 left.now))
+    pub fn left_rank_metered<Q: OrderQuery<L>, M: Meter>(&self, left: Q, meter: &mut M) -> usize
+        ensures rank { result ≡ count_by (λ p. is_lt (Q.order p.0 left))
             (holding self.now).pairs }
         ensures comparisons { M.comparisons meter.new ≤ M.comparisons meter.old
             + most_height (length (holding self.now).pairs) }
@@ -119,9 +118,7 @@ impl<L: Ord, R: Eq, J: Index<R>> BijectiveMap<L, R, Ordered, J> {
             + 2 * most_height (length (holding self.now).pairs) }
     {
         let lefts = ByOrder::new(LeftSide::new(&self.table.pairs));
-        self.table
-            .left
-            .rank_from(&lefts, Bound::Included(left), meter)
+        self.table.left.rank_of(&lefts, left, meter)
     }
 
     /// [`pop_first_by_left`](Self::pop_first_by_left), counted.
@@ -207,8 +204,8 @@ impl<L: Eq, R: Ord, I: Index<L>> BijectiveMap<L, R, I, Ordered> {
     /// Returns how many rights are below this one, which the bimap need not contain.
     ///
     ///     seats.right_rank(&3); // 2
-    pub fn right_rank(&self, right: &R) -> usize
-        ensures rank { result ≡ count_by (λ p. is_lt (R.cmp p.1 right.now)) (by_right self.now) }
+    pub fn right_rank<Q: OrderQuery<R>>(&self, right: Q) -> usize
+        ensures rank { result ≡ count_by (λ p. is_lt (Q.order p.1 right)) (by_right self.now) }
         ensures sorted { IsByRight R.cmp (holding self.now).pairs (by_right self.now) }
     {
         self.right_rank_metered(right, &mut Count::new())
@@ -279,8 +276,8 @@ impl<L: Eq, R: Ord, I: Index<L>> BijectiveMap<L, R, I, Ordered> {
     }
 
     /// [`right_rank`](Self::right_rank), counted.
-    pub fn right_rank_metered<M: Meter>(&self, right: &R, meter: &mut M) -> usize
-        ensures rank { result ≡ count_by (λ p. is_lt (R.cmp p.1 right.now)) (by_right self.now) }
+    pub fn right_rank_metered<Q: OrderQuery<R>, M: Meter>(&self, right: Q, meter: &mut M) -> usize
+        ensures rank { result ≡ count_by (λ p. is_lt (Q.order p.1 right)) (by_right self.now) }
         ensures sorted { IsByRight R.cmp (holding self.now).pairs (by_right self.now) }
         ensures comparisons { M.comparisons meter.new ≤ M.comparisons meter.old
             + most_height (length (holding self.now).pairs) }
@@ -288,9 +285,7 @@ impl<L: Eq, R: Ord, I: Index<L>> BijectiveMap<L, R, I, Ordered> {
             + 2 * most_height (length (holding self.now).pairs) }
     {
         let rights = ByOrder::new(RightSide::new(&self.table.pairs));
-        self.table
-            .right
-            .rank_from(&rights, Bound::Included(right), meter)
+        self.table.right.rank_of(&rights, right, meter)
     }
 
     /// [`pop_first_by_right`](Self::pop_first_by_right), counted.

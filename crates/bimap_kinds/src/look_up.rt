@@ -37,9 +37,11 @@ impl<L: Eq, R: Eq, I: Index<L>, J: Index<R>> BijectiveMap<L, R, I, J> {
         self.table.room()
     }
 
-    /// Returns the right of a left, or `None` if the bimap doesn't contain the left.
+    /// Returns the right of a left, or `None` if the bimap doesn't contain the left. It is asked for by a reference, or by a
+    /// borrowed form: a `&str` asks for a `String`, a `&[T]` for a `Vec<T>`, and nothing is built to ask.
     ///
     ///     seats.get_by_left(&'a'); // Some(&3)
+    ///     numbers.get_by_left("main"); // Some(&1)
     pub fn get_by_left<Q: Query<L>>(&self, left: Q) -> Option<&R>
     where
         I: Lookup<L, Q>,

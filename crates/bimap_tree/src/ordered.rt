@@ -9,6 +9,7 @@ ghost use Rattle.bimap_base.specs.Digits.{most_height};
 ghost use Rattle.bimap_base.specs.Keyed.{standing, Ascends, Adds, Drops};
 ghost use Rattle.bimap_tree.specs.Descent.{IsUnderWay, levels_left};
 ghost use Rattle.bimap_tree.specs.Filled.{IsRow};
+ghost use Rattle.bimap_tree.specs.Order.{count_below};
 ghost use Rattle.bimap_tree.specs.Tree.{Tree, height};
 ghost use Rattle.bimap_tree.specs.Index.{IsBalancedIndex};
 ghost use Rattle.bimap_tree.specs.Route.{IsRoute};
@@ -305,6 +306,24 @@ impl Ordered {
         self.root = take_at(&mut self.cells, &mut route, found, meter);
         self.len -= 1;
         Some(found)
+    }
+
+    /// How many listed places have a key below what is sought, in time logarithmic in the length.
+    pub fn rank_of<K: Keys, Q: Sought<K>, M: Meter>(
+        &self,
+        keys: &K,
+        query: Q,
+        meter: &mut M,
+    ) -> usize
+        requires { Ascends (K.key_at keys.now) K.order self.now.places }
+        ensures rank { result ≡ count_below (λ p. standing Q.order
+            (K.key_at keys.now p) (Some query)) self.now.places }
+        ensures comparisons { M.comparisons meter.new ≤ M.comparisons meter.old
+            + most_height (length self.now.places) }
+        ensures touches { M.touches meter.new ≤ M.touches meter.old
+            + 2 * most_height (length self.now.places) }
+    {
+        rank_in_tree(&self.cells, self.root, &ToQuery { keys, query }, meter)
     }
 
     /// How many listed places stand before the first one that the bound, taken as a start, lets in: in time logarithmic in the length.
