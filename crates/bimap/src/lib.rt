@@ -10,11 +10,11 @@ pub mod value;
 
 pub use bimap_base::{
     Bijection, ExtendStopped, Interning, ItemRefused, NoMemory, NoRoom, NotInserted,
-    NotInsertedWith, NotReplaced, NotSwapped, OnHeld, Overwritten, Policy, UndoStopped,
-    contains_pair, extend_with, from_iter_with, get_by_left_or_insert_with, get_by_right_or_insert,
-    put, replace_left, replace_right, swap_partners,
+    NotInsertedWith, NotReplaced, NotSwapped, OnHeld, OrderQuery, Overwritten, Policy, Query,
+    UndoStopped, contains_pair, extend_with, from_iter_with, get_by_left_or_insert_with,
+    get_by_right_or_insert, put, replace_left, replace_right, swap_partners,
 };
-pub use bimap_index::Index;
+pub use bimap_index::{Index, Lookup};
 pub use bimap_kinds::{BiBTreeHashMap, BiBTreeMap, BiHashBTreeMap, BiHashMap, BijectiveMap};
 pub use call::{Call, Reply, RunRefused};
 pub use runs::{perform, run};

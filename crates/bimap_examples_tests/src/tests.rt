@@ -5,6 +5,7 @@ mod constructors;
 mod json;
 mod looks;
 mod marks;
+mod queries;
 mod refusals;
 mod sides;
 

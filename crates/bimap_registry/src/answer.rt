@@ -101,7 +101,7 @@ pub fn answer(
             Some(name) => println!(rt; "{id} is {name}"),
             None => println!(rt; "{id} is free"),
         },
-        Some(Request::Id(name)) => match id_of(registry, &owned(rt, name)?) {
+        Some(Request::Id(name)) => match id_of(registry, name) {
             Some(id) => println!(rt; "{name} has {id}"),
             None => println!(rt; "{name} is free"),
         },

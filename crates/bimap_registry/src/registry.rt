@@ -2,6 +2,8 @@
 ghost use Rattle.std.specs.Prelude.{◌≡◌, Contains, IfErr, OnOk, nat_eq, string_eq};
 ghost use Rattle.std.specs.List.{AllPairs};
 ghost use Rattle.std.specs.Ordering.{nat_cmp};
+ghost use Rattle.std.specs.Str.{bytes_eq};
+ghost use Rattle.std.specs.String.{string_bytes};
 ghost use Rattle.std.specs.declared.cmp.Ordering.TheVariants.{Less};
 ghost use Rattle.std.specs.Iterator.{IsFiniteIterable};
 ghost use Rattle.bimap.specs.BTree.{holding};
@@ -32,9 +34,10 @@ pub fn name_of<'a>(registry: &'a Registry, id: &u32) -> Option<&'a String>
     registry.get_by_left(id)
 }
 
-/// The id of a name, by one search.
-pub fn id_of<'a>(registry: &'a Registry, name: &String) -> Option<&'a u32>
-    ensures { IsFoundByRight string_eq (holding registry.now) name.now result }
+/// The id of a name, by one search. No `String` is built to ask.
+pub fn id_of<'a>(registry: &'a Registry, name: &str) -> Option<&'a u32>
+    ensures { IsFoundByRight (λ held sought. bytes_eq (string_bytes held) sought)
+        (holding registry.now) name.now result }
 {
     registry.get_by_right(name)
 }

@@ -49,7 +49,7 @@ pub fn answer(
         },
         Some(Request::Define(name, number)) => define(rt, symbols, name, number),
         Some(Request::Intern(name)) => intern(rt, symbols, name),
-        Some(Request::Number(name)) => match symbols.number_of(&owned(rt, name)?) {
+        Some(Request::Number(name)) => match symbols.number_of(name) {
             Some(number) => println!(rt; "{name} is {number}"),
             None => println!(rt; "{name} is not known"),
         },

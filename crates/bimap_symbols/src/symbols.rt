@@ -1,6 +1,8 @@
 //! A symbol table with scopes, over a bimap that goes back to marks. It knows no lines.
 ghost use Rattle.std.specs.Prelude.{◌≡◌, ◌⊎◌, ◌<◌, ◌++◌, ◌∷◌, [], length, true, Contains, IfOk, OnOk, OnErr, nat_eq, string_eq};
 ghost use Rattle.std.specs.Bool.{OnTrue, OnFalse};
+ghost use Rattle.std.specs.Str.{bytes_eq};
+ghost use Rattle.std.specs.String.{string_bytes};
 ghost use Rattle.bimap.specs.Holding.{IsFoundByLeft, IsFoundByRight};
 ghost use Rattle.bimap.specs.Sets.{IsWithPut, HasLeft, LacksLeft, LacksRight};
 ghost use Rattle.bimap_undo.specs.Marks.{IsBefore, KeepsMarks, IsRecordedInsertion, IsReturn};
@@ -39,9 +41,10 @@ impl Symbols {
         }
     }
 
-    /// The number of a name, by one search.
-    pub fn number_of(&self, name: &String) -> Option<&u32>
-        ensures { IsFoundByLeft string_eq self.now.table.held name.now result }
+    /// The number of a name, by one search. No `String` is built to ask.
+    pub fn number_of(&self, name: &str) -> Option<&u32>
+        ensures { IsFoundByLeft (λ held sought. bytes_eq (string_bytes held) sought)
+            self.now.table.held name.now result }
     {
         self.table.held().get_by_left(name)
     }
@@ -83,7 +86,7 @@ impl Symbols {
         ensures scopes { self.new.scopes ≡ self.old.scopes }
         ensures unchanged { OnErr result (self.new ≡ self.old) }
     {
-        if let Some(&number) = self.number_of(&name) {
+        if let Some(&number) = self.table.held().get_by_left(&name) {
             return Ok(number);
         }
         let Some(number) = self.fresh_number() else {

@@ -1,0 +1,72 @@
+//! Examples of look-ups by a borrowed form of a key.
+use bimap::{BiBTreeMap, BiHashMap};
+use std::alloc::AllocError;
+use std::process::Abort;
+
+const NAMES: [&str; 4] = ["", "main", "mainly", "z"];
+
+// Some names, by number, in ordered maps and in hashed ones.
+fn ordered_names(rt: &impl AllocGlobal) -> Result<BiBTreeMap<String, u32>, AllocError> {
+    let mut numbers = BiBTreeMap::new(rt.alloc());
+    let mut number = 0;
+    for name in NAMES {
+        let name = String::from_str(rt.alloc(), name)?;
+        if numbers.insert(name, number).is_err() {
+            return Err(AllocError);
+        }
+        number += 1;
+    }
+    Ok(numbers)
+}
+
+fn hashed_names(rt: &impl AllocGlobal) -> Result<BiHashMap<u32, String>, AllocError> {
+    let mut names = BiHashMap::new(rt.alloc());
+    let mut number = 0;
+    for name in NAMES {
+        let name = String::from_str(rt.alloc(), name)?;
+        if names.insert(number, name).is_err() {
+            return Err(AllocError);
+        }
+        number += 1;
+    }
+    Ok(names)
+}
+
+#[test]
+fn a_text_is_asked_for_by_a_str(rt: HostRuntime) {
+    let mut numbers = ordered_names(&rt).ok().expect(&rt, "no memory");
+    assert!(&rt; numbers.get_by_left("main") == Some(&1));
+    assert!(&rt; numbers.get_by_left("") == Some(&0));
+    assert!(&rt; numbers.get_by_left("mai") == None);
+    assert!(&rt; numbers.contains_left("z") && !numbers.contains_left("y"));
+    assert!(&rt; numbers.remove_by_left("mainl").is_none());
+    let taken = numbers.remove_by_left("mainly").expect(&rt, "not removed");
+    assert!(&rt; taken.1 == 2 && numbers.len() == 3);
+}
+
+#[test]
+fn a_hashed_text_is_asked_for_by_a_str(rt: HostRuntime) {
+    let mut names = hashed_names(&rt).ok().expect(&rt, "no memory");
+    assert!(&rt; names.get_by_right("main") == Some(&1));
+    assert!(&rt; names.get_by_right("mai") == None);
+    assert!(&rt; names.contains_right("z") && !names.contains_right("y"));
+    assert!(&rt; names.remove_by_right("mainl").is_none());
+    let taken = names.remove_by_right("mainly").expect(&rt, "not removed");
+    assert!(&rt; taken.0 == 2 && names.len() == 3);
+}
+
+fn row(rt: &impl AllocGlobal, bytes: &[u8]) -> Result<Vec<u8>, AllocError> {
+    let mut row = Vec::new(rt.alloc());
+    row.extend_from_slice(bytes)?;
+    Ok(row)
+}
+
+#[test]
+fn a_vec_is_asked_for_by_a_slice(rt: HostRuntime) {
+    let mut rows = BiBTreeMap::<&str, Vec<u8>>::new(rt.alloc());
+    let first = row(&rt, &[1, 2]).ok().expect(&rt, "no memory");
+    assert!(&rt; rows.insert("first", first).is_ok());
+    assert!(&rt; rows.get_by_right([1u8, 2].as_slice()) == Some(&"first"));
+    assert!(&rt; !rows.contains_right([1u8].as_slice()));
+    assert!(&rt; rows.get_by_left("first").is_some() && rows.get_by_left(&"second").is_none());
+}
