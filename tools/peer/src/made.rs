@@ -4,9 +4,10 @@ use crate::kind::Kind;
 use crate::word::Word;
 
 /// Those that leave what is held.
-const KEEPING: [&str; 15] = [
-    "capacity", "contains_pair", "for_each", "reserve", "shrink_to", "shrink_to_fit", "can_undo_insert", "undo_run", "first_by_left",
-    "last_by_left", "first_by_right", "last_by_right", "left_rank", "right_rank", "json",
+const KEEPING: [&str; 17] = [
+    "capacity", "contains_pair", "is_subset_of", "holds_same_pairs", "for_each", "reserve", "shrink_to", "shrink_to_fit",
+    "can_undo_insert", "undo_run", "first_by_left", "last_by_left", "first_by_right", "last_by_right", "left_rank",
+    "right_rank", "json",
 ];
 
 /// Makes a call, where it is one of the shell's.
@@ -17,8 +18,10 @@ pub fn make<B: Kind>(bimap: &mut B, call: &str, words: &[&str]) -> Option<()> {
         }
         ("put", [policy, left, right]) => {
             let (left, right) = (Word::read(left)?, Word::read(right)?);
-            let is_held = bimap.call("get_by_left", &[left]) == Some(format!("{:?}", Some(right)));
-            put(bimap, if is_held { "oo" } else { policy }, left, right);
+            let held = bimap.remove_by_left(&left);
+            let is_equal = held.as_ref().is_some_and(|held| held.1 == right);
+            held.map(|(left, right)| bimap.insert(left, right));
+            put(bimap, if is_equal { "oo" } else { policy }, left, right);
         }
         ("extend_with", [policy, words @ ..]) => {
             put_all(bimap, policy, Word::read_pairs(words)?);
