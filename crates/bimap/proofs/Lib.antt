@@ -1,6 +1,7 @@
 pub use Rattle.bimap_base.proofs.Members
 pub use Rattle.bimap_base.proofs.Extending
 pub use Rattle.bimap_base.proofs.Survivors
+pub mod Ends
 pub mod Growing
 pub mod Histories
 pub mod LookUps

@@ -1,12 +1,17 @@
--- What a caller derives of the pairs held: which are there, which stay, and that a value has one partner.
-use Rattle.std.proofs.Common.{◌≡◌, Bool, true, false, Option, Some, None, IfSome, inl, inr, refl, sym, ap, subst, ◌∙◌, true≢false}
+-- What a caller derives of the pairs held: which are there, which stay, what is free, and that a value has one partner.
+use Rattle.std.proofs.Common.{◌≡◌, ◌||◌, Bool, true, false, Option, Some, None, Result, Ok, Err, IfSome, IfOk, OnOk, inl, inr, refl, sym, ap, subst, ◌∙◌, true≢false}
 use Rattle.std.specs.Prelude.{Contains, List, option_copied}
 use Rattle.std.specs.Borrow.{Bor}
 use Rattle.std.specs.Cmp.{IsEquivalence}
 use Rattle.std.proofs.lemmas.Bool.{or_left, or_right}
-use Rattle.bimap_base.specs.Sets.{shares, IsApart, IsWithPut}
+use Rattle.bimap_base.specs.Exchange.{IsPartReplaced}
+use Rattle.bimap_base.specs.Sets.{shares, IsApart, IsWithPut, LacksLeft, LacksRight}
 use Rattle.bimap_base.specs.Holding.{Holding, IsFoundByLeft, IsFoundByRight}
 use Rattle.bimap_base.proofs.Apart.{apart_unique}
+
+or_false : (x y : Bool) → x ≡ false → y ≡ false → (x || y) ≡ false
+or_false true y e f = e
+or_false false y e f = f
 
 module _ {L R : Type 0} (same_left : L → L → Bool) (same_right : R → R → Bool) (S : L × R → Type 0) (p : L × R) (T : L × R → Type 0) where
   -- a pair that was put in is there
@@ -16,6 +21,20 @@ module _ {L R : Type 0} (same_left : L → L → Bool) (same_right : R → R →
   -- a pair of before that shares no value with it is still there
   pub other_stays : IsWithPut same_left same_right S p T → (q : L × R) → S q → shares same_left same_right q p ≡ false → T q
   other_stays put q was apart = (put q).1 (inr (was, apart))
+
+module _ {L R : Type 0} (same_left : L → L → Bool) (same_right : R → R → Bool) (S : L × R → Type 0) (l : L) (r : R) where
+  -- no pair shares a value with two that are both free
+  pub none_shares : LacksLeft same_left S l → LacksRight same_right S r → (q : L × R) → S q → shares same_left same_right q (l, r) ≡ false
+  none_shares lefts rights q s = or_false (same_left q.0 l) (same_right q.1 r) (lefts q s) (rights q s)
+
+  -- interning answers the given right where the left is new
+  pub new_is_given : {E : Type 0} (T : L × R → Type 0) (result : Result R E) → LacksLeft same_left S l → (LacksLeft same_left S l → OnOk result (IsWithPut same_left same_right S (l, r) T)) → IfOk result (λ x. (k : L) × T (k, x) × (same_left k l ≡ true)) → IfOk result (λ x. x ≡ r)
+  new_is_given T (Ok x) lacks put answer = elim ((put lacks (answer.0, x)).0 answer.1) [ inl e ↦ ap (λ (q : L × R). q.1) e | inr s ↦ absurd (true≢false (sym answer.2 ∙ lacks (answer.0, x) s.0)) ]
+  new_is_given T (Err e) lacks put answer = tt
+
+-- a pair without the value that was replaced stays: once for both sides, of which `part` is one
+pub others_stay : {L R K M : Type 0} (part : L × R → K) (pair : K → M → L × R) (same : K → K → Bool) (S : L × R → Type 0) (from to taken : K) (T : L × R → Type 0) → ((k : K) (m : M) → part (pair k m) ≡ k) → IsPartReplaced part pair same S from to taken T → (p : L × R) → S p → same (part p) from ≡ false → T p
+others_stay part pair same S from to taken T is r p s e = (r.exchanged.exchanged p).1 (inr (s, λ q. true≢false (sym r.by_part ∙ ap (λ k. same k from) (sym (is taken r.other)) ∙ ap (λ z. same (part z) from) (sym q) ∙ e)))
 
 module _ {L R : Type 0} (same_left : L → L → Bool) (same_right : R → R → Bool) (lefts : IsEquivalence same_left) (rights : IsEquivalence same_right) where
   -- two pairs with equal lefts are one

@@ -1,0 +1,52 @@
+-- What a caller derives of the ends of an order by right: who stands there, and that no number is beyond.
+use Rattle.std.proofs.Common.{◌≡◌, ◌∙◌, ℕ, ◌+◌, ◌-◌, ◌<◌, ◌≤◌, ◌⊎◌, inl, inr, false, nat_eq, Some, None, List, length, slice_get, get_or, sym, ap, arith}
+use Rattle.std.specs.Prelude.{Contains}
+use Rattle.std.specs.Ordering.{nat_cmp}
+use Rattle.std.specs.declared.cmp.Ordering.{Ordering}
+use Rattle.std.specs.declared.cmp.Ordering.TheVariants.{Less}
+use Rattle.std.proofs.lemmas.Bool.{ne_eqb, cases_order}
+use Rattle.std.proofs.lemmas.Cmp.{ranked}
+use Rattle.std.proofs.lemmas.Option.{slice_get_within, get_or_from_slice_get, slice_get-get_or}
+use Rattle.bimap.specs.BTree.{IsByRight}
+
+-- the pair of a rank is held
+pub rank_is_held : {L R : Type 0} (order : R → R → Ordering) (held sorted : List (L × R)) (l : L) (r : R) (rank : ℕ) → IsByRight order held sorted → Some (l, r) ≡ slice_get sorted rank → Contains held (l, r)
+rank_is_held order held sorted l r rank sorts at = (sorts.same (l, r)).1 (rank, slice_get_within sorted rank (l, r) (sym at), get_or_from_slice_get sorted rank (l, r) (l, r) (sym at))
+
+module _ {L : Type 0} (held sorted : List (L × ℕ)) (sorts : IsByRight nat_cmp held sorted) where
+  module _ (l : L) (r rank : ℕ) (at : Some (l, r) ≡ slice_get sorted rank) where
+    is : (d : L × ℕ) → get_or sorted rank d ≡ (l, r)
+    is d = get_or_from_slice_get sorted rank (l, r) d (sym at)
+
+    below : (i j : ℕ) (d : L × ℕ) → i < j → j < length sorted → (get_or sorted i d).1 < (get_or sorted j d).1
+    below i j d before inside = ranked _ _ Less (sym (sorts.ascends i j d before inside))
+
+    -- each number held stands before it, there or after it
+    by_rank : (q : L × ℕ) → Contains held q → (i : ℕ) × (i < length sorted) × (((i ≡ rank) × (q.1 ≡ r)) ⊎ (((i < rank) × (q.1 < r)) ⊎ ((rank < i) × (r < q.1))))
+    by_rank q held =
+        let m = (sorts.same q).0 held in
+        let at_i = ap (λ (p : L × ℕ). p.1) m.2 in
+        let at_rank = ap (λ (p : L × ℕ). p.1) (is q) in
+        (m.0, m.1, elim (cases_order m.0 rank) [
+          | inl e ↦ inl (e, sym at_i ∙ ap (λ k. (get_or sorted k q).1) e ∙ at_rank)
+          | inr (inl b) ↦ inr (inl (b, (let w = below m.0 rank q b (slice_get_within sorted rank (l, r) (sym at)) in omega (arith, w, at_i, at_rank))))
+          | inr (inr b) ↦ inr (inr (b, (let w = below rank m.0 q b m.1 in omega (arith, w, at_i, at_rank))))
+        ])
+
+  -- no number is below the first
+  pub first_is_least : (l : L) (r : ℕ) → Some (l, r) ≡ slice_get sorted 0 → (q : L × ℕ) → Contains held q → r ≤ q.1
+  first_is_least l r at q held = let w = by_rank l r 0 at q held in elim w.2 [ inl e ↦ omega (arith, e.1) | inr (inl b) ↦ absurd (omega (arith, b.0)) | inr (inr b) ↦ omega (arith, b.1) ]
+
+  -- none is above the last
+  pub last_is_greatest : (l : L) (r : ℕ) → Some (l, r) ≡ slice_get sorted (length sorted - 1) → (q : L × ℕ) → Contains held q → q.1 ≤ r
+  last_is_greatest l r at q held = let w = by_rank l r (length sorted - 1) at q held in elim w.2 [ inl e ↦ omega (arith, e.1) | inr (inl b) ↦ omega (arith, b.1) | inr (inr b) ↦ absurd (omega (arith, w.1, b.0)) ]
+
+  -- the number after the last is free
+  pub after_last : (l : L) (r : ℕ) → Some (l, r) ≡ slice_get sorted (length sorted - 1) → (q : L × ℕ) → Contains held q → nat_eq q.1 (r + 1) ≡ false
+  after_last l r at q held = ne_eqb q.1 (r + 1) (λ e. omega (arith, last_is_greatest l r at q held, e))
+
+  -- where nothing is last each number is free
+  pub none_last : None ≡ slice_get sorted (length sorted - 1) → (q : L × ℕ) → Contains held q → (r : ℕ) → nat_eq q.1 r ≡ false
+  none_last at q held r =
+      let m = (sorts.same q).0 held in
+      absurd (let i : None ≡ Some (get_or sorted (length sorted - 1) q) = at ∙ slice_get-get_or sorted (length sorted - 1) q (omega (arith, m.1)) in cc)
