@@ -1,5 +1,5 @@
 -- What a caller derives of the pairs held: which are there, which stay, what is free, and that a value has one partner.
-use Rattle.std.proofs.Common.{◌≡◌, ◌||◌, Bool, true, false, Option, Some, None, Result, Ok, Err, IfSome, IfOk, OnOk, inl, inr, refl, sym, ap, subst, ◌∙◌, true≢false}
+use Rattle.std.proofs.Common.{◌≡◌, ◌||◌, Bool, true, false, Option, Some, None, IfSome, inl, inr, refl, sym, ap, subst, ◌∙◌, true≢false}
 use Rattle.std.specs.Prelude.{Contains, List, option_copied}
 use Rattle.std.specs.Borrow.{Bor}
 use Rattle.std.specs.Cmp.{IsEquivalence}
@@ -28,9 +28,8 @@ module _ {L R : Type 0} (same_left : L → L → Bool) (same_right : R → R →
   none_shares lefts rights q s = or_false (same_left q.0 l) (same_right q.1 r) (lefts q s) (rights q s)
 
   -- interning answers the given right where the left is new
-  pub new_is_given : {E : Type 0} (T : L × R → Type 0) (result : Result R E) → LacksLeft same_left S l → (LacksLeft same_left S l → OnOk result (IsWithPut same_left same_right S (l, r) T)) → IfOk result (λ x. (k : L) × T (k, x) × (same_left k l ≡ true)) → IfOk result (λ x. x ≡ r)
-  new_is_given T (Ok x) lacks put answer = elim ((put lacks (answer.0, x)).0 answer.1) [ inl e ↦ ap (λ (q : L × R). q.1) e | inr s ↦ absurd (true≢false (sym answer.2 ∙ lacks (answer.0, x) s.0)) ]
-  new_is_given T (Err e) lacks put answer = tt
+  pub new_is_given : (T : L × R → Type 0) (x : R) → LacksLeft same_left S l → IsWithPut same_left same_right S (l, r) T → (k : L) × T (k, x) × (same_left k l ≡ true) → x ≡ r
+  new_is_given T x lacks put answer = elim ((put (answer.0, x)).0 answer.1) [ inl e ↦ ap (λ (q : L × R). q.1) e | inr s ↦ absurd (true≢false (sym answer.2 ∙ lacks (answer.0, x) s.0)) ]
 
 -- a pair without the value that was replaced stays: once for both sides, of which `part` is one
 pub others_stay : {L R K M : Type 0} (part : L × R → K) (pair : K → M → L × R) (same : K → K → Bool) (S : L × R → Type 0) (from to taken : K) (T : L × R → Type 0) → ((k : K) (m : M) → part (pair k m) ≡ k) → IsPartReplaced part pair same S from to taken T → (p : L × R) → S p → same (part p) from ≡ false → T p
