@@ -8,8 +8,13 @@
  * JETUKOMA_DONE alone, unless its text says otherwise. Nothing that one call is handed may overlap, and a pointer to so many
  * values is to have them. No call may be made from a signal handler.
  *
+ * Bytes go in as a pointer, which is not null, with their number, and are copied. They are ordered one by one, so a text in
+ * UTF-8 by its code points. They come out to the front of a buffer, with their number; where that is more than the buffer has,
+ * it alone is written, and the status is JETUKOMA_BUFFER_TOO_SHORT.
+ *
  * A search takes logarithmic time where both sides are ordered, and expected constant time where both are hashed. A look-up
- * makes one, an insertion and a removal one a side. `.._new`, `.._reserve` and insertions alone ask for memory.
+ * makes one, an insertion and a removal one a side. `.._new`, `.._reserve` and insertions ask for memory, and so do look-ups
+ * and removals by bytes that are longer than any before; no other call does.
  *
  *     jetukoma_btree_u64_u64 seats = {0};
  *     uint64_t guest;
@@ -44,6 +49,8 @@ enum {
     /* A value is contained, and may not be overwritten; or a flag is above 1, or a pointer to a value is null.
      * Nothing has changed. */
     JETUKOMA_REFUSED = 3,
+    /* The buffer is too short, and the length wanted is written. Nothing else has changed. */
+    JETUKOMA_BUFFER_TOO_SHORT = 4,
     /* No such pair is contained, and nothing has changed. */
     JETUKOMA_NOT_FOUND = 5,
 };
@@ -379,6 +386,673 @@ JETUKOMA_API uint32_t jetukoma_hash_u64_u64_fill(jetukoma_hash_u64_u64 *handle, 
     if (!handle) return JETUKOMA_NO_TABLE;
     if (!row || row_len > PTRDIFF_MAX / sizeof *row || !filled) return JETUKOMA_REFUSED;
     return jetukoma_hash_u64_u64_fill_unchecked(handle, start, row, row_len, filled);
+}
+
+/* Two ordered sides, bytes and bytes. */
+typedef struct {
+    void *at;
+    bool live;
+} jetukoma_btree_bytes_bytes;
+
+/* Makes an empty table of no places, in constant time, behind a handle that has none. 1: no memory; 2: the handle
+ * has a table. */
+uint32_t jetukoma_btree_bytes_bytes_new_unchecked(jetukoma_btree_bytes_bytes *handle);
+JETUKOMA_API uint32_t jetukoma_btree_bytes_bytes_new(jetukoma_btree_bytes_bytes *handle) {
+    if (!handle) return JETUKOMA_NO_TABLE;
+    return jetukoma_btree_bytes_bytes_new_unchecked(handle);
+}
+
+/* Frees the table with its bytes, in time in proportion to its places; the handle has none then. 2: it has none. */
+uint32_t jetukoma_btree_bytes_bytes_free_unchecked(jetukoma_btree_bytes_bytes *handle);
+JETUKOMA_API uint32_t jetukoma_btree_bytes_bytes_free(jetukoma_btree_bytes_bytes *handle) {
+    if (!handle) return JETUKOMA_NO_TABLE;
+    return jetukoma_btree_bytes_bytes_free_unchecked(handle);
+}
+
+/* Writes the number of pairs, in constant time. */
+uint32_t jetukoma_btree_bytes_bytes_len_unchecked(jetukoma_btree_bytes_bytes *handle, size_t *len);
+JETUKOMA_API uint32_t jetukoma_btree_bytes_bytes_len(jetukoma_btree_bytes_bytes *handle, size_t *len) {
+    if (!handle) return JETUKOMA_NO_TABLE;
+    if (!len) return JETUKOMA_REFUSED;
+    return jetukoma_btree_bytes_bytes_len_unchecked(handle, len);
+}
+
+/* Writes the number of places for pairs, in constant time. */
+uint32_t jetukoma_btree_bytes_bytes_capacity_unchecked(jetukoma_btree_bytes_bytes *handle, size_t *capacity);
+JETUKOMA_API uint32_t jetukoma_btree_bytes_bytes_capacity(jetukoma_btree_bytes_bytes *handle, size_t *capacity) {
+    if (!handle) return JETUKOMA_NO_TABLE;
+    if (!capacity) return JETUKOMA_REFUSED;
+    return jetukoma_btree_bytes_bytes_capacity_unchecked(handle, capacity);
+}
+
+/* Makes places for the pairs and `more` pairs, exactly, unless they are there. Of the next `more` insertions each
+ * asks for memory for its bytes alone. 1: no memory. */
+uint32_t jetukoma_btree_bytes_bytes_reserve_unchecked(jetukoma_btree_bytes_bytes *handle, size_t more);
+JETUKOMA_API uint32_t jetukoma_btree_bytes_bytes_reserve(jetukoma_btree_bytes_bytes *handle, size_t more) {
+    if (!handle) return JETUKOMA_NO_TABLE;
+    return jetukoma_btree_bytes_bytes_reserve_unchecked(handle, more);
+}
+
+/* Inserts copies of the left and the right, which overwrite the pairs that they share a value with, and writes of
+ * which kind those are: 0 for none, 1 for the pair of the left alone, 2 for that of the right alone, 3 for the one
+ * pair of both, and 4 for that of the left and that of the right. They are kept, as what was struck out, until the
+ * next insertion, removal or clear that is done. It asks for memory for the bytes, and where it overwrites none and
+ * no place is free. 1: no memory. */
+uint32_t jetukoma_btree_bytes_bytes_insert_unchecked(jetukoma_btree_bytes_bytes *handle, const uint8_t *left, size_t left_len, const uint8_t *right, size_t right_len, uint32_t *kind);
+JETUKOMA_API uint32_t jetukoma_btree_bytes_bytes_insert(jetukoma_btree_bytes_bytes *handle, const uint8_t *left, size_t left_len, const uint8_t *right, size_t right_len, uint32_t *kind) {
+    if (!handle) return JETUKOMA_NO_TABLE;
+    if (!left || left_len > PTRDIFF_MAX / sizeof *left || !right || right_len > PTRDIFF_MAX / sizeof *right || !kind) return JETUKOMA_REFUSED;
+    return jetukoma_btree_bytes_bytes_insert_unchecked(handle, left, left_len, right, right_len, kind);
+}
+
+/* Inserts copies of the left and the right if neither is contained. Nothing is struck out then. 1: no memory; 3: a
+ * value is contained. */
+uint32_t jetukoma_btree_bytes_bytes_insert_no_overwrite_unchecked(jetukoma_btree_bytes_bytes *handle, const uint8_t *left, size_t left_len, const uint8_t *right, size_t right_len);
+JETUKOMA_API uint32_t jetukoma_btree_bytes_bytes_insert_no_overwrite(jetukoma_btree_bytes_bytes *handle, const uint8_t *left, size_t left_len, const uint8_t *right, size_t right_len) {
+    if (!handle) return JETUKOMA_NO_TABLE;
+    if (!left || left_len > PTRDIFF_MAX / sizeof *left || !right || right_len > PTRDIFF_MAX / sizeof *right) return JETUKOMA_REFUSED;
+    return jetukoma_btree_bytes_bytes_insert_no_overwrite_unchecked(handle, left, left_len, right, right_len);
+}
+
+/* Inserts as `insert` does. A flag of 1 refuses where the value of its side is contained, and one of 0 overwrites.
+ * 1: no memory; 3: a value is contained that its flag keeps, or a flag is above 1. */
+uint32_t jetukoma_btree_bytes_bytes_insert_with_unchecked(jetukoma_btree_bytes_bytes *handle, const uint8_t *left, size_t left_len, const uint8_t *right, size_t right_len, uint8_t left_refuses, uint8_t right_refuses, uint32_t *kind);
+JETUKOMA_API uint32_t jetukoma_btree_bytes_bytes_insert_with(jetukoma_btree_bytes_bytes *handle, const uint8_t *left, size_t left_len, const uint8_t *right, size_t right_len, uint8_t left_refuses, uint8_t right_refuses, uint32_t *kind) {
+    if (!handle) return JETUKOMA_NO_TABLE;
+    if (!left || left_len > PTRDIFF_MAX / sizeof *left || !right || right_len > PTRDIFF_MAX / sizeof *right || !kind) return JETUKOMA_REFUSED;
+    return jetukoma_btree_bytes_bytes_insert_with_unchecked(handle, left, left_len, right, right_len, left_refuses, right_refuses, kind);
+}
+
+/* Writes the right of a left, found by a search, to the front of a buffer, and its length. It asks for memory where
+ * the left is longer than any value that was looked up or removed before. 1: no memory for that; 4: the buffer is
+ * too short, and the length alone is written; 5: the left is not contained. */
+uint32_t jetukoma_btree_bytes_bytes_get_by_left_unchecked(jetukoma_btree_bytes_bytes *handle, const uint8_t *left, size_t left_len, uint8_t *buf, size_t buf_len, size_t *len);
+JETUKOMA_API uint32_t jetukoma_btree_bytes_bytes_get_by_left(jetukoma_btree_bytes_bytes *handle, const uint8_t *left, size_t left_len, uint8_t *buf, size_t buf_len, size_t *len) {
+    if (!handle) return JETUKOMA_NO_TABLE;
+    if (!left || left_len > PTRDIFF_MAX / sizeof *left || !buf || buf_len > PTRDIFF_MAX / sizeof *buf || !len) return JETUKOMA_REFUSED;
+    return jetukoma_btree_bytes_bytes_get_by_left_unchecked(handle, left, left_len, buf, buf_len, len);
+}
+
+/* Writes the left of a right, found by a search, to the front of a buffer, and its length. 4: the buffer is too
+ * short, and the length alone is written; 5: the right is not contained; 1: no memory, as for `get_by_left`. */
+uint32_t jetukoma_btree_bytes_bytes_get_by_right_unchecked(jetukoma_btree_bytes_bytes *handle, const uint8_t *right, size_t right_len, uint8_t *buf, size_t buf_len, size_t *len);
+JETUKOMA_API uint32_t jetukoma_btree_bytes_bytes_get_by_right(jetukoma_btree_bytes_bytes *handle, const uint8_t *right, size_t right_len, uint8_t *buf, size_t buf_len, size_t *len) {
+    if (!handle) return JETUKOMA_NO_TABLE;
+    if (!right || right_len > PTRDIFF_MAX / sizeof *right || !buf || buf_len > PTRDIFF_MAX / sizeof *buf || !len) return JETUKOMA_REFUSED;
+    return jetukoma_btree_bytes_bytes_get_by_right_unchecked(handle, right, right_len, buf, buf_len, len);
+}
+
+/* Returns 0 if the left is contained, and 5 if not. 1: no memory, as for `get_by_left`. */
+uint32_t jetukoma_btree_bytes_bytes_contains_left_unchecked(jetukoma_btree_bytes_bytes *handle, const uint8_t *left, size_t left_len);
+JETUKOMA_API uint32_t jetukoma_btree_bytes_bytes_contains_left(jetukoma_btree_bytes_bytes *handle, const uint8_t *left, size_t left_len) {
+    if (!handle) return JETUKOMA_NO_TABLE;
+    if (!left || left_len > PTRDIFF_MAX / sizeof *left) return JETUKOMA_REFUSED;
+    return jetukoma_btree_bytes_bytes_contains_left_unchecked(handle, left, left_len);
+}
+
+/* Returns 0 if the right is contained, and 5 if not. 1: no memory, as for `get_by_left`. */
+uint32_t jetukoma_btree_bytes_bytes_contains_right_unchecked(jetukoma_btree_bytes_bytes *handle, const uint8_t *right, size_t right_len);
+JETUKOMA_API uint32_t jetukoma_btree_bytes_bytes_contains_right(jetukoma_btree_bytes_bytes *handle, const uint8_t *right, size_t right_len) {
+    if (!handle) return JETUKOMA_NO_TABLE;
+    if (!right || right_len > PTRDIFF_MAX / sizeof *right) return JETUKOMA_REFUSED;
+    return jetukoma_btree_bytes_bytes_contains_right_unchecked(handle, right, right_len);
+}
+
+/* Removes the pair of a left, which is kept as what was struck out. 1: no memory, as for `get_by_left`; 5: the left
+ * is not contained. */
+uint32_t jetukoma_btree_bytes_bytes_remove_by_left_unchecked(jetukoma_btree_bytes_bytes *handle, const uint8_t *left, size_t left_len);
+JETUKOMA_API uint32_t jetukoma_btree_bytes_bytes_remove_by_left(jetukoma_btree_bytes_bytes *handle, const uint8_t *left, size_t left_len) {
+    if (!handle) return JETUKOMA_NO_TABLE;
+    if (!left || left_len > PTRDIFF_MAX / sizeof *left) return JETUKOMA_REFUSED;
+    return jetukoma_btree_bytes_bytes_remove_by_left_unchecked(handle, left, left_len);
+}
+
+/* Removes the pair of a right, which is kept as what was struck out. 1: no memory, as for `get_by_left`; 5: the
+ * right is not contained. */
+uint32_t jetukoma_btree_bytes_bytes_remove_by_right_unchecked(jetukoma_btree_bytes_bytes *handle, const uint8_t *right, size_t right_len);
+JETUKOMA_API uint32_t jetukoma_btree_bytes_bytes_remove_by_right(jetukoma_btree_bytes_bytes *handle, const uint8_t *right, size_t right_len) {
+    if (!handle) return JETUKOMA_NO_TABLE;
+    if (!right || right_len > PTRDIFF_MAX / sizeof *right) return JETUKOMA_REFUSED;
+    return jetukoma_btree_bytes_bytes_remove_by_right_unchecked(handle, right, right_len);
+}
+
+/* Writes the left of a pair that was struck out last to the front of a buffer, and its length. The index is 0 for
+ * the pair of a removal, for the one pair that an insertion overwrote and for that of the left, and 1 for that of
+ * the right beside it. 4: the buffer is too short, and the length alone is written; 5: there is no such pair. */
+uint32_t jetukoma_btree_bytes_bytes_overwritten_left_unchecked(jetukoma_btree_bytes_bytes *handle, size_t index, uint8_t *buf, size_t buf_len, size_t *len);
+JETUKOMA_API uint32_t jetukoma_btree_bytes_bytes_overwritten_left(jetukoma_btree_bytes_bytes *handle, size_t index, uint8_t *buf, size_t buf_len, size_t *len) {
+    if (!handle) return JETUKOMA_NO_TABLE;
+    if (!buf || buf_len > PTRDIFF_MAX / sizeof *buf || !len) return JETUKOMA_REFUSED;
+    return jetukoma_btree_bytes_bytes_overwritten_left_unchecked(handle, index, buf, buf_len, len);
+}
+
+/* Writes the right of a pair that was struck out last, as `overwritten_left` its left. */
+uint32_t jetukoma_btree_bytes_bytes_overwritten_right_unchecked(jetukoma_btree_bytes_bytes *handle, size_t index, uint8_t *buf, size_t buf_len, size_t *len);
+JETUKOMA_API uint32_t jetukoma_btree_bytes_bytes_overwritten_right(jetukoma_btree_bytes_bytes *handle, size_t index, uint8_t *buf, size_t buf_len, size_t *len) {
+    if (!handle) return JETUKOMA_NO_TABLE;
+    if (!buf || buf_len > PTRDIFF_MAX / sizeof *buf || !len) return JETUKOMA_REFUSED;
+    return jetukoma_btree_bytes_bytes_overwritten_right_unchecked(handle, index, buf, buf_len, len);
+}
+
+/* Removes all pairs, in time in proportion to the places, which stay. Nothing is struck out then. */
+uint32_t jetukoma_btree_bytes_bytes_clear_unchecked(jetukoma_btree_bytes_bytes *handle);
+JETUKOMA_API uint32_t jetukoma_btree_bytes_bytes_clear(jetukoma_btree_bytes_bytes *handle) {
+    if (!handle) return JETUKOMA_NO_TABLE;
+    return jetukoma_btree_bytes_bytes_clear_unchecked(handle);
+}
+
+/* Writes the pair with exactly `rank` lefts below its own, each value to the front of its buffer, and the lengths.
+ * It makes a search. 4: a buffer is too short, and the lengths alone are written; 5: there are no more pairs. */
+uint32_t jetukoma_btree_bytes_bytes_pair_at_rank_unchecked(jetukoma_btree_bytes_bytes *handle, size_t rank, uint8_t *left_buf, size_t left_buf_len, size_t *left_len, uint8_t *right_buf, size_t right_buf_len, size_t *right_len);
+JETUKOMA_API uint32_t jetukoma_btree_bytes_bytes_pair_at_rank(jetukoma_btree_bytes_bytes *handle, size_t rank, uint8_t *left_buf, size_t left_buf_len, size_t *left_len, uint8_t *right_buf, size_t right_buf_len, size_t *right_len) {
+    if (!handle) return JETUKOMA_NO_TABLE;
+    if (!left_buf || left_buf_len > PTRDIFF_MAX / sizeof *left_buf || !left_len || !right_buf || right_buf_len > PTRDIFF_MAX / sizeof *right_buf || !right_len) return JETUKOMA_REFUSED;
+    return jetukoma_btree_bytes_bytes_pair_at_rank_unchecked(handle, rank, left_buf, left_buf_len, left_len, right_buf, right_buf_len, right_len);
+}
+
+/* Writes how many lefts are below this one, byte by byte, contained or not. 1: no memory, as for `get_by_left`. */
+uint32_t jetukoma_btree_bytes_bytes_left_rank_unchecked(jetukoma_btree_bytes_bytes *handle, const uint8_t *left, size_t left_len, size_t *rank);
+JETUKOMA_API uint32_t jetukoma_btree_bytes_bytes_left_rank(jetukoma_btree_bytes_bytes *handle, const uint8_t *left, size_t left_len, size_t *rank) {
+    if (!handle) return JETUKOMA_NO_TABLE;
+    if (!left || left_len > PTRDIFF_MAX / sizeof *left || !rank) return JETUKOMA_REFUSED;
+    return jetukoma_btree_bytes_bytes_left_rank_unchecked(handle, left, left_len, rank);
+}
+
+/* Removes the pair of the least left, which is kept as what was struck out. 5: there are no pairs. */
+uint32_t jetukoma_btree_bytes_bytes_pop_first_unchecked(jetukoma_btree_bytes_bytes *handle);
+JETUKOMA_API uint32_t jetukoma_btree_bytes_bytes_pop_first(jetukoma_btree_bytes_bytes *handle) {
+    if (!handle) return JETUKOMA_NO_TABLE;
+    return jetukoma_btree_bytes_bytes_pop_first_unchecked(handle);
+}
+
+/* Removes the pair of the greatest left, which is kept as what was struck out. 5: there are no pairs. */
+uint32_t jetukoma_btree_bytes_bytes_pop_last_unchecked(jetukoma_btree_bytes_bytes *handle);
+JETUKOMA_API uint32_t jetukoma_btree_bytes_bytes_pop_last(jetukoma_btree_bytes_bytes *handle) {
+    if (!handle) return JETUKOMA_NO_TABLE;
+    return jetukoma_btree_bytes_bytes_pop_last_unchecked(handle);
+}
+
+/* Two hashed sides, bytes and bytes. */
+typedef struct {
+    void *at;
+    bool live;
+} jetukoma_hash_bytes_bytes;
+
+/* Makes an empty table of no places, in constant time, behind a handle that has none. 1: no memory; 2: the handle
+ * has a table. */
+uint32_t jetukoma_hash_bytes_bytes_new_unchecked(jetukoma_hash_bytes_bytes *handle);
+JETUKOMA_API uint32_t jetukoma_hash_bytes_bytes_new(jetukoma_hash_bytes_bytes *handle) {
+    if (!handle) return JETUKOMA_NO_TABLE;
+    return jetukoma_hash_bytes_bytes_new_unchecked(handle);
+}
+
+/* Frees the table with its bytes, in time in proportion to its places; the handle has none then. 2: it has none. */
+uint32_t jetukoma_hash_bytes_bytes_free_unchecked(jetukoma_hash_bytes_bytes *handle);
+JETUKOMA_API uint32_t jetukoma_hash_bytes_bytes_free(jetukoma_hash_bytes_bytes *handle) {
+    if (!handle) return JETUKOMA_NO_TABLE;
+    return jetukoma_hash_bytes_bytes_free_unchecked(handle);
+}
+
+/* Writes the number of pairs, in constant time. */
+uint32_t jetukoma_hash_bytes_bytes_len_unchecked(jetukoma_hash_bytes_bytes *handle, size_t *len);
+JETUKOMA_API uint32_t jetukoma_hash_bytes_bytes_len(jetukoma_hash_bytes_bytes *handle, size_t *len) {
+    if (!handle) return JETUKOMA_NO_TABLE;
+    if (!len) return JETUKOMA_REFUSED;
+    return jetukoma_hash_bytes_bytes_len_unchecked(handle, len);
+}
+
+/* Writes the number of places for pairs, in constant time. */
+uint32_t jetukoma_hash_bytes_bytes_capacity_unchecked(jetukoma_hash_bytes_bytes *handle, size_t *capacity);
+JETUKOMA_API uint32_t jetukoma_hash_bytes_bytes_capacity(jetukoma_hash_bytes_bytes *handle, size_t *capacity) {
+    if (!handle) return JETUKOMA_NO_TABLE;
+    if (!capacity) return JETUKOMA_REFUSED;
+    return jetukoma_hash_bytes_bytes_capacity_unchecked(handle, capacity);
+}
+
+/* Makes places for the pairs and `more` pairs, exactly, unless they are there. Of the next `more` insertions each
+ * asks for memory for its bytes alone. 1: no memory. */
+uint32_t jetukoma_hash_bytes_bytes_reserve_unchecked(jetukoma_hash_bytes_bytes *handle, size_t more);
+JETUKOMA_API uint32_t jetukoma_hash_bytes_bytes_reserve(jetukoma_hash_bytes_bytes *handle, size_t more) {
+    if (!handle) return JETUKOMA_NO_TABLE;
+    return jetukoma_hash_bytes_bytes_reserve_unchecked(handle, more);
+}
+
+/* Inserts copies of the left and the right, which overwrite the pairs that they share a value with, and writes of
+ * which kind those are: 0 for none, 1 for the pair of the left alone, 2 for that of the right alone, 3 for the one
+ * pair of both, and 4 for that of the left and that of the right. They are kept, as what was struck out, until the
+ * next insertion, removal or clear that is done. It asks for memory for the bytes, and where it overwrites none and
+ * no place is free. 1: no memory. */
+uint32_t jetukoma_hash_bytes_bytes_insert_unchecked(jetukoma_hash_bytes_bytes *handle, const uint8_t *left, size_t left_len, const uint8_t *right, size_t right_len, uint32_t *kind);
+JETUKOMA_API uint32_t jetukoma_hash_bytes_bytes_insert(jetukoma_hash_bytes_bytes *handle, const uint8_t *left, size_t left_len, const uint8_t *right, size_t right_len, uint32_t *kind) {
+    if (!handle) return JETUKOMA_NO_TABLE;
+    if (!left || left_len > PTRDIFF_MAX / sizeof *left || !right || right_len > PTRDIFF_MAX / sizeof *right || !kind) return JETUKOMA_REFUSED;
+    return jetukoma_hash_bytes_bytes_insert_unchecked(handle, left, left_len, right, right_len, kind);
+}
+
+/* Inserts copies of the left and the right if neither is contained. Nothing is struck out then. 1: no memory; 3: a
+ * value is contained. */
+uint32_t jetukoma_hash_bytes_bytes_insert_no_overwrite_unchecked(jetukoma_hash_bytes_bytes *handle, const uint8_t *left, size_t left_len, const uint8_t *right, size_t right_len);
+JETUKOMA_API uint32_t jetukoma_hash_bytes_bytes_insert_no_overwrite(jetukoma_hash_bytes_bytes *handle, const uint8_t *left, size_t left_len, const uint8_t *right, size_t right_len) {
+    if (!handle) return JETUKOMA_NO_TABLE;
+    if (!left || left_len > PTRDIFF_MAX / sizeof *left || !right || right_len > PTRDIFF_MAX / sizeof *right) return JETUKOMA_REFUSED;
+    return jetukoma_hash_bytes_bytes_insert_no_overwrite_unchecked(handle, left, left_len, right, right_len);
+}
+
+/* Inserts as `insert` does. A flag of 1 refuses where the value of its side is contained, and one of 0 overwrites.
+ * 1: no memory; 3: a value is contained that its flag keeps, or a flag is above 1. */
+uint32_t jetukoma_hash_bytes_bytes_insert_with_unchecked(jetukoma_hash_bytes_bytes *handle, const uint8_t *left, size_t left_len, const uint8_t *right, size_t right_len, uint8_t left_refuses, uint8_t right_refuses, uint32_t *kind);
+JETUKOMA_API uint32_t jetukoma_hash_bytes_bytes_insert_with(jetukoma_hash_bytes_bytes *handle, const uint8_t *left, size_t left_len, const uint8_t *right, size_t right_len, uint8_t left_refuses, uint8_t right_refuses, uint32_t *kind) {
+    if (!handle) return JETUKOMA_NO_TABLE;
+    if (!left || left_len > PTRDIFF_MAX / sizeof *left || !right || right_len > PTRDIFF_MAX / sizeof *right || !kind) return JETUKOMA_REFUSED;
+    return jetukoma_hash_bytes_bytes_insert_with_unchecked(handle, left, left_len, right, right_len, left_refuses, right_refuses, kind);
+}
+
+/* Writes the right of a left, found by a search, to the front of a buffer, and its length. It asks for memory where
+ * the left is longer than any value that was looked up or removed before. 1: no memory for that; 4: the buffer is
+ * too short, and the length alone is written; 5: the left is not contained. */
+uint32_t jetukoma_hash_bytes_bytes_get_by_left_unchecked(jetukoma_hash_bytes_bytes *handle, const uint8_t *left, size_t left_len, uint8_t *buf, size_t buf_len, size_t *len);
+JETUKOMA_API uint32_t jetukoma_hash_bytes_bytes_get_by_left(jetukoma_hash_bytes_bytes *handle, const uint8_t *left, size_t left_len, uint8_t *buf, size_t buf_len, size_t *len) {
+    if (!handle) return JETUKOMA_NO_TABLE;
+    if (!left || left_len > PTRDIFF_MAX / sizeof *left || !buf || buf_len > PTRDIFF_MAX / sizeof *buf || !len) return JETUKOMA_REFUSED;
+    return jetukoma_hash_bytes_bytes_get_by_left_unchecked(handle, left, left_len, buf, buf_len, len);
+}
+
+/* Writes the left of a right, found by a search, to the front of a buffer, and its length. 4: the buffer is too
+ * short, and the length alone is written; 5: the right is not contained; 1: no memory, as for `get_by_left`. */
+uint32_t jetukoma_hash_bytes_bytes_get_by_right_unchecked(jetukoma_hash_bytes_bytes *handle, const uint8_t *right, size_t right_len, uint8_t *buf, size_t buf_len, size_t *len);
+JETUKOMA_API uint32_t jetukoma_hash_bytes_bytes_get_by_right(jetukoma_hash_bytes_bytes *handle, const uint8_t *right, size_t right_len, uint8_t *buf, size_t buf_len, size_t *len) {
+    if (!handle) return JETUKOMA_NO_TABLE;
+    if (!right || right_len > PTRDIFF_MAX / sizeof *right || !buf || buf_len > PTRDIFF_MAX / sizeof *buf || !len) return JETUKOMA_REFUSED;
+    return jetukoma_hash_bytes_bytes_get_by_right_unchecked(handle, right, right_len, buf, buf_len, len);
+}
+
+/* Returns 0 if the left is contained, and 5 if not. 1: no memory, as for `get_by_left`. */
+uint32_t jetukoma_hash_bytes_bytes_contains_left_unchecked(jetukoma_hash_bytes_bytes *handle, const uint8_t *left, size_t left_len);
+JETUKOMA_API uint32_t jetukoma_hash_bytes_bytes_contains_left(jetukoma_hash_bytes_bytes *handle, const uint8_t *left, size_t left_len) {
+    if (!handle) return JETUKOMA_NO_TABLE;
+    if (!left || left_len > PTRDIFF_MAX / sizeof *left) return JETUKOMA_REFUSED;
+    return jetukoma_hash_bytes_bytes_contains_left_unchecked(handle, left, left_len);
+}
+
+/* Returns 0 if the right is contained, and 5 if not. 1: no memory, as for `get_by_left`. */
+uint32_t jetukoma_hash_bytes_bytes_contains_right_unchecked(jetukoma_hash_bytes_bytes *handle, const uint8_t *right, size_t right_len);
+JETUKOMA_API uint32_t jetukoma_hash_bytes_bytes_contains_right(jetukoma_hash_bytes_bytes *handle, const uint8_t *right, size_t right_len) {
+    if (!handle) return JETUKOMA_NO_TABLE;
+    if (!right || right_len > PTRDIFF_MAX / sizeof *right) return JETUKOMA_REFUSED;
+    return jetukoma_hash_bytes_bytes_contains_right_unchecked(handle, right, right_len);
+}
+
+/* Removes the pair of a left, which is kept as what was struck out. 1: no memory, as for `get_by_left`; 5: the left
+ * is not contained. */
+uint32_t jetukoma_hash_bytes_bytes_remove_by_left_unchecked(jetukoma_hash_bytes_bytes *handle, const uint8_t *left, size_t left_len);
+JETUKOMA_API uint32_t jetukoma_hash_bytes_bytes_remove_by_left(jetukoma_hash_bytes_bytes *handle, const uint8_t *left, size_t left_len) {
+    if (!handle) return JETUKOMA_NO_TABLE;
+    if (!left || left_len > PTRDIFF_MAX / sizeof *left) return JETUKOMA_REFUSED;
+    return jetukoma_hash_bytes_bytes_remove_by_left_unchecked(handle, left, left_len);
+}
+
+/* Removes the pair of a right, which is kept as what was struck out. 1: no memory, as for `get_by_left`; 5: the
+ * right is not contained. */
+uint32_t jetukoma_hash_bytes_bytes_remove_by_right_unchecked(jetukoma_hash_bytes_bytes *handle, const uint8_t *right, size_t right_len);
+JETUKOMA_API uint32_t jetukoma_hash_bytes_bytes_remove_by_right(jetukoma_hash_bytes_bytes *handle, const uint8_t *right, size_t right_len) {
+    if (!handle) return JETUKOMA_NO_TABLE;
+    if (!right || right_len > PTRDIFF_MAX / sizeof *right) return JETUKOMA_REFUSED;
+    return jetukoma_hash_bytes_bytes_remove_by_right_unchecked(handle, right, right_len);
+}
+
+/* Writes the left of a pair that was struck out last to the front of a buffer, and its length. The index is 0 for
+ * the pair of a removal, for the one pair that an insertion overwrote and for that of the left, and 1 for that of
+ * the right beside it. 4: the buffer is too short, and the length alone is written; 5: there is no such pair. */
+uint32_t jetukoma_hash_bytes_bytes_overwritten_left_unchecked(jetukoma_hash_bytes_bytes *handle, size_t index, uint8_t *buf, size_t buf_len, size_t *len);
+JETUKOMA_API uint32_t jetukoma_hash_bytes_bytes_overwritten_left(jetukoma_hash_bytes_bytes *handle, size_t index, uint8_t *buf, size_t buf_len, size_t *len) {
+    if (!handle) return JETUKOMA_NO_TABLE;
+    if (!buf || buf_len > PTRDIFF_MAX / sizeof *buf || !len) return JETUKOMA_REFUSED;
+    return jetukoma_hash_bytes_bytes_overwritten_left_unchecked(handle, index, buf, buf_len, len);
+}
+
+/* Writes the right of a pair that was struck out last, as `overwritten_left` its left. */
+uint32_t jetukoma_hash_bytes_bytes_overwritten_right_unchecked(jetukoma_hash_bytes_bytes *handle, size_t index, uint8_t *buf, size_t buf_len, size_t *len);
+JETUKOMA_API uint32_t jetukoma_hash_bytes_bytes_overwritten_right(jetukoma_hash_bytes_bytes *handle, size_t index, uint8_t *buf, size_t buf_len, size_t *len) {
+    if (!handle) return JETUKOMA_NO_TABLE;
+    if (!buf || buf_len > PTRDIFF_MAX / sizeof *buf || !len) return JETUKOMA_REFUSED;
+    return jetukoma_hash_bytes_bytes_overwritten_right_unchecked(handle, index, buf, buf_len, len);
+}
+
+/* Removes all pairs, in time in proportion to the places, which stay. Nothing is struck out then. */
+uint32_t jetukoma_hash_bytes_bytes_clear_unchecked(jetukoma_hash_bytes_bytes *handle);
+JETUKOMA_API uint32_t jetukoma_hash_bytes_bytes_clear(jetukoma_hash_bytes_bytes *handle) {
+    if (!handle) return JETUKOMA_NO_TABLE;
+    return jetukoma_hash_bytes_bytes_clear_unchecked(handle);
+}
+
+/* Two ordered sides, bytes and u64. */
+typedef struct {
+    void *at;
+    bool live;
+} jetukoma_btree_bytes_u64;
+
+/* Makes an empty table of no places, in constant time, behind a handle that has none. 1: no memory; 2: the handle
+ * has a table. */
+uint32_t jetukoma_btree_bytes_u64_new_unchecked(jetukoma_btree_bytes_u64 *handle);
+JETUKOMA_API uint32_t jetukoma_btree_bytes_u64_new(jetukoma_btree_bytes_u64 *handle) {
+    if (!handle) return JETUKOMA_NO_TABLE;
+    return jetukoma_btree_bytes_u64_new_unchecked(handle);
+}
+
+/* Frees the table with its bytes, in time in proportion to its places; the handle has none then. 2: it has none. */
+uint32_t jetukoma_btree_bytes_u64_free_unchecked(jetukoma_btree_bytes_u64 *handle);
+JETUKOMA_API uint32_t jetukoma_btree_bytes_u64_free(jetukoma_btree_bytes_u64 *handle) {
+    if (!handle) return JETUKOMA_NO_TABLE;
+    return jetukoma_btree_bytes_u64_free_unchecked(handle);
+}
+
+/* Writes the number of pairs, in constant time. */
+uint32_t jetukoma_btree_bytes_u64_len_unchecked(jetukoma_btree_bytes_u64 *handle, size_t *len);
+JETUKOMA_API uint32_t jetukoma_btree_bytes_u64_len(jetukoma_btree_bytes_u64 *handle, size_t *len) {
+    if (!handle) return JETUKOMA_NO_TABLE;
+    if (!len) return JETUKOMA_REFUSED;
+    return jetukoma_btree_bytes_u64_len_unchecked(handle, len);
+}
+
+/* Writes the number of places for pairs, in constant time. */
+uint32_t jetukoma_btree_bytes_u64_capacity_unchecked(jetukoma_btree_bytes_u64 *handle, size_t *capacity);
+JETUKOMA_API uint32_t jetukoma_btree_bytes_u64_capacity(jetukoma_btree_bytes_u64 *handle, size_t *capacity) {
+    if (!handle) return JETUKOMA_NO_TABLE;
+    if (!capacity) return JETUKOMA_REFUSED;
+    return jetukoma_btree_bytes_u64_capacity_unchecked(handle, capacity);
+}
+
+/* Makes places for the pairs and `more` pairs, exactly, unless they are there. Of the next `more` insertions each
+ * asks for memory for its bytes alone. 1: no memory. */
+uint32_t jetukoma_btree_bytes_u64_reserve_unchecked(jetukoma_btree_bytes_u64 *handle, size_t more);
+JETUKOMA_API uint32_t jetukoma_btree_bytes_u64_reserve(jetukoma_btree_bytes_u64 *handle, size_t more) {
+    if (!handle) return JETUKOMA_NO_TABLE;
+    return jetukoma_btree_bytes_u64_reserve_unchecked(handle, more);
+}
+
+/* Inserts a copy of the left with the right, which overwrites the pairs that they share a value with, and writes of
+ * which kind those are: 0 for none, 1 for the pair of the left alone, 2 for that of the right alone, 3 for the one
+ * pair of both, and 4 for that of the left and that of the right. They are kept, as what was struck out, until the
+ * next insertion, removal or clear that is done. It asks for memory for the bytes, and where it overwrites none and
+ * no place is free. 1: no memory. */
+uint32_t jetukoma_btree_bytes_u64_insert_unchecked(jetukoma_btree_bytes_u64 *handle, const uint8_t *left, size_t left_len, uint64_t right, uint32_t *kind);
+JETUKOMA_API uint32_t jetukoma_btree_bytes_u64_insert(jetukoma_btree_bytes_u64 *handle, const uint8_t *left, size_t left_len, uint64_t right, uint32_t *kind) {
+    if (!handle) return JETUKOMA_NO_TABLE;
+    if (!left || left_len > PTRDIFF_MAX / sizeof *left || !kind) return JETUKOMA_REFUSED;
+    return jetukoma_btree_bytes_u64_insert_unchecked(handle, left, left_len, right, kind);
+}
+
+/* Inserts a copy of the left with the right if neither is contained. Nothing is struck out then. 1: no memory; 3: a
+ * value is contained. */
+uint32_t jetukoma_btree_bytes_u64_insert_no_overwrite_unchecked(jetukoma_btree_bytes_u64 *handle, const uint8_t *left, size_t left_len, uint64_t right);
+JETUKOMA_API uint32_t jetukoma_btree_bytes_u64_insert_no_overwrite(jetukoma_btree_bytes_u64 *handle, const uint8_t *left, size_t left_len, uint64_t right) {
+    if (!handle) return JETUKOMA_NO_TABLE;
+    if (!left || left_len > PTRDIFF_MAX / sizeof *left) return JETUKOMA_REFUSED;
+    return jetukoma_btree_bytes_u64_insert_no_overwrite_unchecked(handle, left, left_len, right);
+}
+
+/* Inserts as `insert` does. A flag of 1 refuses where the value of its side is contained, and one of 0 overwrites.
+ * 1: no memory; 3: a value is contained that its flag keeps, or a flag is above 1. */
+uint32_t jetukoma_btree_bytes_u64_insert_with_unchecked(jetukoma_btree_bytes_u64 *handle, const uint8_t *left, size_t left_len, uint64_t right, uint8_t left_refuses, uint8_t right_refuses, uint32_t *kind);
+JETUKOMA_API uint32_t jetukoma_btree_bytes_u64_insert_with(jetukoma_btree_bytes_u64 *handle, const uint8_t *left, size_t left_len, uint64_t right, uint8_t left_refuses, uint8_t right_refuses, uint32_t *kind) {
+    if (!handle) return JETUKOMA_NO_TABLE;
+    if (!left || left_len > PTRDIFF_MAX / sizeof *left || !kind) return JETUKOMA_REFUSED;
+    return jetukoma_btree_bytes_u64_insert_with_unchecked(handle, left, left_len, right, left_refuses, right_refuses, kind);
+}
+
+/* Writes the right of a left, found by a search. It asks for memory where the left is longer than any that was
+ * looked up or removed before. 1: no memory for that; 5: the left is not contained. */
+uint32_t jetukoma_btree_bytes_u64_get_by_left_unchecked(jetukoma_btree_bytes_u64 *handle, const uint8_t *left, size_t left_len, uint64_t *right);
+JETUKOMA_API uint32_t jetukoma_btree_bytes_u64_get_by_left(jetukoma_btree_bytes_u64 *handle, const uint8_t *left, size_t left_len, uint64_t *right) {
+    if (!handle) return JETUKOMA_NO_TABLE;
+    if (!left || left_len > PTRDIFF_MAX / sizeof *left || !right) return JETUKOMA_REFUSED;
+    return jetukoma_btree_bytes_u64_get_by_left_unchecked(handle, left, left_len, right);
+}
+
+/* Writes the left of a right, found by a search, to the front of a buffer, and its length. 4: the buffer is too
+ * short, and the length alone is written; 5: the right is not contained. */
+uint32_t jetukoma_btree_bytes_u64_get_by_right_unchecked(jetukoma_btree_bytes_u64 *handle, uint64_t right, uint8_t *buf, size_t buf_len, size_t *len);
+JETUKOMA_API uint32_t jetukoma_btree_bytes_u64_get_by_right(jetukoma_btree_bytes_u64 *handle, uint64_t right, uint8_t *buf, size_t buf_len, size_t *len) {
+    if (!handle) return JETUKOMA_NO_TABLE;
+    if (!buf || buf_len > PTRDIFF_MAX / sizeof *buf || !len) return JETUKOMA_REFUSED;
+    return jetukoma_btree_bytes_u64_get_by_right_unchecked(handle, right, buf, buf_len, len);
+}
+
+/* Returns 0 if the left is contained, and 5 if not. 1: no memory, as for `get_by_left`. */
+uint32_t jetukoma_btree_bytes_u64_contains_left_unchecked(jetukoma_btree_bytes_u64 *handle, const uint8_t *left, size_t left_len);
+JETUKOMA_API uint32_t jetukoma_btree_bytes_u64_contains_left(jetukoma_btree_bytes_u64 *handle, const uint8_t *left, size_t left_len) {
+    if (!handle) return JETUKOMA_NO_TABLE;
+    if (!left || left_len > PTRDIFF_MAX / sizeof *left) return JETUKOMA_REFUSED;
+    return jetukoma_btree_bytes_u64_contains_left_unchecked(handle, left, left_len);
+}
+
+/* Returns 0 if the right is contained, and 5 if not. */
+uint32_t jetukoma_btree_bytes_u64_contains_right_unchecked(jetukoma_btree_bytes_u64 *handle, uint64_t right);
+JETUKOMA_API uint32_t jetukoma_btree_bytes_u64_contains_right(jetukoma_btree_bytes_u64 *handle, uint64_t right) {
+    if (!handle) return JETUKOMA_NO_TABLE;
+    return jetukoma_btree_bytes_u64_contains_right_unchecked(handle, right);
+}
+
+/* Removes the pair of a left, which is kept as what was struck out. 1: no memory, as for `get_by_left`; 5: the left
+ * is not contained. */
+uint32_t jetukoma_btree_bytes_u64_remove_by_left_unchecked(jetukoma_btree_bytes_u64 *handle, const uint8_t *left, size_t left_len);
+JETUKOMA_API uint32_t jetukoma_btree_bytes_u64_remove_by_left(jetukoma_btree_bytes_u64 *handle, const uint8_t *left, size_t left_len) {
+    if (!handle) return JETUKOMA_NO_TABLE;
+    if (!left || left_len > PTRDIFF_MAX / sizeof *left) return JETUKOMA_REFUSED;
+    return jetukoma_btree_bytes_u64_remove_by_left_unchecked(handle, left, left_len);
+}
+
+/* Removes the pair of a right, which is kept as what was struck out. 5: the right is not contained. */
+uint32_t jetukoma_btree_bytes_u64_remove_by_right_unchecked(jetukoma_btree_bytes_u64 *handle, uint64_t right);
+JETUKOMA_API uint32_t jetukoma_btree_bytes_u64_remove_by_right(jetukoma_btree_bytes_u64 *handle, uint64_t right) {
+    if (!handle) return JETUKOMA_NO_TABLE;
+    return jetukoma_btree_bytes_u64_remove_by_right_unchecked(handle, right);
+}
+
+/* Writes the left of a pair that was struck out last to the front of a buffer, and its length. The index is 0 for
+ * the pair of a removal, for the one pair that an insertion overwrote and for that of the left, and 1 for that of
+ * the right beside it. 4: the buffer is too short, and the length alone is written; 5: there is no such pair. */
+uint32_t jetukoma_btree_bytes_u64_overwritten_left_unchecked(jetukoma_btree_bytes_u64 *handle, size_t index, uint8_t *buf, size_t buf_len, size_t *len);
+JETUKOMA_API uint32_t jetukoma_btree_bytes_u64_overwritten_left(jetukoma_btree_bytes_u64 *handle, size_t index, uint8_t *buf, size_t buf_len, size_t *len) {
+    if (!handle) return JETUKOMA_NO_TABLE;
+    if (!buf || buf_len > PTRDIFF_MAX / sizeof *buf || !len) return JETUKOMA_REFUSED;
+    return jetukoma_btree_bytes_u64_overwritten_left_unchecked(handle, index, buf, buf_len, len);
+}
+
+/* Writes the right of a pair that was struck out last. 5: there is no such pair. */
+uint32_t jetukoma_btree_bytes_u64_overwritten_right_unchecked(jetukoma_btree_bytes_u64 *handle, size_t index, uint64_t *right);
+JETUKOMA_API uint32_t jetukoma_btree_bytes_u64_overwritten_right(jetukoma_btree_bytes_u64 *handle, size_t index, uint64_t *right) {
+    if (!handle) return JETUKOMA_NO_TABLE;
+    if (!right) return JETUKOMA_REFUSED;
+    return jetukoma_btree_bytes_u64_overwritten_right_unchecked(handle, index, right);
+}
+
+/* Removes all pairs, in time in proportion to the places, which stay. Nothing is struck out then. */
+uint32_t jetukoma_btree_bytes_u64_clear_unchecked(jetukoma_btree_bytes_u64 *handle);
+JETUKOMA_API uint32_t jetukoma_btree_bytes_u64_clear(jetukoma_btree_bytes_u64 *handle) {
+    if (!handle) return JETUKOMA_NO_TABLE;
+    return jetukoma_btree_bytes_u64_clear_unchecked(handle);
+}
+
+/* Writes the pair with exactly `rank` lefts below its own: its left to the front of a buffer, the left's length, and
+ * the right. It makes a search. 4: the buffer is too short, and the length alone is written; 5: there are no more
+ * pairs. */
+uint32_t jetukoma_btree_bytes_u64_pair_at_rank_unchecked(jetukoma_btree_bytes_u64 *handle, size_t rank, uint8_t *buf, size_t buf_len, size_t *len, uint64_t *right);
+JETUKOMA_API uint32_t jetukoma_btree_bytes_u64_pair_at_rank(jetukoma_btree_bytes_u64 *handle, size_t rank, uint8_t *buf, size_t buf_len, size_t *len, uint64_t *right) {
+    if (!handle) return JETUKOMA_NO_TABLE;
+    if (!buf || buf_len > PTRDIFF_MAX / sizeof *buf || !len || !right) return JETUKOMA_REFUSED;
+    return jetukoma_btree_bytes_u64_pair_at_rank_unchecked(handle, rank, buf, buf_len, len, right);
+}
+
+/* Writes how many lefts are below this one, byte by byte, contained or not. 1: no memory, as for `get_by_left`. */
+uint32_t jetukoma_btree_bytes_u64_left_rank_unchecked(jetukoma_btree_bytes_u64 *handle, const uint8_t *left, size_t left_len, size_t *rank);
+JETUKOMA_API uint32_t jetukoma_btree_bytes_u64_left_rank(jetukoma_btree_bytes_u64 *handle, const uint8_t *left, size_t left_len, size_t *rank) {
+    if (!handle) return JETUKOMA_NO_TABLE;
+    if (!left || left_len > PTRDIFF_MAX / sizeof *left || !rank) return JETUKOMA_REFUSED;
+    return jetukoma_btree_bytes_u64_left_rank_unchecked(handle, left, left_len, rank);
+}
+
+/* Removes the pair of the least left, which is kept as what was struck out. 5: there are no pairs. */
+uint32_t jetukoma_btree_bytes_u64_pop_first_unchecked(jetukoma_btree_bytes_u64 *handle);
+JETUKOMA_API uint32_t jetukoma_btree_bytes_u64_pop_first(jetukoma_btree_bytes_u64 *handle) {
+    if (!handle) return JETUKOMA_NO_TABLE;
+    return jetukoma_btree_bytes_u64_pop_first_unchecked(handle);
+}
+
+/* Removes the pair of the greatest left, which is kept as what was struck out. 5: there are no pairs. */
+uint32_t jetukoma_btree_bytes_u64_pop_last_unchecked(jetukoma_btree_bytes_u64 *handle);
+JETUKOMA_API uint32_t jetukoma_btree_bytes_u64_pop_last(jetukoma_btree_bytes_u64 *handle) {
+    if (!handle) return JETUKOMA_NO_TABLE;
+    return jetukoma_btree_bytes_u64_pop_last_unchecked(handle);
+}
+
+/* Two hashed sides, bytes and u64. */
+typedef struct {
+    void *at;
+    bool live;
+} jetukoma_hash_bytes_u64;
+
+/* Makes an empty table of no places, in constant time, behind a handle that has none. 1: no memory; 2: the handle
+ * has a table. */
+uint32_t jetukoma_hash_bytes_u64_new_unchecked(jetukoma_hash_bytes_u64 *handle);
+JETUKOMA_API uint32_t jetukoma_hash_bytes_u64_new(jetukoma_hash_bytes_u64 *handle) {
+    if (!handle) return JETUKOMA_NO_TABLE;
+    return jetukoma_hash_bytes_u64_new_unchecked(handle);
+}
+
+/* Frees the table with its bytes, in time in proportion to its places; the handle has none then. 2: it has none. */
+uint32_t jetukoma_hash_bytes_u64_free_unchecked(jetukoma_hash_bytes_u64 *handle);
+JETUKOMA_API uint32_t jetukoma_hash_bytes_u64_free(jetukoma_hash_bytes_u64 *handle) {
+    if (!handle) return JETUKOMA_NO_TABLE;
+    return jetukoma_hash_bytes_u64_free_unchecked(handle);
+}
+
+/* Writes the number of pairs, in constant time. */
+uint32_t jetukoma_hash_bytes_u64_len_unchecked(jetukoma_hash_bytes_u64 *handle, size_t *len);
+JETUKOMA_API uint32_t jetukoma_hash_bytes_u64_len(jetukoma_hash_bytes_u64 *handle, size_t *len) {
+    if (!handle) return JETUKOMA_NO_TABLE;
+    if (!len) return JETUKOMA_REFUSED;
+    return jetukoma_hash_bytes_u64_len_unchecked(handle, len);
+}
+
+/* Writes the number of places for pairs, in constant time. */
+uint32_t jetukoma_hash_bytes_u64_capacity_unchecked(jetukoma_hash_bytes_u64 *handle, size_t *capacity);
+JETUKOMA_API uint32_t jetukoma_hash_bytes_u64_capacity(jetukoma_hash_bytes_u64 *handle, size_t *capacity) {
+    if (!handle) return JETUKOMA_NO_TABLE;
+    if (!capacity) return JETUKOMA_REFUSED;
+    return jetukoma_hash_bytes_u64_capacity_unchecked(handle, capacity);
+}
+
+/* Makes places for the pairs and `more` pairs, exactly, unless they are there. Of the next `more` insertions each
+ * asks for memory for its bytes alone. 1: no memory. */
+uint32_t jetukoma_hash_bytes_u64_reserve_unchecked(jetukoma_hash_bytes_u64 *handle, size_t more);
+JETUKOMA_API uint32_t jetukoma_hash_bytes_u64_reserve(jetukoma_hash_bytes_u64 *handle, size_t more) {
+    if (!handle) return JETUKOMA_NO_TABLE;
+    return jetukoma_hash_bytes_u64_reserve_unchecked(handle, more);
+}
+
+/* Inserts a copy of the left with the right, which overwrites the pairs that they share a value with, and writes of
+ * which kind those are: 0 for none, 1 for the pair of the left alone, 2 for that of the right alone, 3 for the one
+ * pair of both, and 4 for that of the left and that of the right. They are kept, as what was struck out, until the
+ * next insertion, removal or clear that is done. It asks for memory for the bytes, and where it overwrites none and
+ * no place is free. 1: no memory. */
+uint32_t jetukoma_hash_bytes_u64_insert_unchecked(jetukoma_hash_bytes_u64 *handle, const uint8_t *left, size_t left_len, uint64_t right, uint32_t *kind);
+JETUKOMA_API uint32_t jetukoma_hash_bytes_u64_insert(jetukoma_hash_bytes_u64 *handle, const uint8_t *left, size_t left_len, uint64_t right, uint32_t *kind) {
+    if (!handle) return JETUKOMA_NO_TABLE;
+    if (!left || left_len > PTRDIFF_MAX / sizeof *left || !kind) return JETUKOMA_REFUSED;
+    return jetukoma_hash_bytes_u64_insert_unchecked(handle, left, left_len, right, kind);
+}
+
+/* Inserts a copy of the left with the right if neither is contained. Nothing is struck out then. 1: no memory; 3: a
+ * value is contained. */
+uint32_t jetukoma_hash_bytes_u64_insert_no_overwrite_unchecked(jetukoma_hash_bytes_u64 *handle, const uint8_t *left, size_t left_len, uint64_t right);
+JETUKOMA_API uint32_t jetukoma_hash_bytes_u64_insert_no_overwrite(jetukoma_hash_bytes_u64 *handle, const uint8_t *left, size_t left_len, uint64_t right) {
+    if (!handle) return JETUKOMA_NO_TABLE;
+    if (!left || left_len > PTRDIFF_MAX / sizeof *left) return JETUKOMA_REFUSED;
+    return jetukoma_hash_bytes_u64_insert_no_overwrite_unchecked(handle, left, left_len, right);
+}
+
+/* Inserts as `insert` does. A flag of 1 refuses where the value of its side is contained, and one of 0 overwrites.
+ * 1: no memory; 3: a value is contained that its flag keeps, or a flag is above 1. */
+uint32_t jetukoma_hash_bytes_u64_insert_with_unchecked(jetukoma_hash_bytes_u64 *handle, const uint8_t *left, size_t left_len, uint64_t right, uint8_t left_refuses, uint8_t right_refuses, uint32_t *kind);
+JETUKOMA_API uint32_t jetukoma_hash_bytes_u64_insert_with(jetukoma_hash_bytes_u64 *handle, const uint8_t *left, size_t left_len, uint64_t right, uint8_t left_refuses, uint8_t right_refuses, uint32_t *kind) {
+    if (!handle) return JETUKOMA_NO_TABLE;
+    if (!left || left_len > PTRDIFF_MAX / sizeof *left || !kind) return JETUKOMA_REFUSED;
+    return jetukoma_hash_bytes_u64_insert_with_unchecked(handle, left, left_len, right, left_refuses, right_refuses, kind);
+}
+
+/* Writes the right of a left, found by a search. It asks for memory where the left is longer than any that was
+ * looked up or removed before. 1: no memory for that; 5: the left is not contained. */
+uint32_t jetukoma_hash_bytes_u64_get_by_left_unchecked(jetukoma_hash_bytes_u64 *handle, const uint8_t *left, size_t left_len, uint64_t *right);
+JETUKOMA_API uint32_t jetukoma_hash_bytes_u64_get_by_left(jetukoma_hash_bytes_u64 *handle, const uint8_t *left, size_t left_len, uint64_t *right) {
+    if (!handle) return JETUKOMA_NO_TABLE;
+    if (!left || left_len > PTRDIFF_MAX / sizeof *left || !right) return JETUKOMA_REFUSED;
+    return jetukoma_hash_bytes_u64_get_by_left_unchecked(handle, left, left_len, right);
+}
+
+/* Writes the left of a right, found by a search, to the front of a buffer, and its length. 4: the buffer is too
+ * short, and the length alone is written; 5: the right is not contained. */
+uint32_t jetukoma_hash_bytes_u64_get_by_right_unchecked(jetukoma_hash_bytes_u64 *handle, uint64_t right, uint8_t *buf, size_t buf_len, size_t *len);
+JETUKOMA_API uint32_t jetukoma_hash_bytes_u64_get_by_right(jetukoma_hash_bytes_u64 *handle, uint64_t right, uint8_t *buf, size_t buf_len, size_t *len) {
+    if (!handle) return JETUKOMA_NO_TABLE;
+    if (!buf || buf_len > PTRDIFF_MAX / sizeof *buf || !len) return JETUKOMA_REFUSED;
+    return jetukoma_hash_bytes_u64_get_by_right_unchecked(handle, right, buf, buf_len, len);
+}
+
+/* Returns 0 if the left is contained, and 5 if not. 1: no memory, as for `get_by_left`. */
+uint32_t jetukoma_hash_bytes_u64_contains_left_unchecked(jetukoma_hash_bytes_u64 *handle, const uint8_t *left, size_t left_len);
+JETUKOMA_API uint32_t jetukoma_hash_bytes_u64_contains_left(jetukoma_hash_bytes_u64 *handle, const uint8_t *left, size_t left_len) {
+    if (!handle) return JETUKOMA_NO_TABLE;
+    if (!left || left_len > PTRDIFF_MAX / sizeof *left) return JETUKOMA_REFUSED;
+    return jetukoma_hash_bytes_u64_contains_left_unchecked(handle, left, left_len);
+}
+
+/* Returns 0 if the right is contained, and 5 if not. */
+uint32_t jetukoma_hash_bytes_u64_contains_right_unchecked(jetukoma_hash_bytes_u64 *handle, uint64_t right);
+JETUKOMA_API uint32_t jetukoma_hash_bytes_u64_contains_right(jetukoma_hash_bytes_u64 *handle, uint64_t right) {
+    if (!handle) return JETUKOMA_NO_TABLE;
+    return jetukoma_hash_bytes_u64_contains_right_unchecked(handle, right);
+}
+
+/* Removes the pair of a left, which is kept as what was struck out. 1: no memory, as for `get_by_left`; 5: the left
+ * is not contained. */
+uint32_t jetukoma_hash_bytes_u64_remove_by_left_unchecked(jetukoma_hash_bytes_u64 *handle, const uint8_t *left, size_t left_len);
+JETUKOMA_API uint32_t jetukoma_hash_bytes_u64_remove_by_left(jetukoma_hash_bytes_u64 *handle, const uint8_t *left, size_t left_len) {
+    if (!handle) return JETUKOMA_NO_TABLE;
+    if (!left || left_len > PTRDIFF_MAX / sizeof *left) return JETUKOMA_REFUSED;
+    return jetukoma_hash_bytes_u64_remove_by_left_unchecked(handle, left, left_len);
+}
+
+/* Removes the pair of a right, which is kept as what was struck out. 5: the right is not contained. */
+uint32_t jetukoma_hash_bytes_u64_remove_by_right_unchecked(jetukoma_hash_bytes_u64 *handle, uint64_t right);
+JETUKOMA_API uint32_t jetukoma_hash_bytes_u64_remove_by_right(jetukoma_hash_bytes_u64 *handle, uint64_t right) {
+    if (!handle) return JETUKOMA_NO_TABLE;
+    return jetukoma_hash_bytes_u64_remove_by_right_unchecked(handle, right);
+}
+
+/* Writes the left of a pair that was struck out last to the front of a buffer, and its length. The index is 0 for
+ * the pair of a removal, for the one pair that an insertion overwrote and for that of the left, and 1 for that of
+ * the right beside it. 4: the buffer is too short, and the length alone is written; 5: there is no such pair. */
+uint32_t jetukoma_hash_bytes_u64_overwritten_left_unchecked(jetukoma_hash_bytes_u64 *handle, size_t index, uint8_t *buf, size_t buf_len, size_t *len);
+JETUKOMA_API uint32_t jetukoma_hash_bytes_u64_overwritten_left(jetukoma_hash_bytes_u64 *handle, size_t index, uint8_t *buf, size_t buf_len, size_t *len) {
+    if (!handle) return JETUKOMA_NO_TABLE;
+    if (!buf || buf_len > PTRDIFF_MAX / sizeof *buf || !len) return JETUKOMA_REFUSED;
+    return jetukoma_hash_bytes_u64_overwritten_left_unchecked(handle, index, buf, buf_len, len);
+}
+
+/* Writes the right of a pair that was struck out last. 5: there is no such pair. */
+uint32_t jetukoma_hash_bytes_u64_overwritten_right_unchecked(jetukoma_hash_bytes_u64 *handle, size_t index, uint64_t *right);
+JETUKOMA_API uint32_t jetukoma_hash_bytes_u64_overwritten_right(jetukoma_hash_bytes_u64 *handle, size_t index, uint64_t *right) {
+    if (!handle) return JETUKOMA_NO_TABLE;
+    if (!right) return JETUKOMA_REFUSED;
+    return jetukoma_hash_bytes_u64_overwritten_right_unchecked(handle, index, right);
+}
+
+/* Removes all pairs, in time in proportion to the places, which stay. Nothing is struck out then. */
+uint32_t jetukoma_hash_bytes_u64_clear_unchecked(jetukoma_hash_bytes_u64 *handle);
+JETUKOMA_API uint32_t jetukoma_hash_bytes_u64_clear(jetukoma_hash_bytes_u64 *handle) {
+    if (!handle) return JETUKOMA_NO_TABLE;
+    return jetukoma_hash_bytes_u64_clear_unchecked(handle);
 }
 
 #ifdef __cplusplus

@@ -1,5 +1,5 @@
 -- How far a walk was written to a row, and where a walk begins.
-use Rattle.std.proofs.Common.{◌≡◌, ℕ, zero, suc, Bool, true, false, Option, None, Some, nat_lt, not, slice_get, get_or, ◌<◌, ◌≤◌, ◌+◌, ◌-◌, ◌⊎◌, List, [], ◌∷◌, ◌++◌, length, take, drop, map, set, refl, sym, ap, subst, ◌∙◌, inl, inr, arith, append_assoc, length-append, drop-cons, add-one}
+use Rattle.std.proofs.Common.{◌≡◌, ℕ, zero, suc, Bool, true, false, None, Some, nat_lt, not, slice_get, get_or, ◌<◌, ◌≤◌, ◌+◌, ◌-◌, ◌⊎◌, List, [], ◌∷◌, ◌++◌, length, take, drop, map, set, refl, sym, ap, subst, ◌∙◌, inl, inr, arith, append_assoc, length-append, drop-cons, add-one}
 use Rattle.std.proofs.lemmas.List.{set_at, take_at, length_push, length-map, map-append}
 use Rattle.std.proofs.lemmas.Bool.Decides.{nat_tests}
 use Rattle.std.proofs.Math.Nat.{eq-or-lt_of_le}
@@ -8,8 +8,9 @@ use Rattle.std.proofs.lemmas.Option.{slice_get_within, get_or_from_slice_get}
 use Rattle.std.specs.List.{filter, AllPairs}
 use Rattle.std.specs.Ordering.{nat_cmp}
 use Rattle.std.specs.Prelude.{MatchOption}
+use Rattle.std.specs.Map.Iter.{TakesFirst, deref_pair}
 use Rattle.std.specs.declared.cmp.Ordering.TheVariants.{Less}
-use Rattle.bimap_c.specs.U64U64.{row, pair, IsFilled}
+use Rattle.bimap_c.specs.U64U64.{row, pair, IsFilled, IsFilledBy}
 use Rattle.bimap_c.specs.declared.u64_u64.Pair.{Pair as Row}
 
 -- the first so many pairs of a walk were written, and these are left
@@ -48,6 +49,10 @@ all_written walk rest old filled new is end =
       elim end [ inl le ↦ omega (arith, le, is.fits, long, is.count) | inr none ↦ omega (arith, is.fits, long, is.count, ap length none) ],
       is.written ∙ ap (λ w. map row w ++ drop filled old) (sym front),
     )
+
+-- by a walk that shows what is left of it
+pub filled : (walk pairs : List (ℕ × ℕ)) (old : List Row) (n : ℕ) (new : List Row) → walk ≡ pairs → IsFilledBy (TakesFirst deref_pair) walk old n new → IsFilled pairs old n new
+filled walk pairs old n new e by_steps = subst (λ w. IsFilled w old n new) e (by_steps (λ w. w) (λ w p v gives. gives))
 
 module _ {X : Type 0} (test : X → Bool) where
   none_lost : (xs : List X) → ((i : ℕ) (d : X) → i < length xs → test (get_or xs i d) ≡ true) → filter test xs ≡ xs

@@ -39,17 +39,21 @@ inserted (Ok x) = 0
 inserted (Err (Occupied l r)) = 3
 inserted (Err (Memory l r)) = 1
 
--- the same under a policy
+-- why an insertion under a policy was refused
+abbrev pub refused : {L R : Type 0} → NotInsertedWith L R → ℕ
+refused (LeftHeld l r) = 3
+refused (RightHeld l r) = 3
+refused (MemoryWith l r) = 1
+
+-- inserted, or refused so
 abbrev pub inserted_with : {X L R : Type 0} → Result X (NotInsertedWith L R) → ℕ
 inserted_with (Ok x) = 0
-inserted_with (Err (LeftHeld l r)) = 3
-inserted_with (Err (RightHeld l r)) = 3
-inserted_with (Err (MemoryWith l r)) = 1
+inserted_with (Err why) = refused why
 
 -- the status and the out-parameter tell whether there is a value, and which
-abbrev pub Tells : {X Y : Type 0} → (Y → X) → Option Y → ℕ → X → Type 0
-Tells shows None status out = status ≡ 5
-Tells shows (Some y) status out = (status ≡ 0) × (out ≡ shows y)
+abbrev pub Tells : {X : Type 0} → Option X → ℕ → X → Type 0
+Tells None status out = status ≡ 5
+Tells (Some x) status out = (status ≡ 0) × (out ≡ x)
 
 -- the status tells whether this is so
 abbrev pub Tests : Type 0 → ℕ → Type 0

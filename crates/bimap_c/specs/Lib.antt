@@ -1,3 +1,5 @@
+pub mod Bytes
+pub mod BytesBytes
 pub mod Calls
 pub mod Slots
 pub mod Tables

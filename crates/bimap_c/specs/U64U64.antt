@@ -1,8 +1,8 @@
 -- What a call for C returns, writes and leaves where both sides are numbers: a record of the facade holds of some answer,
 -- and that is what the status and the out-parameters tell.
-use Rattle.std.specs.Prelude.{◌≡◌, ◌⊎◌, ℕ, ◌<◌, Option, Result, List, ◌++◌, length, take, drop, map, min, nat_eq, Contains, IfOk}
+use Rattle.std.specs.Prelude.{◌≡◌, ◌⊎◌, ℕ, ◌<◌, Option, option_map, Result, List, ◌++◌, length, take, drop, map, min, nat_eq, Contains, IfOk}
 use Rattle.std.specs.Borrow.{Bor}
-use Rattle.std.specs.Map.Iter.{TakesFirst, TakesLast, deref}
+use Rattle.std.specs.Map.Iter.{TakesFirst, TakesLast, deref, deref_pair}
 use Rattle.bimap.specs.Holding.{Holding, IsFull, IsFoundByLeft, IsFoundByRight, IsInsertion, IsInsertionUnder, IsInsertionWithoutOverwriting, IsRemovalByLeft, IsRemovalByRight}
 use Rattle.bimap.specs.Survivors.{AreSurvivors}
 use Rattle.bimap.specs.Types.{Overwritten, Neither, Left, Right, Pair, Both, NoRoom, NotInserted, NotInsertedWith, Policy}
@@ -29,11 +29,11 @@ shown (Both p q) = record { kind = 4; first = row p; second = row q }
 module _ (old : Holding ℕ ℕ) (status : ℕ) where
   -- of `get_by_left`
   abbrev pub GetsByLeft : ℕ → ℕ → Type 0
-  GetsByLeft left out = (answer : Option (Bor ℕ)) × IsFoundByLeft nat_eq old left answer × Tells deref answer status out
+  GetsByLeft left out = (answer : Option (Bor ℕ)) × IsFoundByLeft nat_eq old left answer × Tells (option_map deref answer) status out
 
   -- of `get_by_right`
   abbrev pub GetsByRight : ℕ → ℕ → Type 0
-  GetsByRight right out = (answer : Option (Bor ℕ)) × IsFoundByRight nat_eq old right answer × Tells deref answer status out
+  GetsByRight right out = (answer : Option (Bor ℕ)) × IsFoundByRight nat_eq old right answer × Tells (option_map deref answer) status out
 
   module _ (new : Holding ℕ ℕ) where
     -- of `insert`
@@ -60,25 +60,34 @@ module _ (old : Holding ℕ ℕ) (status : ℕ) where
 
     -- of `remove_by_left`
     abbrev pub RemovesByLeft : ℕ → Row → Type 0
-    RemovesByLeft left out = (answer : Option (ℕ × ℕ)) × IsRemovalByLeft nat_eq old left answer new × Tells row answer status out
+    RemovesByLeft left out = (answer : Option (ℕ × ℕ)) × IsRemovalByLeft nat_eq old left answer new × Tells (option_map row answer) status out
 
     -- of `remove_by_right`
     abbrev pub RemovesByRight : ℕ → Row → Type 0
-    RemovesByRight right out = (answer : Option (ℕ × ℕ)) × IsRemovalByRight nat_eq old right answer new × Tells row answer status out
+    RemovesByRight right out = (answer : Option (ℕ × ℕ)) × IsRemovalByRight nat_eq old right answer new × Tells (option_map row answer) status out
 
     -- of `pop_first`
     pub record PopsFirst (out : Row) : Type 0 where
-      pub taken : (answer : Option (ℕ × ℕ)) × TakesFirst (λ p. p) old.pairs answer new.pairs × Tells row answer status out
+      pub taken : (answer : Option (ℕ × ℕ)) × TakesFirst (λ p. p) old.pairs answer new.pairs × Tells (option_map row answer) status out
       pub room : new.room ≡ old.room
 
     -- of `pop_last`
     pub record PopsLast (out : Row) : Type 0 where
-      pub taken : (answer : Option (ℕ × ℕ)) × TakesLast (λ p. p) old.pairs answer new.pairs × Tells row answer status out
+      pub taken : (answer : Option (ℕ × ℕ)) × TakesLast (λ p. p) old.pairs answer new.pairs × Tells (option_map row answer) status out
       pub room : new.room ≡ old.room
 
 -- the front of a row is filled by the pairs of a walk, as many as there are and it has room for, and the rest is as it was
 abbrev pub IsFilled : List (ℕ × ℕ) → List Row → ℕ → List Row → Type 0
 IsFilled walk old filled new = (filled ≡ min (length old) (length walk)) × (new ≡ map row (take filled walk) ++ drop filled old)
+
+module _ {W : Type 0} (gives : W → Option (Bor ℕ × Bor ℕ) → W → Type 0) where
+  -- the list tells which pairs are left of a walk
+  abbrev pub AreLeft : (W → List (ℕ × ℕ)) → Type 0
+  AreLeft left = (w : W) (p : Option (Bor ℕ × Bor ℕ)) (v : W) → gives w p v → TakesFirst deref_pair (left w) p (left v)
+
+  -- the front of a row is filled by the pairs that are left of a walk
+  abbrev pub IsFilledBy : W → List Row → ℕ → List Row → Type 0
+  IsFilledBy walk old filled new = (left : W → List (ℕ × ℕ)) → AreLeft left → IsFilled (left walk) old filled new
 
 -- of `fill` and `fill_from`
 abbrev pub Fills : List (ℕ × ℕ) → ℕ → List Row → ℕ → List Row → Type 0

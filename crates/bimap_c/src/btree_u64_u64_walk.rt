@@ -4,14 +4,13 @@ ghost use Rattle.std.specs.List.{filter};
 ghost use Rattle.bimap.specs.BTree.{holding};
 ghost use Rattle.bimap_c.specs.Calls.{IsWritten, Reads, Changes};
 ghost use Rattle.bimap_c.specs.Tables.{btree_u64_u64};
-ghost use Rattle.bimap_c.specs.U64U64.{PopsFirst, PopsLast, IsFilled, Fills};
+ghost use Rattle.bimap_c.specs.U64U64.{PopsFirst, PopsLast, Fills};
 
 use crate::handle::Handle;
 use crate::status::{DONE, NO_TABLE};
 use crate::table::Table;
-use crate::u64_u64::{self, Pair};
+use crate::u64_u64::{self, Pair, write_row};
 use bimap::BiBTreeMap;
-use bimap::btree::LeftRange;
 use std::alloc::Global;
 
 /// Writes pairs by ascending left, from the one with `start` lefts below its own on, to the front of a row, as many as
@@ -94,26 +93,6 @@ pub extern "C" fn jetukoma_btree_u64_u64_pop_last_unchecked(
     ensures out { IsWritten result pair.old pair.new }
 {
     on_table!(handle, alloc, BtreeU64U64, map => u64_u64::tell_pair(map.pop_last_by_left(), pair))
-}
-
-// Writes the pairs of a walk to the front of a row, as many as there are and it has room for, and returns how many.
-fn write_row(mut walk: LeftRange<'_, u64, u64>, row: &mut [Pair]) -> usize
-    ensures { IsFilled walk.entry row.old result row.new }
-{
-    let mut filled = 0;
-    'row: while filled < row.len() {
-        match walk.next() {
-            Some((left, right)) => {
-                row[filled] = Pair {
-                    left: *left,
-                    right: *right,
-                };
-                filled += 1;
-            }
-            None => return filled,
-        }
-    }
-    filled
 }
 
 fn fill_from(map: &BiBTreeMap<u64, u64>, from: u64, row: &mut [Pair], filled: &mut usize) -> u32

@@ -1,9 +1,9 @@
 //! The bodies of the calls that are the same for all types of sides, over any bimap.
 ghost use Rattle.std.specs.Prelude.{◌≡◌, length, if◌then◌else◌, IfSome, IfNone};
-ghost use Rattle.bimap_c.specs.Calls.{Reserves, Clears, AreFlags, on_held};
+ghost use Rattle.bimap_c.specs.Calls.{refused, Reserves, Clears, AreFlags, on_held};
 
-use crate::status::{DONE, NO_MEMORY, NOT_FOUND};
-use bimap::{Bijection, OnHeld, Policy};
+use crate::status::{DONE, NO_MEMORY, NOT_FOUND, REFUSED};
+use bimap::{Bijection, NotInsertedWith, OnHeld, Policy};
 
 pub(crate) fn len<L: Eq + Drop, R: Eq + Drop, B: Bijection<L, R>>(map: &B, len: &mut usize) -> u32
     ensures { (result ≡ 0) × (len.new ≡ length (B.holding map.now).pairs) }
@@ -46,6 +46,16 @@ pub(crate) fn found(contained: bool) -> u32
     ensures { result ≡ (if contained then 0 else 5) }
 {
     if contained { DONE } else { NOT_FOUND }
+}
+
+/// Returns the status of an insertion that was refused.
+pub(crate) fn refused<L, R>(why: &NotInsertedWith<L, R>) -> u32
+    ensures { result ≡ refused why.now }
+{
+    match why {
+        NotInsertedWith::LeftHeld(_, _) | NotInsertedWith::RightHeld(_, _) => REFUSED,
+        NotInsertedWith::Memory(_, _) => NO_MEMORY,
+    }
 }
 
 /// Returns the policy of two flags, or `None` if one is above 1.

@@ -3,12 +3,12 @@ ghost use Rattle.std.specs.Prelude.{◌≡◌, drop};
 ghost use Rattle.bimap.specs.Hash.{holding};
 ghost use Rattle.bimap_c.specs.Calls.{IsWritten, Reads};
 ghost use Rattle.bimap_c.specs.Tables.{hash_u64_u64};
-ghost use Rattle.bimap_c.specs.U64U64.{IsFilled, Fills};
+ghost use Rattle.bimap_c.specs.U64U64.{Fills};
 
 use crate::handle::Handle;
 use crate::status::{DONE, NO_TABLE};
 use crate::table::Table;
-use crate::u64_u64::Pair;
+use crate::u64_u64::{Pair, write_row};
 use bimap::BiHashMap;
 use bimap::hash::Iter;
 use std::alloc::Global;
@@ -43,26 +43,6 @@ fn pass(walk: &mut Iter<'_, u64, u64>, count: usize)
             None => return,
         }
     }
-}
-
-// Writes the pairs of a walk to the front of a row, as many as there are and it has room for, and returns how many.
-fn write_row(mut walk: Iter<'_, u64, u64>, row: &mut [Pair]) -> usize
-    ensures { IsFilled walk.entry row.old result row.new }
-{
-    let mut filled = 0;
-    'row: while filled < row.len() {
-        match walk.next() {
-            Some((left, right)) => {
-                row[filled] = Pair {
-                    left: *left,
-                    right: *right,
-                };
-                filled += 1;
-            }
-            None => return filled,
-        }
-    }
-    filled
 }
 
 fn fill(map: &BiHashMap<u64, u64>, start: usize, row: &mut [Pair], filled: &mut usize) -> u32

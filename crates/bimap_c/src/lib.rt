@@ -4,25 +4,37 @@
 //! in each export, so the header makes them: its function `jetukoma_..` tests, and calls `jetukoma_.._unchecked`.
 #![tactic(auto)]
 
-// Calls on the map of a handle's table, and returns the status, which is `NO_TABLE` where there is no table of the kind.
+// Calls on a handle's table, and returns the status, which is `NO_TABLE` where there is none of the kind. Each way out is
+// proved by itself.
 macro_rules! on_table {
-    ($handle:ident, $alloc:ident, $kind:ident, $map:ident => $call:expr) => {{
-        let Some(mut table) = $handle.take($alloc) else {
+    ($handle:ident, $alloc:ident, $kind:ident, $table:ident => $call:expr) => {{
+        let Some(mut held) = $handle.take($alloc) else {
             return NO_TABLE;
         };
-        let status = match &mut *table {
-            Table::$kind($map) => $call,
-            _ => NO_TABLE,
-        };
-        $handle.put(table);
-        status
+        if let Table::$kind($table) = &mut *held {
+            let status = $call;
+            $handle.put(held);
+            return status;
+        }
+        $handle.put(held);
+        NO_TABLE
     }};
 }
 
+pub mod btree_bytes_bytes;
+pub mod btree_bytes_bytes_walk;
+pub mod btree_bytes_u64;
+pub mod btree_bytes_u64_walk;
 pub mod btree_u64_u64;
 pub mod btree_u64_u64_walk;
+pub mod bytes;
+pub mod bytes_bytes;
+mod bytes_order;
+pub mod bytes_u64;
 mod calls;
 pub mod handle;
+pub mod hash_bytes_bytes;
+pub mod hash_bytes_u64;
 pub mod hash_u64_u64;
 pub mod hash_u64_u64_walk;
 mod loose;

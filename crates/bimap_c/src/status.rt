@@ -14,5 +14,8 @@ pub const NO_TABLE: u32 = 2;
 /// changed.
 pub const REFUSED: u32 = 3;
 
+/// The buffer is too short, and the length wanted is written. Nothing else has changed.
+pub const BUFFER_TOO_SHORT: u32 = 4;
+
 /// No such pair is contained, and nothing has changed.
 pub const NOT_FOUND: u32 = 5;

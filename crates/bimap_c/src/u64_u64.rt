@@ -1,12 +1,13 @@
 //! What C hands over and is handed where both sides are numbers, and the bodies of the calls, over any bimap of them.
-ghost use Rattle.std.specs.Prelude.{◌≡◌};
+ghost use Rattle.std.specs.Prelude.{◌≡◌, option_map};
+ghost use Rattle.std.specs.Iterator.{IsFinite};
 ghost use Rattle.std.specs.Map.Iter.{deref};
 ghost use Rattle.bimap_c.specs.Calls.{IsWritten, Tells};
-ghost use Rattle.bimap_c.specs.U64U64.{row, shown, GetsByLeft, GetsByRight, Inserts, InsertsNew, InsertsFlagged, InsertsMany, RemovesByLeft, RemovesByRight};
+ghost use Rattle.bimap_c.specs.U64U64.{row, shown, IsFilledBy, GetsByLeft, GetsByRight, Inserts, InsertsNew, InsertsFlagged, InsertsMany, RemovesByLeft, RemovesByRight};
 
-use crate::calls::policy;
+use crate::calls::{policy, refused};
 use crate::status::{DONE, NO_MEMORY, NOT_FOUND, REFUSED};
-use bimap::{Bijection, NotInserted, NotInsertedWith};
+use bimap::{Bijection, NotInserted};
 
 /// A left and its right.
 #[repr(C)]
@@ -51,8 +52,8 @@ fn show(answer: bimap::Overwritten<u64, u64>) -> Overwritten
 }
 
 /// Writes what was found, if it was, and returns the status.
-fn tell_value(found: Option<&u64>, out: &mut u64) -> u32
-    ensures told { Tells deref found.entry result out.new }
+pub(crate) fn tell_value(found: Option<&u64>, out: &mut u64) -> u32
+    ensures told { Tells (option_map deref found.entry) result out.new }
     ensures out { IsWritten result out.old out.new }
 {
     let Some(value) = found else {
@@ -64,7 +65,7 @@ fn tell_value(found: Option<&u64>, out: &mut u64) -> u32
 
 /// Writes the pair that was taken out, if one was, and returns the status.
 pub(crate) fn tell_pair(taken: Option<(u64, u64)>, out: &mut Pair) -> u32
-    ensures told { Tells row taken result out.new }
+    ensures told { Tells (option_map row taken) result out.new }
     ensures out { IsWritten result out.old out.new }
 {
     let Some((left, right)) = taken else {
@@ -123,8 +124,7 @@ pub(crate) fn insert_with<B: Bijection<u64, u64>>(
             *overwritten = show(answer);
             DONE
         }
-        Err(NotInsertedWith::Memory(_, _)) => NO_MEMORY,
-        Err(_) => REFUSED,
+        Err(why) => refused(&why),
     }
 }
 
@@ -179,4 +179,28 @@ pub(crate) fn remove_by_right<B: Bijection<u64, u64>>(
     ensures out { IsWritten result pair.old pair.new }
 {
     tell_pair(map.remove_by_right(&right), pair)
+}
+
+/// Writes the pairs of a walk to the front of a row, as many as there are and it has room for, and returns how many.
+pub(crate) fn write_row<'a, W: Iterator<Item = (&'a u64, &'a u64)>>(
+    mut walk: W,
+    row: &mut [Pair],
+) -> usize
+    requires { W.can_next walk × IsFinite (W.remaining walk) }
+    ensures { IsFilledBy W.next_gives walk row.old result row.new }
+{
+    let mut filled = 0;
+    'row: while filled < row.len() {
+        match walk.next() {
+            Some((left, right)) => {
+                row[filled] = Pair {
+                    left: *left,
+                    right: *right,
+                };
+                filled += 1;
+            }
+            None => return filled,
+        }
+    }
+    filled
 }

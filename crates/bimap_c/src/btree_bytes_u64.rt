@@ -1,0 +1,286 @@
+//! The ordered bimap of byte strings and numbers for C.
+ghost use Rattle.std.specs.Prelude.{◌≡◌, ◌≤◌, ℕ, Option, [], length, nat_eq, option_map, slice_get, Contains};
+ghost use Rattle.std.specs.Borrow.{Bor};
+ghost use Rattle.std.specs.Global.{Vec};
+ghost use Rattle.std.specs.Map.Iter.{deref};
+ghost use Rattle.bimap.specs.Holding.{IsFoundByLeft, IsFoundByRight};
+ghost use Rattle.bimap.specs.Sets.{HasLeft, HasRight};
+ghost use Rattle.bimap_c.specs.Bytes.{same_bytes, named_pairs, AreBytesOut, IsLengthWritten, IsRead, IsByKey, RemovesByLeft, RemovesByRight, ClearsAll, Inserts, InsertsFlagged, IsKind};
+ghost use Rattle.bimap_c.specs.Calls.{IsWritten, Reads, Changes, Makes, Frees, Tells, Tests, Reserves};
+ghost use Rattle.bimap_c.specs.Tables.{btree_bytes_u64};
+
+use crate::handle::Handle;
+use crate::status::NO_TABLE;
+use crate::table::Table;
+use crate::{bytes, bytes_u64, calls};
+use bimap::{BiBTreeMap, OnHeld, Overwritten};
+use std::alloc::Global;
+
+/// Makes an empty table of no places, in constant time, behind a handle that has none. 1: no memory; 2: the handle has
+/// a table.
+#[unsafe(no_mangle)]
+pub extern "C" fn jetukoma_btree_bytes_u64_new_unchecked(alloc: Global, handle: &mut Handle) -> u32
+    ensures { Makes btree_bytes_u64 handle.old.slot.value result handle.new.slot.value
+        (λ kept. (kept.held.pairs ≡ []) × (kept.held.room ≡ 0)
+        × (kept.struck ≡ Overwritten.Neither)) }
+{
+    handle.make(
+        alloc,
+        Table::BtreeBytesU64(bytes::table_of(alloc, BiBTreeMap::new(alloc))),
+    )
+}
+
+/// Frees the table with its bytes, in time in proportion to its places; the handle has none then. 2: it has none.
+#[unsafe(no_mangle)]
+pub extern "C" fn jetukoma_btree_bytes_u64_free_unchecked(alloc: Global, handle: &mut Handle) -> u32
+    ensures { Frees handle.old.slot.value result handle.new.slot.value }
+{
+    handle.free(alloc)
+}
+
+/// Writes the number of pairs, in constant time.
+#[unsafe(no_mangle)]
+pub extern "C" fn jetukoma_btree_bytes_u64_len_unchecked(
+    alloc: Global,
+    handle: &mut Handle,
+    len: &mut usize,
+) -> u32
+    ensures answer { Reads btree_bytes_u64 handle.old.slot.value result
+        (λ kept. (result ≡ 0) × (len.new ≡ length kept.held.pairs)) }
+    ensures unchanged { handle.new.slot.value ≡ handle.old.slot.value }
+    ensures out { IsWritten result len.old len.new }
+{
+    on_table!(handle, alloc, BtreeBytesU64, table => calls::len(&table.map, len))
+}
+
+/// Writes the number of places for pairs, in constant time.
+#[unsafe(no_mangle)]
+pub extern "C" fn jetukoma_btree_bytes_u64_capacity_unchecked(
+    alloc: Global,
+    handle: &mut Handle,
+    capacity: &mut usize,
+) -> u32
+    ensures answer { Reads btree_bytes_u64 handle.old.slot.value result
+        (λ kept. (result ≡ 0) × (capacity.new ≡ kept.held.room)) }
+    ensures unchanged { handle.new.slot.value ≡ handle.old.slot.value }
+    ensures out { IsWritten result capacity.old capacity.new }
+{
+    on_table!(handle, alloc, BtreeBytesU64, table => calls::capacity(&table.map, capacity))
+}
+
+/// Makes places for the pairs and `more` pairs, exactly, unless they are there. Of the next `more` insertions each asks
+/// for memory for its bytes alone. 1: no memory.
+#[unsafe(no_mangle)]
+pub extern "C" fn jetukoma_btree_bytes_u64_reserve_unchecked(
+    alloc: Global,
+    handle: &mut Handle,
+    more: usize,
+) -> u32
+    ensures { Changes btree_bytes_u64 handle.old.slot.value result handle.new.slot.value
+        (λ old new. Reserves old.held more result new.held
+        × (new.struck ≡ old.struck) × (new.key_room ≡ old.key_room)) }
+{
+    on_table!(handle, alloc, BtreeBytesU64, table => calls::reserve(&mut table.map, more))
+}
+
+/// Inserts a copy of the left with the right, which overwrites the pairs that they share a value with, and writes of
+/// which kind those are: 0 for none, 1 for the pair of the left alone, 2 for that of the right alone, 3 for the one pair
+/// of both, and 4 for that of the left and that of the right. They are kept, as what was struck out, until the next
+/// insertion, removal or clear that is done. It asks for memory for the bytes, and where it overwrites none and no place
+/// is free. 1: no memory.
+#[unsafe(no_mangle)]
+pub extern "C" fn jetukoma_btree_bytes_u64_insert_unchecked(
+    alloc: Global,
+    handle: &mut Handle,
+    left: &[u8],
+    right: u64,
+    kind: &mut u32,
+) -> u32
+    ensures change { Changes btree_bytes_u64 handle.old.slot.value result handle.new.slot.value
+        (λ old new. Inserts nat_eq old left.now right
+        (record { left = OnHeld.Overwrite; right = OnHeld.Overwrite }) result new
+        × IsKind result kind.new new) }
+    ensures out { IsWritten result kind.old kind.new }
+{
+    on_table!(handle, alloc, BtreeBytesU64, table => bytes::insert(alloc, table, left, right, kind))
+}
+
+/// Inserts a copy of the left with the right if neither is contained. Nothing is struck out then. 1: no memory; 3: a
+/// value is contained.
+#[unsafe(no_mangle)]
+pub extern "C" fn jetukoma_btree_bytes_u64_insert_no_overwrite_unchecked(
+    alloc: Global,
+    handle: &mut Handle,
+    left: &[u8],
+    right: u64,
+) -> u32
+    ensures { Changes btree_bytes_u64 handle.old.slot.value result handle.new.slot.value
+        (λ old new. Inserts nat_eq old left.now right
+        (record { left = OnHeld.Refuse; right = OnHeld.Refuse }) result new) }
+{
+    on_table!(handle, alloc, BtreeBytesU64, table => bytes::insert_no_overwrite(alloc, table, left, right))
+}
+
+/// Inserts as `insert` does. A flag of 1 refuses where the value of its side is contained, and one of 0 overwrites. 1: no
+/// memory; 3: a value is contained that its flag keeps, or a flag is above 1.
+#[unsafe(no_mangle)]
+pub extern "C" fn jetukoma_btree_bytes_u64_insert_with_unchecked(
+    alloc: Global,
+    handle: &mut Handle,
+    left: &[u8],
+    right: u64,
+    left_refuses: u8,
+    right_refuses: u8,
+    kind: &mut u32,
+) -> u32
+    ensures change { Changes btree_bytes_u64 handle.old.slot.value result handle.new.slot.value
+        (λ old new. InsertsFlagged nat_eq old left.now right left_refuses right_refuses result new
+        × IsKind result kind.new new) }
+    ensures out { IsWritten result kind.old kind.new }
+{
+    on_table!(handle, alloc, BtreeBytesU64, table => bytes::insert_with(alloc, table, left, right, left_refuses, right_refuses, kind))
+}
+
+/// Writes the right of a left, found by a search. It asks for memory where the left is longer than any that was looked up
+/// or removed before. 1: no memory for that; 5: the left is not contained.
+#[unsafe(no_mangle)]
+pub extern "C" fn jetukoma_btree_bytes_u64_get_by_left_unchecked(
+    alloc: Global,
+    handle: &mut Handle,
+    left: &[u8],
+    right: &mut u64,
+) -> u32
+    ensures answer { Changes btree_bytes_u64 handle.old.slot.value result handle.new.slot.value
+        (λ old new. IsByKey old left.now result new (λ key. (found : Option (Bor ℕ))
+        × IsFoundByLeft same_bytes old.held key found
+        × Tells (option_map deref found) result right.new) × IsRead old new) }
+    ensures out { IsWritten result right.old right.new }
+{
+    on_table!(handle, alloc, BtreeBytesU64, table => bytes_u64::get_by_left(table, left, right))
+}
+
+/// Writes the left of a right, found by a search, to the front of a buffer, and its length. 4: the buffer is too short,
+/// and the length alone is written; 5: the right is not contained.
+#[unsafe(no_mangle)]
+pub extern "C" fn jetukoma_btree_bytes_u64_get_by_right_unchecked(
+    alloc: Global,
+    handle: &mut Handle,
+    right: u64,
+    buf: &mut [u8],
+    len: &mut usize,
+) -> u32
+    ensures answer { Reads btree_bytes_u64 handle.old.slot.value result
+        (λ kept. (found : Option (Bor (Vec ℕ))) × IsFoundByRight nat_eq kept.held right found
+        × AreBytesOut (option_map (λ left. left.now.items) found) result buf.old buf.new len.new) }
+    ensures unchanged { handle.new.slot.value ≡ handle.old.slot.value }
+    ensures buf { IsWritten result buf.old buf.new }
+    ensures len { IsLengthWritten result len.old len.new }
+{
+    on_table!(handle, alloc, BtreeBytesU64, table => bytes::get_by_right(table, &right, buf, len))
+}
+
+/// Returns 0 if the left is contained, and 5 if not. 1: no memory, as for `get_by_left`.
+#[unsafe(no_mangle)]
+pub extern "C" fn jetukoma_btree_bytes_u64_contains_left_unchecked(
+    alloc: Global,
+    handle: &mut Handle,
+    left: &[u8],
+) -> u32
+    ensures { Changes btree_bytes_u64 handle.old.slot.value result handle.new.slot.value
+        (λ old new. IsByKey old left.now result new (λ key.
+        Tests (HasLeft same_bytes (Contains old.held.pairs) key) result) × IsRead old new) }
+{
+    on_table!(handle, alloc, BtreeBytesU64, table => bytes::contains_left(table, left))
+}
+
+/// Returns 0 if the right is contained, and 5 if not.
+#[unsafe(no_mangle)]
+pub extern "C" fn jetukoma_btree_bytes_u64_contains_right_unchecked(
+    alloc: Global,
+    handle: &mut Handle,
+    right: u64,
+) -> u32
+    ensures answer { Reads btree_bytes_u64 handle.old.slot.value result
+        (λ kept. Tests (HasRight nat_eq (Contains kept.held.pairs) right) result) }
+    ensures unchanged { handle.new.slot.value ≡ handle.old.slot.value }
+{
+    on_table!(handle, alloc, BtreeBytesU64, table => bytes::contains_right(table, &right))
+}
+
+/// Removes the pair of a left, which is kept as what was struck out. 1: no memory, as for `get_by_left`; 5: the left is
+/// not contained.
+#[unsafe(no_mangle)]
+pub extern "C" fn jetukoma_btree_bytes_u64_remove_by_left_unchecked(
+    alloc: Global,
+    handle: &mut Handle,
+    left: &[u8],
+) -> u32
+    ensures { Changes btree_bytes_u64 handle.old.slot.value result handle.new.slot.value
+        (λ old new. RemovesByLeft old left.now result new × (old.key_room ≤ new.key_room)) }
+{
+    on_table!(handle, alloc, BtreeBytesU64, table => bytes::remove_by_left(table, left))
+}
+
+/// Removes the pair of a right, which is kept as what was struck out. 5: the right is not contained.
+#[unsafe(no_mangle)]
+pub extern "C" fn jetukoma_btree_bytes_u64_remove_by_right_unchecked(
+    alloc: Global,
+    handle: &mut Handle,
+    right: u64,
+) -> u32
+    ensures { Changes btree_bytes_u64 handle.old.slot.value result handle.new.slot.value
+        (λ old new. RemovesByRight nat_eq old right result new
+        × (new.key_room ≡ old.key_room)) }
+{
+    on_table!(handle, alloc, BtreeBytesU64, table => bytes::remove_by_right(table, &right))
+}
+
+/// Writes the left of a pair that was struck out last to the front of a buffer, and its length. The index is 0 for the
+/// pair of a removal, for the one pair that an insertion overwrote and for that of the left, and 1 for that of the right
+/// beside it. 4: the buffer is too short, and the length alone is written; 5: there is no such pair.
+#[unsafe(no_mangle)]
+pub extern "C" fn jetukoma_btree_bytes_u64_overwritten_left_unchecked(
+    alloc: Global,
+    handle: &mut Handle,
+    index: usize,
+    buf: &mut [u8],
+    len: &mut usize,
+) -> u32
+    ensures answer { Reads btree_bytes_u64 handle.old.slot.value result
+        (λ kept. AreBytesOut (option_map (λ p. p.0.items)
+        (slice_get (named_pairs kept.struck) index)) result buf.old buf.new len.new) }
+    ensures unchanged { handle.new.slot.value ≡ handle.old.slot.value }
+    ensures buf { IsWritten result buf.old buf.new }
+    ensures len { IsLengthWritten result len.old len.new }
+{
+    on_table!(handle, alloc, BtreeBytesU64, table => bytes::overwritten_left(table, index, buf, len))
+}
+
+/// Writes the right of a pair that was struck out last. 5: there is no such pair.
+#[unsafe(no_mangle)]
+pub extern "C" fn jetukoma_btree_bytes_u64_overwritten_right_unchecked(
+    alloc: Global,
+    handle: &mut Handle,
+    index: usize,
+    right: &mut u64,
+) -> u32
+    ensures answer { Reads btree_bytes_u64 handle.old.slot.value result
+        (λ kept. Tells (option_map (λ p. p.1)
+        (slice_get (named_pairs kept.struck) index)) result right.new) }
+    ensures unchanged { handle.new.slot.value ≡ handle.old.slot.value }
+    ensures out { IsWritten result right.old right.new }
+{
+    on_table!(handle, alloc, BtreeBytesU64, table => bytes_u64::overwritten_right(table, index, right))
+}
+
+/// Removes all pairs, in time in proportion to the places, which stay. Nothing is struck out then.
+#[unsafe(no_mangle)]
+pub extern "C" fn jetukoma_btree_bytes_u64_clear_unchecked(
+    alloc: Global,
+    handle: &mut Handle,
+) -> u32
+    ensures { Changes btree_bytes_u64 handle.old.slot.value result handle.new.slot.value
+        (λ old new. ClearsAll old result new) }
+{
+    on_table!(handle, alloc, BtreeBytesU64, table => bytes::clear(table))
+}

@@ -1,0 +1,331 @@
+//! The tables whose lefts are byte strings, and the bodies of their calls, over any bimap.
+ghost use Rattle.std.specs.Prelude.{◌≡◌, Option, ◌<◌, ◌≤◌, [], length, true, false, vec_capacity, option_map, slice_get, Contains};
+ghost use Rattle.std.specs.Borrow.{Bor};
+ghost use Rattle.std.specs.Global.{Vec};
+ghost use Rattle.std.specs.Map.Iter.{deref, deref_pair};
+ghost use Rattle.bimap.specs.Holding.{IsFoundByRight};
+ghost use Rattle.bimap.specs.Sets.{HasLeft, HasRight};
+ghost use Rattle.bimap_c.specs.Calls.{IsWritten, Tests};
+ghost use Rattle.bimap_c.specs.Bytes.{kept, same_bytes, named_pairs, kind_of, IsRead, IsByKey, IsCopiedOut, AreBytesOut, IsLengthWritten, IsStruck, RemovesByLeft, RemovesByRight, ClearsAll, Inserts, InsertsFlagged, IsKind};
+
+use crate::calls::{found, policy, refused};
+use crate::status::{BUFFER_TOO_SHORT, DONE, NO_MEMORY, NOT_FOUND, REFUSED};
+use bimap::{Bijection, OnHeld, Overwritten, Policy};
+use std::alloc::Global;
+
+/// A bimap whose lefts are byte strings, with what its calls keep beside it.
+#[derive(Drop)]
+pub struct BytesTable<R, B> {
+    /// The bimap.
+    pub map: B,
+    /// What the last change struck out.
+    pub struck: Overwritten<Vec<u8>, R>,
+    /// The key of the last look-up.
+    pub key: Vec<u8>,
+}
+
+/// Returns a table of this bimap, with which nothing was done.
+pub(crate) fn table_of<R, B>(alloc: Global, map: B) -> BytesTable<R, B>
+    ensures map { result.map ≡ map }
+    ensures struck { result.struck ≡ Overwritten.Neither }
+{
+    BytesTable {
+        map,
+        struck: Overwritten::Neither,
+        key: Vec::new(alloc),
+    }
+}
+
+/// Writes the bytes over the key, where there is memory for them.
+pub(crate) fn note(key: &mut Vec<u8>, bytes: &[u8]) -> bool
+    ensures noted { result ≡ true → key.new.items ≡ bytes.now }
+    ensures full { result ≡ false → vec_capacity key.old < length bytes.now }
+    ensures room { vec_capacity key.old ≤ vec_capacity key.new }
+{
+    if key.resize(bytes.len(), 0).is_err() {
+        return false;
+    }
+    key.copy_from_slice(bytes);
+    true
+}
+
+/// Copies the bytes to the front of the buffer where they fit, and tells how many they are.
+pub(crate) fn copy_out(bytes: &[u8], buf: &mut [u8], len: &mut usize) -> u32
+    ensures out { IsCopiedOut bytes.now result buf.old buf.new len.new }
+    ensures buf { IsWritten result buf.old buf.new }
+{
+    *len = bytes.len();
+    if buf.len() < bytes.len() {
+        return BUFFER_TOO_SHORT;
+    }
+    buf[..bytes.len()].copy_from_slice(bytes);
+    DONE
+}
+
+/// Copies the bytes out, if there are some.
+pub(crate) fn tell_bytes(found: Option<&Vec<u8>>, buf: &mut [u8], len: &mut usize) -> u32
+    ensures out { AreBytesOut (option_map (λ v. v.now.items) found.entry) result buf.old buf.new
+        len.new }
+    ensures buf { IsWritten result buf.old buf.new }
+    ensures len { IsLengthWritten result len.old len.new }
+{
+    match found {
+        Some(bytes) => copy_out(bytes, buf, len),
+        None => NOT_FOUND,
+    }
+}
+
+/// Keeps what a removal took out.
+pub(crate) fn strike<R: Drop>(
+    struck: &mut Overwritten<Vec<u8>, R>,
+    taken: Option<(Vec<u8>, R)>,
+) -> u32
+    ensures { IsStruck struck.old taken result struck.new }
+{
+    match taken {
+        Some((left, right)) => {
+            *struck = Overwritten::Pair(left, right);
+            DONE
+        }
+        None => NOT_FOUND,
+    }
+}
+
+// The pair of this index among those that an answer names.
+fn named_at<L, R>(answer: &Overwritten<L, R>, index: usize) -> Option<(&L, &R)>
+    ensures { option_map deref_pair result ≡ slice_get (named_pairs answer.now) index }
+{
+    match (answer, index) {
+        (Overwritten::Left(left, right), 0) => Some((left, right)),
+        (Overwritten::Right(left, right), 0) => Some((left, right)),
+        (Overwritten::Pair(left, right), 0) => Some((left, right)),
+        (Overwritten::Both(first, _), 0) => Some((&first.0, &first.1)),
+        (Overwritten::Both(_, second), 1) => Some((&second.0, &second.1)),
+        _ => None,
+    }
+}
+
+// The left of this index, and the right.
+fn left_at<L, R>(answer: &Overwritten<L, R>, index: usize) -> Option<&L>
+    ensures { option_map deref result
+        ≡ option_map (λ p. p.0) (slice_get (named_pairs answer.now) index) }
+{
+    match named_at(answer, index) {
+        Some((left, _)) => Some(left),
+        None => None,
+    }
+}
+
+pub(crate) fn right_at<L, R>(answer: &Overwritten<L, R>, index: usize) -> Option<&R>
+    ensures { option_map deref result
+        ≡ option_map (λ p. p.1) (slice_get (named_pairs answer.now) index) }
+{
+    match named_at(answer, index) {
+        Some((_, right)) => Some(right),
+        None => None,
+    }
+}
+
+// The number of an answer.
+fn kind_of<L, R>(answer: &Overwritten<L, R>) -> u32
+    ensures { result ≡ kind_of answer.now }
+{
+    match answer {
+        Overwritten::Neither => 0,
+        Overwritten::Left(_, _) => 1,
+        Overwritten::Right(_, _) => 2,
+        Overwritten::Pair(_, _) => 3,
+        Overwritten::Both(_, _) => 4,
+    }
+}
+
+// Inserts a copy of the left with the right, where the policy lets it.
+fn insert_under<R: Eq + Drop, B: Bijection<Vec<u8>, R>>(
+    alloc: Global,
+    table: &mut BytesTable<R, B>,
+    left: &[u8],
+    right: R,
+    policy: Policy,
+) -> u32
+    ensures { Inserts R.eq (kept B.holding table.old) left.now right policy result
+        (kept B.holding table.new) }
+{
+    let Ok(left) = Vec::from_slice(alloc, left) else {
+        return NO_MEMORY;
+    };
+    match table.map.insert_with(left, right, policy) {
+        Ok(answer) => {
+            table.struck = answer;
+            DONE
+        }
+        Err(why) => refused(&why),
+    }
+}
+
+// Writes the kind of an insertion that was made.
+fn tell_kind<R, B>(table: &BytesTable<R, B>, status: u32, kind: &mut u32)
+    ensures kind { status ≡ 0 → kind.new ≡ kind_of table.now.struck }
+    ensures out { IsWritten status kind.old kind.new }
+{
+    if status == DONE {
+        *kind = kind_of(&table.struck);
+    }
+}
+
+/// Inserts a copy of the left with the right, which overwrites what they share a value with.
+pub(crate) fn insert<R: Eq + Drop, B: Bijection<Vec<u8>, R>>(
+    alloc: Global,
+    table: &mut BytesTable<R, B>,
+    left: &[u8],
+    right: R,
+    kind: &mut u32,
+) -> u32
+    ensures inserted { Inserts R.eq (kept B.holding table.old) left.now right
+        (record { left = OnHeld.Overwrite; right = OnHeld.Overwrite }) result
+        (kept B.holding table.new) }
+    ensures kind { IsKind result kind.new (kept B.holding table.new) }
+    ensures out { IsWritten result kind.old kind.new }
+{
+    let policy = Policy {
+        left: OnHeld::Overwrite,
+        right: OnHeld::Overwrite,
+    };
+    let status = insert_under(alloc, table, left, right, policy);
+    tell_kind(table, status, kind);
+    status
+}
+
+/// Inserts a copy of the left with the right if neither is contained.
+pub(crate) fn insert_no_overwrite<R: Eq + Drop, B: Bijection<Vec<u8>, R>>(
+    alloc: Global,
+    table: &mut BytesTable<R, B>,
+    left: &[u8],
+    right: R,
+) -> u32
+    ensures { Inserts R.eq (kept B.holding table.old) left.now right
+        (record { left = OnHeld.Refuse; right = OnHeld.Refuse }) result
+        (kept B.holding table.new) }
+{
+    let policy = Policy {
+        left: OnHeld::Refuse,
+        right: OnHeld::Refuse,
+    };
+    insert_under(alloc, table, left, right, policy)
+}
+
+/// Inserts a copy of the left with the right, where the flags let it overwrite what it shares a value with.
+pub(crate) fn insert_with<R: Eq + Drop, B: Bijection<Vec<u8>, R>>(
+    alloc: Global,
+    table: &mut BytesTable<R, B>,
+    left: &[u8],
+    right: R,
+    left_refuses: u8,
+    right_refuses: u8,
+    kind: &mut u32,
+) -> u32
+    ensures inserted { InsertsFlagged R.eq (kept B.holding table.old) left.now right left_refuses
+        right_refuses result (kept B.holding table.new) }
+    ensures kind { IsKind result kind.new (kept B.holding table.new) }
+    ensures out { IsWritten result kind.old kind.new }
+{
+    let Some(policy) = policy(left_refuses, right_refuses) else {
+        return REFUSED;
+    };
+    let status = insert_under(alloc, table, left, right, policy);
+    tell_kind(table, status, kind);
+    status
+}
+
+/// Tells the left of a right.
+pub(crate) fn get_by_right<R: Eq + Drop, B: Bijection<Vec<u8>, R>>(
+    table: &BytesTable<R, B>,
+    right: &R,
+    buf: &mut [u8],
+    len: &mut usize,
+) -> u32
+    ensures told { (found : Option (Bor (Vec _)))
+        × IsFoundByRight R.eq (B.holding table.now.map) right.now found
+        × AreBytesOut (option_map (λ v. v.now.items) found) result buf.old buf.new len.new }
+    ensures buf { IsWritten result buf.old buf.new }
+    ensures len { IsLengthWritten result len.old len.new }
+{
+    tell_bytes(table.map.get_by_right(right), buf, len)
+}
+
+/// Tells whether the left is contained.
+pub(crate) fn contains_left<R: Eq + Drop, B: Bijection<Vec<u8>, R>>(
+    table: &mut BytesTable<R, B>,
+    left: &[u8],
+) -> u32
+    ensures told { IsByKey (kept B.holding table.old) left.now result (kept B.holding table.new)
+        (λ key. Tests (HasLeft same_bytes (Contains (B.holding table.old.map).pairs) key)
+        result) }
+    ensures read { IsRead (kept B.holding table.old) (kept B.holding table.new) }
+{
+    if !note(&mut table.key, left) {
+        return NO_MEMORY;
+    }
+    found(table.map.contains_left(&table.key))
+}
+
+/// Tells whether the right is contained.
+pub(crate) fn contains_right<R: Eq + Drop, B: Bijection<Vec<u8>, R>>(
+    table: &BytesTable<R, B>,
+    right: &R,
+) -> u32
+    ensures { Tests (HasRight R.eq (Contains (B.holding table.now.map).pairs) right.now)
+        result }
+{
+    found(table.map.contains_right(right))
+}
+
+/// Removes the pair of a left.
+pub(crate) fn remove_by_left<R: Eq + Drop, B: Bijection<Vec<u8>, R>>(
+    table: &mut BytesTable<R, B>,
+    left: &[u8],
+) -> u32
+    ensures removed { RemovesByLeft (kept B.holding table.old) left.now result
+        (kept B.holding table.new) }
+    ensures room { vec_capacity table.old.key ≤ vec_capacity table.new.key }
+{
+    if !note(&mut table.key, left) {
+        return NO_MEMORY;
+    }
+    strike(&mut table.struck, table.map.remove_by_left(&table.key))
+}
+
+/// Removes the pair of a right.
+pub(crate) fn remove_by_right<R: Eq + Drop, B: Bijection<Vec<u8>, R>>(
+    table: &mut BytesTable<R, B>,
+    right: &R,
+) -> u32
+    ensures removed { RemovesByRight R.eq (kept B.holding table.old) right.now result
+        (kept B.holding table.new) }
+    ensures room { vec_capacity table.new.key ≡ vec_capacity table.old.key }
+{
+    strike(&mut table.struck, table.map.remove_by_right(right))
+}
+
+/// Tells the left of this index among the pairs that were struck out last.
+pub(crate) fn overwritten_left<R, B>(
+    table: &BytesTable<R, B>,
+    index: usize,
+    buf: &mut [u8],
+    len: &mut usize,
+) -> u32
+    ensures told { AreBytesOut (option_map (λ p. p.0.items)
+        (slice_get (named_pairs table.now.struck) index)) result buf.old buf.new len.new }
+    ensures buf { IsWritten result buf.old buf.new }
+    ensures len { IsLengthWritten result len.old len.new }
+{
+    tell_bytes(left_at(&table.struck, index), buf, len)
+}
+
+/// Removes all pairs, and forgets what was struck out.
+pub(crate) fn clear<R: Eq + Drop, B: Bijection<Vec<u8>, R>>(table: &mut BytesTable<R, B>) -> u32
+    ensures { ClearsAll (kept B.holding table.old) result (kept B.holding table.new) }
+{
+    table.map.clear();
+    table.struck = Overwritten::Neither;
+    DONE
+}

@@ -1,0 +1,220 @@
+//! The bodies of the calls that want byte strings as rights, over any bimap of two byte strings.
+ghost use Rattle.std.specs.Prelude.{◌≡◌, ◌≤◌, ℕ, Option, option_map, slice_get, vec_capacity, Contains};
+ghost use Rattle.std.specs.Borrow.{Bor};
+ghost use Rattle.std.specs.Global.{Vec};
+ghost use Rattle.std.specs.Map.Iter.{deref_pair};
+ghost use Rattle.bimap.specs.BTree.{holding};
+ghost use Rattle.bimap.specs.Holding.{IsFoundByLeft, IsFoundByRight};
+ghost use Rattle.bimap.specs.Sets.{HasRight};
+ghost use Rattle.bimap_c.specs.Calls.{IsWritten, Tests};
+ghost use Rattle.bimap_c.specs.Bytes.{kept, same_bytes, named_pairs, AreBytesOut, IsLengthWritten, IsRead, IsByKey, RemovesByRight, Inserts, InsertsFlagged, IsKind};
+ghost use Rattle.bimap_c.specs.BytesBytes.{WithCopy, AreBothOut};
+
+use crate::bytes::{self, BytesTable, note, right_at, strike, tell_bytes};
+use crate::calls::found;
+use crate::status::{BUFFER_TOO_SHORT, DONE, NO_MEMORY, NOT_FOUND};
+use bimap::{BiBTreeMap, Bijection, OnHeld};
+use std::alloc::Global;
+
+/// Inserts copies of both, which overwrite what they share a value with.
+pub(crate) fn insert<B: Bijection<Vec<u8>, Vec<u8>>>(
+    alloc: Global,
+    table: &mut BytesTable<Vec<u8>, B>,
+    left: &[u8],
+    right: &[u8],
+    kind: &mut u32,
+) -> u32
+    ensures inserted { WithCopy (kept B.holding table.old) right.now result
+        (kept B.holding table.new) (λ copy. Inserts same_bytes (kept B.holding table.old) left.now
+        copy (record { left = OnHeld.Overwrite; right = OnHeld.Overwrite }) result
+        (kept B.holding table.new)) }
+    ensures kind { IsKind result kind.new (kept B.holding table.new) }
+    ensures out { IsWritten result kind.old kind.new }
+{
+    let Ok(copy) = Vec::from_slice(alloc, right) else {
+        return NO_MEMORY;
+    };
+    bytes::insert(alloc, table, left, copy, kind)
+}
+
+/// Inserts copies of both if neither is contained.
+pub(crate) fn insert_no_overwrite<B: Bijection<Vec<u8>, Vec<u8>>>(
+    alloc: Global,
+    table: &mut BytesTable<Vec<u8>, B>,
+    left: &[u8],
+    right: &[u8],
+) -> u32
+    ensures { WithCopy (kept B.holding table.old) right.now result (kept B.holding table.new)
+        (λ copy. Inserts same_bytes (kept B.holding table.old) left.now copy
+        (record { left = OnHeld.Refuse; right = OnHeld.Refuse }) result
+        (kept B.holding table.new)) }
+{
+    let Ok(copy) = Vec::from_slice(alloc, right) else {
+        return NO_MEMORY;
+    };
+    bytes::insert_no_overwrite(alloc, table, left, copy)
+}
+
+/// Inserts copies of both, where the flags let them overwrite what they share a value with.
+pub(crate) fn insert_with<B: Bijection<Vec<u8>, Vec<u8>>>(
+    alloc: Global,
+    table: &mut BytesTable<Vec<u8>, B>,
+    left: &[u8],
+    right: &[u8],
+    left_refuses: u8,
+    right_refuses: u8,
+    kind: &mut u32,
+) -> u32
+    ensures inserted { WithCopy (kept B.holding table.old) right.now result
+        (kept B.holding table.new) (λ copy. InsertsFlagged same_bytes (kept B.holding table.old)
+        left.now copy left_refuses right_refuses result (kept B.holding table.new)) }
+    ensures kind { IsKind result kind.new (kept B.holding table.new) }
+    ensures out { IsWritten result kind.old kind.new }
+{
+    let Ok(copy) = Vec::from_slice(alloc, right) else {
+        return NO_MEMORY;
+    };
+    bytes::insert_with(alloc, table, left, copy, left_refuses, right_refuses, kind)
+}
+
+/// Tells the right of a left.
+pub(crate) fn get_by_left<B: Bijection<Vec<u8>, Vec<u8>>>(
+    table: &mut BytesTable<Vec<u8>, B>,
+    left: &[u8],
+    buf: &mut [u8],
+    len: &mut usize,
+) -> u32
+    ensures told { IsByKey (kept B.holding table.old) left.now result (kept B.holding table.new)
+        (λ key. (found : Option (Bor (Vec ℕ)))
+        × IsFoundByLeft same_bytes (B.holding table.old.map) key found
+        × AreBytesOut (option_map (λ v. v.now.items) found) result buf.old buf.new len.new) }
+    ensures buf { IsWritten result buf.old buf.new }
+    ensures len { IsLengthWritten result len.old len.new }
+    ensures read { IsRead (kept B.holding table.old) (kept B.holding table.new) }
+{
+    if !note(&mut table.key, left) {
+        return NO_MEMORY;
+    }
+    tell_bytes(table.map.get_by_left(&table.key), buf, len)
+}
+
+/// Tells the left of a right.
+pub(crate) fn get_by_right<B: Bijection<Vec<u8>, Vec<u8>>>(
+    table: &mut BytesTable<Vec<u8>, B>,
+    right: &[u8],
+    buf: &mut [u8],
+    len: &mut usize,
+) -> u32
+    ensures told { IsByKey (kept B.holding table.old) right.now result (kept B.holding table.new)
+        (λ key. (found : Option (Bor (Vec ℕ)))
+        × IsFoundByRight same_bytes (B.holding table.old.map) key found
+        × AreBytesOut (option_map (λ v. v.now.items) found) result buf.old buf.new len.new) }
+    ensures buf { IsWritten result buf.old buf.new }
+    ensures len { IsLengthWritten result len.old len.new }
+    ensures read { IsRead (kept B.holding table.old) (kept B.holding table.new) }
+{
+    if !note(&mut table.key, right) {
+        return NO_MEMORY;
+    }
+    tell_bytes(table.map.get_by_right(&table.key), buf, len)
+}
+
+/// Tells whether the right is contained.
+pub(crate) fn contains_right<B: Bijection<Vec<u8>, Vec<u8>>>(
+    table: &mut BytesTable<Vec<u8>, B>,
+    right: &[u8],
+) -> u32
+    ensures told { IsByKey (kept B.holding table.old) right.now result (kept B.holding table.new)
+        (λ key. Tests (HasRight same_bytes (Contains (B.holding table.old.map).pairs) key)
+        result) }
+    ensures read { IsRead (kept B.holding table.old) (kept B.holding table.new) }
+{
+    if !note(&mut table.key, right) {
+        return NO_MEMORY;
+    }
+    found(table.map.contains_right(&table.key))
+}
+
+/// Removes the pair of a right.
+pub(crate) fn remove_by_right<B: Bijection<Vec<u8>, Vec<u8>>>(
+    table: &mut BytesTable<Vec<u8>, B>,
+    right: &[u8],
+) -> u32
+    ensures removed { IsByKey (kept B.holding table.old) right.now result (kept B.holding table.new)
+        (λ key. RemovesByRight same_bytes (kept B.holding table.old) key result
+        (kept B.holding table.new)) }
+    ensures room { vec_capacity table.old.key ≤ vec_capacity table.new.key }
+{
+    if !note(&mut table.key, right) {
+        return NO_MEMORY;
+    }
+    strike(&mut table.struck, table.map.remove_by_right(&table.key))
+}
+
+/// Tells the right of this index among the pairs that were struck out last.
+pub(crate) fn overwritten_right<B>(
+    table: &BytesTable<Vec<u8>, B>,
+    index: usize,
+    buf: &mut [u8],
+    len: &mut usize,
+) -> u32
+    ensures told { AreBytesOut (option_map (λ p. p.1.items)
+        (slice_get (named_pairs table.now.struck) index)) result buf.old buf.new len.new }
+    ensures buf { IsWritten result buf.old buf.new }
+    ensures len { IsLengthWritten result len.old len.new }
+{
+    tell_bytes(right_at(&table.struck, index), buf, len)
+}
+
+// Tells a pair, if there is one.
+fn tell_pair(
+    found: Option<(&Vec<u8>, &Vec<u8>)>,
+    left_buf: &mut [u8],
+    left_len: &mut usize,
+    right_buf: &mut [u8],
+    right_len: &mut usize,
+) -> u32
+    ensures told { AreBothOut (option_map deref_pair found.entry) result left_buf.old left_buf.new
+        left_len.new right_buf.old right_buf.new right_len.new }
+    ensures left_buf { IsWritten result left_buf.old left_buf.new }
+    ensures left_len { IsLengthWritten result left_len.old left_len.new }
+    ensures right_buf { IsWritten result right_buf.old right_buf.new }
+    ensures right_len { IsLengthWritten result right_len.old right_len.new }
+{
+    let Some((left, right)) = found else {
+        return NOT_FOUND;
+    };
+    *left_len = left.len();
+    *right_len = right.len();
+    if left_buf.len() < left.len() || right_buf.len() < right.len() {
+        return BUFFER_TOO_SHORT;
+    }
+    left_buf[..left.len()].copy_from_slice(left);
+    right_buf[..right.len()].copy_from_slice(right);
+    DONE
+}
+
+/// Tells the pair with so many lefts below its own.
+pub(crate) fn pair_at_rank(
+    table: &BytesTable<Vec<u8>, BiBTreeMap<Vec<u8>, Vec<u8>>>,
+    rank: usize,
+    left_buf: &mut [u8],
+    left_len: &mut usize,
+    right_buf: &mut [u8],
+    right_len: &mut usize,
+) -> u32
+    ensures told { AreBothOut (slice_get (holding table.now.map).pairs rank) result left_buf.old
+        left_buf.new left_len.new right_buf.old right_buf.new right_len.new }
+    ensures left_buf { IsWritten result left_buf.old left_buf.new }
+    ensures left_len { IsLengthWritten result left_len.old left_len.new }
+    ensures right_buf { IsWritten result right_buf.old right_buf.new }
+    ensures right_len { IsLengthWritten result right_len.old right_len.new }
+{
+    tell_pair(
+        table.map.pair_at_left_rank(rank),
+        left_buf,
+        left_len,
+        right_buf,
+        right_len,
+    )
+}

@@ -1,0 +1,40 @@
+//! The bodies of the calls that go by the order of byte strings, over any ordered bimap of them.
+ghost use Rattle.bimap.specs.BTree.{holding};
+ghost use Rattle.bimap_c.specs.Bytes.{kept, IsRead, IsRanked, PopsFirst, PopsLast};
+ghost use Rattle.bimap_c.specs.Calls.{IsWritten};
+
+use crate::bytes::{BytesTable, note, strike};
+use crate::status::{DONE, NO_MEMORY};
+use bimap::BiBTreeMap;
+
+/// Tells how many lefts are below this one.
+pub(crate) fn left_rank<R: Ord + Drop>(
+    table: &mut BytesTable<R, BiBTreeMap<Vec<u8>, R>>,
+    left: &[u8],
+    rank: &mut usize,
+) -> u32
+    ensures ranked { IsRanked (kept holding table.old) left.now result rank.new
+        (kept holding table.new) }
+    ensures out { IsWritten result rank.old rank.new }
+    ensures read { IsRead (kept holding table.old) (kept holding table.new) }
+{
+    if !note(&mut table.key, left) {
+        return NO_MEMORY;
+    }
+    *rank = table.map.left_rank(&table.key);
+    DONE
+}
+
+/// Removes the pair of the least left.
+pub(crate) fn pop_first<R: Ord + Drop>(table: &mut BytesTable<R, BiBTreeMap<Vec<u8>, R>>) -> u32
+    ensures { PopsFirst (kept holding table.old) result (kept holding table.new) }
+{
+    strike(&mut table.struck, table.map.pop_first_by_left())
+}
+
+/// Removes the pair of the greatest left.
+pub(crate) fn pop_last<R: Ord + Drop>(table: &mut BytesTable<R, BiBTreeMap<Vec<u8>, R>>) -> u32
+    ensures { PopsLast (kept holding table.old) result (kept holding table.new) }
+{
+    strike(&mut table.struck, table.map.pop_last_by_left())
+}

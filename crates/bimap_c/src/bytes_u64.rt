@@ -1,0 +1,80 @@
+//! The bodies of the calls that want numbers as rights, over any bimap of byte strings and numbers.
+ghost use Rattle.std.specs.Prelude.{◌≡◌, ℕ, Option, option_map, slice_get};
+ghost use Rattle.std.specs.Borrow.{Bor};
+ghost use Rattle.std.specs.Map.Iter.{deref, deref_pair};
+ghost use Rattle.bimap.specs.BTree.{holding};
+ghost use Rattle.bimap.specs.Holding.{IsFoundByLeft};
+ghost use Rattle.bimap_c.specs.Calls.{IsWritten, Tells};
+ghost use Rattle.bimap_c.specs.Bytes.{kept, same_bytes, named_pairs, IsRead, IsByKey, IsPairOut, IsLengthWritten};
+
+use crate::bytes::{BytesTable, copy_out, note, right_at};
+use crate::status::{DONE, NO_MEMORY, NOT_FOUND};
+use crate::u64_u64::tell_value;
+use bimap::{BiBTreeMap, Bijection};
+
+/// Tells the right of a left.
+pub(crate) fn get_by_left<B: Bijection<Vec<u8>, u64>>(
+    table: &mut BytesTable<u64, B>,
+    left: &[u8],
+    right: &mut u64,
+) -> u32
+    ensures told { IsByKey (kept B.holding table.old) left.now result (kept B.holding table.new)
+        (λ key. (found : Option (Bor ℕ)) × IsFoundByLeft same_bytes (B.holding table.old.map) key
+        found × Tells (option_map deref found) result right.new) }
+    ensures out { IsWritten result right.old right.new }
+    ensures read { IsRead (kept B.holding table.old) (kept B.holding table.new) }
+{
+    if !note(&mut table.key, left) {
+        return NO_MEMORY;
+    }
+    tell_value(table.map.get_by_left(&table.key), right)
+}
+
+/// Tells the right of this index among the pairs that were struck out last.
+pub(crate) fn overwritten_right<B>(table: &BytesTable<u64, B>, index: usize, right: &mut u64) -> u32
+    ensures told { Tells (option_map (λ p. p.1)
+        (slice_get (named_pairs table.now.struck) index)) result right.new }
+    ensures out { IsWritten result right.old right.new }
+{
+    tell_value(right_at(&table.struck, index), right)
+}
+
+// Tells a pair, if there is one.
+fn tell_pair(
+    found: Option<(&Vec<u8>, &u64)>,
+    buf: &mut [u8],
+    len: &mut usize,
+    right: &mut u64,
+) -> u32
+    ensures told { IsPairOut (option_map deref_pair found.entry) result buf.old buf.new len.new
+        right.new }
+    ensures buf { IsWritten result buf.old buf.new }
+    ensures len { IsLengthWritten result len.old len.new }
+    ensures out { IsWritten result right.old right.new }
+{
+    let Some((left, number)) = found else {
+        return NOT_FOUND;
+    };
+    let status = copy_out(left, buf, len);
+    if status == DONE {
+        *right = *number;
+    }
+    status
+}
+
+/// Tells the pair with so many lefts below its own.
+pub(crate) fn pair_at_rank(
+    table: &BytesTable<u64, BiBTreeMap<Vec<u8>, u64>>,
+    rank: usize,
+    buf: &mut [u8],
+    len: &mut usize,
+    right: &mut u64,
+) -> u32
+    ensures told { IsPairOut (slice_get (holding table.now.map).pairs rank) result buf.old buf.new
+        len.new right.new }
+    ensures buf { IsWritten result buf.old buf.new }
+    ensures len { IsLengthWritten result len.old len.new }
+    ensures out { IsWritten result right.old right.new }
+{
+    tell_pair(table.map.pair_at_left_rank(rank), buf, len, right)
+}
