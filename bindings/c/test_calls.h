@@ -91,6 +91,9 @@ static void OUR(one)(OUR(table) *t) {
         CHECK(same_pair(pair, model_remove(pair.left)));
 #endif
     }
+#if BYTES
+    CHECK(same_pair(OUR(gone)(t, 0), last.first) && same_pair(OUR(gone)(t, 1), last.second));
+#endif
 }
 static void OUR(calls)(void) {
     OUR(table) t = {0};
@@ -117,6 +120,18 @@ static void OUR(memory)(void) {
             CHECK(!CALL(new)(&t));
             granted = 0;
         }
+#if BYTES
+        /* bytes that are longer than any looked up or removed before want memory for that */
+        size_t saved = granted;
+        int right = NONE;
+        granted = 0;
+        CHECK(CALL(contains_left)(&t, LEFT(9)) == JETUKOMA_NO_MEMORY && CALL(remove_by_left)(&t, LEFT(9)) == JETUKOMA_NO_MEMORY);
+        CHECK(OUR(get_by_left)(&t, 9, &right) == JETUKOMA_NO_MEMORY && CALL(contains_left)(&t, LEFT(0)) == JETUKOMA_NOT_FOUND);
+        granted = 1;
+        CHECK(CALL(contains_left)(&t, LEFT(9)) == JETUKOMA_NOT_FOUND && CALL(remove_by_left)(&t, LEFT(8)) == JETUKOMA_NOT_FOUND);
+        CHECK(!granted && OUR(get_by_left)(&t, 9, &right) == JETUKOMA_NOT_FOUND && right == NONE);
+        granted = saved;
+#endif
         for (int value = 0; value < 20; value++) {
             size_t was, now, requests = granted;
             CALL(capacity)(&t, &was);
@@ -133,11 +148,14 @@ static void OUR(memory)(void) {
             CHECK(!OUR(insert)(&t, value, 20 - value, &told) && !model_insert(value, 20 - value, 0, 0, &wanted));
             granted = 0;
         }
+#if !BYTES
         /* an insertion that overwrites asks for none */
         granted = 0;
         CHECK(!OUR(insert)(&t, 3, 20, &told) && !model_insert(3, 20, 0, 0, &wanted) && same_told(told, wanted));
+#endif
         granted = SIZE_MAX;
         OUR(same)(&t);
+#if !BYTES
         /* of many pairs those before the refusal are in */
         jetukoma_u64_u64_pair row[64];
         size_t taken = 99, len, filled;
@@ -149,6 +167,7 @@ static void OUR(memory)(void) {
         refused |= taken < 64;
         CHECK(!CALL(len)(&t, &len) && len == taken && !CALL(fill)(&t, 0, row, 64, &filled) && filled == taken);
         for (size_t at = 0; at < taken; at++) CHECK(!CALL(contains_left)(&t, at * 2 + 1));
+#endif
         CHECK(!CALL(free)(&t) && blocks == 0);
     }
 }
@@ -163,3 +182,4 @@ static void OUR(tests)(void) {
 #undef RIGHT
 #undef CALL
 #undef OUR
+#undef BYTES

@@ -1,5 +1,6 @@
 /* The calls of a bimap of numbers, as test_calls.h makes them: by the numbers of values. */
 #define SIDES u64_u64
+#define BYTES 0
 #define CALL(it) NAME(KIND, SIDES, it)
 #define OUR(it) JOIN(KIND, SIDES, it)
 typedef TYPE(KIND, SIDES) OUR(table);

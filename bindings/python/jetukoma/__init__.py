@@ -2,28 +2,29 @@
 in which each function is proved.
 
     >>> from jetukoma import BiBTreeMap
-    >>> seats = BiBTreeMap({101: 12, 102: 7})
+    >>> seats = BiBTreeMap({"ann": 12, "bob": 7}, keys=str)
     >>> seats.inverse[7]
-    102
-    >>> seats.forceput(101, 7)
+    'bob'
+    >>> seats.forceput("ann", 7)
     >>> seats
-    BiBTreeMap({101: 7})
+    BiBTreeMap({'ann': 7}, keys=str)
 
-Keys and values are ints from 0 to 2**64 - 1. `BiBTreeMap` walks by ascending keys; `BiHashMap` in no promised order. A walk
-shows what was contained when it began.
+Keys and values are ints from 0 to 2**64 - 1, unless the constructor is told otherwise: `keys=str` or `keys=bytes` with ints
+for values, or the other way round, and bytes or str on both sides. `BiBTreeMap` walks by ascending keys, or values where these
+alone are texts or bytes, and by the bytes of a text's UTF-8; `BiHashMap` in no promised order, and of texts or bytes not at
+all. A walk shows what was contained when it began.
 
-A key of another type, or out of range, is not contained; to put one in is a TypeError or an OverflowError, and nothing has
-changed. So it is after each exception, but for a MemoryError among many items, of which those before may be in. One thread at
-a time uses a map.
+A key of another type, or out of range, is not contained; to put one in is a TypeError, an OverflowError or, of a text that
+has no UTF-8, a UnicodeError, and nothing has changed. So it is after each exception, but for a MemoryError among many items,
+of which those before may be in. One thread at a time uses a map.
 """
 from collections.abc import ItemsView, Mapping, MutableMapping
-from operator import index
 from weakref import ref
 
-from ._library import MISSING, Table, row_of
+from ._library import MISSING, SIDES, NumberTable, Table, row_of
 
-# What a look-up raises of what no map contains.
-NEVER_CONTAINED = (TypeError, OverflowError)
+# What a look-up raises of what no map of its types contains.
+NEVER_CONTAINED = (TypeError, OverflowError, UnicodeError)
 
 __all__ = [
     "BiBTreeMap",
@@ -61,8 +62,12 @@ class _Items(ItemsView):
 class _Bimap(MutableMapping):
     __slots__ = ("_table", "_side", "_inverse", "_inverse_of", "_find", "_find_key", "_has", "_take", "_insert_pair", "__weakref__")
 
-    def __init__(self, items=(), /):
-        self._bind(Table(self._kind), 0, None)
+    def __init__(self, items=(), /, *, keys=int, values=int):
+        if keys not in SIDES or values not in SIDES:
+            raise TypeError("keys and values are int, bytes or str")
+        side = int(keys is int and values is not int)
+        types = (values, keys) if side else (keys, values)
+        self._bind((NumberTable if types == (int, int) else Table)(self._kind, types), side, None)
         self.update(items)
 
     def _bind(self, table, side, inverse_of):
@@ -82,6 +87,12 @@ class _Bimap(MutableMapping):
         return other
 
     inv = inverse
+
+    def _types(self):
+        return self._table.types[:: -1 if self._side else 1]
+
+    def _sides(self):
+        return self._table.sides[:: -1 if self._side else 1]
 
     def __len__(self):
         return len(self._table)
@@ -136,7 +147,8 @@ class _Bimap(MutableMapping):
 
     def _put(self, key, value, key_refuses):
         if not self._insert(key, value, key_refuses, True):
-            _judge(index(key), index(value), self._find(key), self._find_key(value), key_refuses)
+            keys, values = self._sides()
+            _judge(keys.plain(key), values.plain(value), self._find(key), self._find_key(value), key_refuses)
 
     def put(self, key, value):
         """Inserts an item. If another one has the key or the value, it is a DuplicationError."""
@@ -160,41 +172,50 @@ class _Bimap(MutableMapping):
 
     def forceupdate(self, items=(), /, **more):
         """Inserts items in turn, each as by forceput."""
-        self._table.insert_many(self._prepared(items, more)[1])
+        self._insert_all(*self._prepared(items, more))
 
     def _prepared(self, items, more):
-        """The items as a list and as a row; each is of two numbers."""
+        """The items as a list, and as a row where all are numbers. Each is of the types of this map."""
         if isinstance(items, Mapping):
             items = items.items()
         elif hasattr(items, "keys"):
             items = [(key, items[key]) for key in items.keys()]
         if not isinstance(items, (list, tuple, type({}.items()))) or more:
             items = [*items, *more.items()]
-        row = row_of(items)
-        if self._side:
-            row[::2], row[1::2] = row[1::2], row[::2]
-        return items, row
+        if self._table.numbers:
+            row = row_of(items)
+            if self._side:
+                row[::2], row[1::2] = row[1::2], row[::2]
+            return items, row
+        keys, values = self._sides()
+        return [(keys.plain(key), values.plain(value)) for key, value in items], None
 
     def _put_all(self, items, more, key_refuses):
         items, row = self._prepared(items, more)
-        # many items are put into a copy, which takes the table's place if none was a duplicate
+        # many numbers are put into a copy, which takes the table's place if none was a duplicate
         if row and len(items) * 16 >= len(self):
             copy = self._table.copy()
             copy.insert_many(row)
             if len(copy) == len(self) + len(items):
                 return self._table.exchange(copy)
-        self._check(row, key_refuses)
-        self._table.insert_many(row)
+        self._check(items if row is None else zip(row[self._side :: 2], row[1 - self._side :: 2]), key_refuses)
+        self._insert_all(items, row)
 
-    def _check(self, row, key_refuses):
+    def _check(self, items, key_refuses):
         """Refuses what would be a duplicate when its turn comes, and changes nothing."""
         values, keys = {}, {}
-        for key, value in zip(row[self._side :: 2], row[1 - self._side :: 2]):
+        for key, value in items:
             old_value = values[key] if key in values else self._find(key)
             old_key = keys[value] if value in keys else self._find_key(value)
             _judge(key, value, old_value, old_key, key_refuses)
             keys[old_value] = MISSING
             values[key], keys[value] = value, key
+
+    def _insert_all(self, items, row):
+        if row is not None:
+            return self._table.insert_many(row)
+        for key, value in items:
+            self.forceput(key, value)
 
     def __delitem__(self, key):
         self.pop(key)
@@ -223,19 +244,24 @@ class _Bimap(MutableMapping):
 
     def copy(self):
         """A map with the same items."""
-        return type(self)(self)
+        return _made(type(self), self, *self._types())
 
     __copy__ = copy
 
     def __reduce__(self):
-        return type(self), (list(self.items()),)
+        return _made, (type(self), list(self.items()), *self._types())
 
     def __repr__(self):
-        return f"{type(self).__name__}({dict(self.items()) if self else ''})"
+        shown = [f"{name}={it.__name__}" for name, it in zip(("keys", "values"), self._types()) if it is not int]
+        try:
+            items = dict(self.items())
+        except TypeError:
+            return f"<{type(self).__name__} of {len(self)} items, {', '.join(shown)}>"
+        return f"{type(self).__name__}({', '.join([repr(items)] * bool(items) + shown)})"
 
 
 class BiBTreeMap(_Bimap):
-    """A two-way map that is walked by ascending keys; its inverse is walked in the same order."""
+    """A two-way map that is walked by ascending keys, or values where these alone are texts or bytes. So is its inverse."""
 
     __slots__ = ()
     _kind = "btree"
@@ -246,6 +272,10 @@ class BiHashMap(_Bimap):
 
     __slots__ = ()
     _kind = "hash"
+
+
+def _made(type, items, keys, values):
+    return type(items, keys=keys, values=values)
 
 
 def _judge(key, value, old_value, old_key, key_refuses):

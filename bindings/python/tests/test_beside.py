@@ -1,4 +1,4 @@
-"""Bad input, copies, many items, and calls by chance beside two dicts."""
+"""Bad input, the types of sides, many items, and calls by chance beside two dicts."""
 import copy
 import pickle
 import random
@@ -6,7 +6,17 @@ import unittest
 
 from jetukoma import BiBTreeMap, BiHashMap, DuplicationError, ValueDuplicationError
 
+TYPES = [(int, int), (str, int), (int, str), (bytes, int), (bytes, bytes), (str, str)]
 KINDS = [BiBTreeMap, BiHashMap]
+
+
+def of(type, number):
+    """A value of a type."""
+    return number << 40 if type is int else "é" * number if type is str else bytes([number % 3]) * number
+
+
+def can_be_walked(it):
+    return type(it) is BiBTreeMap or it._table.numbers
 
 
 class BadInput(unittest.TestCase):
@@ -30,22 +40,78 @@ class BadInput(unittest.TestCase):
                 self.assertRaises(TypeError, call, 7)
             self.assertEqual(it, {1: 2**64 - 1, 0: 3})
 
-    def test_types(self):
+    def test_texts_and_bytes(self):
         for kind in KINDS:
-            for items in [{1.5: 2}, {"a": 1}, {1: "a"}, {b"a": 1}, [(b"a", b"b")]]:
-                self.assertRaises(TypeError, kind, items)
+            texts, strings = kind({"a": 1}, keys=str), kind({b"a": b"1"}, keys=bytes, values=bytes)
+            for it, bad in [(texts, b"a"), (texts, 1), (texts, None), (strings, "a"), (strings, bytearray(b"a"))]:
+                self.assertRaises(TypeError, it.put, bad, 7 if it is texts else b"7")
+                self.assertRaises(TypeError, it.forceupdate, [(bad, 7 if it is texts else b"7")])
+                self.assertTrue(bad not in it and it.get(bad) is None)
+            self.assertRaises(UnicodeError, texts.put, "\ud800", 7)
+            self.assertRaises(OverflowError, texts.update, [("b", 2), ("c", -1)])
+            self.assertRaises(ValueError, texts.update, [("b", 2), ("c",)])
+            self.assertTrue("\ud800" not in texts)
+            self.assertEqual((len(texts), texts["a"], len(strings), strings[b"a"]), (1, 1, 1, b"1"))
+
+    def test_a_call_within_a_call(self):
+        class Number:
+            def __index__(self):
+                it.put("b" * 1000, 2)
+                return 1
+
+        for kind in KINDS:
+            it = kind(keys=str)
+            it.put("a", Number())
+            self.assertEqual((len(it), it["a"], it["b" * 1000]), (2, 1, 2))
+
+    def test_subclasses(self):
+        class Text(str):
+            def __eq__(self, other):
+                return False
+
+            def __len__(self):
+                return 1000
+
+            def encode(self):
+                return b"z"
+
+        class String(bytes):
+            __eq__, __len__ = Text.__eq__, Text.__len__
+
+        for kind in KINDS:
+            for it, key in [(kind({"a": 1}, keys=str), Text("a")), (kind({b"a": 1}, keys=bytes), String(b"a"))]:
+                it.put(key, 1)
+                it.putall([(key, 1), (key, 1)])
+                self.assertRaises(DuplicationError, it.put, key, 2)
+                self.assertEqual((len(it), it.pop(key), len(it)), (1, 1, 0))
+
+    def test_types(self):
+        self.assertRaises(TypeError, BiBTreeMap, keys=float)
+        self.assertRaises(TypeError, BiHashMap, {1.5: 2})
 
 
-class Copies(unittest.TestCase):
+class Types(unittest.TestCase):
     def test_copies(self):
         for kind in KINDS:
-            it = kind({3 << 40: 5 << 40, 0: 70 << 40})
-            for other in [it.copy(), copy.copy(it), copy.deepcopy(it), pickle.loads(pickle.dumps(it)), eval(repr(it)), it.inverse.inverse]:
-                self.assertEqual((other, type(other)), (it, kind))
-            self.assertEqual(eval(repr(it.inverse)), {5 << 40: 3 << 40, 70 << 40: 0})
-            other = it.copy()
-            other.clear()
-            self.assertEqual(len(it), 2)
+            for keys, values in TYPES:
+                it = kind({of(keys, 3): of(values, 5), of(keys, 0): of(values, 70)}, keys=keys, values=values)
+                if not can_be_walked(it):
+                    self.assertRaises(TypeError, list, it)
+                    self.assertEqual(repr(it).split(" items")[0], "<BiHashMap of 2")
+                    continue
+                for other in [it.copy(), copy.copy(it), copy.deepcopy(it), pickle.loads(pickle.dumps(it)), eval(repr(it)), it.inverse.inverse]:
+                    self.assertEqual((other, type(other)), (it, kind))
+                self.assertEqual(eval(repr(it.inverse)), {of(values, 5): of(keys, 3), of(values, 70): of(keys, 0)})
+                other = it.copy()
+                other.clear()
+                self.assertEqual(len(it), 2)
+
+    def test_long_strings(self):
+        it = BiBTreeMap(keys=bytes, values=bytes)
+        it.putall([(b"", b"x" * 1000), (b"y\0" * 5000, b""), (b"z", b"z")])
+        self.assertEqual((it[b""], it.inverse[b""], it[b"z"]), (b"x" * 1000, b"y\0" * 5000, b"z"))
+        self.assertEqual(list(it), [b"", b"y\0" * 5000, b"z"])
+        self.assertEqual(it.popitem(last=False), (b"", b"x" * 1000))
 
 
 class Many(unittest.TestCase):
@@ -79,13 +145,14 @@ class Many(unittest.TestCase):
 class Chance(unittest.TestCase):
     def test_beside_two_dicts(self):
         for kind in KINDS:
-            with self.subTest(kind=kind):
-                self.calls(kind())
+            for keys, values in TYPES:
+                with self.subTest(kind=kind, keys=keys, values=values):
+                    self.calls(kind(keys=keys, values=values), keys, values)
 
-    def calls(self, it):
+    def calls(self, it, keys, values):
         chance, by_key, by_value = random.Random(2), {}, {}
         for _ in range(3000):
-            key, value = chance.randrange(30) << 40, chance.randrange(30) << 40
+            key, value = of(keys, chance.randrange(30)), of(values, chance.randrange(30))
             call = chance.choice(["put", "set", "forceput", "get", "pop", "popvalue"])
             has_key, has_value = key in by_key, value in by_value
             if call in ("put", "set", "forceput"):
@@ -113,7 +180,8 @@ class Chance(unittest.TestCase):
                 by_key.pop(wanted, None)
                 self.assertEqual(it.inverse.pop(value, None), wanted)
             self.assertEqual(len(it), len(by_key))
-        self.assertEqual(it, by_key)
+        if can_be_walked(it):
+            self.assertEqual(it, by_key)
 
 
 if __name__ == "__main__":

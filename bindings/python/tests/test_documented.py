@@ -195,5 +195,26 @@ class HashedNumbers(Hashed, Numbers, unittest.TestCase):
         self.assertEqual(repr(BiHashMap({1: 10})), "BiHashMap({1: 10})")
 
 
+class OrderedTexts(unittest.TestCase):
+    def test_elements(self):
+        symbols = BiBTreeMap({"hydrogen": 1, "carbon": 6}, keys=str)
+        self.assertEqual((symbols["carbon"], symbols.inverse[1]), (6, "hydrogen"))
+        with self.assertRaises(ValueDuplicationError):
+            symbols["coal"] = 6
+        symbols.inverse[6] = "coal"
+        self.assertEqual(list(symbols.items()), [("coal", 6), ("hydrogen", 1)])
+        symbols.update(oxygen=8)
+        self.assertEqual(repr(symbols), "BiBTreeMap({'coal': 6, 'hydrogen': 1, 'oxygen': 8}, keys=str)")
+        self.assertEqual(repr(symbols.inverse), "BiBTreeMap({6: 'coal', 1: 'hydrogen', 8: 'oxygen'}, values=str)")
+        with self.assertRaises(KeyDuplicationError):
+            symbols.putall([("boron", 5), ("oxygen", 9)])
+        self.assertEqual((len(symbols), symbols.popitem()), (3, ("oxygen", 8)))
+
+    def test_a_walk_is_by_the_texts(self):
+        names = BiBTreeMap({1: "hydrogen", 6: "carbon"}, values=str)
+        self.assertEqual(list(names.items()), [(6, "carbon"), (1, "hydrogen")])
+        self.assertEqual((list(names.inverse), names.popitem(last=False)), (["carbon", "hydrogen"], (6, "carbon")))
+
+
 if __name__ == "__main__":
     unittest.main()

@@ -5,20 +5,22 @@
 //! use jetukoma::{BiBTreeMap, Overwritten};
 //!
 //! let mut seats = BiBTreeMap::new();
-//! assert_eq!(seats.insert(101, 12), Overwritten::Neither);
-//! assert_eq!(seats.insert(102, 7), Overwritten::Neither);
-//! assert_eq!(seats.insert(101, 7), Overwritten::Both((101, 12), (102, 7)));
-//! assert_eq!(seats.get_by_right(&7), Some(101));
-//! assert_eq!(format!("{seats:?}"), "{101 <> 7}");
+//! assert_eq!(seats.insert("ann".to_string(), 12), Overwritten::Neither);
+//! assert_eq!(seats.insert("bob".to_string(), 7), Overwritten::Neither);
+//! assert_eq!(seats.insert("ann".to_string(), 7), Overwritten::Both(("ann".to_string(), 12), ("bob".to_string(), 7)));
+//! assert_eq!(seats.get_by_right(&7), Some("ann".to_string()));
+//! assert_eq!(format!("{seats:?}"), r#"{"ann" <> 7}"#);
 //! ```
 //!
 //! # Which sides
-//! `u64` with `u64`. [`BiBTreeMap`] orders its pairs by the left; [`BiHashMap`] hashes both sides.
+//! `u64` with `u64`, `Vec<u8>` or `String` with `u64`, and `Vec<u8>` with `Vec<u8>`. [`BiBTreeMap`] orders its pairs by the
+//! left, bytes one by one; [`BiHashMap`] hashes both sides. A hashed map of bytes can't be walked.
 //!
 //! # What differs from `bimap`
 //! - Values stand in the library: look-ups and walks give copies of them, by value.
 //! - Where there is no memory, what is named as in `bimap` ends the process, as std's collections do; a call named `try_..`
-//!   returns that instead, with the pair that it was given, and has changed nothing. An insertion that overwrites asks for none.
+//!   returns that instead, with the pair that it was given, and has changed nothing. An insertion that overwrites numbers asks
+//!   for none. A look-up or a removal by bytes asks for some if these are longer than any before.
 //! - A map goes to another thread, and is not shared between two: it is `Send` and not `Sync`.
 //!
 //! ```compile_fail,E0277

@@ -40,7 +40,7 @@ impl<B: Library> Drop for Handle<B> {
     }
 }
 
-/// A value as the library knows it: `u64`.
+/// A value as the library knows it: `u64`, or bytes.
 type Owned<V> = <V as ToOwned>::Owned;
 type Found<B> = (Owned<<B as Library>::Left>, Owned<<B as Library>::Right>);
 type Told<B> = Overwritten<Owned<<B as Library>::Left>, Owned<<B as Library>::Right>>;
@@ -85,6 +85,7 @@ pub trait InOrder: Walked {
 const DONE: u32 = 0;
 const NO_MEMORY: u32 = 1;
 const REFUSED: u32 = 3;
+const BUFFER_TOO_SHORT: u32 = 4;
 const NOT_FOUND: u32 = 5;
 
 #[inline]
@@ -136,6 +137,21 @@ fn size(call: impl FnOnce(*mut usize) -> u32) -> Result<usize, Refusal> {
     done(call(&mut it)).map(|()| it)
 }
 
+/// Bytes that the library writes, into a buffer that is long enough at the second time.
+fn bytes(mut call: impl FnMut(*mut u8, usize, *mut usize) -> u32) -> Asked<Vec<u8>> {
+    let mut buffer = vec![0; 32];
+    loop {
+        let mut len = 0;
+        match call(buffer.as_mut_ptr(), buffer.len(), &mut len) {
+            BUFFER_TOO_SHORT => buffer = vec![0; len],
+            other => {
+                buffer.truncate(len);
+                return Ok(found(other)?.then_some(buffer));
+            }
+        }
+    }
+}
+
 /// Declares calls of the library on tables of a type.
 macro_rules! external {
     ($name:ident $prefix:literal: $($call:ident($($given:ident: $type:ty),*);)*) => {
@@ -178,5 +194,7 @@ macro_rules! plain {
     };
 }
 
+mod by_bytes;
 mod by_numbers;
+pub use by_bytes::*;
 pub use by_numbers::*;

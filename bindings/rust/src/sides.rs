@@ -1,5 +1,5 @@
 //! The types of sides, and which pairs of them the library has.
-use crate::library::{BTreeU64U64, HashU64U64, Library};
+use crate::library::{BTreeBytesBytes, BTreeBytesU64, BTreeU64U64, HashBytesBytes, HashBytesU64, HashU64U64, Library};
 use crate::{Hashed, Ordered};
 
 // (What nobody outside can name, nobody outside can implement.)
@@ -12,29 +12,42 @@ mod sealed {
     pub trait Paired<R, K> {}
 }
 
-/// What a value may be looked up by: `u64`. It is for this type alone.
+/// What a value may be looked up by: `u64`, `str`, `[u8]`, `String` and `Vec<u8>`. It is for these types alone.
 pub trait Key: sealed::Raw {}
 
-/// A value of a side: `u64`. It is for this type alone.
+/// A value of a side: `u64`, `String` or `Vec<u8>`. It is for these types alone.
 pub trait Value: Key + Sized {
     #[doc(hidden)]
     fn of(it: <Self::Raw as ToOwned>::Owned) -> Self;
 }
 
-/// A left, with the rights that a map of the kind `K` pairs it with: `u64` with `u64`. It is for this type alone.
+/// A left, with the rights that a map of the kind `K` pairs it with: `u64` with `u64`, `Vec<u8>` and `String` with `u64`, and
+/// `Vec<u8>` with `Vec<u8>`. It is for these types alone.
 pub trait PairedWith<R: Value, K>: Value + sealed::Paired<R, K> {
     #[doc(hidden)]
     type Library: Library<Left = Self::Raw, Right = R::Raw>;
 }
 
-impl sealed::Raw for u64 {
-    type Raw = u64;
-    fn raw(&self) -> &u64 {
-        self
-    }
+macro_rules! keys {
+    ($($type:ty as $Raw:ty, |$it:ident| $raw:expr;)*) => { $(
+        impl sealed::Raw for $type {
+            type Raw = $Raw;
+            fn raw(&self) -> &$Raw {
+                let $it = self;
+                $raw
+            }
+        }
+        impl Key for $type {}
+    )* };
 }
 
-impl Key for u64 {}
+keys! {
+    u64 as u64, |it| it;
+    [u8] as [u8], |it| it;
+    Vec<u8> as [u8], |it| it;
+    str as [u8], |it| it.as_bytes();
+    String as [u8], |it| it.as_bytes();
+}
 
 impl Value for u64 {
     fn of(it: u64) -> u64 {
@@ -42,12 +55,34 @@ impl Value for u64 {
     }
 }
 
-impl sealed::Paired<u64, Ordered> for u64 {}
-impl PairedWith<u64, Ordered> for u64 {
-    type Library = BTreeU64U64;
+impl Value for Vec<u8> {
+    fn of(it: Vec<u8>) -> Vec<u8> {
+        it
+    }
 }
 
-impl sealed::Paired<u64, Hashed> for u64 {}
-impl PairedWith<u64, Hashed> for u64 {
-    type Library = HashU64U64;
+impl Value for String {
+    fn of(it: Vec<u8>) -> String {
+        String::from_utf8(it).expect("the bytes of a String were put in")
+    }
+}
+
+macro_rules! pairs {
+    ($($L:ty, $R:ty: $ordered:ident $hashed:ident;)*) => { $(
+        impl sealed::Paired<$R, Ordered> for $L {}
+        impl sealed::Paired<$R, Hashed> for $L {}
+        impl PairedWith<$R, Ordered> for $L {
+            type Library = $ordered;
+        }
+        impl PairedWith<$R, Hashed> for $L {
+            type Library = $hashed;
+        }
+    )* };
+}
+
+pairs! {
+    u64, u64: BTreeU64U64 HashU64U64;
+    Vec<u8>, u64: BTreeBytesU64 HashBytesU64;
+    String, u64: BTreeBytesU64 HashBytesU64;
+    Vec<u8>, Vec<u8>: BTreeBytesBytes HashBytesBytes;
 }

@@ -106,13 +106,40 @@ fn a_refused_insertion() {
 
 #[test]
 fn another_thread() {
-    let mut bimap: BiBTreeMap<u64, u64> = BiBTreeMap::new();
-    bimap.insert(10, 1);
+    let mut bimap: BiBTreeMap<String, u64> = BiBTreeMap::new();
+    bimap.insert("a".into(), 1);
     let bimap = std::thread::spawn(move || {
-        bimap.insert(20, 2);
+        bimap.insert("b".into(), 2);
         bimap
     });
     assert_eq!(bimap.join().unwrap().len(), 2);
+}
+
+#[test]
+fn long_and_empty_bytes() {
+    let (long, longer) = (vec![7; 100], vec![7; 100_000]);
+    let mut bimap: BiBTreeMap<Vec<u8>, Vec<u8>> = BiBTreeMap::new();
+    assert_eq!(bimap.insert(long.clone(), longer.clone()), Overwritten::Neither);
+    assert_eq!(bimap.insert(vec![], long.clone()), Overwritten::Neither);
+    assert_eq!(
+        bimap.iter().collect::<Vec<_>>(),
+        [(vec![], long.clone()), (long.clone(), longer.clone())]
+    );
+    assert_eq!(
+        (bimap.get_by_left(&long), bimap.get_by_right(&longer)),
+        (Some(longer.clone()), Some(long.clone()))
+    );
+    assert_eq!(
+        bimap.insert(vec![], longer.clone()),
+        Overwritten::Both((vec![], long.clone()), (long, longer.clone()))
+    );
+    assert_eq!(
+        (bimap.pop_last_by_left(), bimap.pop_first_by_left()),
+        (Some((vec![], longer)), None)
+    );
+    let mut letters: BiHashMap<String, u64> = BiHashMap::new();
+    assert_eq!(letters.insert("zoë".into(), 1), Overwritten::Neither);
+    assert_eq!(letters.remove_by_right(&1), Some(("zoë".into(), 1)));
 }
 
 #[test]
@@ -150,33 +177,33 @@ fn chance(state: &mut u64, below: u64) -> u64 {
     (*state >> 33) % below
 }
 
-/// Calls by chance.
+/// Calls by chance, of values that are made from numbers.
 macro_rules! beside_a_model {
-    ($($test:ident $map:ident;)*) => { $(
+    ($($test:ident $map:ident $left:expr, $right:expr;)*) => { $(
         #[test]
         fn $test() {
             let (mut map, mut by_left, mut by_right) = ($map::new(), BTreeMap::new(), BTreeMap::new());
             let state = &mut 7;
             for _ in 0..50_000 {
-                let (left, right) = (chance(state, 50), chance(state, 50));
+                let (left, right) = ($left(chance(state, 50)), $right(chance(state, 50)));
                 match chance(state, 6) {
                     0 | 1 => {
                         let refuses = [chance(state, 2) == 0, chance(state, 2) == 0];
                         let [l, r] = refuses.map(|it| if it { OnHeld::Refuse } else { OnHeld::Overwrite });
-                        let (old_right, old_left) = (by_left.get(&left).copied(), by_right.get(&right).copied());
+                        let (old_right, old_left) = (by_left.get(&left).cloned(), by_right.get(&right).cloned());
                         let wanted = if refuses[0] && old_right.is_some() || refuses[1] && old_left.is_some() {
-                            Err((left, right))
+                            Err((left.clone(), right.clone()))
                         } else {
                             by_left.retain(|l, r| *l != left && *r != right);
                             by_right.retain(|r, l| *l != left && *r != right);
-                            by_left.insert(left, right);
-                            by_right.insert(right, left);
+                            by_left.insert(left.clone(), right.clone());
+                            by_right.insert(right.clone(), left.clone());
                             Ok(match (old_right, old_left) {
                                 (None, None) => Overwritten::Neither,
-                                (Some(old), None) => Overwritten::Left(left, old),
-                                (None, Some(old)) => Overwritten::Right(old, right),
-                                (Some(old), Some(_)) if old == right => Overwritten::Pair(left, old),
-                                (Some(old), Some(other)) => Overwritten::Both((left, old), (other, right)),
+                                (Some(old), None) => Overwritten::Left(left.clone(), old),
+                                (None, Some(old)) => Overwritten::Right(old, right.clone()),
+                                (Some(old), Some(_)) if old == right => Overwritten::Pair(left.clone(), old),
+                                (Some(old), Some(other)) => Overwritten::Both((left.clone(), old), (other, right.clone())),
                             })
                         };
                         assert_eq!(map.insert_with(left, right, Policy { left: l, right: r }), wanted);
@@ -191,8 +218,8 @@ macro_rules! beside_a_model {
                         by_left.retain(|_, r| *r != right);
                         assert_eq!(map.remove_by_right(&right), wanted);
                     }
-                    4 => assert_eq!((map.get_by_left(&left), map.contains_left(&left)), (by_left.get(&left).copied(), by_left.contains_key(&left))),
-                    _ => assert_eq!((map.get_by_right(&right), map.contains_right(&right)), (by_right.get(&right).copied(), by_right.contains_key(&right))),
+                    4 => assert_eq!((map.get_by_left(&left), map.contains_left(&left)), (by_left.get(&left).cloned(), by_left.contains_key(&left))),
+                    _ => assert_eq!((map.get_by_right(&right), map.contains_right(&right)), (by_right.get(&right).cloned(), by_right.contains_key(&right))),
                 }
                 assert_eq!(map.len(), by_left.len());
             }
@@ -200,7 +227,24 @@ macro_rules! beside_a_model {
     )* };
 }
 
+fn number(it: u64) -> u64 {
+    it
+}
+
+fn bytes(it: u64) -> Vec<u8> {
+    vec![it as u8 % 3; it as usize]
+}
+
+fn text(it: u64) -> String {
+    format!("{it:x$}", x = it as usize)
+}
+
 beside_a_model! {
-    ordered_numbers BiBTreeMap;
-    hashed_numbers BiHashMap;
+    ordered_numbers BiBTreeMap number, number;
+    hashed_numbers BiHashMap number, number;
+    ordered_texts BiBTreeMap text, number;
+    hashed_texts BiHashMap text, number;
+    ordered_bytes_and_numbers BiBTreeMap bytes, number;
+    ordered_bytes BiBTreeMap bytes, bytes;
+    hashed_bytes BiHashMap bytes, bytes;
 }

@@ -2,6 +2,11 @@
 use jetukoma::{BiBTreeMap, BiHashMap, BiMap, Overwritten};
 use std::collections::HashSet;
 
+/// A text, or its bytes.
+fn s<T: From<&'static str>>(text: &'static str) -> T {
+    text.into()
+}
+
 /// The tests, of each kind.
 macro_rules! of_each_kind {
     ($($test:item)*) => {
@@ -21,19 +26,18 @@ macro_rules! of_each_kind {
 of_each_kind! {
     #[test]
     fn elements() {
-        let mut elements: Map<u64, u64> = Map::new();
-        // hydrogen, carbon, bromine and neodymium, by the number and the mass
-        for (number, mass) in [(1, 1), (6, 12), (35, 80), (60, 144)] {
-            elements.insert(number, mass);
+        let mut elements: Map<Vec<u8>, Vec<u8>> = Map::new();
+        for (name, symbol) in [("hydrogen", "H"), ("carbon", "C"), ("bromine", "Br"), ("neodymium", "Nd")] {
+            elements.insert(s(name), s(symbol));
         }
-        assert_eq!(elements.get_by_left(&35), Some(80));
-        assert_eq!(elements.get_by_left(&8), None);
-        assert_eq!(elements.get_by_right(&12), Some(6));
-        assert_eq!(elements.get_by_right(&27), None);
-        assert!(elements.contains_left(&1));
-        assert!(!elements.contains_right(&4));
-        assert_eq!(elements.remove_by_left(&60), Some((60, 144)));
-        assert_eq!(elements.remove_by_right(&144), None);
+        assert_eq!(elements.get_by_left(&b"bromine"[..]), Some(s("Br")));
+        assert_eq!(elements.get_by_left(&b"oxygen"[..]), None);
+        assert_eq!(elements.get_by_right(&b"C"[..]), Some(s("carbon")));
+        assert_eq!(elements.get_by_right(&b"Al"[..]), None);
+        assert!(elements.contains_left(&b"hydrogen"[..]));
+        assert!(!elements.contains_right(&b"He"[..]));
+        assert_eq!(elements.remove_by_left(&b"neodymium"[..]), Some((s("neodymium"), s("Nd"))));
+        assert_eq!(elements.remove_by_right(&b"Nd"[..]), None);
         assert_eq!(elements.len(), 3);
     }
 
@@ -41,38 +45,49 @@ of_each_kind! {
     fn insert() {
         let mut bimap = Map::new();
         assert_eq!(bimap.len(), 0);
+        assert_eq!(bimap.insert(s::<String>("a"), 1), Overwritten::Neither);
+        assert_eq!(bimap.len(), 1);
+        assert_eq!(bimap.insert(s("b"), 2), Overwritten::Neither);
+        assert_eq!(bimap.len(), 2);
+        assert_eq!(bimap.insert(s("a"), 4), Overwritten::Left(s("a"), 1));
+        assert_eq!(bimap.len(), 2);
+        assert_eq!(bimap.insert(s("c"), 2), Overwritten::Right(s("b"), 2));
+        assert_eq!(bimap.len(), 2);
+        assert_eq!(bimap.insert(s("a"), 2), Overwritten::Both((s("a"), 4), (s("c"), 2)));
+        assert_eq!(bimap.len(), 1);
+        assert_eq!(bimap.insert(s("a"), 2), Overwritten::Pair(s("a"), 2));
+        assert_eq!(bimap.len(), 1);
+    }
+
+    #[test]
+    fn insert_numbers() {
+        let mut bimap = Map::new();
         assert_eq!(bimap.insert(10, 1), Overwritten::Neither);
-        assert_eq!(bimap.len(), 1);
         assert_eq!(bimap.insert(20, 2), Overwritten::Neither);
-        assert_eq!(bimap.len(), 2);
         assert_eq!(bimap.insert(10, 4), Overwritten::Left(10, 1));
-        assert_eq!(bimap.len(), 2);
         assert_eq!(bimap.insert(30, 2), Overwritten::Right(20, 2));
-        assert_eq!(bimap.len(), 2);
         assert_eq!(bimap.insert(10, 2), Overwritten::Both((10, 4), (30, 2)));
-        assert_eq!(bimap.len(), 1);
         assert_eq!(bimap.insert(10, 2), Overwritten::Pair(10, 2));
-        assert_eq!(bimap.len(), 1);
         assert_eq!(bimap.into_iter().collect::<Vec<_>>(), [(10, 2)]);
     }
 
     #[test]
     fn insert_no_overwrite() {
         let mut bimap = Map::new();
-        assert_eq!(bimap.insert_no_overwrite(10, 1), Ok(()));
-        assert_eq!(bimap.insert_no_overwrite(20, 2), Ok(()));
-        assert_eq!(bimap.insert_no_overwrite(10, 3), Err((10, 3)));
-        assert_eq!(bimap.insert_no_overwrite(30, 2), Err((30, 2)));
+        assert_eq!(bimap.insert_no_overwrite(s::<String>("a"), 1), Ok(()));
+        assert_eq!(bimap.insert_no_overwrite(s("b"), 2), Ok(()));
+        assert_eq!(bimap.insert_no_overwrite(s("a"), 3), Err((s("a"), 3)));
+        assert_eq!(bimap.insert_no_overwrite(s("c"), 2), Err((s("c"), 2)));
         assert_eq!(bimap.len(), 2);
     }
 
     #[test]
     fn removals() {
-        let mut bimap: Map<u64, u64> = [(10, 1), (20, 2), (30, 3)].into_iter().collect();
-        assert_eq!(bimap.remove_by_left(&20), Some((20, 2)));
-        assert_eq!(bimap.remove_by_left(&20), None);
-        bimap.insert(20, 2);
-        assert_eq!(bimap.remove_by_right(&2), Some((20, 2)));
+        let mut bimap: Map<String, u64> = [("a", 1), ("b", 2), ("c", 3)].map(|(l, r)| (s(l), r)).into_iter().collect();
+        assert_eq!(bimap.remove_by_left("b"), Some((s("b"), 2)));
+        assert_eq!(bimap.remove_by_left("b"), None);
+        bimap.insert(s("b"), 2);
+        assert_eq!(bimap.remove_by_right(&2), Some((s("b"), 2)));
         assert_eq!(bimap.remove_by_right(&2), None);
         bimap.clear();
         assert!(bimap.is_empty() && bimap.len() == 0);
@@ -80,10 +95,10 @@ of_each_kind! {
 
     #[test]
     fn look_ups() {
-        let bimap: Map<u64, u64> = [(10, 1)].into_iter().collect();
-        assert_eq!((bimap.get_by_left(&10), bimap.get_by_left(&90)), (Some(1), None));
-        assert_eq!((bimap.get_by_right(&1), bimap.get_by_right(&2)), (Some(10), None));
-        assert!(bimap.contains_left(&10) && !bimap.contains_left(&20));
+        let bimap: Map<String, u64> = [(s("a"), 1)].into_iter().collect();
+        assert_eq!((bimap.get_by_left("a"), bimap.get_by_left("z")), (Some(1), None));
+        assert_eq!((bimap.get_by_right(&1), bimap.get_by_right(&2)), (Some(s("a")), None));
+        assert!(bimap.contains_left("a") && !bimap.contains_left(&s::<String>("b")));
         assert!(bimap.contains_right(&1) && !bimap.contains_right(&2));
     }
 
@@ -150,7 +165,7 @@ of_each_kind! {
         assert_eq!(bimap.capacity(), 0);
         bimap.reserve(10);
         assert!(bimap.is_empty() && bimap.capacity() >= 10);
-        assert!(Map::<u64, u64>::with_capacity(10).capacity() >= 10);
+        assert!(Map::<String, u64>::with_capacity(10).capacity() >= 10);
     }
 
     #[test]
@@ -167,17 +182,29 @@ of_each_kind! {
 
 #[test]
 fn ordered_walks_ascend() {
-    let bimap = BiBTreeMap::from_iter([(40, 1), (20, 3), (10, 4), (30, 2)]);
-    assert_eq!(bimap.iter().collect::<Vec<_>>(), [(10, 4), (20, 3), (30, 2), (40, 1)]);
-    assert_eq!(bimap.left_values().collect::<Vec<_>>(), [10, 20, 30, 40]);
+    let [b, d] = [s::<String>("b"), s("d")];
+    let bimap: BiBTreeMap<String, u64> = [("d", 1), ("b", 3), ("a", 4), ("c", 2)]
+        .map(|(l, r)| (s(l), r))
+        .into_iter()
+        .collect();
+    assert_eq!(
+        bimap.iter().collect::<Vec<_>>(),
+        [(s("a"), 4), (s("b"), 3), (s("c"), 2), (s("d"), 1)]
+    );
+    assert_eq!(bimap.left_values().collect::<Vec<String>>(), ["a", "b", "c", "d"]);
     assert_eq!(bimap.right_values().collect::<Vec<_>>(), [1, 2, 3, 4]);
-    assert_eq!(format!("{bimap:?}"), "{10 <> 4, 20 <> 3, 30 <> 2, 40 <> 1}");
-    assert_eq!(bimap.left_range(20..40).collect::<Vec<_>>(), [(20, 3), (30, 2)]);
-    assert_eq!(bimap.left_range(20..=40).map(|it| it.1).collect::<Vec<_>>(), [3, 2, 1]);
+    assert_eq!(format!("{bimap:?}"), r#"{"a" <> 4, "b" <> 3, "c" <> 2, "d" <> 1}"#);
+    assert_eq!(
+        bimap.left_range(b.clone()..d.clone()).collect::<Vec<_>>(),
+        [(s("b"), 3), (s("c"), 2)]
+    );
+    assert_eq!(
+        bimap.left_range(b.clone()..=d.clone()).map(|it| it.1).collect::<Vec<_>>(),
+        [3, 2, 1]
+    );
     assert_eq!(bimap.left_range(..).len(), 4);
-    assert_eq!(bimap.left_range(20..20).len(), 0);
-    let (from, to) = (40, 20);
-    assert_eq!(bimap.left_range(from..to).next(), None);
+    assert_eq!(bimap.left_range(b.clone()..b.clone()).len(), 0);
+    assert_eq!(bimap.left_range(d..b).next(), None);
 }
 
 #[test]
@@ -196,7 +223,7 @@ fn ordered_maps_compare_and_hash() {
 
 #[test]
 fn did_overwrite() {
-    let mut bimap: BiMap<u64, u64> = BiMap::new();
-    assert!(!bimap.insert(10, 1).did_overwrite());
-    assert!(bimap.insert(10, 2).did_overwrite());
+    let mut bimap: BiMap<String, u64> = BiMap::new();
+    assert!(!bimap.insert(s("a"), 1).did_overwrite());
+    assert!(bimap.insert(s("a"), 2).did_overwrite());
 }

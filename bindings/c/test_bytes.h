@@ -1,0 +1,140 @@
+/* The calls of a bimap of byte strings on the left, and numbers or byte strings on the right, as test_calls.h makes them. */
+#define BYTES 1
+#define LEFT(it) bytes(it), (size_t)(it)
+#if RIGHT_IS_BYTES
+#define SIDES bytes_bytes
+#define RIGHT(it) bytes(it), (size_t)(it)
+#define RIGHT_OUT(it) it.bytes, sizeof it.bytes, &it.len
+#define OF_RIGHT(it) of_bytes(it.bytes, it.len)
+#else
+#define SIDES bytes_u64
+#define RIGHT(it) number(it)
+#define RIGHT_OUT(it) &it.number
+#define OF_RIGHT(it) of_number(it.number)
+#endif
+#define CALL(it) NAME(KIND, SIDES, it)
+#define OUR(it) JOIN(KIND, SIDES, it)
+typedef TYPE(KIND, SIDES) OUR(table);
+typedef struct { uint8_t bytes[MANY]; size_t len; uint64_t number; } OUR(out);
+
+/* The pair that the last call took out or overwrote. */
+static struct pair OUR(gone)(OUR(table) *table, size_t index) {
+    OUR(out) left, right;
+    size_t len = 0;
+    uint32_t status = CALL(overwritten_left)(table, index, left.bytes, sizeof left.bytes, &left.len);
+    CHECK(status == CALL(overwritten_right)(table, index, RIGHT_OUT(right)));
+    if (status) return CHECK(status == JETUKOMA_NOT_FOUND), no_pair;
+    if (left.len) CHECK(CALL(overwritten_left)(table, index, left.bytes, left.len - 1, &len) == JETUKOMA_BUFFER_TOO_SHORT && len == left.len);
+    return (struct pair){of_bytes(left.bytes, left.len), OF_RIGHT(right)};
+}
+static uint32_t OUR(told)(OUR(table) *table, uint32_t status, uint32_t kind, struct told *told) {
+    return status ? status : (*told = (struct told){kind, OUR(gone)(table, 0), OUR(gone)(table, 1)}, 0);
+}
+static uint32_t OUR(insert)(OUR(table) *table, int left, int right, struct told *told) {
+    uint32_t kind = 0, status = CALL(insert)(table, LEFT(left), RIGHT(right), &kind);
+    return OUR(told)(table, status, kind, told);
+}
+static uint32_t OUR(insert_with)(OUR(table) *table, int left, int right, uint8_t l, uint8_t r, struct told *told) {
+    uint32_t kind = 0, status = CALL(insert_with)(table, LEFT(left), RIGHT(right), l, r, &kind);
+    return OUR(told)(table, status, kind, told);
+}
+static uint32_t OUR(get_by_left)(OUR(table) *table, int left, int *right) {
+    OUR(out) it;
+    uint32_t status = CALL(get_by_left)(table, LEFT(left), RIGHT_OUT(it));
+    return status ? status : (*right = OF_RIGHT(it), 0);
+}
+static uint32_t OUR(get_by_right)(OUR(table) *table, int right, int *left) {
+    OUR(out) it;
+    memset(it.bytes, 77, MANY);
+    uint32_t status = CALL(get_by_right)(table, RIGHT(right), it.bytes, MANY, &it.len);
+    if (status) return status;
+    for (size_t at = it.len; at < MANY; at++) CHECK(it.bytes[at] == 77);
+    size_t len = 99;
+    if (it.len) CHECK(CALL(get_by_right)(table, RIGHT(right), it.bytes, it.len - 1, &len) == JETUKOMA_BUFFER_TOO_SHORT && len == it.len);
+    CHECK(!CALL(get_by_right)(table, RIGHT(right), it.bytes, it.len, &len) && len == it.len);
+    return *left = of_bytes(it.bytes, it.len), 0;
+}
+static uint32_t OUR(remove_by_left)(OUR(table) *table, int left, struct pair *pair) {
+    uint32_t status = CALL(remove_by_left)(table, LEFT(left));
+    return status ? status : (*pair = OUR(gone)(table, 0), 0);
+}
+static uint32_t OUR(remove_by_right)(OUR(table) *table, int right, struct pair *pair) {
+    uint32_t status = CALL(remove_by_right)(table, RIGHT(right));
+    return status ? status : (*pair = OUR(gone)(table, 0), 0);
+}
+#if ORDERED
+static int OUR(below)(int a, int b) { return below_bytes(a, b); }
+static uint32_t OUR(pop)(OUR(table) *table, int first, struct pair *pair) {
+    uint32_t status = first ? CALL(pop_first)(table) : CALL(pop_last)(table);
+    return status ? status : (*pair = OUR(gone)(table, 0), 0);
+}
+static uint32_t OUR(walk)(OUR(table) *table, struct pair *row, size_t *count) {
+    OUR(out) left, right;
+    uint32_t status;
+    *count = 0;
+    while (!(status = CALL(pair_at_rank)(table, *count, left.bytes, sizeof left.bytes, &left.len, RIGHT_OUT(right)))) {
+        size_t rank;
+        struct pair it = {of_bytes(left.bytes, left.len), OF_RIGHT(right)};
+        CHECK(!*count || below_bytes(row[*count - 1].left, it.left));
+        CHECK(!CALL(left_rank)(table, LEFT(it.left), &rank) && rank == *count);
+        row[(*count)++] = it;
+    }
+    return status == JETUKOMA_NOT_FOUND ? 0 : status;
+}
+#else
+static uint32_t OUR(walk)(OUR(table) *table, struct pair *row, size_t *count) {
+    return (void)table, (void)row, (void)count, JETUKOMA_REFUSED;
+}
+#endif
+
+static void OUR(own)(OUR(table) *table, uint32_t status) {
+    OUR(out) left, right;
+    size_t len = 99;
+    uint32_t missing = status ? status : JETUKOMA_NOT_FOUND;
+    CHECK(CALL(overwritten_left)(table, 0, left.bytes, MANY, &len) == missing && CALL(overwritten_right)(table, 0, RIGHT_OUT(right)) == missing);
+    CHECK(CALL(overwritten_left)(table, SIZE_MAX, left.bytes, MANY, &len) == missing && len == 99);
+#if ORDERED
+    size_t rank = 99;
+    CHECK(CALL(pair_at_rank)(table, 0, left.bytes, MANY, &len, RIGHT_OUT(right)) == missing && len == 99);
+    CHECK(CALL(pair_at_rank)(table, SIZE_MAX, left.bytes, MANY, &len, RIGHT_OUT(right)) == missing);
+    CHECK(CALL(left_rank)(table, LEFT(3), &rank) == status && rank == (status ? 99 : 0));
+#endif
+    if (status) return;
+    /* no bytes go in and come out, and a buffer of none holds them */
+    uint8_t byte = 77;
+    CHECK(!CALL(insert_no_overwrite)(table, &byte, 0, RIGHT(4)) && !CALL(get_by_right)(table, RIGHT(4), &byte, 0, &len) && len == 0 && byte == 77);
+    CHECK(!CALL(remove_by_right)(table, RIGHT(4)));
+}
+static void OUR(nulls)(OUR(table) *table, uint32_t null, uint32_t beyond) {
+    OUR(out) right;
+    uint8_t byte = 0;
+    uint32_t kind;
+    size_t len;
+    CHECK(CALL(insert)(table, NULL, 0, RIGHT(1), &kind) == null && CALL(insert)(table, LEFT(1), RIGHT(1), NULL) == null);
+    CHECK(CALL(insert)(table, &byte, SIZE_MAX, RIGHT(1), &kind) == beyond && CALL(insert_no_overwrite)(table, &byte, SIZE_MAX, RIGHT(1)) == beyond);
+    CHECK(CALL(insert_with)(table, NULL, 0, RIGHT(1), 0, 0, &kind) == null && CALL(insert_with)(table, LEFT(1), RIGHT(1), 0, 0, NULL) == null);
+    CHECK(CALL(insert_no_overwrite)(table, NULL, 0, RIGHT(1)) == null && CALL(insert_with)(table, &byte, SIZE_MAX, RIGHT(1), 0, 0, &kind) == beyond);
+    CHECK(CALL(get_by_left)(table, NULL, 0, RIGHT_OUT(right)) == null && CALL(get_by_left)(table, &byte, SIZE_MAX, RIGHT_OUT(right)) == beyond);
+    CHECK(CALL(get_by_right)(table, RIGHT(1), NULL, 0, &len) == null && CALL(get_by_right)(table, RIGHT(1), &byte, 1, NULL) == null);
+    CHECK(CALL(get_by_right)(table, RIGHT(1), &byte, SIZE_MAX, &len) == beyond);
+    CHECK(CALL(contains_left)(table, NULL, 0) == null && CALL(contains_left)(table, &byte, SIZE_MAX) == beyond);
+    CHECK(CALL(remove_by_left)(table, NULL, 0) == null && CALL(remove_by_left)(table, &byte, SIZE_MAX) == beyond);
+    CHECK(CALL(overwritten_left)(table, 0, NULL, 0, &len) == null && CALL(overwritten_left)(table, 0, &byte, 1, NULL) == null);
+#if RIGHT_IS_BYTES
+    CHECK(CALL(insert)(table, LEFT(1), NULL, 0, &kind) == null && CALL(insert_no_overwrite)(table, LEFT(1), &byte, SIZE_MAX) == beyond);
+    CHECK(CALL(get_by_left)(table, LEFT(1), NULL, 0, &len) == null && CALL(get_by_left)(table, LEFT(1), &byte, 1, NULL) == null);
+    CHECK(CALL(get_by_right)(table, NULL, 0, &byte, 1, &len) == null && CALL(contains_right)(table, NULL, 0) == null);
+    CHECK(CALL(remove_by_right)(table, NULL, 0) == null && CALL(overwritten_right)(table, 0, &byte, 1, NULL) == null);
+#else
+    CHECK(CALL(get_by_left)(table, LEFT(1), NULL) == null && CALL(overwritten_right)(table, 0, NULL) == null);
+#endif
+#if ORDERED
+    CHECK(CALL(pair_at_rank)(table, 0, NULL, 0, &len, RIGHT_OUT(right)) == null && CALL(pair_at_rank)(table, 0, &byte, 1, NULL, RIGHT_OUT(right)) == null);
+    CHECK(CALL(left_rank)(table, NULL, 0, &len) == null && CALL(left_rank)(table, LEFT(1), NULL) == null && CALL(left_rank)(table, &byte, SIZE_MAX, &len) == beyond);
+#endif
+}
+
+#include "test_calls.h"
+#undef RIGHT_IS_BYTES
+#undef RIGHT_OUT
+#undef OF_RIGHT

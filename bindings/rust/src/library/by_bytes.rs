@@ -1,0 +1,140 @@
+//! Tables of bytes on the left, and numbers or bytes on the right.
+use super::*;
+
+pub trait Bytes: Library {
+    /// The pair that the last call overwrote or removed.
+    fn gone(handle: &mut Handle<Self>, index: usize) -> Found<Self>;
+}
+
+/// The calls of tables whose right is of a type; behind it, how a right is handed in, and how one comes out.
+macro_rules! with_bytes {
+    ($name:ident $prefix:literal $Right:ty: $right:ident => ($($arg:expr),*), ($($given:ident: $type:ty),*), $read:ident($($out:ident: $of:ty),*)) => {
+        pub struct $name;
+        const _: () = {
+            external! { $name $prefix:
+                new(); free(); len(it: *mut usize); capacity(it: *mut usize); reserve(more: usize); clear();
+                insert_with(left: *const u8, left_len: usize, $($given: $type,)* left_refuses: u8, right_refuses: u8, kind: *mut u32);
+                get_by_left(left: *const u8, left_len: usize, $($out: $of),*);
+                get_by_right($($given: $type,)* buffer: *mut u8, size: usize, len: *mut usize);
+                contains_left(left: *const u8, left_len: usize); contains_right($($given: $type),*);
+                remove_by_left(left: *const u8, left_len: usize); remove_by_right($($given: $type),*);
+                overwritten_left(index: usize, buffer: *mut u8, size: usize, len: *mut usize);
+                overwritten_right(index: usize, $($out: $of),*);
+            }
+            impl Bytes for $name {
+                fn gone(handle: &mut Handle<Self>, index: usize) -> Found<Self> {
+                    let left = bytes(|buffer, size, len| unsafe { overwritten_left(handle, index, buffer, size, len) });
+                    let right = $read(|$($out),*| unsafe { overwritten_right(handle, index, $($out),*) });
+                    let (Ok(Some(left)), Ok(Some(right))) = (left, right) else { unreachable!("it is kept") };
+                    (left, right)
+                }
+            }
+            impl Library for $name {
+                type Left = [u8];
+                type Right = $Right;
+                plain!();
+                fn insert_with(handle: &mut Handle<Self>, left: &[u8], $right: &$Right, policy: Policy) -> Result<Told<Self>, Refusal> {
+                    let mut kind = 0;
+                    let [l, r] = policy.flags();
+                    done(unsafe { insert_with(handle, left.as_ptr(), left.len(), $($arg,)* l, r, &mut kind) })?;
+                    Ok(overwritten(kind, |at| Self::gone(handle, at)))
+                }
+                fn get_by_left(handle: &mut Handle<Self>, left: &[u8]) -> Asked<Owned<$Right>> {
+                    $read(|$($out),*| unsafe { get_by_left(handle, left.as_ptr(), left.len(), $($out),*) })
+                }
+                fn get_by_right(handle: &mut Handle<Self>, $right: &$Right) -> Asked<Vec<u8>> {
+                    bytes(|buffer, size, len| unsafe { get_by_right(handle, $($arg,)* buffer, size, len) })
+                }
+                fn contains_left(handle: &mut Handle<Self>, left: &[u8]) -> Result<bool, Refusal> {
+                    found(unsafe { contains_left(handle, left.as_ptr(), left.len()) })
+                }
+                fn contains_right(handle: &mut Handle<Self>, $right: &$Right) -> Result<bool, Refusal> {
+                    found(unsafe { contains_right(handle, $($arg),*) })
+                }
+                fn remove_by_left(handle: &mut Handle<Self>, left: &[u8]) -> Asked<Found<Self>> {
+                    let held = found(unsafe { remove_by_left(handle, left.as_ptr(), left.len()) })?;
+                    Ok(held.then(|| Self::gone(handle, 0)))
+                }
+                fn remove_by_right(handle: &mut Handle<Self>, $right: &$Right) -> Asked<Found<Self>> {
+                    let held = found(unsafe { remove_by_right(handle, $($arg),*) })?;
+                    Ok(held.then(|| Self::gone(handle, 0)))
+                }
+            }
+        };
+    };
+}
+
+macro_rules! with_bytes_u64 {
+    ($name:ident $prefix:literal) => {
+        with_bytes!($name $prefix u64: right => (*right), (right: u64), number(it: *mut u64));
+    };
+}
+
+macro_rules! with_bytes_bytes {
+    ($name:ident $prefix:literal) => {
+        with_bytes!($name $prefix [u8]: right => (right.as_ptr(), right.len()), (right: *const u8, right_len: usize), bytes(buffer: *mut u8, size: usize, len: *mut usize));
+    };
+}
+
+with_bytes_u64!(BTreeBytesU64 "btree_bytes_u64");
+with_bytes_u64!(HashBytesU64 "hash_bytes_u64");
+with_bytes_bytes!(BTreeBytesBytes "btree_bytes_bytes");
+with_bytes_bytes!(HashBytesBytes "hash_bytes_bytes");
+
+/// What the ordered tables have beside.
+macro_rules! in_order {
+    ($name:ident $prefix:literal $read:ident($($out:ident: $of:ty),*)) => {
+        const _: () = {
+            external! { $name $prefix:
+                left_rank(left: *const u8, left_len: usize, it: *mut usize); pop_first(); pop_last();
+                pair_at_rank(rank: usize, buffer: *mut u8, size: usize, len: *mut usize, $($out: $of),*);
+            }
+            impl Walked for $name {
+                const LONGEST: usize = 64;
+                fn row(handle: &mut Handle<Self>, start: usize, most: usize) -> Vec<Found<Self>> {
+                    let mut at = |rank| $read(|buffer, size, len, $($out),*| unsafe { pair_at_rank(handle, rank, buffer, size, len, $($out),*) });
+                    (start..start.saturating_add(most)).map_while(|rank| at(rank).ok().flatten()).collect()
+                }
+            }
+            impl InOrder for $name {
+                fn left_rank(handle: &mut Handle<Self>, left: &[u8]) -> Result<usize, Refusal> {
+                    size(|it| unsafe { left_rank(handle, left.as_ptr(), left.len(), it) })
+                }
+                fn pop_first(handle: &mut Handle<Self>) -> Option<Found<Self>> {
+                    found(unsafe { pop_first(handle) }).ok()?.then(|| Self::gone(handle, 0))
+                }
+                fn pop_last(handle: &mut Handle<Self>) -> Option<Found<Self>> {
+                    found(unsafe { pop_last(handle) }).ok()?.then(|| Self::gone(handle, 0))
+                }
+            }
+        };
+    };
+}
+
+fn bytes_and_number(mut call: impl FnMut(*mut u8, usize, *mut usize, *mut u64) -> u32) -> Asked<(Vec<u8>, u64)> {
+    let mut right = 0;
+    let left = bytes(|buffer, size, len| call(buffer, size, len, &mut right))?;
+    Ok(left.map(|left| (left, right)))
+}
+
+fn bytes_and_bytes(mut call: impl FnMut(*mut u8, usize, *mut usize, *mut u8, usize, *mut usize) -> u32) -> Asked<(Vec<u8>, Vec<u8>)> {
+    let mut right = vec![0; 32];
+    let left = bytes(|buffer, size, len| {
+        let mut right_len = 0;
+        let status = call(buffer, size, len, right.as_mut_ptr(), right.len(), &mut right_len);
+        // (longer, where it was too short)
+        right.resize(
+            if status == BUFFER_TOO_SHORT {
+                right.len().max(right_len)
+            } else {
+                right_len
+            },
+            0,
+        );
+        status
+    })?;
+    Ok(left.map(|left| (left, right)))
+}
+
+in_order!(BTreeBytesU64 "btree_bytes_u64" bytes_and_number(right: *mut u64));
+in_order!(BTreeBytesBytes "btree_bytes_bytes" bytes_and_bytes(right_buffer: *mut u8, right_size: usize, right_len: *mut usize));
