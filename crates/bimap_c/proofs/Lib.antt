@@ -1,3 +1,4 @@
 mod Rows
+mod Steps
 mod TableAsBox
 mod Values

@@ -1,5 +1,5 @@
 //! The bodies of the calls that want byte strings as rights, over any bimap of two byte strings.
-ghost use Rattle.std.specs.Prelude.{◌≡◌, ◌≤◌, ℕ, Option, option_map, slice_get, vec_capacity, Contains};
+ghost use Rattle.std.specs.Prelude.{◌≤◌, ℕ, Option, option_map, slice_get, vec_capacity, Contains};
 ghost use Rattle.std.specs.Borrow.{Bor};
 ghost use Rattle.std.specs.Global.{Vec};
 ghost use Rattle.std.specs.Map.Iter.{deref_pair};

@@ -1,5 +1,5 @@
 //! The bodies of the calls that want numbers as rights, over any bimap of byte strings and numbers.
-ghost use Rattle.std.specs.Prelude.{◌≡◌, ℕ, Option, option_map, slice_get};
+ghost use Rattle.std.specs.Prelude.{ℕ, Option, option_map, slice_get};
 ghost use Rattle.std.specs.Borrow.{Bor};
 ghost use Rattle.std.specs.Map.Iter.{deref, deref_pair};
 ghost use Rattle.bimap.specs.BTree.{holding};
