@@ -15,15 +15,15 @@ use Rattle.bimap_c.specs.declared.bytes.BytesTable.{BytesTable}
 abbrev pub same_bytes : Vec ℕ → Vec ℕ → Bool
 same_bytes v w = pointwise nat_eq v.items w.items
 
--- what a bimap holds, what the last change struck out, and up to which length a key is looked up without memory
+-- what a bimap holds, what the last change struck out, and the last key, up to whose room the next one wants no memory
 pub record Kept (R : Type 0) : Type 0 where
   pub held : Holding (Vec ℕ) R
   pub struck : Overwritten (Vec ℕ) R
-  pub key_room : ℕ
+  pub key : Vec ℕ
 
 -- the same of a table, by what its bimap holds
 abbrev pub kept : {R B : Type 0} → (B → Holding (Vec ℕ) R) → BytesTable R B → Kept R
-kept holding t = record { held = holding t.map; struck = t.struck; key_room = vec_capacity t.key }
+kept holding t = record { held = holding t.map; struck = t.struck; key = t.key }
 
 -- the pairs that an answer names, that of the left first
 abbrev pub named_pairs : {L R : Type 0} → Overwritten L R → List (L × R)
@@ -66,12 +66,12 @@ module _ {R : Type 0} where
   pub record IsRead (old new : Kept R) : Type 0 where
     pub held : new.held ≡ old.held
     pub struck : new.struck ≡ old.struck
-    pub key_room : old.key_room ≤ new.key_room
+    pub key_room : vec_capacity old.key ≤ vec_capacity new.key
 
-  -- with some copy of the bytes as its key the call is as P says; or there was no memory for one, which is longer than any before
+  -- with a copy of the bytes as its key the call is as P says; or there was no memory for one, which is longer than any before
   abbrev pub IsByKey : Kept R → List ℕ → ℕ → Kept R → (Vec ℕ → Type 0) → Type 0
   IsByKey old bytes status new P =
-      ((status ≡ 1) × (old.key_room < length bytes) × IsRead old new) ⊎ ((key : Vec ℕ) × (key.items ≡ bytes) × P key)
+      ((status ≡ 1) × (vec_capacity old.key < length bytes) × IsRead old new) ⊎ ((new.key.items ≡ bytes) × P new.key)
 
   -- what a removal leaves as struck out, and its status
   abbrev pub IsStruck : Overwritten (Vec ℕ) R → Option (Vec ℕ × R) → ℕ → Overwritten (Vec ℕ) R → Type 0
@@ -90,7 +90,7 @@ module _ {R : Type 0} where
 
   -- of `clear`
   abbrev pub ClearsAll : Kept R → ℕ → Kept R → Type 0
-  ClearsAll old status new = Clears old.held status new.held × (new.struck ≡ Neither) × (new.key_room ≡ old.key_room)
+  ClearsAll old status new = Clears old.held status new.held × (new.struck ≡ Neither) × (new.key ≡ old.key)
 
   -- of an insertion under a policy, where there was memory for a copy of the left's bytes
   pub record IsInserted (same_right : R → R → Bool) (old : Kept R) (left : List ℕ) (right : R) (policy : Policy) (status : ℕ) (new : Kept R) : Type 0 where
@@ -125,7 +125,7 @@ module _ {R : Type 0} where
   pub record IsTaken (old : Kept R) (taken : Option (Vec ℕ × R)) (status : ℕ) (new : Kept R) : Type 0 where
     pub struck : IsStruck old.struck taken status new.struck
     pub room : new.held.room ≡ old.held.room
-    pub key_room : new.key_room ≡ old.key_room
+    pub key : new.key ≡ old.key
 
   -- of `pop_first`
   abbrev pub PopsFirst : Kept R → ℕ → Kept R → Type 0

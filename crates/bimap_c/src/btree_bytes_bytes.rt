@@ -1,5 +1,5 @@
 //! The ordered bimap of two byte strings for C.
-ghost use Rattle.std.specs.Prelude.{◌≡◌, ◌≤◌, ℕ, Option, [], length, option_map, slice_get, Contains};
+ghost use Rattle.std.specs.Prelude.{◌≡◌, ◌≤◌, ℕ, Option, [], length, option_map, slice_get, vec_capacity, Contains};
 ghost use Rattle.std.specs.Borrow.{Bor};
 ghost use Rattle.std.specs.Global.{Vec};
 ghost use Rattle.bimap.specs.Holding.{IsFoundByLeft, IsFoundByRight};
@@ -84,7 +84,7 @@ pub extern "C" fn jetukoma_btree_bytes_bytes_reserve_unchecked(
 ) -> u32
     ensures { Changes btree_bytes_bytes handle.old.slot.value result handle.new.slot.value
         (λ old new. Reserves old.held more result new.held
-        × (new.struck ≡ old.struck) × (new.key_room ≡ old.key_room)) }
+        × (new.struck ≡ old.struck) × (new.key ≡ old.key)) }
 {
     on_table!(handle, alloc, BtreeBytesBytes, table => calls::reserve(&mut table.map, more))
 }
@@ -228,7 +228,8 @@ pub extern "C" fn jetukoma_btree_bytes_bytes_remove_by_left_unchecked(
     left: &[u8],
 ) -> u32
     ensures { Changes btree_bytes_bytes handle.old.slot.value result handle.new.slot.value
-        (λ old new. RemovesByLeft old left.now result new × (old.key_room ≤ new.key_room)) }
+        (λ old new. RemovesByLeft old left.now result new
+        × (vec_capacity old.key ≤ vec_capacity new.key)) }
 {
     on_table!(handle, alloc, BtreeBytesBytes, table => bytes::remove_by_left(table, left))
 }
@@ -243,7 +244,8 @@ pub extern "C" fn jetukoma_btree_bytes_bytes_remove_by_right_unchecked(
 ) -> u32
     ensures { Changes btree_bytes_bytes handle.old.slot.value result handle.new.slot.value
         (λ old new. IsByKey old right.now result new (λ key.
-        RemovesByRight same_bytes old key result new) × (old.key_room ≤ new.key_room)) }
+        RemovesByRight same_bytes old key result new)
+        × (vec_capacity old.key ≤ vec_capacity new.key)) }
 {
     on_table!(handle, alloc, BtreeBytesBytes, table => bytes_bytes::remove_by_right(table, right))
 }

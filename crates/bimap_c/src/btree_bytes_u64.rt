@@ -1,5 +1,5 @@
 //! The ordered bimap of byte strings and numbers for C.
-ghost use Rattle.std.specs.Prelude.{◌≡◌, ◌≤◌, ℕ, Option, [], length, nat_eq, option_map, slice_get, Contains};
+ghost use Rattle.std.specs.Prelude.{◌≡◌, ◌≤◌, ℕ, Option, [], length, nat_eq, option_map, slice_get, vec_capacity, Contains};
 ghost use Rattle.std.specs.Borrow.{Bor};
 ghost use Rattle.std.specs.Global.{Vec};
 ghost use Rattle.std.specs.Map.Iter.{deref};
@@ -78,7 +78,7 @@ pub extern "C" fn jetukoma_btree_bytes_u64_reserve_unchecked(
 ) -> u32
     ensures { Changes btree_bytes_u64 handle.old.slot.value result handle.new.slot.value
         (λ old new. Reserves old.held more result new.held
-        × (new.struck ≡ old.struck) × (new.key_room ≡ old.key_room)) }
+        × (new.struck ≡ old.struck) × (new.key ≡ old.key)) }
 {
     on_table!(handle, alloc, BtreeBytesU64, table => calls::reserve(&mut table.map, more))
 }
@@ -216,7 +216,8 @@ pub extern "C" fn jetukoma_btree_bytes_u64_remove_by_left_unchecked(
     left: &[u8],
 ) -> u32
     ensures { Changes btree_bytes_u64 handle.old.slot.value result handle.new.slot.value
-        (λ old new. RemovesByLeft old left.now result new × (old.key_room ≤ new.key_room)) }
+        (λ old new. RemovesByLeft old left.now result new
+        × (vec_capacity old.key ≤ vec_capacity new.key)) }
 {
     on_table!(handle, alloc, BtreeBytesU64, table => bytes::remove_by_left(table, left))
 }
@@ -230,7 +231,7 @@ pub extern "C" fn jetukoma_btree_bytes_u64_remove_by_right_unchecked(
 ) -> u32
     ensures { Changes btree_bytes_u64 handle.old.slot.value result handle.new.slot.value
         (λ old new. RemovesByRight nat_eq old right result new
-        × (new.key_room ≡ old.key_room)) }
+        × (new.key ≡ old.key)) }
 {
     on_table!(handle, alloc, BtreeBytesU64, table => bytes::remove_by_right(table, &right))
 }

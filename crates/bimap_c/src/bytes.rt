@@ -301,7 +301,7 @@ pub(crate) fn remove_by_right<R: Eq + Drop, B: Bijection<Vec<u8>, R>>(
 ) -> u32
     ensures removed { RemovesByRight R.eq (kept B.holding table.old) right.now result
         (kept B.holding table.new) }
-    ensures room { vec_capacity table.new.key ≡ vec_capacity table.old.key }
+    ensures room { table.new.key ≡ table.old.key }
 {
     strike(&mut table.struck, table.map.remove_by_right(right))
 }

@@ -1,5 +1,0 @@
-use Rattle.std.proofs.Common.{inr}
-use Rattle.bimap_c.proofs.bytes_bytes.remove_by_right.Goals as goal
-
-pub returns-clause-removed : goal.returns-clause-removed
-returns-clause-removed g c = inr (c.note.new.key, c.note.ensures.noted c.if-not-note.false, (c.remove_by_right.result, c.remove_by_right.ensures, c.strike.ensures))
