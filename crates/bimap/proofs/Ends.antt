@@ -26,12 +26,15 @@ module _ {L : Type 0} (held sorted : List (L × ℕ)) (sorts : IsByRight nat_cmp
     by_rank q held =
         let m = (sorts.same q).0 held in
         let at_i = ap (λ (p : L × ℕ). p.1) m.2 in
-        let at_rank = ap (λ (p : L × ℕ). p.1) (is q) in
-        (m.0, m.1, elim (cases_order m.0 rank) [
-          | inl e ↦ inl (e, sym at_i ∙ ap (λ k. (get_or sorted k q).1) e ∙ at_rank)
-          | inr (inl b) ↦ inr (inl (b, (let w = below m.0 rank q b (slice_get_within sorted rank (l, r) (sym at)) in omega (arith, w, at_i, at_rank))))
-          | inr (inr b) ↦ inr (inr (b, (let w = below rank m.0 q b m.1 in omega (arith, w, at_i, at_rank))))
-        ])
+        let at_rank = ap (λ (p : L × ℕ). p.1) (is q) in (
+          m.0,
+          m.1,
+          elim (cases_order m.0 rank) [
+            | inl e ↦ inl (e, sym at_i ∙ ap (λ k. (get_or sorted k q).1) e ∙ at_rank)
+            | inr (inl b) ↦ inr (inl (b, (let w = below m.0 rank q b (slice_get_within sorted rank (l, r) (sym at)) in omega (arith, w, at_i, at_rank))))
+            | inr (inr b) ↦ inr (inr (b, (let w = below rank m.0 q b m.1 in omega (arith, w, at_i, at_rank))))
+          ],
+        )
 
   -- no number is below the first
   pub first_is_least : (l : L) (r : ℕ) → Some (l, r) ≡ slice_get sorted 0 → (q : L × ℕ) → Contains held q → r ≤ q.1

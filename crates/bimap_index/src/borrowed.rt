@@ -8,53 +8,122 @@ use bimap_tree::Ordered;
 use std::alloc::Allocator;
 use std::hash::{BuildHasher, Hash};
 
-// A query of a key, with the parameters of an ordered index and those of a hashed one.
-macro_rules! asked {
-    ($query:ty => $key:ty; [$($ordered:tt)*]; [$($hashed:tt)*]) => {
-        impl<$($ordered)*> Lookup<$key, $query> for Ordered {
-            fn find_by<S: Side<$key>, M: Meter>(
-                &self,
-                side: S,
-                query: $query,
-                meter: &mut M,
-            ) -> Option<usize> {
-                find_in_order(self, side, query, meter)
-            }
+impl<'q, A: Allocator> Lookup<String<A>, &'q str> for Ordered {
+    fn find_by<S: Side<String<A>>, M: Meter>(
+        &self,
+        side: S,
+        query: &'q str,
+        meter: &mut M,
+    ) -> Option<usize> {
+        find_in_order(self, side, query, meter)
+    }
 
-            fn unlink_by<S: Side<$key>, M: Meter>(
-                &mut self,
-                side: S,
-                query: $query,
-                meter: &mut M,
-            ) -> Option<usize> {
-                unlink_in_order(self, side, query, meter)
-            }
-        }
-
-        impl<$($hashed)*, B: BuildHasher> Lookup<$key, $query> for HashIndex<B> {
-            fn find_by<S: Side<$key>, M: Meter>(
-                &self,
-                side: S,
-                query: $query,
-                meter: &mut M,
-            ) -> Option<usize> {
-                self.find_hashed(side, query, meter)
-            }
-
-            fn unlink_by<S: Side<$key>, M: Meter>(
-                &mut self,
-                side: S,
-                query: $query,
-                meter: &mut M,
-            ) -> Option<usize> {
-                self.unlink_hashed(side, query, meter)
-            }
-        }
-    };
+    fn unlink_by<S: Side<String<A>>, M: Meter>(
+        &mut self,
+        side: S,
+        query: &'q str,
+        meter: &mut M,
+    ) -> Option<usize> {
+        unlink_in_order(self, side, query, meter)
+    }
 }
 
-asked!(&'q str => String<A>; ['q, A: Allocator]; ['q, A: Allocator]);
+impl<'q, A: Allocator, B: BuildHasher> Lookup<String<A>, &'q str> for HashIndex<B> {
+    fn find_by<S: Side<String<A>>, M: Meter>(
+        &self,
+        side: S,
+        query: &'q str,
+        meter: &mut M,
+    ) -> Option<usize> {
+        self.find_hashed(side, query, meter)
+    }
 
-asked!(&'q str => &'k str; ['q, 'k]; ['q, 'k]);
+    fn unlink_by<S: Side<String<A>>, M: Meter>(
+        &mut self,
+        side: S,
+        query: &'q str,
+        meter: &mut M,
+    ) -> Option<usize> {
+        self.unlink_hashed(side, query, meter)
+    }
+}
 
-asked!(&'q [T] => Vec<T, A>; ['q, T: Ord, A: Allocator]; ['q, T: Eq + Hash, A: Allocator]);
+impl<'q, 'k> Lookup<&'k str, &'q str> for Ordered {
+    fn find_by<S: Side<&'k str>, M: Meter>(
+        &self,
+        side: S,
+        query: &'q str,
+        meter: &mut M,
+    ) -> Option<usize> {
+        find_in_order(self, side, query, meter)
+    }
+
+    fn unlink_by<S: Side<&'k str>, M: Meter>(
+        &mut self,
+        side: S,
+        query: &'q str,
+        meter: &mut M,
+    ) -> Option<usize> {
+        unlink_in_order(self, side, query, meter)
+    }
+}
+
+impl<'q, 'k, B: BuildHasher> Lookup<&'k str, &'q str> for HashIndex<B> {
+    fn find_by<S: Side<&'k str>, M: Meter>(
+        &self,
+        side: S,
+        query: &'q str,
+        meter: &mut M,
+    ) -> Option<usize> {
+        self.find_hashed(side, query, meter)
+    }
+
+    fn unlink_by<S: Side<&'k str>, M: Meter>(
+        &mut self,
+        side: S,
+        query: &'q str,
+        meter: &mut M,
+    ) -> Option<usize> {
+        self.unlink_hashed(side, query, meter)
+    }
+}
+
+impl<'q, T: Ord, A: Allocator> Lookup<Vec<T, A>, &'q [T]> for Ordered {
+    fn find_by<S: Side<Vec<T, A>>, M: Meter>(
+        &self,
+        side: S,
+        query: &'q [T],
+        meter: &mut M,
+    ) -> Option<usize> {
+        find_in_order(self, side, query, meter)
+    }
+
+    fn unlink_by<S: Side<Vec<T, A>>, M: Meter>(
+        &mut self,
+        side: S,
+        query: &'q [T],
+        meter: &mut M,
+    ) -> Option<usize> {
+        unlink_in_order(self, side, query, meter)
+    }
+}
+
+impl<'q, T: Eq + Hash, A: Allocator, B: BuildHasher> Lookup<Vec<T, A>, &'q [T]> for HashIndex<B> {
+    fn find_by<S: Side<Vec<T, A>>, M: Meter>(
+        &self,
+        side: S,
+        query: &'q [T],
+        meter: &mut M,
+    ) -> Option<usize> {
+        self.find_hashed(side, query, meter)
+    }
+
+    fn unlink_by<S: Side<Vec<T, A>>, M: Meter>(
+        &mut self,
+        side: S,
+        query: &'q [T],
+        meter: &mut M,
+    ) -> Option<usize> {
+        self.unlink_hashed(side, query, meter)
+    }
+}

@@ -3,8 +3,8 @@ use crate::kind::say;
 use crate::request::Request;
 use crate::word::Word;
 use bimap::{
-    Bijection, get_by_left_or_insert_with, get_by_right_or_insert, put, replace_left, replace_right,
-    swap_partners,
+    Bijection, get_by_left_or_insert_with, get_by_right_or_insert, put, replace_left,
+    replace_right, swap_partners,
 };
 use std::alloc::AllocError;
 
