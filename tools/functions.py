@@ -19,7 +19,8 @@ def owner_of(head, module, homes):
         if not depth:
             break
     given, head = re.findall(r"[<,] *(?:const )?'?(\w+)", head[:at]), re.sub(r" where .*| ?\{.*", "", head[at:]).strip()
-    of, _, to = head.rpartition(" for ")
+    # (a `drop` is named as a method of the type)
+    of, _, to = head.removeprefix("Drop for ").rpartition(" for ")
     kind, words = re.match(r"(&)?(?:'\w+ )?(\w+)", to), re.findall(r"\w+", to.partition("<")[2])
     own = [it for it in words if it not in ("_", *given)]
     if not kind:
