@@ -3,31 +3,27 @@ use bimap::{BiBTreeMap, BiHashMap};
 use std::alloc::AllocError;
 use std::process::Abort;
 
-const NAMES: [&str; 4] = ["", "main", "mainly", "z"];
+const NAMES: [(&str, u32); 4] = [("", 0), ("main", 1), ("mainly", 2), ("z", 3)];
 
-// Some names, by number, in ordered maps and in hashed ones.
+// Some names with numbers, in an ordered map and in a hashed one.
 fn ordered_names(rt: &impl AllocGlobal) -> Result<BiBTreeMap<String, u32>, AllocError> {
     let mut numbers = BiBTreeMap::new(rt.alloc());
-    let mut number = 0;
-    for name in NAMES {
+    for (name, number) in NAMES {
         let name = String::from_str(rt.alloc(), name)?;
         if numbers.insert(name, number).is_err() {
             return Err(AllocError);
         }
-        number += 1;
     }
     Ok(numbers)
 }
 
 fn hashed_names(rt: &impl AllocGlobal) -> Result<BiHashMap<u32, String>, AllocError> {
     let mut names = BiHashMap::new(rt.alloc());
-    let mut number = 0;
-    for name in NAMES {
+    for (name, number) in NAMES {
         let name = String::from_str(rt.alloc(), name)?;
         if names.insert(number, name).is_err() {
             return Err(AllocError);
         }
-        number += 1;
     }
     Ok(names)
 }
