@@ -76,11 +76,13 @@ module _ {L R : Type 0} where
         pub interning_alike : (pair : L × R) (result : Result R (NotInserted L R)) → (HasLeft same_left (Contains h.pairs) pair.0 → k' ≡ k) → OnErr result (k' ≡ k) → IsInterning same_left same_right h pair result h' → IsInterning same_left same_right k pair result k'
         interning_alike pair result held unchanged i =
             let back = turned (Contains h.pairs) (Contains k.pairs) like.members in
+            let lacked = LacksLeft-same (Contains k.pairs) (Contains h.pairs) back same_left pair.0 in
             record {
               answer = IfOk-weaker result _ _ (λ right w. (w.0, (after.members (w.0, right)).0 w.1, w.2)) i.answer;
               held = λ has. let was = HasLeft-same (Contains k.pairs) (Contains h.pairs) back same_left pair.0 has in ((i.held was).0, held was);
-              put = λ lacks. on_ok_weaker result (IsWithPut-same (Contains h.pairs) (Contains k.pairs) like.members same_left same_right (Contains h'.pairs) (Contains k'.pairs) pair after.members) (i.put (LacksLeft-same (Contains k.pairs) (Contains h.pairs) back same_left pair.0 lacks));
-              count = λ lacks. on_ok_weaker result (λ e. omega (arith, after.long, e, like.long)) (i.count (LacksLeft-same (Contains k.pairs) (Contains h.pairs) back same_left pair.0 lacks));
+              given = λ lacks. i.given (lacked lacks);
+              put = λ lacks. on_ok_weaker result (IsWithPut-same (Contains h.pairs) (Contains k.pairs) like.members same_left same_right (Contains h'.pairs) (Contains k'.pairs) pair after.members) (i.put (lacked lacks));
+              count = λ lacks. on_ok_weaker result (λ e. omega (arith, after.long, e, like.long)) (i.count (lacked lacks));
               kept = λ p was. (after.members p).0 (i.kept p ((like.members p).1 was));
               refused = IfErr-weaker result _ _ (λ e. IsRefusal-same (Contains h.pairs) (Contains k.pairs) like.members same_left same_right (IsFull h) (IsFull k) pair e full_alike) i.refused;
               unchanged = unchanged;

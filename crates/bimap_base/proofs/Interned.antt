@@ -15,6 +15,7 @@ module _ {L R : Type 0} (same_left : L → L → Bool) (same_right : R → R →
       record {
         answer = (pair.0, (put.put pair).1 (inl refl), lefts.refl pair.0);
         held = λ h. absurd (true≢false (sym h.2 ∙ lacks h.0 h.1));
+        given = λ _. refl;
         put = λ _. put.put;
         count = λ _. put.count;
         kept = kept;
@@ -28,6 +29,7 @@ module _ {L R : Type 0} (same_left : L → L → Bool) (same_right : R → R →
       record {
         answer = (pair.1, (put.put pair).1 (inl refl), rights.refl pair.1);
         held = λ h. absurd (true≢false (sym h.2 ∙ lacks h.0 h.1));
+        given = λ _. refl;
         put = λ _. put.put;
         count = λ _. put.count;
         kept = kept;

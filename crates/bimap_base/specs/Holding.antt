@@ -96,6 +96,7 @@ module _ {L R : Type 0} (same_left : L → L → Bool) (same_right : R → R →
   pub record IsInterning (old : Holding L R) (pair : L × R) (result : Result R (NotInserted L R)) (new : Holding L R) : Type 0 where
     pub answer : IfOk result (λ right. (l : L) × Contains new.pairs (l, right) × (same_left l pair.0 ≡ true))
     pub held : HasLeft same_left (Contains old.pairs) pair.0 → IsOk result × (new ≡ old)
+    pub given : LacksLeft same_left (Contains old.pairs) pair.0 → IfOk result (λ right. right ≡ pair.1)
     pub put : LacksLeft same_left (Contains old.pairs) pair.0 → OnOk result (IsWithPut same_left same_right (Contains old.pairs) pair (Contains new.pairs))
     pub count : LacksLeft same_left (Contains old.pairs) pair.0 → OnOk result (length new.pairs ≡ length old.pairs + 1)
     pub kept : (p : L × R) → Contains old.pairs p → Contains new.pairs p

@@ -41,13 +41,17 @@ impl<'a, K: Eq + Hash, Q: HashQuery<K>, S: Side<K>, B: BuildHasher> Spread
 
     ghost key_at = { λ s. S.key_at s.side };
 
-    ghost number_of = { λ s. number_by B.Hasher.finish B.Hasher.write B.build_hasher K.hash_input s.builder.now };
+    ghost number_of = { λ s. number_by B.Hasher.finish B.Hasher.write B.build_hasher K.hash_input
+        s.builder.now };
 
-    ghost query_number = { λ s. number_by B.Hasher.finish B.Hasher.write B.build_hasher Q.hash_input s.builder.now };
+    ghost query_number = { λ s. number_by B.Hasher.finish B.Hasher.write B.build_hasher Q.hash_input
+        s.builder.now };
 
     ghost same_key = { Q.same };
 
-    ghost alike = { λ s k q h. ap (λ w. B.Hasher.finish (fold B.Hasher.write (B.build_hasher s.builder.now) w) % 4294967296) (sym (Q.hashed q k h)) };
+    ghost alike = { λ s k q h. ap (λ w. B.Hasher.finish
+        (fold B.Hasher.write (B.build_hasher s.builder.now) w) % 4294967296)
+        (sym (Q.hashed q k h)) };
 
     fn hash_query(&self, query: Q) -> u32 {
         hash_number(self.builder, &query)

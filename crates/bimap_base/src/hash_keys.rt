@@ -35,5 +35,6 @@ pub trait Spread {
         ensures { IfSome (key_at self.now place) (λ k. result ≡ same_key k query) };
 
     /// A query has the number of the keys that it asks for.
-    ghost alike: { (s : Self) (k : Self.Key) (q : Self.Query) → IsTrue (same_key k q) → number_of s k ≡ query_number s q };
+    ghost alike: { (s : Self) (k : Self.Key) (q : Self.Query) → IsTrue (same_key k q) →
+        number_of s k ≡ query_number s q };
 }

@@ -48,7 +48,8 @@ pub trait OrderQuery<K: Ord>: Query<K> {
 
 /// A query that is hashed as the keys are that it asks for.
 pub trait HashQuery<K: Eq + Hash>: Query<K> + Hash {
-    ghost hashed: { (q : Self) (k : K) → Self.Query.same k q ≡ true → Self.Hash.hash_input q ≡ K.hash_input k };
+    ghost hashed: { (q : Self) (k : K) → Self.Query.same k q ≡ true →
+        Self.Hash.hash_input q ≡ K.hash_input k };
 }
 
 impl<K: Eq> Query<K> for &K {
@@ -80,7 +81,8 @@ impl<K: Ord> OrderQuery<K> for &K {
 impl<A: Allocator> Query<String<A>> for &str {
     ghost same = { λ k q. bytes_eq (string_bytes k) q.now };
 
-    ghost respects = { λ q x y. respects_equal nat_list_eq_equiv q.now (string_bytes x) (string_bytes y) };
+    ghost respects = { λ q x y. respects_equal nat_list_eq_equiv q.now (string_bytes x)
+        (string_bytes y) };
 
     fn is(&self, key: &String<A>) -> bool {
         key.as_str() == *self
@@ -96,7 +98,8 @@ impl<A: Allocator> OrderQuery<String<A>> for &str {
 
     ghost agrees = { λ q x. texts_ties (string_bytes x) q.now };
 
-    ghost follows = { λ q x y. follows_itself nat_list_cmp_total q.now (string_bytes x) (string_bytes y) };
+    ghost follows = { λ q x y. follows_itself nat_list_cmp_total q.now (string_bytes x)
+        (string_bytes y) };
 
     fn order(&self, key: &String<A>) -> Ordering {
         key.as_str().cmp(*self)
@@ -152,5 +155,6 @@ impl<T: Ord, A: Allocator> OrderQuery<Vec<T, A>> for &[T] {
 }
 
 impl<T: Eq + Hash, A: Allocator> HashQuery<Vec<T, A>> for &[T] {
-    ghost hashed = { λ q k e. sym ((items_Alike (record { fed = T.respects_eq })).fed k.items q.now e) };
+    ghost hashed = { λ q k e. sym ((items_Alike (record { fed = T.respects_eq })).fed k.items q.now
+        e) };
 }
