@@ -12,6 +12,10 @@ use bimap_base::{NoMemory, Spread};
 /// More cells than this fit no memory.
 pub(crate) const MOST: usize = usize::MAX / 4 + 1;
 
+// Up to so many cells have four heads each: these stay near, and fewer of them lead to another key, which a processor does not
+// foresee.
+const FEW: usize = 4_096;
+
 // How many heads there are to be for so many cells.
 fn heads_for(heads: usize, cells: usize) -> usize
     requires few { cells ≤ 2 ^ 62 }
@@ -19,10 +23,11 @@ fn heads_for(heads: usize, cells: usize) -> usize
     ensures sized { IsSized cells result }
     ensures not_fewer { heads ≤ result }
 {
-    if 2 * cells <= heads {
+    let wanted = 2 * cells.max(2 * cells.min(FEW));
+    if wanted <= heads {
         heads
     } else {
-        (2 * cells).next_power_of_two()
+        wanted.next_power_of_two()
     }
 }
 

@@ -28,7 +28,11 @@ impl<L: Link> Model for Threads<L> {
     ghost use Rattle.bimap_chain.specs.Width.{target};
     ghost use Rattle.bimap_chain.specs.Cells.{cell_of};
 
-    ghost view = { λ t. record { cells = map (cell_of L.width) t.cells.items; heads = map (target L.width) t.heads.items } };
+    ghost view = { λ t. record {
+      cells = map (cell_of L.width) t.cells.items;
+      heads =
+          map (target L.width) t.heads.items;
+    } };
 
     ghost invariant = { λ t. length t.cells.items < L.width.free };
 }
