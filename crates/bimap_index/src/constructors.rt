@@ -67,5 +67,8 @@ pub trait CompactedIndex<K: Eq>: Index<K> {
             * (64 * (Self.effort (length (Self.places self.old)) + 1)) };
 
     /// The keys and the order of their places decide the order of a walk.
-    ghost walks_alike: { (index other : Self) (keys moved : List (Option K)) → Self.is_listing index (pair_at keys) → Self.is_listing other (pair_at moved) → pairs_in moved ≡ pairs_in keys → pairs_at moved (Self.places other) ≡ pairs_at keys (Self.places index) };
+    ghost walks_alike: { (index other : Self) (keys moved : List (Option K)) →
+        Self.is_listing index (pair_at keys) → Self.is_listing other (pair_at moved) →
+        pairs_in moved ≡ pairs_in keys → pairs_at moved (Self.places other) ≡ pairs_at keys
+        (Self.places index) };
 }

@@ -38,6 +38,7 @@ impl<B> HashIndex<B> {
 
 impl<B: BuildHasher> HashIndex<B> {
     // The place whose key the query asks for. It counts nothing.
+    #[inline(always)]
     pub(crate) fn find_hashed<K: Eq + Hash, S: Side<K>, Q: HashQuery<K>, M: Meter>(
         &self,
         side: S,
@@ -54,6 +55,7 @@ impl<B: BuildHasher> HashIndex<B> {
     }
 
     // Takes the place whose key the query asks for off the list, and answers it. It counts nothing.
+    #[inline(always)]
     pub(crate) fn unlink_hashed<K: Eq + Hash, S: Side<K>, Q: HashQuery<K>, M: Meter>(
         &mut self,
         side: S,
@@ -84,11 +86,14 @@ impl<K: Eq + Hash, B: BuildHasher> Index<K> for HashIndex<B> {
     // A search along a chain goes to its end at once.
     type Search = ();
 
-    ghost is_listing = { λ h. ListsByHash K.eq (number_by B.Hasher.finish B.Hasher.write B.build_hasher K.hash_input h.builder) h.hashed };
+    ghost is_listing = { λ h. ListsByHash K.eq
+        (number_by B.Hasher.finish B.Hasher.write B.build_hasher K.hash_input h.builder) h.hashed };
 
-    ghost leads = { λ h f key spot. spot ≡ number_by B.Hasher.finish B.Hasher.write B.build_hasher K.hash_input h.builder key };
+    ghost leads = { λ h f key spot. spot ≡ number_by B.Hasher.finish B.Hasher.write B.build_hasher
+        K.hash_input h.builder key };
 
-    ghost is_for = { λ h key spot. spot ≡ number_by B.Hasher.finish B.Hasher.write B.build_hasher K.hash_input h.builder key };
+    ghost is_for = { λ h key spot. spot ≡ number_by B.Hasher.finish B.Hasher.write B.build_hasher
+        K.hash_input h.builder key };
 
     ghost under_way = { λ h f key search spot. ⊤ };
 
@@ -110,12 +115,14 @@ impl<K: Eq + Hash, B: BuildHasher> Index<K> for HashIndex<B> {
         hash_number(&self.builder, key)
     }
 
+    #[inline(always)]
     fn find<S: Side<K>, M: Meter>(&self, side: S, key: &K, meter: &mut M) -> Option<usize> {
         self.find_hashed(side, key, meter)
     }
 
     fn start(&self) {}
 
+    #[inline(always)]
     fn finish<S: Side<K>, M: Meter>(
         &self,
         side: S,
@@ -140,18 +147,22 @@ impl<K: Eq + Hash, B: BuildHasher> Index<K> for HashIndex<B> {
         ByHash::new(side, &self.builder).same(place, key)
     }
 
+    #[inline(always)]
     fn link<S: Side<K>, M: Meter>(&mut self, _side: S, place: usize, spot: &u32, _meter: &mut M) {
         self.hashed.insert_numbered(place, *spot);
     }
 
+    #[inline(always)]
     fn relink<S: Side<K>, M: Meter>(&mut self, _side: S, place: usize, spot: &u32, _meter: &mut M) {
         self.hashed.insert_numbered(place, *spot);
     }
 
+    #[inline(always)]
     fn unlink<S: Side<K>, M: Meter>(&mut self, _side: S, place: usize, _meter: &mut M) {
         self.hashed.remove(place);
     }
 
+    #[inline(always)]
     fn unlink_key<S: Side<K>, M: Meter>(
         &mut self,
         side: S,
@@ -169,15 +180,22 @@ impl<K: Eq + Hash, B: BuildHasher> Index<K> for HashIndex<B> {
         self.hashed.clear();
     }
 
-    ghost listed = { λ h. hash_listed K.eq (number_by B.Hasher.finish B.Hasher.write B.build_hasher K.hash_input h.builder) h.hashed };
+    ghost listed = { λ h. hash_listed K.eq (number_by B.Hasher.finish B.Hasher.write B.build_hasher
+        K.hash_input h.builder) h.hashed };
 
-    ghost distinct = { λ h. hash_distinct K.eq (number_by B.Hasher.finish B.Hasher.write B.build_hasher K.hash_input h.builder) h.hashed };
+    ghost distinct = { λ h. hash_distinct K.eq
+        (number_by B.Hasher.finish B.Hasher.write B.build_hasher K.hash_input h.builder) h.hashed };
 
-    ghost in_order = { λ h. hash_in_order K.eq (number_by B.Hasher.finish B.Hasher.write B.build_hasher K.hash_input h.builder) h.hashed };
+    ghost in_order = { λ h. hash_in_order K.eq
+        (number_by B.Hasher.finish B.Hasher.write B.build_hasher K.hash_input h.builder) h.hashed };
 
-    ghost respects = { λ h. hash_respects K.eq (number_by B.Hasher.finish B.Hasher.write B.build_hasher K.hash_input h.builder) K.Eq.laws (λ x y e. ap (λ w. B.Hasher.finish (fold B.Hasher.write (B.build_hasher h.builder) w) % 4294967296) (K.respects_eq x y e)) h.hashed };
+    ghost respects = { λ h. hash_respects K.eq
+        (number_by B.Hasher.finish B.Hasher.write B.build_hasher K.hash_input h.builder) K.Eq.laws
+        (λ x y e. ap (λ w. B.Hasher.finish (fold B.Hasher.write (B.build_hasher h.builder)
+        w) % 4294967296) (K.respects_eq x y e)) h.hashed };
 
-    ghost settled = { λ h. hash_settled K.eq (number_by B.Hasher.finish B.Hasher.write B.build_hasher K.hash_input h.builder) h.hashed };
+    ghost settled = { λ h. hash_settled K.eq (number_by B.Hasher.finish B.Hasher.write
+        B.build_hasher K.hash_input h.builder) h.hashed };
 }
 
 impl<K: Eq + Hash, B: BuildHasher + Default> EmptyIndex<K> for HashIndex<B> {
@@ -202,7 +220,8 @@ impl<K: Eq + Hash, B: BuildHasher + Clone> CopiedIndex<K> for HashIndex<B> {
 impl<K: Eq + Hash, B: BuildHasher> CompactedIndex<K> for HashIndex<B> {
     type Compacted = Hashed;
 
-    ghost is_compacted = { λ h to new. (length (pairs_in h.hashed) ≤ to) × (new ≡ compacted (pairs_in h.hashed) to) };
+    ghost is_compacted = { λ h to new. (length (pairs_in h.hashed) ≤ to)
+        × (new ≡ compacted (pairs_in h.hashed) to) };
 
     fn compacted(&self, _alloc: Global, to: usize) -> Result<Hashed, NoMemory> {
         self.hashed.compacted(to)
@@ -212,5 +231,8 @@ impl<K: Eq + Hash, B: BuildHasher> CompactedIndex<K> for HashIndex<B> {
         self.hashed = compacted;
     }
 
-    ghost walks_alike = { λ h other. hash_walks_alike K.eq (number_by B.Hasher.finish B.Hasher.write B.build_hasher K.hash_input h.builder) (number_by B.Hasher.finish B.Hasher.write B.build_hasher K.hash_input other.builder) h.hashed other.hashed };
+    ghost walks_alike = { λ h other. hash_walks_alike K.eq
+        (number_by B.Hasher.finish B.Hasher.write B.build_hasher K.hash_input h.builder)
+        (number_by B.Hasher.finish B.Hasher.write B.build_hasher K.hash_input other.builder)
+        h.hashed other.hashed };
 }

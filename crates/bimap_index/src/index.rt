@@ -200,17 +200,23 @@ pub trait Index<K: Eq> {
         ensures cells { cells self.new ≡ cells self.old };
 
     /// The listed places are those that have a key.
-    ghost listed: { (index : Self) (f : ℕ → Option K) → is_listing index f → (p : ℕ) → Contains (places index) p ↔ IsSome (f p) };
+    ghost listed: { (index : Self) (f : ℕ → Option K) → is_listing index f → (p : ℕ) →
+        Contains (places index) p ↔ IsSome (f p) };
 
     /// None is listed twice.
-    ghost distinct: { (index : Self) (f : ℕ → Option K) → is_listing index f → AllPairs (λ a b. a ≢ b) (places index) };
+    ghost distinct: { (index : Self) (f : ℕ → Option K) → is_listing index f →
+        AllPairs (λ a b. a ≢ b) (places index) };
 
     /// Their keys ascend by the order of a walk.
-    ghost in_order: { (index : Self) (f : ℕ → Option K) → is_listing index f → AllPairs (λ a b. (k l : K) → f a ≡ Some k → f b ≡ Some l → walk_order index k l ≡ Less) (places index) };
+    ghost in_order: { (index : Self) (f : ℕ → Option K) → is_listing index f →
+        AllPairs (λ a b. (k l : K) → f a ≡ Some k → f b ≡ Some l → walk_order index k l ≡ Less)
+        (places index) };
 
     /// The keys may be others that are equal.
-    ghost respects: { (index : Self) (f g : ℕ → Option K) → ((p : ℕ) → IsAlike K.eq (f p) (g p)) → is_listing index f → is_listing index g };
+    ghost respects: { (index : Self) (f g : ℕ → Option K) → ((p : ℕ) → IsAlike K.eq (f p) (g p)) →
+        is_listing index f → is_listing index g };
 
     /// That an index lists a side has one proof.
-    ghost settled: { (index : Self) (f : ℕ → Option K) → ∥ is_listing index f ∥₁ → is_listing index f };
+    ghost settled: { (index : Self) (f : ℕ → Option K) → ∥ is_listing index f ∥₁ →
+        is_listing index f };
 }

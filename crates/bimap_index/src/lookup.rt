@@ -31,6 +31,7 @@ pub trait Lookup<K: Eq, Q: Query<K>>: Index<K> {
 }
 
 impl<K: Eq, I: Index<K>> Lookup<K, &K> for I {
+    #[inline(always)]
     fn find_by<S: Side<K>, M: Meter>(&self, side: S, query: &K, meter: &mut M) -> Option<usize> {
         self.find(side, query, meter)
     }

@@ -64,7 +64,8 @@ impl<K: Ord> Index<K> for Ordered {
 
     ghost is_for = { λ o key spot. ⊤ };
 
-    ghost under_way = { λ o f key search spot. IsUnderWay o (λ q. standing K.cmp (f q) (Some key)) search spot };
+    ghost under_way = { λ o f key search spot. IsUnderWay o (λ q. standing K.cmp (f q) (Some key))
+        search spot };
 
     ghost ahead = { λ o search. levels_left o.nodes search };
 
@@ -85,7 +86,7 @@ impl<K: Ord> Index<K> for Ordered {
     }
 
     fn find<S: Side<K>, M: Meter>(&self, side: S, key: &K, meter: &mut M) -> Option<usize> {
-        find_in_order(self, side, key, meter)
+        self.find(&ByOrder::new(side), key, meter)
     }
 
     fn start(&self) -> Descent {
@@ -151,7 +152,7 @@ impl<K: Ord> Index<K> for Ordered {
         key: &K,
         meter: &mut M,
     ) -> Option<usize> {
-        unlink_in_order(self, side, key, meter)
+        self.remove_key(&ByOrder::new(side), key, meter)
     }
 
     fn grow(&mut self, to: usize) -> Result<(), NoMemory> {
@@ -194,7 +195,8 @@ impl<K: Ord> CopiedIndex<K> for Ordered {
 impl<K: Ord> CompactedIndex<K> for Ordered {
     type Compacted = Ordered;
 
-    ghost is_compacted = { λ o to new. (length o.places ≤ to) × (new.places ≡ []) × (length new.nodes ≡ to) };
+    ghost is_compacted = { λ o to new. (length o.places ≤ to) × (new.places ≡ [])
+        × (length new.nodes ≡ to) };
 
     fn compacted(&self, alloc: Global, to: usize) -> Result<Ordered, NoMemory> {
         let mut compacted = Ordered::new(alloc);
@@ -211,5 +213,6 @@ impl<K: Ord> CompactedIndex<K> for Ordered {
         }
     }
 
-    ghost walks_alike = { λ o other. order_walks_alike K.cmp K.eq K.total K.matches_eq o.places other.places };
+    ghost walks_alike = { λ o other. order_walks_alike K.cmp K.eq K.total K.matches_eq o.places
+        other.places };
 }

@@ -29,10 +29,10 @@ module _ (ns : List Node) (route : Route) (grew : Bool) (start : ℕ) (has : Tre
 
   -- and the way has come up from there to this depth
   pub record Climbs (now : List Node) (depth : ℕ) (next : Tree → Tree → Type 0) : Type 0 where
-    pub deep : depth ≤ 128
+    pub deep : depth ≤ 91
     pub alike : (path : Path) (s u : Tree) → Start path s u → (up : Path) × (x : Tree) × (t : Tree) × CanRise now route up grew x t × (depth ≡ steps up) × next x t × ((last : List Node) (root : Option ℕ) (v : Tree) → IsRisen now last up t root v → IsRisen ns last path u root v)
 
-  pub climbs_none : start ≤ 128 → Climbs ns start has
+  pub climbs_none : start ≤ 91 → Climbs ns start has
   climbs_none few = record { deep = few; alike = λ path s u c. (path, s, u, c.rise, c.start_is, c.known, λ last root v r. r) }
 
   module _ (now : List Node) (depth : ℕ) (next : Tree → Tree → Type 0) (d : Climbs now depth next) where

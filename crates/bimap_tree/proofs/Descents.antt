@@ -243,7 +243,7 @@ module _ (ns : List Node) (live : ℕ → Type 0) (go : ℕ → Ordering) (top :
       pub goes_live : (path : Path) (s : Tree) → CanFollow ns top live go first start path s → live at
       goes_live path s h = let (low, x, k, w, f) = d.alike path s h in live_here ns live go root at node x k.seek is told
 
-      pub goes_deep : (path : Path) (s : Tree) → CanFollow ns top live go first start path s → depth < 128
+      pub goes_deep : (path : Path) (s : Tree) → CanFollow ns top live go first start path s → depth < 91
       goes_deep path s h =
           let (low, x, k, w, f) = d.alike path s h in
           let (near, far, o) = step_on ns live go root at node true x k.seek is told in
@@ -278,7 +278,7 @@ module _ (ns : List Node) (top start : ℕ) (old : Route) where
   descends_top = record { alike = λ s h. (s, h, λ last first low i. i) }
 
   module _ (at depth : ℕ) (now : Route) (d : Descends at depth now) (node : Node) (told : slice_get ns at ≡ Some node) where
-    pub descends_deep : (s : Tree) → CanDescend ns top start s → depth < 128
+    pub descends_deep : (s : Tree) → CanDescend ns top start s → depth < 91
     descends_deep s h = let (e, k, f) = d.alike s h in let (l, r, i) = descent ns at depth node e k told in i.here
 
     pub descends_end : node.left ≡ None → (s : Tree) → CanDescend ns top start s → (lefts : List (ℕ × Tree)) × (rest : Tree) × IsFirst old now start s at depth lefts rest

@@ -1,5 +1,5 @@
 -- The height of a balanced tree.
-use Rattle.std.proofs.Common.{ℕ, zero, suc, ◌+◌, ◌*◌, ◌^◌, ◌≤◌, arith, inl, inr}
+use Rattle.std.proofs.Common.{ℕ, zero, suc, ◌+◌, ◌*◌, ◌^◌, ◌≤◌, ◌<◌, arith, inl, inr}
 use Rattle.std.proofs.lemmas.Bool.Decides.{leb_tells}
 use Rattle.std.proofs.Math.Nat.{pow-suc}
 use Rattle.std.proofs.lemmas.Nat.{pow_pos}
@@ -31,3 +31,33 @@ low t b n le = omega (arith, height-bound t b, bits_mono (size t) n le)
 pub height_below_size : (t : Tree) → height t ≤ size t
 height_below_size leaf = omega arith
 height_below_size (fork l p r) = omega (arith, height_below_size l, height_below_size r)
+
+-- a balanced tree of so many levels has at least so many places
+abbrev HasPlaces : ℕ → ℕ → Type 0
+HasPlaces levels n = (t : Tree) → IsBalanced t → levels ≤ height t → n ≤ size t
+
+two_levels_on : (levels m n : ℕ) → HasPlaces levels m → HasPlaces (levels + 1) n → HasPlaces (levels + 2) (m + n + 1)
+two_levels_on levels m n first next leaf b le = absurd (omega arith)
+two_levels_on levels m n first next (fork l p r) b le =
+    elim (leb_tells (levels + 1) (height l)) [
+      | inl w ↦ omega (arith, next l b.2 w.1, first r b.3 (omega arith))
+      | inr w ↦ omega (arith, first l b.2 (omega arith), next r b.3 (omega arith))
+    ]
+
+-- m, n, m + n + 1 and so on, each one more than the sum of the two before it
+abbrev after : ℕ → ℕ → ℕ → ℕ
+after zero m n = m
+after (suc more) m n = after more n (m + n + 1)
+
+levels_on : (more levels m n : ℕ) → HasPlaces levels m → HasPlaces (levels + 1) n → HasPlaces (levels + more) (after more m n)
+levels_on zero levels m n first next t b le = first t b (omega arith)
+levels_on (suc more) levels m n first next t b le =
+    levels_on more (levels + 1) n (m + n + 1) next (λ u c h. two_levels_on levels m n first next u c (omega arith)) t b (omega arith)
+
+-- a tree whose number of places is that of a word has at most so many levels
+pub few_levels : (t : Tree) → IsBalanced t → size t < 2 ^ 64 → height t ≤ 91
+few_levels t b few =
+    elim (leb_tells (height t) 91) [
+      | inl w ↦ w.1
+      | inr w ↦ absurd (omega (arith, levels_on 92 0 0 1 (λ u c h. omega arith) (λ u c h. omega (arith, height_below_size u)) t b (omega arith)))
+    ]

@@ -24,8 +24,8 @@ module _ (nodes : List Node) (at depth : ℕ) (node : Node) (s : Tree) (h : CanD
   pub record Descent (l r : Tree) : Type 0 where
     pub is : s ≡ fork l at r
     pub left_stands : Stands nodes node.left l
-    pub here : depth < 128
-    pub deeper : depth + 1 + height l ≤ 128
+    pub here : depth < 91
+    pub deeper : depth + 1 + height l ≤ 91
 
   pub descent : (l : Tree) × (r : Tree) × Descent l r
   descent =
@@ -132,10 +132,10 @@ module _ (nodes : List Node) (route : Route) (path : Path) (l : Tree) (at : ℕ)
   right_tree node e = record { root_is = sym (ap (λ n. n.right) (node_told node e)); shown = shown_here.2 }
 
   -- how deep the path goes
-  pub depth_within : steps path + height (fork l at r) ≤ 128
+  pub depth_within : steps path + height (fork l at r) ≤ 91
   depth_within = omega (arith, steps_within path (fork l at r), h.deep)
 
-  pub depth_few : route.depth ≤ 128
+  pub depth_few : route.depth ≤ 91
   depth_few = omega (arith, h.depth_is, depth_within)
 
   once : (q : ℕ) → occurs_on q path + occurs q (fork l at r) ≤ 1

@@ -1,6 +1,6 @@
 -- Searches that are under way.
-use Rattle.std.proofs.Common.{◌≡◌, ◌⊎◌, inl, inr, ℕ, ◌≤◌, Bool, true, false, cond, List, Option, Some, length, refl, sym, subst, ◌∙◌, ap, arith}
-use Rattle.std.specs.Prelude.{IsSome}
+use Rattle.std.proofs.Common.{◌≡◌, ◌⊎◌, inl, inr, ℕ, ◌≤◌, Bool, true, false, cond, List, Option, Some, None, length, refl, sym, subst, ◌∙◌, ap, arith}
+use Rattle.std.specs.Prelude.{IsSome, IfNone}
 use Rattle.std.specs.Cmp.{IsTotalOrder}
 use Rattle.std.specs.declared.cmp.Ordering.{Ordering}
 use Rattle.std.specs.declared.cmp.Ordering.TheVariants.{Equal}
@@ -12,7 +12,7 @@ use Rattle.bimap_tree.specs.Tree.{Tree, Shows, fork, reading, root_of, branch, n
 use Rattle.bimap_tree.specs.Index.{Index, IsBalancedIndex, IsWhole, index_of, tree_in, height_at}
 use Rattle.bimap_tree.specs.Order.{first_equal}
 use Rattle.bimap_tree.specs.Path.{Path, top, below, plug, Wants, wanted}
-use Rattle.bimap_tree.specs.Route.{CanFollow, IsFollowed}
+use Rattle.bimap_tree.specs.Route.{CanFollow, IsFollowed, IsRoute}
 use Rattle.bimap_tree.specs.Search.{CanSeek}
 use Rattle.bimap_tree.specs.Descent.{IsUnderWay, levels_left}
 use Rattle.bimap_tree.specs.declared.descent.Descent.{Descent}
@@ -21,7 +21,7 @@ use Rattle.bimap_tree.proofs.Descents.{here}
 use Rattle.bimap_tree.proofs.Paths.{steps_within}
 use Rattle.bimap_tree.proofs.Searches.{seek_into, found_left, found_right}
 use Rattle.bimap_tree.proofs.Shown.{a_fork, height_told}
-use Rattle.bimap_tree.proofs.Whole.{can_seek_of, few_levels, height_within, shown_index}
+use Rattle.bimap_tree.proofs.Whole.{can_seek_of, few_levels, height_within, route_if_none, shown_index}
 
 -- a search that has not found the key yet may still go down all that is below
 pub levels_on : (ns : List Node) (descent : Descent) → descent.is_found ≡ false → levels_left ns descent ≡ height_at ns descent.root
@@ -74,14 +74,20 @@ module _ (ns : List Node) (root : Option ℕ) (len : ℕ) (v : Index) (w : IsWho
       omega (arith, levels_on v.nodes descent not_found, h, r, height_within ns root len v w e)
 
 module _ (ns : List Node) (root : Option ℕ) (len : ℕ) (v : Index) (w : IsWhole ns root len) (e : index_of ns root ≡ v) {K : Type 0} (key : ℕ → Option K) (order : K → K → Ordering) (total : IsTotalOrder order) (up : Ascends key order v.places) (k : K) (descent : Descent) where
+  -- which places have a key, and how each stands to the one sought
+  abbrev live : ℕ → Type 0
+  live = λ q. IsSome (key q)
+
+  abbrev go : ℕ → Ordering
+  go = λ q. standing order (key q) (Some k)
+
   -- a search that is under way may go on, and finds what it would have found from the top
-  pub goes_on_down : (route : Route) (u : IsUnderWay v (λ q. standing order (key q) (Some k)) descent route) → CanFollow ns descent.root (λ q. IsSome (key q)) (λ q. standing order (key q) (Some k)) route descent.depth u.path u.rest × (first_equal (λ q. standing order (key q) (Some k)) v.places ≡ first_equal (λ q. standing order (key q) (Some k)) (reading u.rest))
+  pub goes_on_down : (route : Route) (u : IsUnderWay v go descent route) → CanFollow ns descent.root live go route descent.depth u.path u.rest × (first_equal go v.places ≡ first_equal go (reading u.rest))
   goes_on_down route u =
-      let go : ℕ → Ordering = λ q. standing order (key q) (Some k) in
       let whole = can_seek_of ns root len v w e key order order (follows_itself total) up (plug u.path u.rest) u.of_index k in
-      let (can, found) = seek_along ns (λ q. IsSome (key q)) go root u.path u.rest whole u.wants in (
+      let (can, found) = seek_along ns live go root u.path u.rest whole u.wants in (
         record {
-          seek = subst (λ x. CanSeek ns x (λ q. IsSome (key q)) go u.rest) u.root_is can;
+          seek = subst (λ x. CanSeek ns x live go u.rest) u.root_is can;
           follows = u.follows;
           depth_is = u.depth_is;
           wants = u.wants;
@@ -91,17 +97,27 @@ module _ (ns : List Node) (root : Option ℕ) (len : ℕ) (v : Index) (w : IsWho
       )
 
   -- where it has come after a step
-  pub goes_further : (old next : Route) (u : IsUnderWay v (λ q. standing order (key q) (Some k)) descent old) (later : Descent) → (low : Path) × (rest : Tree) × IsFollowed (λ q. standing order (key q) (Some k)) next later.depth later.root (plug u.path u.rest) low rest → (later.is_found ≡ true → (later ≡ descent) ⊎ ((place : ℕ) × (later.root ≡ Some place) × (standing order (key place) (Some k) ≡ Equal))) → IsUnderWay v (λ q. standing order (key q) (Some k)) later next
-  goes_further old next u later (low, rest, f) found = record {
-    path = low;
-    rest = rest;
-    of_index = subst (λ x. IsBalancedIndex v x) (sym f.whole) u.of_index;
-    root_is = f.root_is;
-    follows = f.follows;
-    depth_is = f.depth_is;
-    wants = f.wants;
-    found = λ y. elim (found y) [
-      | inl same ↦ let (place, at, is) = u.found (sym (ap (λ d. d.is_found) same) ∙ y) in (place, ap (λ d. d.root) same ∙ at, is)
-      | inr there ↦ there
-    ];
-  }
+  pub goes_further : (old next : Route) (u : IsUnderWay v go descent old) (later : Descent) → ((path : Path) (s : Tree) → CanFollow ns descent.root live go old descent.depth path s → (low : Path) × (rest : Tree) × IsFollowed go next later.depth later.root (plug path s) low rest) → (later.is_found ≡ true → (later ≡ descent) ⊎ ((place : ℕ) × (later.root ≡ Some place) × (go place ≡ Equal))) → IsUnderWay v go later next
+  goes_further old next u later goes found =
+      let (low, rest, f) = goes _ _ (goes_on_down old u).0 in
+      record {
+        path = low;
+        rest = rest;
+        of_index = subst (λ x. IsBalancedIndex v x) (sym f.whole) u.of_index;
+        root_is = f.root_is;
+        follows = f.follows;
+        depth_is = f.depth_is;
+        wants = f.wants;
+        found = λ y. elim (found y) [
+          | inl same ↦ let (place, at, is) = u.found (sym (ap (λ d. d.is_found) same) ∙ y) in (place, ap (λ d. d.root) same ∙ at, is)
+          | inr there ↦ there
+        ];
+      }
+
+  -- what it answers, and where its route leads, once it has gone down all the way
+  module _ (old : Route) (u : IsUnderWay v go descent old) (found : Option ℕ) where
+    pub finds_on : ((path : Path) (s : Tree) → CanFollow ns descent.root live go old descent.depth path s → found ≡ first_equal go (reading s)) → found ≡ first_equal go v.places
+    finds_on h = let (can, first) = goes_on_down old u in h _ _ can ∙ sym first
+
+    pub leads_on : (next : Route) → ((path : Path) (s : Tree) → CanFollow ns descent.root live go old descent.depth path s → found ≡ None → (low : Path) × (rest : Tree) × IsFollowed go next next.depth found (plug path s) low rest) → IfNone found (IsRoute v go next)
+    leads_on next h = route_if_none ns root len v w e _ u.of_index _ next found (h _ _ (goes_on_down old u).0)

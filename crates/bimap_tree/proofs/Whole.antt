@@ -9,7 +9,6 @@ use Rattle.bimap_base.specs.declared.cells.Node.{Node}
 use Rattle.bimap_base.specs.Digits.{bits, most_height}
 use Rattle.bimap_base.specs.Keyed.{standing, Ascends, Follows, Adds, Drops}
 use Rattle.bimap_base.specs.QueryLaws.{follows_itself}
-use Rattle.bimap_base.proofs.Digits.{bits-least}
 use Rattle.bimap_tree.specs.Tree.{Tree, leaf, fork, reading, height, size, occurs, is_at, IsBalanced, IsDistinctTree, Stands, Shows}
 use Rattle.bimap_tree.specs.Index.{Index, IsIndex, IsBalancedIndex, IsWhole, index_of, tree_in}
 use Rattle.bimap_tree.specs.Order.{after_key, first_equal, IsSplit}
@@ -21,15 +20,12 @@ use Rattle.bimap_tree.specs.declared.route.Route.{Route}
 use Rattle.bimap_tree.proofs.Ascending.{live_all, split, split_after, only_one, own_key, ascends_with, ascends_without}
 use Rattle.bimap_tree.proofs.Distinct.{absent_reading, adds, drops, contains_occurs, occurs_all}
 use Rattle.bimap_tree.proofs.Found.{none_of, one_of}
+pub use Rattle.bimap_tree.proofs.Heights.{few_levels}
 use Rattle.bimap_tree.proofs.Heights.{height-bound}
 use Rattle.bimap_tree.proofs.Index.{tree_in-shown, whole_of}
 use Rattle.bimap_tree.proofs.Paths.{occurs-plug, size-plug, reading-plug, steps_within, beside}
 use Rattle.bimap_tree.proofs.Rooms.{size_room}
 use Rattle.bimap_tree.proofs.Shown.{Shows-frame, no_root, a_fork, size-reading, with_absent, in_tree}
-
--- a tree whose number of places is that of a word has at most so many levels
-pub few_levels : (t : Tree) → IsBalanced t → size t < 2 ^ 64 → height t ≤ 128
-few_levels t balanced few = omega (arith, height-bound t balanced, bits-least (size t) 64 few)
 
 module _ (ns : List Node) (root : Option ℕ) (len : ℕ) (v : Index) (w : IsWhole ns root len) (e : index_of ns root ≡ v) where
   pub places_are : reading (tree_in ns root) ≡ v.places
@@ -50,6 +46,9 @@ module _ (ns : List Node) (root : Option ℕ) (len : ℕ) (v : Index) (w : IsWho
   -- the height is at most twice the number of the length's digits
   pub height_within : height (tree_in ns root) ≤ most_height (length v.places)
   height_within = subst (λ x. height (tree_in ns root) ≤ 2 * bits x) size_is (height-bound (tree_in ns root) w.index.balanced)
+
+  pub cost_within : (before after : ℕ) → ((t : Tree) → Stands ns root t → after ≤ before + height t) → after ≤ before + most_height (length v.places)
+  cost_within before after h = omega (arith, h _ w.index.tree, height_within)
 
   pub rank_within : (rank : ℕ) → rank < length v.places → rank < size (tree_in ns root)
   rank_within rank h = omega (arith, h, size_is)
@@ -89,6 +88,10 @@ module _ (ns : List Node) (root : Option ℕ) (len : ℕ) (v : Index) (w : IsWho
 
     pub can_seek : (k : Q) → CanSeek ns root (λ q. IsSome (key q)) (λ q. standing to (key q) (Some k)) (tree_in ns root)
     can_seek = can_seek_of (tree_in ns root) shown_index
+
+    -- what a search of the tree answers
+    pub finds : (k : Q) (found : Option ℕ) → ((t : Tree) → CanSeek ns root (λ q. IsSome (key q)) (λ q. standing to (key q) (Some k)) t → found ≡ first_equal (λ q. standing to (key q) (Some k)) (reading t)) → found ≡ first_equal (λ q. standing to (key q) (Some k)) v.places
+    finds k found h = h _ (can_seek k) ∙ ap (λ x. first_equal (λ q. standing to (key q) (Some k)) x) places_are
 
     pub can_seek_after : (k : Q) → CanSeek ns root (λ q. IsSome (key q)) (λ q. after_key (standing to (key q) (Some k))) (tree_in ns root)
     can_seek_after k = record { tree = (can_seek k).tree; all_live = (can_seek k).all_live; in_order = split_after (λ q. standing to (key q) (Some k)) (reading (tree_in ns root)) (can_seek k).in_order; fits = few }
@@ -239,7 +242,7 @@ module _ (ns : List Node) (root : Option ℕ) (len : ℕ) (v : Index) (w : IsWho
       shown = subst (λ x. Shows ns x) (sym is_whole) w.index.tree.shown;
       distinct = subst (λ x. IsDistinctTree x) (sym is_whole) w.index.distinct;
       balanced = subst (λ x. IsBalanced x) (sym is_whole) w.index.balanced;
-      deep = subst (λ x. height x ≤ 128) (sym is_whole) (few_levels (tree_in ns root) w.index.balanced few);
+      deep = subst (λ x. height x ≤ 91) (sym is_whole) (few_levels (tree_in ns root) w.index.balanced few);
       fits = subst (λ x. size x < 2 ^ 64) (sym is_whole) few;
     }
 

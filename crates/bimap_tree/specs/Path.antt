@@ -116,7 +116,7 @@ pub record IsRisen (old new : List Node) (path : Path) (u : Tree) (root : Option
 pub record CanPut (nodes : List Node) (route : Route) (path : Path) (place : ℕ) : Type 0 where
   pub follows : Follows (step_at route) path
   pub depth_is : route.depth ≡ steps path
-  pub deep : route.depth ≤ 128
+  pub deep : route.depth ≤ 91
   pub shown : Shows nodes (plug path leaf)
   pub distinct : (q : ℕ) → occurs_on q path + is_at q place ≤ 1
   pub balanced : IsBalanced (plug path leaf)

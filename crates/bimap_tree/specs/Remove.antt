@@ -24,7 +24,7 @@ FollowsOn noted depth (x ∷ xs) = (noted depth ≡ (x.0, false)) × FollowsOn n
 -- the way to the first place of this tree fits a route
 pub record CanDescend (nodes : List Node) (at depth : ℕ) (s : Tree) : Type 0 where
   pub tree : Stands nodes (Some at) s
-  pub deep : depth + height s ≤ 128
+  pub deep : depth + height s ≤ 91
 
 -- the way from this depth on to the tree's first place, which has a tree at its right alone, was noted
 pub record IsFirst (old new : Route) (depth : ℕ) (s : Tree) (first low : ℕ) (lefts : List (ℕ × Tree)) (rest : Tree) : Type 0 where
@@ -40,7 +40,7 @@ pub record CanTake (nodes : List Node) (route : Route) (path : Path) (l : Tree) 
   pub shown : Shows nodes (plug path (fork l at r))
   pub distinct : IsDistinctTree (plug path (fork l at r))
   pub balanced : IsBalanced (plug path (fork l at r))
-  pub deep : height (plug path (fork l at r)) ≤ 128
+  pub deep : height (plug path (fork l at r)) ≤ 91
   pub fits : size (plug path (fork l at r)) < 2 ^ 64
 
 -- the tree v that stands after it was taken out

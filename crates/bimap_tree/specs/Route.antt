@@ -23,7 +23,7 @@ pub record CanFollow (nodes : List Node) (root : Option ℕ) (live : ℕ → Typ
   pub follows : Follows (step_at route) path
   pub depth_is : depth ≡ steps path
   pub wants : Wants go path
-  pub deep : depth + height s ≤ 128
+  pub deep : depth + height s ≤ 91
 
 -- the search has come along the path, from a tree t, to a subtree at this root
 pub record IsFollowed (go : ℕ → Ordering) (route : Route) (depth : ℕ) (root : Option ℕ) (t : Tree) (path : Path) (e : Tree) : Type 0 where

@@ -1,43 +1,18 @@
 //! The calls of a tree over cells of either width: each asks once which they have.
-ghost use Rattle.std.specs.Prelude.{None, Option, Some, length, slice_get, true, ℕ, ◌*◌, ◌+◌, ◌<◌, ◌^◌, ◌≡◌, ◌≤◌, ◌⊎◌};
+ghost use Rattle.std.specs.Prelude.{Some, length, slice_get, ◌*◌, ◌+◌, ◌<◌, ◌^◌, ◌≡◌, ◌≤◌};
 ghost use Rattle.bimap_tree.specs.Tree.{IsBalanced, Stands, Tree, fork, height, leaf, reading, size};
 ghost use Rattle.bimap_tree.specs.Search.{CanSeek};
 ghost use Rattle.bimap_tree.specs.Order.{count_below, first_equal};
 ghost use Rattle.bimap_tree.specs.Path.{CanPut, IsRisen, Path, plug};
 ghost use Rattle.bimap_tree.specs.Route.{CanFollow, IsFollowed};
-ghost use Rattle.std.specs.declared.cmp.Ordering.TheVariants.{Equal};
-ghost use Rattle.bimap_tree.specs.Descent.{levels_left};
 ghost use Rattle.bimap_tree.specs.Filled.{IsRow};
 ghost use Rattle.bimap_tree.specs.Remove.{CanTake, IsTaken};
 ghost use Rattle.bimap_base.specs.NodesInCells.{nodes_in};
 
-use crate::descent::Descent;
 use crate::route::Route;
 use crate::search_key::SearchKey;
-use crate::{descent, remove, rise, route, search, walk};
+use crate::{remove, rise, route, search, walk};
 use bimap_base::{Cells, Meter};
-
-#[inline(always)]
-pub fn find_in_tree<S: SearchKey, M: Meter>(
-    cells: &Cells,
-    root: Option<usize>,
-    sought: &S,
-    meter: &mut M,
-) -> Option<usize>
-    requires { (t : Tree) × CanSeek (nodes_in cells.now) root (S.live sought.now)
-        (S.go sought.now) t }
-    ensures found { (t : Tree) → CanSeek (nodes_in cells.now) root (S.live sought.now)
-        (S.go sought.now) t → result ≡ first_equal (S.go sought.now) (reading t) }
-    ensures comparisons { (t : Tree) → Stands (nodes_in cells.now) root t →
-        M.comparisons meter.new ≤ M.comparisons meter.old + height t }
-    ensures touches { (t : Tree) → Stands (nodes_in cells.now) root t →
-        M.touches meter.new ≤ M.touches meter.old + height t }
-{
-    match cells {
-        Cells::Narrow(nodes) => search::find_in_tree(nodes, root, sought, meter),
-        Cells::Wide(nodes) => search::find_in_tree(nodes, root, sought, meter),
-    }
-}
 
 #[inline(always)]
 pub fn route_in_tree<S: SearchKey, M: Meter>(
@@ -69,74 +44,6 @@ pub fn route_in_tree<S: SearchKey, M: Meter>(
     match cells {
         Cells::Narrow(nodes) => route::route_in_tree(nodes, root, depth, sought, route, meter),
         Cells::Wide(nodes) => route::route_in_tree(nodes, root, depth, sought, route, meter),
-    }
-}
-
-#[inline(always)]
-pub fn step_in_tree<S: SearchKey, M: Meter>(
-    cells: &Cells,
-    sought: &S,
-    descent: &mut Descent,
-    route: &mut Route,
-    meter: &mut M,
-) -> bool
-    requires { (path : Path) × (s : Tree)
-        × CanFollow (nodes_in cells.now) descent.old.root (S.live sought.now)
-        (S.go sought.now) route.old descent.old.depth path s }
-    ensures goes { (path : Path) (s : Tree) →
-        CanFollow (nodes_in cells.now) descent.old.root (S.live sought.now)
-        (S.go sought.now) route.old descent.old.depth path s →
-        (low : Path) × (e : Tree)
-        × IsFollowed (S.go sought.now) route.new descent.new.depth
-        descent.new.root (plug path s) low e }
-    ensures found { descent.new.is_found ≡ true →
-        (descent.new ≡ descent.old)
-        ⊎ ((place : ℕ) × (descent.new.root ≡ Some place) × (S.go sought.now place ≡ Equal)) }
-    ensures went { result ≡ true → levels_left (nodes_in cells.now) descent.new
-        < levels_left (nodes_in cells.now) descent.old }
-    ensures comparisons { M.comparisons meter.new
-        + levels_left (nodes_in cells.now) descent.new ≤ M.comparisons meter.old
-        + levels_left (nodes_in cells.now) descent.old }
-    ensures touches { M.touches meter.new + levels_left (nodes_in cells.now) descent.new
-        ≤ M.touches meter.old + levels_left (nodes_in cells.now) descent.old }
-{
-    match cells {
-        Cells::Narrow(nodes) => descent::step_in_tree(nodes, sought, descent, route, meter),
-        Cells::Wide(nodes) => descent::step_in_tree(nodes, sought, descent, route, meter),
-    }
-}
-
-#[inline(always)]
-pub fn finish_in_tree<S: SearchKey, M: Meter>(
-    cells: &Cells,
-    sought: &S,
-    descent: Descent,
-    route: &mut Route,
-    meter: &mut M,
-) -> Option<usize>
-    requires follows { (path : Path) × (s : Tree)
-        × CanFollow (nodes_in cells.now) descent.root (S.live sought.now)
-        (S.go sought.now) route.old descent.depth path s }
-    requires over { descent.is_found ≡ true →
-        (place : ℕ) × (descent.root ≡ Some place) × (S.go sought.now place ≡ Equal) }
-    ensures found { (path : Path) (s : Tree) →
-        CanFollow (nodes_in cells.now) descent.root (S.live sought.now)
-        (S.go sought.now) route.old descent.depth path s →
-        result ≡ first_equal (S.go sought.now) (reading s) }
-    ensures follows { (path : Path) (s : Tree) →
-        CanFollow (nodes_in cells.now) descent.root (S.live sought.now)
-        (S.go sought.now) route.old descent.depth path s → result ≡ None →
-        (low : Path) × (e : Tree)
-        × IsFollowed (S.go sought.now) route.new route.new.depth result
-        (plug path s) low e }
-    ensures comparisons { M.comparisons meter.new ≤ M.comparisons meter.old
-        + levels_left (nodes_in cells.now) descent }
-    ensures touches { M.touches meter.new ≤ M.touches meter.old
-        + levels_left (nodes_in cells.now) descent }
-{
-    match cells {
-        Cells::Narrow(nodes) => descent::finish_in_tree(nodes, sought, descent, route, meter),
-        Cells::Wide(nodes) => descent::finish_in_tree(nodes, sought, descent, route, meter),
     }
 }
 

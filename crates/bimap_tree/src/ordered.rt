@@ -15,12 +15,10 @@ ghost use Rattle.bimap_tree.specs.Index.{IsBalancedIndex};
 ghost use Rattle.bimap_tree.specs.Route.{IsRoute};
 ghost use Rattle.bimap_tree.specs.Spans.{IsCut};
 
-use crate::by_width::{
-    fill_around, find_in_tree, finish_in_tree, place_in_tree, put_at, rank_in_tree, route_in_tree,
-    step_in_tree, take_at,
-};
-use crate::descent::Descent;
+use crate::by_width::{fill_around, place_in_tree, put_at, rank_in_tree, route_in_tree, take_at};
+use crate::descent::{Descent, finish_in_tree, step_in_tree};
 use crate::route::Route;
+use crate::search::find_in_tree;
 use crate::search_key::{AfterKey, ToKey, ToPlace, ToQuery};
 use bimap_base::{Cells, Keys, Meter, NoMemory, Sought};
 use std::alloc::Global;
@@ -116,7 +114,10 @@ impl Ordered {
         ensures touches { M.touches meter.new ≤ M.touches meter.old
             + most_height (length self.now.places) }
     {
-        find_in_tree(&self.cells, self.root, &ToQuery { keys, query }, meter)
+        match &self.cells {
+            Cells::Narrow(nodes) => find_in_tree(nodes, self.root, keys, query, meter),
+            Cells::Wide(nodes) => find_in_tree(nodes, self.root, keys, query, meter),
+        }
     }
 
     /// A search that has not gone down yet, for `step` and `finish`.
@@ -150,7 +151,11 @@ impl Ordered {
         ensures touches { M.touches meter.new + levels_left self.now.nodes descent.new
             ≤ M.touches meter.old + levels_left self.now.nodes descent.old }
     {
-        step_in_tree(&self.cells, &ToKey { keys, key }, descent, route, meter)
+        let sought = ToKey { keys, key };
+        match &self.cells {
+            Cells::Narrow(nodes) => step_in_tree(nodes, &sought, descent, route, meter),
+            Cells::Wide(nodes) => step_in_tree(nodes, &sought, descent, route, meter),
+        }
     }
 
     /// Goes all the way down from where the search has come: the listed place whose key is equal. Where there is none, the
@@ -177,7 +182,11 @@ impl Ordered {
         ensures touches { M.touches meter.new ≤ M.touches meter.old
             + levels_left self.now.nodes descent }
     {
-        finish_in_tree(&self.cells, &ToKey { keys, key }, descent, route, meter)
+        let sought = ToKey { keys, key };
+        match &self.cells {
+            Cells::Narrow(nodes) => finish_in_tree(nodes, &sought, descent, route, meter),
+            Cells::Wide(nodes) => finish_in_tree(nodes, &sought, descent, route, meter),
+        }
     }
 
     /// Lists a place, at the end of its key's route: no comparison, time logarithmic in the length, and no memory.

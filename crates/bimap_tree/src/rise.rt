@@ -51,7 +51,7 @@ fn recount<C: Cell, M: Meter>(
 ) -> Option<usize>
     requires { (path : Path) × (s : Tree) × (u : Tree)
         × CanRise cells.old route.now path grew s u × (depth ≡ steps path)
-        × (depth ≤ 128) × (root_of u ≡ child) × (height u ≡ height s) }
+        × (depth ≤ 91) × (root_of u ≡ child) × (height u ≡ height s) }
     ensures tree { (path : Path) (s u : Tree) →
         CanRise cells.old route.now path grew s u → depth ≡ steps path →
         root_of u ≡ child → height u ≡ height s →
@@ -82,7 +82,7 @@ pub fn rise<C: Cell, M: Meter>(
 ) -> Option<usize>
     requires { (path : Path) × (s : Tree) × (u : Tree)
         × CanRise cells.old route.now path grew s u × (depth ≡ steps path)
-        × (depth ≤ 128) × Measures child u × (was ≡ height s) }
+        × (depth ≤ 91) × Measures child u × (was ≡ height s) }
     ensures tree { (path : Path) (s u : Tree) →
         CanRise cells.old route.now path grew s u → depth ≡ steps path →
         Measures child u → was ≡ height s →

@@ -13,11 +13,11 @@ use bimap_base::{Cell, Meter, Nodes};
 
 /// The way that a search went down an index: at each depth a place, and whether the way goes on to its right.
 ///
-/// It is longer than any tree of places is high, and takes no memory from an allocator.
+/// It is as long as the highest balanced tree of fewer than 2^64 places, and takes no memory from an allocator.
 #[derive(Drop)]
 pub struct Route {
-    places: [usize; 128],
-    turns: [bool; 128],
+    places: [usize; 91],
+    turns: [bool; 91],
     depth: usize,
 }
 
@@ -28,8 +28,8 @@ impl Route {
             IsRoute index go result }
     {
         Route {
-            places: [0; 128],
-            turns: [false; 128],
+            places: [0; 91],
+            turns: [false; 91],
             depth: 0,
         }
     }
@@ -43,7 +43,7 @@ impl Route {
 
     // The place and the turn at a depth.
     pub(crate) fn step(&self, depth: usize) -> (usize, bool)
-        requires { depth < 128 }
+        requires { depth < 91 }
         ensures { result ≡ step_at self.now depth }
     {
         (self.places[depth], self.turns[depth])
@@ -51,7 +51,7 @@ impl Route {
 
     // Notes the place and the turn at a depth.
     pub(crate) fn note(&mut self, depth: usize, place: usize, turn: bool)
-        requires { depth < 128 }
+        requires { depth < 91 }
         ensures noted { IsNoted (step_at self.old) depth (place, turn) (step_at self.new) }
         ensures depth { self.new.depth ≡ self.old.depth }
     {

@@ -1,34 +1,38 @@
-//! Searches down the tree. They know trees and how a place stands to what is sought, and no key.
-ghost use Rattle.std.specs.Prelude.{◌≡◌, ℕ, ◌+◌, ◌*◌, ◌<◌, ◌≤◌, Some, slice_get};
+//! Searches down the tree. They know trees, and keys through `Keys` alone.
+ghost use Rattle.std.specs.Prelude.{◌≡◌, ℕ, ◌+◌, ◌*◌, ◌<◌, ◌≤◌, IsSome, Some, slice_get};
+ghost use Rattle.bimap_base.specs.Keyed.{standing};
 ghost use Rattle.bimap_tree.specs.Tree.{Tree, Stands, height, size, reading};
 ghost use Rattle.bimap_tree.specs.Search.{CanSeek};
 ghost use Rattle.bimap_tree.specs.Order.{first_equal, count_below};
 
 use crate::link::{child, measure};
 use crate::route::turns_by_branch;
-use crate::search_key::SearchKey;
-use bimap_base::{Cell, Meter, Nodes};
+use crate::search_key::{SearchKey, ToQuery};
+use bimap_base::{Cell, Keys, Meter, Nodes, Sought};
 
-// The place with the key sought.
-pub fn find_in_tree<C: Cell, S: SearchKey, M: Meter>(
+// The place whose key the query asks for.
+pub fn find_in_tree<C: Cell, K: Keys, Q: Sought<K>, M: Meter>(
     cells: &Nodes<C>,
     root: Option<usize>,
-    sought: &S,
+    keys: &K,
+    query: Q,
     meter: &mut M,
 ) -> Option<usize>
-    requires { (t : Tree) × CanSeek cells.now root (S.live sought.now) (S.go sought.now) t }
-    ensures found { (t : Tree) → CanSeek cells.now root (S.live sought.now) (S.go sought.now) t →
-        result ≡ first_equal (S.go sought.now) (reading t) }
+    requires { (t : Tree) × CanSeek cells.now root (λ p. IsSome (K.key_at keys.now p))
+        (λ p. standing Q.order (K.key_at keys.now p) (Some query)) t }
+    ensures found { let go = λ (p : ℕ). standing Q.order (K.key_at keys.now p) (Some query) in
+        (t : Tree) → CanSeek cells.now root (λ p. IsSome (K.key_at keys.now p)) go t →
+        result ≡ first_equal go (reading t) }
     ensures comparisons { (t : Tree) → Stands cells.now root t →
         M.comparisons meter.new ≤ M.comparisons meter.old + height t }
     ensures touches { (t : Tree) → Stands cells.now root t →
         M.touches meter.new ≤ M.touches meter.old + height t }
 {
-    let is_far = turns_by_branch::<C, S>(cells);
+    let is_far = turns_by_branch::<C, ToQuery<K, Q>>(cells);
     let mut root = root;
     while let Some(at) = root {
         let cell = cells.cell(at, meter);
-        let side = sought.side(at, meter);
+        let side = query.compare(keys, at, meter);
         if side.is_eq() {
             return Some(at);
         }

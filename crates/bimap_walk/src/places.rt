@@ -50,7 +50,8 @@ impl Course for ByPlace {
 
     ghost ahead = { λ P by cursor slots. pairs_in (drop cursor.place slots) };
 
-    ghost stands = { λ P by cursor slots. cursor.left ≡ length (pairs_in (drop cursor.place slots)) };
+    ghost stands = { λ P by cursor slots. cursor.left ≡ length
+        (pairs_in (drop cursor.place slots)) };
 
     fn len<L, R>(&self, _pairs: &Pairs<L, R>, cursor: &PlacesLeft) -> usize {
         cursor.left

@@ -3,7 +3,7 @@ use Rattle.bimap_index.proofs.Ascending.{found_by_order}
 use Rattle.bimap_index.proofs.ordered.OrderedIndex.finish.Goals as goal
 
 pub returns-clause-found : goal.returns-clause-found
-returns-clause-found g c = found_by_order g.K.Ord.cmp g.K.Ord.cmp (follows_itself g.met.K.Ord.total) g.K.PartialEq.eq (λ q x. g.met.K.Ord.matches_eq x q) c.args.self.now.places (g.S.Side.key_at c.args.side) c.args.key.now c.finish.result c.requires.listing (rw c.new.ensures at c.finish.ensures.found) (rw c.new.ensures at c.finish.ensures.none)
+returns-clause-found g c = found_by_order _ _ (follows_itself g.met.K.Ord.total) _ (λ q x. g.met.K.Ord.matches_eq x q) _ _ _ _ c.requires.listing (rw c.new.ensures at c.finish.ensures.found) (rw c.new.ensures at c.finish.ensures.none)
 
 pub returns-clause-leads : goal.returns-clause-leads
 returns-clause-leads g c = rw c.new.ensures at c.finish.ensures.route

@@ -8,7 +8,7 @@ use Rattle.bimap_tree.specs.Index.{tree_in}
 use Rattle.bimap_tree.specs.Order.{count_below, after_key}
 use Rattle.bimap_tree.specs.Spans.{IsCut}
 use Rattle.bimap_tree.proofs.Spans.{cut_included, cut_excluded, cut_unbounded}
-use Rattle.bimap_tree.proofs.Whole.{can_seek, can_seek_after, places_are, height_within}
+use Rattle.bimap_tree.proofs.Whole.{can_seek, can_seek_after, places_are, height_within, cost_within}
 use Rattle.bimap_tree.proofs.ordered.Ordered.rank_from.Goals as goal
 
 pub returns-in-Unbounded-clause-cut : goal.returns-in-Unbounded-clause-cut
@@ -29,7 +29,7 @@ returns-in-Included g c =
     ∙ ap (λ x. count_below (λ q. standing g.K.Keys.order (g.K.Keys.key_at c.args.keys.now q) (Some c.in-Included.key.now)) x) (places_are _ _ _ _ c.self.invariant c.self.view_is) in
     record {
       cut = subst (λ b. IsCut (is_from_start g.K.Keys.order (bound_map (λ x. x.now) b)) (g.K.Keys.key_at c.args.keys.now) c.args.self.now.places c.rank_in_tree.result) (sym c.in-Included.is) (cut_included _ _ g.met.K.Keys.total _ c.requires _ _ rank);
-      comparisons = omega (arith, c.rank_in_tree.ensures.comparisons _ c.self.invariant.index.tree, height_within _ _ _ _ c.self.invariant c.self.view_is);
+      comparisons = cost_within _ _ _ _ c.self.invariant c.self.view_is _ _ c.rank_in_tree.ensures.comparisons;
       touches = omega (arith, c.rank_in_tree.ensures.touches _ c.self.invariant.index.tree, height_within _ _ _ _ c.self.invariant c.self.view_is);
     }
 
@@ -40,6 +40,6 @@ returns-in-Excluded g c =
     ∙ ap (λ x. count_below (λ q. after_key (standing g.K.Keys.order (g.K.Keys.key_at c.args.keys.now q) (Some c.in-Excluded.key.now))) x) (places_are _ _ _ _ c.self.invariant c.self.view_is) in
     record {
       cut = subst (λ b. IsCut (is_from_start g.K.Keys.order (bound_map (λ x. x.now) b)) (g.K.Keys.key_at c.args.keys.now) c.args.self.now.places c.rank_in_tree-in-Excluded.result) (sym c.in-Excluded.is) (cut_excluded _ _ g.met.K.Keys.total _ c.requires _ _ rank);
-      comparisons = omega (arith, c.rank_in_tree-in-Excluded.ensures.comparisons _ c.self.invariant.index.tree, height_within _ _ _ _ c.self.invariant c.self.view_is);
+      comparisons = cost_within _ _ _ _ c.self.invariant c.self.view_is _ _ c.rank_in_tree-in-Excluded.ensures.comparisons;
       touches = omega (arith, c.rank_in_tree-in-Excluded.ensures.touches _ c.self.invariant.index.tree, height_within _ _ _ _ c.self.invariant c.self.view_is);
     }

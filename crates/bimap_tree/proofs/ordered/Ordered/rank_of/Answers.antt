@@ -3,7 +3,7 @@ use Rattle.bimap_base.specs.Keyed.{standing}
 use Rattle.bimap_base.specs.NodesInCells.{nodes_in}
 use Rattle.bimap_tree.specs.Index.{tree_in}
 use Rattle.bimap_tree.specs.Order.{count_below}
-use Rattle.bimap_tree.proofs.Whole.{can_seek, places_are, height_within}
+use Rattle.bimap_tree.proofs.Whole.{can_seek, places_are, height_within, cost_within}
 use Rattle.bimap_tree.proofs.ordered.Ordered.rank_of.Goals as goal
 
 pub rank_in_tree-requires : goal.rank_in_tree-requires
@@ -15,6 +15,6 @@ returns g c =
     record {
       rank = c.rank_in_tree.ensures.rank _ s
           ∙ ap (λ x. count_below (λ q. standing g.Q.Sought.order (g.K.Keys.key_at c.args.keys.now q) (Some c.args.query)) x) (places_are _ _ _ _ c.self.invariant c.self.view_is);
-      comparisons = omega (arith, c.rank_in_tree.ensures.comparisons _ c.self.invariant.index.tree, height_within _ _ _ _ c.self.invariant c.self.view_is);
+      comparisons = cost_within _ _ _ _ c.self.invariant c.self.view_is _ _ c.rank_in_tree.ensures.comparisons;
       touches = omega (arith, c.rank_in_tree.ensures.touches _ c.self.invariant.index.tree, height_within _ _ _ _ c.self.invariant c.self.view_is);
     }
