@@ -1,10 +1,13 @@
 -- Pairs of a list that are tested one after another.
-use Rattle.std.proofs.Common.{◌≡◌, ℕ, suc, zero, ◌+◌, ◌<◌, ◌≤◌, Bool, true, false, List, [], ◌∷◌, ◌++◌, length, get_or, refl, sym, ap, ◌∙◌, subst, arith, length-append, append_assoc}
+use Rattle.std.proofs.Common.{◌≡◌, ℕ, suc, zero, ◌+◌, ◌<◌, ◌≤◌, Bool, List, [], ◌∷◌, ◌++◌, length, get_or, refl, sym, ap, ◌∙◌, subst, arith, length-append, append_assoc}
+use Rattle.std.specs.Prelude.{not}
 use Rattle.std.proofs.lemmas.List.{append-nil}
 use denote.Param.Members.{Mut}
 use denote.Ref.{Bor}
-use Rattle.bimap_base.specs.Kept.{TestedAt, TestsInTurn, MayTestPair, MayTestInTurn, answered_true, IsKeptInTurn}
-use Rattle.bimap_core.proofs.Retaining.{tests_push, true_push, false_push, same_pair, none_left}
+use Rattle.bimap_base.specs.Kept.{TestedAt, MayTestPair, MayTestInTurn}
+use Rattle.bimap_core.specs.Partition.{IsPartition}
+use Rattle.bimap_core.proofs.Parting.{IsParted, begun, of_same, next, stays, goes_out, all_tested}
+use Rattle.bimap_core.proofs.Retaining.{same_pair, none_left}
 
 -- what follows a prefix of a list begins with the element there
 at_end : {P : Type 0} (xs ys : List P) (k : ℕ) (p : P) → k ≡ length xs → k < length (xs ++ ys) → p ≡ get_or (xs ++ ys) k p → (zs : List P) × (ys ≡ p ∷ zs)
@@ -14,73 +17,68 @@ at_end [] (y ∷ ys) (suc k) p e h is = absurd (omega arith)
 at_end (x ∷ xs) ys zero p e h is = absurd (omega arith)
 at_end (x ∷ xs) ys (suc k) p e h is = at_end xs ys k p (omega arith) (omega arith) is
 
-module _ {F L R : Type 0} (g : Mut F (Bor L × (Bor R × Unit {0})) Bool) where
-  -- the pairs `old` were tested up to `rest`: f is the closure now, `items` the pairs that are left, and `kept` of these passed
-  pub record IsTestedUpTo (first f : F) (old items : List (L × R)) (kept : ℕ) : Type 0 where
+module _ {F L R S : Type 0} (g : Mut F (Bor L × (Bor R × Unit {0})) Bool) (has_room : S → ℕ → Type 0) (receives : S → L × R → S → Type 0) (goes : Bool) where
+  -- the pairs `old` were tested up to `rest`: f is the closure now, `items` the pairs that are left, `count` of these were
+  -- kept, and `to` is the outlet
+  pub record IsTestedUpTo (first f : F) (from to : S) (old items : List (L × R)) (count : ℕ) : Type 0 where
     pub tested : List (L × R)
-    pub answers : List Bool
+    pub kept : List (L × R)
     pub rest : List (L × R)
     pub all : old ≡ tested ++ rest
-    pub left : items ≡ answered_true g tested answers ++ rest
-    pub count : kept ≡ length (answered_true g tested answers)
-    pub calls : TestsInTurn g first tested answers f
+    pub left : items ≡ kept ++ rest
+    pub long : count ≡ length kept
+    pub parted : IsParted g has_room receives goes first f from to tested rest kept
 
-  pub start : (f : F) (old : List (L × R)) → IsTestedUpTo f f old old 0
-  start f old = record { tested = []; answers = []; rest = old; all = refl; left = refl; count = refl; calls = refl }
+  pub start : (f : F) (from : S) (old : List (L × R)) → ((n : ℕ) → n ≤ length old → has_room from n) → IsTestedUpTo f f from from old old 0
+  start f from old room = record { tested = []; kept = []; rest = old; all = refl; left = refl; long = refl; parted = begun g has_room receives goes f from old room }
 
-  module _ (first f : F) (old items : List (L × R)) (kept : ℕ) (so_far : IsTestedUpTo first f old items kept) (p : L × R) (is : p ≡ get_or items kept p) (inside : kept < length items) where
-    abbrev kept_ones : List (L × R)
-    kept_ones = answered_true g so_far.tested so_far.answers
-
+  module _ (first f : F) (from to : S) (old items : List (L × R)) (count : ℕ) (so_far : IsTestedUpTo first f from to old items count) (p : L × R) (is : p ≡ get_or items count p) (inside : count < length items) where
     -- it is the turn of this pair
     turn : (tail : List (L × R)) × (so_far.rest ≡ p ∷ tail)
-    turn = at_end kept_ones so_far.rest kept p so_far.count (subst (λ xs. kept < length xs) so_far.left inside) (subst (λ xs. p ≡ get_or xs kept p) so_far.left is)
+    turn = at_end so_far.kept so_far.rest count p so_far.long (subst (λ xs. count < length xs) so_far.left inside) (subst (λ xs. p ≡ get_or xs count p) so_far.left is)
 
-    items_now : items ≡ kept_ones ++ p ∷ turn.0
-    items_now = so_far.left ∙ ap (λ xs. kept_ones ++ xs) turn.1
+    now : IsParted g has_room receives goes first f from to so_far.tested (p ∷ turn.0) so_far.kept
+    now = of_same g has_room receives goes first f from to refl turn.1 refl so_far.parted
+
+    items_now : items ≡ so_far.kept ++ p ∷ turn.0
+    items_now = so_far.left ∙ ap (λ xs. so_far.kept ++ xs) turn.1
 
     all_now : old ≡ so_far.tested ++ p ∷ turn.0
     all_now = so_far.all ∙ ap (λ xs. so_far.tested ++ xs) turn.1
 
     -- the closure may be called at it
     pub may : MayTestInTurn g first old → MayTestPair g f p
-    may test left right l r = test.at so_far.tested so_far.answers f left right turn.0 (all_now ∙ ap (λ q. so_far.tested ++ q ∷ turn.0) (sym (same_pair p left.now right.now l r))) so_far.calls
+    may test left right l r = test.at so_far.tested so_far.parted.answers f left right turn.0 (all_now ∙ ap (λ q. so_far.tested ++ q ∷ turn.0) (sym (same_pair p left.now right.now l r))) so_far.parted.calls
+
+    pub room_for : has_room to 1
+    room_for = next g has_room receives goes first f from to _ _ _ p now
 
     module _ (t : F) where
-      pub passed : TestedAt g f p true t → IsTestedUpTo first t old items (kept + 1)
-      passed h =
-          let push = true_push g first so_far.tested so_far.answers f p so_far.calls in
-          record {
-            tested = so_far.tested ++ p ∷ [];
-            answers = so_far.answers ++ true ∷ [];
-            rest = turn.0;
-            all = all_now ∙ sym (append_assoc so_far.tested (p ∷ []) turn.0);
-            left = items_now ∙ sym (append_assoc kept_ones (p ∷ []) turn.0) ∙ ap (λ xs. xs ++ turn.0) (sym push);
-            count = omega (arith, so_far.count, length-append kept_ones (p ∷ []), ap length push);
-            calls = tests_push g first so_far.tested so_far.answers f p true t so_far.calls h;
-          }
-
-      pub refused : TestedAt g f p false t → (items' : List (L × R)) → ((before after : List (L × R)) → items ≡ before ++ p ∷ after → items' ≡ before ++ after) → IsTestedUpTo first t old items' kept
-      refused h items' without =
-          let push = false_push g first so_far.tested so_far.answers f p so_far.calls in
-          record {
-            tested = so_far.tested ++ p ∷ [];
-            answers = so_far.answers ++ false ∷ [];
-            rest = turn.0;
-            all = all_now ∙ sym (append_assoc so_far.tested (p ∷ []) turn.0);
-            left = without kept_ones turn.0 items_now ∙ ap (λ xs. xs ++ turn.0) (sym push);
-            count = so_far.count ∙ ap length (sym push);
-            calls = tests_push g first so_far.tested so_far.answers f p false t so_far.calls h;
-          }
-
-  pub ended : (first f : F) (old items : List (L × R)) (kept : ℕ) → IsTestedUpTo first f old items kept → length items ≤ kept → IsKeptInTurn g first old items
-  ended first f old items kept so_far end =
-      let kept_ones = answered_true g so_far.tested so_far.answers in
-      let none : so_far.rest ≡ [] = none_left kept_ones so_far.rest (omega (arith, ap length so_far.left, so_far.count)) in
-      let order : old ≡ so_far.tested = so_far.all ∙ ap (λ xs. so_far.tested ++ xs) none ∙ append-nil so_far.tested in
-      record {
-        answers = so_far.answers;
-        last = f;
-        calls = subst (λ xs. TestsInTurn g first xs so_far.answers f) (sym order) so_far.calls;
-        kept = so_far.left ∙ ap (λ xs. kept_ones ++ xs) none ∙ append-nil kept_ones ∙ ap (λ xs. answered_true g xs so_far.answers) (sym order);
+      pub passed : TestedAt g f p (not goes) t → IsTestedUpTo first t from to old items (count + 1)
+      passed h = record {
+        tested = so_far.tested ++ p ∷ [];
+        kept = so_far.kept ++ p ∷ [];
+        rest = turn.0;
+        all = all_now ∙ sym (append_assoc so_far.tested (p ∷ []) turn.0);
+        left = items_now ∙ sym (append_assoc so_far.kept (p ∷ []) turn.0);
+        long = omega (arith, so_far.long, length-append so_far.kept (p ∷ []));
+        parted = stays g has_room receives goes first f from to _ _ _ p now t h;
       }
+
+      pub taken_out : TestedAt g f p goes t → (items' : List (L × R)) → ((before after : List (L × R)) → items ≡ before ++ p ∷ after → items' ≡ before ++ after) → (to' : S) → receives to p to' → ((n : ℕ) → has_room to (1 + n) → has_room to' n) → IsTestedUpTo first t from to' old items' count
+      taken_out h items' without to' received fewer = record {
+        tested = so_far.tested ++ p ∷ [];
+        kept = so_far.kept;
+        rest = turn.0;
+        all = all_now ∙ sym (append_assoc so_far.tested (p ∷ []) turn.0);
+        left = without so_far.kept turn.0 items_now;
+        long = so_far.long;
+        parted = goes_out g has_room receives goes first f from to _ _ _ p now t h to' received fewer;
+      }
+
+  pub ended : (first f : F) (from to : S) (old items : List (L × R)) (count : ℕ) → IsTestedUpTo first f from to old items count → length items ≤ count → IsPartition g receives goes first old items from to
+  ended first f from to old items count so_far end =
+      let none : so_far.rest ≡ [] = none_left so_far.kept so_far.rest (omega (arith, ap length so_far.left, so_far.long)) in
+      let behind : (xs : List (L × R)) → xs ++ so_far.rest ≡ xs = λ xs. ap (λ z. xs ++ z) none ∙ append-nil xs in
+      all_tested g has_room receives goes first f from to _ so_far.rest _
+      (of_same g has_room receives goes first f from to (sym (so_far.all ∙ behind so_far.tested)) refl (sym (so_far.left ∙ behind so_far.kept)) so_far.parted)

@@ -31,6 +31,7 @@ module _ {L R : Type 0} (same_left : L → L → Bool) (same_right : R → R →
       record {
         answer = (p.0, held_at slots place p was, equal);
         held = λ _. (refl, refl);
+        given = λ lacks. not_both has lacks;
         put = λ lacks. not_both has lacks;
         count = λ lacks. not_both has lacks;
         kept = λ q m. m;
@@ -54,6 +55,7 @@ module _ {L R : Type 0} (same_left : L → L → Bool) (same_right : R → R →
         record {
           answer = tt;
           held = lacks_held;
+          given = λ _. tt;
           put = λ _. tt;
           count = λ _. tt;
           kept = λ q m. m;
@@ -67,6 +69,7 @@ module _ {L R : Type 0} (same_left : L → L → Bool) (same_right : R → R →
     refused_for_memory slots' no_right full same = record {
       answer = tt;
       held = lacks_held;
+      given = λ _. tt;
       put = λ _. tt;
       count = λ _. tt;
       kept = λ q m. subst (λ z. Contains (pairs_in z) q) (sym same) m;
@@ -83,6 +86,7 @@ module _ {L R : Type 0} (same_left : L → L → Bool) (same_right : R → R →
         record {
           answer = (l, (i.put (l, r)).1 (inl refl), equal_left.refl l);
           held = lacks_held;
+          given = λ _. refl;
           put = λ _. i.put;
           count = λ _. omega (arith, i.count);
           kept = λ q m. (i.put q).1 (inr (m, i.answer q m));

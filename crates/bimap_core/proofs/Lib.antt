@@ -5,6 +5,7 @@ pub mod Inserted
 pub mod Interned
 pub mod Removing
 pub mod Linking
+pub mod Parting
 pub mod Retaining
 pub mod Visiting
 pub mod Reserving

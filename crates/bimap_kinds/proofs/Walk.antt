@@ -1,12 +1,13 @@
 -- The walk of a table by an index of it, and what is said of the pairs that it gives. Once for both sides: `key` is the side.
-use Rattle.std.proofs.Common.{◌≡◌, ◌≢◌, ◌↔◌, ◌≤◌, ◌+◌, ◌∙◌, ℕ, Bool, List, [], ◌∷◌, ◌++◌, length, Option, Some, None, IsSome, refl, sym, ap, subst, arith, get_or, Contains}
+use Rattle.std.proofs.Common.{◌≡◌, ◌≢◌, ◌↔◌, ◌≤◌, ◌+◌, ◌∙◌, ℕ, Bool, true, false, true≢false, List, [], ◌∷◌, ◌++◌, length, Option, Some, None, IsSome, refl, sym, ap, subst, arith, get_or, Contains, append_assoc}
 use Rattle.std.specs.Prelude.{Result, Ok, Err, OnOk, OnErr, max, min}
 use denote.Param.Members.{Mut}
 use denote.Ref.{Bor}
-use Rattle.std.proofs.lemmas.List.{get_or_default}
+use Rattle.std.proofs.lemmas.List.{append-nil, get_or_default}
+use Rattle.std.specs.List.Sorted.{IsPermutation}
 use Rattle.std.proofs.lemmas.List.Sorted.{IsPermutation-trans}
 use Rattle.std.proofs.lemmas.Result.{on_err_weaker}
-use Rattle.std.specs.List.{All, AllPairs}
+use Rattle.std.specs.List.{All, AllPairs, FoldsTo}
 use Rattle.std.specs.Option.{option_map}
 use Rattle.std.specs.Cmp.{IsEquivalence, IsTotalOrder}
 use Rattle.std.specs.Ordering.{eq_by_cmp}
@@ -15,7 +16,7 @@ use Rattle.std.specs.declared.cmp.Ordering.TheVariants.{Less}
 use Rattle.bimap_base.specs.Capacity.{IsReservation, IsShrink}
 use Rattle.bimap_base.specs.Exchange.{IsRemoving}
 use Rattle.bimap_base.specs.Holding.{Holding, IsRetention}
-use Rattle.bimap_base.specs.Kept.{MayTest}
+use Rattle.bimap_base.specs.Kept.{TestedAt, TestsInTurn, answered_true, MayTest, MayTestInTurn}
 use Rattle.bimap_base.specs.Visited.{MayVisit, IsVisited}
 use Rattle.bimap_base.specs.declared.refusal.NoMemory.{NoMemory}
 use Rattle.bimap_base.specs.PairsAt.{pairs_at}
@@ -29,6 +30,7 @@ use Rattle.bimap_index.specs.ByHash.{ListsByHash, places_from}
 use Rattle.bimap_index.specs.HashLaws.{hash_settled, hash_listed, hash_distinct, hash_by_place, pairs_by_place}
 use Rattle.bimap_core.proofs.Ascending.{order_walk, order_ascends}
 use Rattle.bimap_core.proofs.Permuted.{walk_apart, walk_permuted}
+use Rattle.bimap_core.specs.Partition.{IsPartition, answered_false}
 use Rattle.bimap_core.specs.Store.{holding_of}
 use Rattle.bimap_core.specs.declared.table.Table.{Table}
 use Rattle.bimap_kinds.specs.HeldTable.{held, held_by_right}
@@ -119,22 +121,22 @@ pairs_kept {P} old new places places' kept same = ap (pairs_at new) same ∙ eac
 -- what `retain` leaves, in the order of a walk
 module _ {F L R : Type 0} (g : Mut F (Bor L × (Bor R × Unit {0})) Bool) {same_left : L → L → Bool} {same_right : R → R → Bool} (equal_left : IsEquivalence same_left) (equal_right : IsEquivalence same_right)
     (slots : List (Option (L × R))) (places : List ℕ) (walk : IsWalk slots places) (apart : IsApart same_left same_right (pairs_in slots)) where
-  pub may_test_walked : (f : F) → MayTest g f (pairs_at slots places) → MayTest g f (pairs_in slots)
+  pub may_test_walked : (f : F) → MayTest g f (pairs_at slots places) → MayTestInTurn g f (pairs_in slots)
   may_test_walked f may =
-      record { at = λ ps bs later left right rest moved calls. may.at ps bs later left right rest (IsPermutation-trans (pairs_at slots places) (pairs_in slots) (ps ++ (left.now, right.now) ∷ rest) (walk_permuted equal_left equal_right slots places walk apart) moved) calls }
+      record { at = λ ps bs later left right rest is calls. may.at ps bs later left right rest (subst (IsPermutation (pairs_at slots places)) is (walk_permuted equal_left equal_right slots places walk apart)) calls }
 
-  pub retention_walked : (f : F) (slots' : List (Option (L × R))) (places' : List ℕ) → IsWalk slots' places' → IsRetention g (holding_of slots) f (holding_of slots') → IsRetention g (walked_by slots places) f (walked_by slots' places')
-  retention_walked f slots' places' walk' h =
+  pub retention_walked : {S : Type 0} {receives : S → L × R → S → Type 0} {from to : S} (f : F) (slots' : List (Option (L × R))) (places' : List ℕ) → IsWalk slots' places' → IsPartition g receives false f (pairs_in slots) (pairs_in slots') from to → length slots' ≡ length slots → IsRetention g (walked_by slots places) f (walked_by slots' places')
+  retention_walked f slots' places' walk' h room =
       record {
         kept = record {
-          order = h.kept.order;
-          answers = h.kept.answers;
-          last = h.kept.last;
-          each_once = IsPermutation-trans (pairs_at slots places) (pairs_in slots) h.kept.order (walk_permuted equal_left equal_right slots places walk apart) h.kept.each_once;
-          calls = h.kept.calls;
-          kept = λ q. let w = walked slots' places' walk' q in (λ c. (h.kept.kept q).0 (w.1 c), λ c. w.0 ((h.kept.kept q).1 c));
+          order = pairs_in slots;
+          answers = h.answers;
+          last = h.last;
+          each_once = walk_permuted equal_left equal_right slots places walk apart;
+          calls = h.calls;
+          kept = λ q. let w = walked slots' places' walk' q in (λ c. subst (λ xs. Contains xs q) h.kept (w.1 c), λ c. w.0 (subst (λ xs. Contains xs q) (sym h.kept) c));
         };
-        room = h.room;
+        room = room;
       }
 
 -- what `for_each` visits, in the order of a walk
@@ -222,3 +224,22 @@ module _ {L R I J LeftSpot LeftSearch RightSpot RightSearch : Type 0} {left_eq :
     pub held_unchanged : {T E : Type 0} (r : Result T E) → OnErr r (after.pairs ≡ table.pairs) → OnErr r (left.places after.left ≡ left.places table.left) → OnErr r (held after ≡ held table)
     held_unchanged (Ok x) e f = tt
     held_unchanged (Err x) e f = held_same e f
+
+-- a list to which the items were pushed in turn
+pub pushed : {V X : Type 0} (v : V) (items : V → List X) (xs : List X) (w : V) → FoldsTo (λ a x b. items b ≡ items a ++ x ∷ []) v xs w → items w ≡ items v ++ xs
+pushed v items [] w h = ap items (sym h) ∙ sym (append-nil (items v))
+pushed v items (x ∷ xs) w h = pushed h.0 items xs w h.2 ∙ ap (λ z. z ++ xs) h.1 ∙ append_assoc (items v) (x ∷ []) xs
+
+-- where each answer is true, all were answered true
+module _ {F L R : Type 0} (g : Mut F (Bor L × (Bor R × Unit {0})) Bool) (yes : (f : F) (p : L × R) (b : Bool) (f' : F) → TestedAt g f p b f' → b ≡ true) where
+  pub all_true : (f : F) (ps : List (L × R)) (bs : List Bool) (last : F) → TestsInTurn g f ps bs last → answered_true g ps bs ≡ ps
+  all_true f [] bs last h = refl
+  all_true f (p ∷ ps) [] last h = absurd h
+  all_true f (p ∷ ps) (true ∷ bs) last h = ap (λ xs. p ∷ xs) (all_true h.0 ps bs last h.2)
+  all_true f (p ∷ ps) (false ∷ bs) last h = absurd (true≢false (sym (yes f p false h.0 h.1)))
+
+  pub none_false : (f : F) (ps : List (L × R)) (bs : List Bool) (last : F) → TestsInTurn g f ps bs last → answered_false g ps bs ≡ []
+  none_false f [] bs last h = refl
+  none_false f (p ∷ ps) [] last h = absurd h
+  none_false f (p ∷ ps) (true ∷ bs) last h = none_false h.0 ps bs last h.2
+  none_false f (p ∷ ps) (false ∷ bs) last h = absurd (true≢false (sym (yes f p false h.0 h.1)))

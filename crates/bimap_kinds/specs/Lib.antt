@@ -1,3 +1,4 @@
 pub mod Held
 pub mod HeldTable
 pub mod Sorted
+pub mod Extraction

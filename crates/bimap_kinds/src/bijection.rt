@@ -6,8 +6,7 @@ ghost use Rattle.bimap_kinds.specs.Held.{holding};
 
 use crate::map::BijectiveMap;
 use bimap_base::{
-    Bijection, Count, Interning, NoMemory, NotInserted, NotInsertedWith, Overwritten, Policy,
-    UndoStopped,
+    Bijection, Interning, NoMemory, NotInserted, NotInsertedWith, Overwritten, Policy, UndoStopped,
 };
 use bimap_index::Index;
 
@@ -41,7 +40,7 @@ impl<L: Eq + Drop, R: Eq + Drop, I: Index<L>, J: Index<R>> Bijection<L, R>
         right: R,
         policy: Policy,
     ) -> Result<Overwritten<L, R>, NotInsertedWith<L, R>> {
-        self.insert_with_metered(left, right, policy, &mut Count::new())
+        BijectiveMap::insert_with(self, left, right, policy)
     }
 
     fn remove_by_left(&mut self, left: &L) -> Option<(L, R)> {

@@ -14,7 +14,8 @@ impl<L: Eq + Hash, R: Eq, LS: BuildHasher, J: Index<R>> PartialEq
     for BijectiveMap<L, R, HashIndex<LS>, J> {
     ghost eq = { λ a b. same L.eq R.eq (holding a).pairs (holding b).pairs };
 
-    ghost laws = { same_per L.eq R.eq L.PartialEq.laws R.PartialEq.laws (λ b. (holding b).pairs) (λ b. b.apart) };
+    ghost laws = { same_per L.eq R.eq L.PartialEq.laws R.PartialEq.laws (λ b. (holding b).pairs)
+        (λ b. b.apart) };
 
     fn eq(&self, other: &Self) -> bool {
         if self.len() != other.len() {
@@ -31,7 +32,8 @@ impl<L: Eq + Hash, R: Eq, LS: BuildHasher, J: Index<R>> PartialEq
 
 impl<L: Eq + Hash, R: Eq, LS: BuildHasher, J: Index<R>> Eq
     for BijectiveMap<L, R, HashIndex<LS>, J> {
-    ghost laws = { same_equiv L.eq R.eq L.Eq.laws R.Eq.laws (λ b. (holding b).pairs) (λ b. b.apart) };
+    ghost laws = { same_equiv L.eq R.eq L.Eq.laws R.Eq.laws (λ b. (holding b).pairs)
+        (λ b. b.apart) };
 }
 
 impl<L: Eq, R: Eq, I: Index<L>, J: Index<R>> BijectiveMap<L, R, I, J> {

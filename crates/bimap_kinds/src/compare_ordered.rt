@@ -21,7 +21,8 @@ use std::hash::{Hash, Hasher};
 impl<L: Ord + Drop, R: Eq + Drop, J: Index<R>> PartialEq for BijectiveMap<L, R, Ordered, J> {
     ghost eq = { λ a b. same L.eq R.eq (holding a).pairs (holding b).pairs };
 
-    ghost laws = { same_per L.eq R.eq L.PartialEq.laws R.PartialEq.laws (λ b. (holding b).pairs) (λ b. b.apart) };
+    ghost laws = { same_per L.eq R.eq L.PartialEq.laws R.PartialEq.laws (λ b. (holding b).pairs)
+        (λ b. b.apart) };
 
     fn eq(&self, other: &Self) -> bool {
         if self.len() != other.len() {
@@ -32,13 +33,16 @@ impl<L: Ord + Drop, R: Eq + Drop, J: Index<R>> PartialEq for BijectiveMap<L, R, 
 }
 
 impl<L: Ord + Drop, R: Eq + Drop, J: Index<R>> Eq for BijectiveMap<L, R, Ordered, J> {
-    ghost laws = { same_equiv L.eq R.eq L.Eq.laws R.Eq.laws (λ b. (holding b).pairs) (λ b. b.apart) };
+    ghost laws = { same_equiv L.eq R.eq L.Eq.laws R.Eq.laws (λ b. (holding b).pairs)
+        (λ b. b.apart) };
 }
 
 impl<L: Ord + Drop, R: Ord + Drop, J: Index<R>> PartialOrd for BijectiveMap<L, R, Ordered, J> {
-    ghost partial_cmp = { λ a b. Some (lexicographic L.cmp R.cmp (holding a).pairs (holding b).pairs) };
+    ghost partial_cmp = { λ a b. Some (lexicographic L.cmp R.cmp (holding a).pairs
+        (holding b).pairs) };
 
-    ghost laws = { held_po L.eq R.eq L.total R.total L.matches_eq R.matches_eq (λ b. (holding b).pairs) (λ b. b.ascending) };
+    ghost laws = { held_po L.eq R.eq L.total R.total L.matches_eq R.matches_eq
+        (λ b. (holding b).pairs) (λ b. b.ascending) };
 
     fn partial_cmp(&self, other: &Self) -> Option<Ordering> {
         Some(self.cmp(other))
@@ -50,11 +54,13 @@ impl<L: Ord + Drop, R: Ord + Drop, J: Index<R>> PartialOrd for BijectiveMap<L, R
 impl<L: Ord + Drop, R: Ord + Drop, J: Index<R>> Ord for BijectiveMap<L, R, Ordered, J> {
     ghost cmp = { λ a b. lexicographic L.cmp R.cmp (holding a).pairs (holding b).pairs };
 
-    ghost total = { held_total L.eq R.eq L.total R.total L.matches_eq R.matches_eq (λ b. (holding b).pairs) (λ b. b.ascending) };
+    ghost total = { held_total L.eq R.eq L.total R.total L.matches_eq R.matches_eq
+        (λ b. (holding b).pairs) (λ b. b.ascending) };
 
     ghost matches_partial_cmp = { λ x y. refl };
 
-    ghost matches_eq = { held_ties L.eq R.eq L.total R.total L.matches_eq R.matches_eq (λ b. (holding b).pairs) (λ b. b.ascending) };
+    ghost matches_eq = { held_ties L.eq R.eq L.total R.total L.matches_eq R.matches_eq
+        (λ b. (holding b).pairs) (λ b. b.ascending) };
 
     fn cmp(&self, other: &Self) -> Ordering {
         order_of(self.iter(), other.iter())
@@ -64,9 +70,12 @@ impl<L: Ord + Drop, R: Ord + Drop, J: Index<R>> Ord for BijectiveMap<L, R, Order
 /// Equal bimaps hash alike, as equal values of each side do.
 impl<L: Ord + Hash + Drop, R: Ord + Hash + Drop, J: Index<R>> Hash
     for BijectiveMap<L, R, Ordered, J> {
-    ghost hash_input = { λ b. fed.slice (λ p. L.hash_input p.0 ++ R.hash_input p.1) (holding b).pairs };
+    ghost hash_input = { λ b. fed.slice (λ p. L.hash_input p.0 ++ R.hash_input p.1)
+        (holding b).pairs };
 
-    ghost respects_eq = { (held_alike L.eq R.eq L.total R.total L.matches_eq R.matches_eq (λ b. (holding b).pairs) (λ b. b.ascending) (record { fed = L.respects_eq }) (record { fed = R.respects_eq })).fed };
+    ghost respects_eq = { (held_alike L.eq R.eq L.total R.total L.matches_eq R.matches_eq
+        (λ b. (holding b).pairs) (λ b. b.ascending) (record { fed = L.respects_eq })
+        (record { fed = R.respects_eq })).fed };
 
     fn hash<H: Hasher>(&self, state: &mut H) {
         self.len().hash(state);

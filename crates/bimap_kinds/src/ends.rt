@@ -151,6 +151,7 @@ impl<L: Ord, R: Eq, J: Index<R>> BijectiveMap<L, R, Ordered, J> {
     }
 
     // Takes out the pair of a rank, or answers `None` from the length on.
+    #[tactic(auto, unfolding(crate::specs::HeldTable::held))]
     fn take_at_left_rank<M: Meter>(&mut self, rank: usize, meter: &mut M) -> Option<(L, R)>
         ensures pair { result ≡ slice_get (holding self.old).pairs rank }
         ensures rest { (holding self.new).pairs ≡ take rank (holding self.old).pairs
@@ -166,6 +167,7 @@ impl<L: Ord, R: Eq, J: Index<R>> BijectiveMap<L, R, Ordered, J> {
     }
 }
 
+#[tactic(auto, unfolding(crate::specs::HeldTable::held, crate::specs::HeldTable::held_by_right))]
 impl<L: Eq, R: Ord, I: Index<L>> BijectiveMap<L, R, I, Ordered> {
     ghost use Rattle.bimap_kinds.specs.Held.{holding, by_right};
     ghost use Rattle.bimap_kinds.specs.Sorted.{IsByRight};

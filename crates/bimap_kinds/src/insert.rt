@@ -45,7 +45,8 @@ impl<L: Eq + Drop, R: Eq + Drop, I: Index<L>, J: Index<R>> BijectiveMap<L, R, I,
         ensures { IsInsertionUnder L.eq R.eq (holding self.old) (left, right) policy result
             (holding self.new) }
     {
-        self.insert_with_metered(left, right, policy, &mut Count::new())
+        self.table
+            .insert_with(left, right, policy, &mut Count::new())
     }
 
     /// [`insert`](Self::insert), counted.
@@ -67,30 +68,11 @@ impl<L: Eq + Drop, R: Eq + Drop, I: Index<L>, J: Index<R>> BijectiveMap<L, R, I,
             left: OnHeld::Overwrite,
             right: OnHeld::Overwrite,
         };
-        match self.insert_with_metered(left, right, policy, meter) {
+        match self.table.insert_with(left, right, policy, meter) {
             Ok(answer) => Ok(answer),
             Err(NotInsertedWith::Memory(left, right)) => Err(NoRoom { left, right }),
             Err(_) => unreachable!(),
         }
-    }
-
-    // The one insertion.
-    pub(crate) fn insert_with_metered<M: Meter>(
-        &mut self,
-        left: L,
-        right: R,
-        policy: Policy,
-        meter: &mut M,
-    ) -> Result<Overwritten<L, R>, NotInsertedWith<L, R>>
-        ensures answer { IsInsertionUnder L.eq R.eq (holding self.old) (left, right) policy result
-            (holding self.new) }
-        ensures comparisons { let n = length (holding self.old).pairs in
-            M.comparisons meter.new ≤ M.comparisons meter.old + 3 * I.effort n + 5 * J.effort n }
-        ensures touches { let n = length (holding self.old).pairs in
-            M.touches meter.new ≤ M.touches meter.old + 200 * (I.effort n + 1)
-            + 200 * (J.effort n + 1) }
-    {
-        self.table.insert_with(left, right, policy, meter)
     }
 }
 

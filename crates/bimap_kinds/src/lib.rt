@@ -2,7 +2,7 @@
 //!
 //! The examples of calls begin with a bimap `seats` of 'a' with 3, 'b' with 1 and 'c' with 2, inserted in turn. What a
 //! line returns stands behind it.
-#![tactic(auto, unfolding(crate::specs::HeldTable::held, crate::specs::HeldTable::held_by_right))]
+#![tactic(auto)]
 
 mod bijection;
 mod build;

@@ -47,7 +47,7 @@ impl<L: Eq, R: Eq, I: Index<L>, J: Index<R>> BijectiveMap<L, R, I, J> {
         I: Lookup<L, Q>,
         ensures { IsFoundByLeft Q.same (holding self.now) left result }
     {
-        self.get_by_left_metered(left, &mut Count::new())
+        self.table.get_by_left(left, &mut Count::new())
     }
 
     /// Returns the left of a right, or `None` if the bimap doesn't contain the right.
@@ -58,7 +58,7 @@ impl<L: Eq, R: Eq, I: Index<L>, J: Index<R>> BijectiveMap<L, R, I, J> {
         J: Lookup<R, Q>,
         ensures { IsFoundByRight Q.same (holding self.now) right result }
     {
-        self.get_by_right_metered(right, &mut Count::new())
+        self.table.get_by_right(right, &mut Count::new())
     }
 
     /// Returns whether the bimap contains the left.

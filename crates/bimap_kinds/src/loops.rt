@@ -16,7 +16,8 @@ impl<'a, L: Ord + Drop, R: Eq + Drop, J: Index<R>> IntoIterator
 
     type IntoIter = by_rank::Iter<'a, L, R>;
 
-    ghost into_iter_gives = { λ m r. (r ≡ (holding m.now).pairs) × ShowsInOrder (deref_pair {K = L} {X = R}) × ShowsInReverse (deref_pair {K = L} {X = R}) };
+    ghost into_iter_gives = { λ m r. (r ≡ (holding m.now).pairs)
+        × ShowsInOrder (deref_pair {K = L} {X = R}) × ShowsInReverse (deref_pair {K = L} {X = R}) };
 
     fn into_iter(self) -> by_rank::Iter<'a, L, R> {
         self.iter()
@@ -29,7 +30,8 @@ impl<L: Ord + Drop, R: Eq + Drop, J: Index<R> + Drop> IntoIterator
 
     type IntoIter = by_rank::IntoIter<L, R>;
 
-    ghost into_iter_gives = { λ m r. (r ≡ (holding m).pairs) × GivesInOrder (L × R) × GivesInReverse (L × R) };
+    ghost into_iter_gives = { λ m r. (r ≡ (holding m).pairs) × GivesInOrder (L × R)
+        × GivesInReverse (L × R) };
 
     fn into_iter(self) -> by_rank::IntoIter<L, R> {
         let Table { pairs, left, .. } = self.into_table();
@@ -43,7 +45,8 @@ impl<'a, L: Eq + Hash, R: Eq, LS: BuildHasher, J: Index<R>> IntoIterator
 
     type IntoIter = by_place::Iter<'a, L, R>;
 
-    ghost into_iter_gives = { λ m r. (r ≡ (holding m.now).pairs) × ShowsInOrder (deref_pair {K = L} {X = R}) };
+    ghost into_iter_gives = { λ m r. (r ≡ (holding m.now).pairs)
+        × ShowsInOrder (deref_pair {K = L} {X = R}) };
 
     fn into_iter(self) -> by_place::Iter<'a, L, R> {
         self.iter()

@@ -11,6 +11,7 @@ impl<L: Eq, R: Eq, I: Index<L>, J: Index<R>> BijectiveMap<L, R, I, J> {
     ghost use Rattle.bimap_kinds.specs.Held.{holding};
 
     // The empty bimap over two indexes that list nothing.
+    #[tactic(auto, unfolding(crate::specs::HeldTable::held))]
     pub(crate) fn over(alloc: Global, left: I, right: J) -> Self
         requires left { I.is_listing left (λ _. None) }
         requires right { J.is_listing right (λ _. None) }

@@ -31,7 +31,8 @@ pub struct BijectiveMap<L: Eq, R: Eq, I: Index<L>, J: Index<R>> {
     /// No two of the pairs share a value.
     pub ghost apart: { IsApart L.eq R.eq (held table).pairs } by { Prim.hlevel props },
     /// The pairs ascend by left, where the left is ordered.
-    pub ghost ascending: { AllPairs (λ p q. I.walk_order table.left p.0 q.0 ≡ Less) (held table).pairs } by { Prim.hlevel props },
+    pub ghost ascending: { AllPairs (λ p q. I.walk_order table.left p.0 q.0 ≡ Less)
+        (held table).pairs } by { Prim.hlevel props },
     /// There is a place for each pair.
     pub ghost fits: { length (held table).pairs ≤ (held table).room },
     // Each index lists as many places as pairs are held, so what a table says of its indexes is said of the length.

@@ -71,7 +71,8 @@ impl<L: Eq, R: Eq, I: Index<L>, J: Index<R>> BijectiveMap<L, R, I, J> {
     ) -> Option<(L, R)>
     where
         J: Lookup<R, Q>,
-        ensures answer { IsRemovalByRight Q.same (holding self.old) right result (holding self.new) }
+        ensures answer { IsRemovalByRight Q.same (holding self.old) right result
+            (holding self.new) }
         ensures comparisons { let n = length (holding self.old).pairs in
             M.comparisons meter.new ≤ M.comparisons meter.old + I.effort n + J.effort n }
         ensures touches { let n = length (holding self.old).pairs in

@@ -26,6 +26,7 @@ impl<L: Eq, R: Eq, I: WalkedIndex<L>, J: Index<R>> BijectiveMap<L, R, I, J> {
     ///     seats.iter().len(); // 3
     ///     seats.iter().next(); // Some((&'a', &3))
     ///     seats.iter().next_back(); // Some((&'c', &2))
+    #[tactic(auto, unfolding(crate::specs::HeldTable::held))]
     pub fn iter(&self) -> Iter<'_, L, R, I::Way>
         ensures rest { result ≡ (holding self.now).pairs }
         ensures runs { ShowsInOrder (deref_pair {K = L} {X = R}) }
@@ -94,6 +95,7 @@ impl<L: Eq, R: Ord, I: Index<L>> BijectiveMap<L, R, I, Ordered> {
     /// Returns an iterator over the rights, ascending and from both ends. A step takes one descent at most.
     ///
     ///     seats.right_values().next(); // Some(&1)
+    #[tactic(auto, unfolding(crate::specs::HeldTable::held_by_right))]
     pub fn right_values(&self) -> by_rank::RightValues<'_, L, R>
         ensures rest { result ≡ values_of (by_right self.now) }
         ensures sorted { IsByRight R.cmp (holding self.now).pairs (by_right self.now) }

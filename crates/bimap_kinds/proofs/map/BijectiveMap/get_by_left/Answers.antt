@@ -1,4 +1,7 @@
+use Rattle.bimap_base.proofs.HoldingsAlike.{found_alike}
+use Rattle.bimap_kinds.proofs.Walk.{table_alike}
 use Rattle.bimap_kinds.proofs.map.BijectiveMap.get_by_left.Goals as goal
 
 pub returns : goal.returns
-returns g c = search
+returns g c =
+    found_alike _ _ (table_alike c.args.self.now.table g.met.I.Index.listed g.met.I.Index.distinct g.met.I.Index.settled) _ _ c.get_by_left.result c.get_by_left.ensures.answer

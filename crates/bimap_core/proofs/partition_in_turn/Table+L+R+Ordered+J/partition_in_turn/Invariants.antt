@@ -3,11 +3,11 @@ use Rattle.bimap_base.specs.PairsAt.{pairs_at}
 use Rattle.bimap_base.specs.Slots.{pair_count}
 use Rattle.bimap_core.proofs.InTurn.{IsTestedUpTo}
 use Rattle.bimap_tree.specs.Batches.{IsBatch}
-use Rattle.bimap_core.proofs.retain_in_turn.Table+L+R+Ordered+J.retain_in_turn.Given as goal
+use Rattle.bimap_core.proofs.partition_in_turn.Table+L+R+Ordered+J.partition_in_turn.Given as goal
 
 abbrev pub invariant-loop-rank : goal.invariant-loop-rank
 invariant-loop-rank g l = record {
-  so_far : IsTestedUpTo g.F.FnMut l.fn.f l.f (pairs_at l.fn.self.pairs l.fn.self.left.places) (pairs_at l.self.pairs l.self.left.places) l.rank;
+  so_far : IsTestedUpTo g.F.FnMut g.S.Outlet.has_room g.S.Outlet.receives l.fn.goes l.fn.f l.f l.fn.outlet l.outlet (pairs_at l.fn.self.pairs l.fn.self.left.places) (pairs_at l.self.pairs l.self.left.places) l.rank;
   room : length l.self.pairs ≡ length l.fn.self.pairs;
   batch : IsBatch l.self.left.places l.batch;
 }
