@@ -1,13 +1,27 @@
--- What a caller derives of the ends of an order by right: who stands there, and that no number is beyond.
-use Rattle.std.proofs.Common.{◌≡◌, ◌∙◌, ℕ, ◌+◌, ◌-◌, ◌<◌, ◌≤◌, ◌⊎◌, inl, inr, false, nat_eq, Some, None, List, length, slice_get, get_or, sym, ap, arith}
+-- What a caller derives of the ends of an order: that nothing is held; by right who stands there, and that no number is beyond.
+use Rattle.std.proofs.Common.{◌≡◌, ◌∙◌, ℕ, ◌+◌, ◌-◌, ◌<◌, ◌≤◌, ◌⊎◌, inl, inr, false, nat_eq, Option, Some, None, IfNone, List, [], ◌∷◌, length, slice_get, get_or, refl, sym, ap, arith}
 use Rattle.std.specs.Prelude.{Contains}
+use Rattle.std.specs.Borrow.{Bor}
+use Rattle.std.specs.Map.Iter.{deref_pair}
+use Rattle.std.specs.Option.{option_map}
 use Rattle.std.specs.Ordering.{nat_cmp}
 use Rattle.std.specs.declared.cmp.Ordering.{Ordering}
 use Rattle.std.specs.declared.cmp.Ordering.TheVariants.{Less}
 use Rattle.std.proofs.lemmas.Bool.{ne_eqb, cases_order}
 use Rattle.std.proofs.lemmas.Cmp.{ranked}
+use Rattle.std.proofs.lemmas.List.{nil_from_length}
 use Rattle.std.proofs.lemmas.Option.{slice_get_within, get_or_from_slice_get, slice_get-get_or}
 use Rattle.bimap.specs.BTree.{IsByRight}
+
+module _ {L R : Type 0} where
+  none_at : (sorted : List (L × R)) (rank : ℕ) → rank ≤ length sorted - 1 → None ≡ slice_get sorted rank → length sorted ≡ 0
+  none_at [] rank within at = refl
+  none_at (p ∷ sorted) rank within at = absurd (let i : None ≡ Some (get_or (p ∷ sorted) rank p) = at ∙ slice_get-get_or (p ∷ sorted) rank p (omega arith) in cc)
+
+  -- where the first or the last is none, nothing is held. `sorted` is what is held, by the left or by the right
+  pub none_held : (held sorted : List (L × R)) (rank : ℕ) (end : Option (Bor L × Bor R)) → option_map deref_pair end ≡ slice_get sorted rank → rank ≤ length sorted - 1 → length sorted ≡ length held → IfNone end (held ≡ [])
+  none_held held sorted rank (Some p) at within long = tt
+  none_held held sorted rank None at within long = nil_from_length held (sym long ∙ none_at sorted rank within at)
 
 -- the pair of a rank is held
 pub rank_is_held : {L R : Type 0} (order : R → R → Ordering) (held sorted : List (L × R)) (l : L) (r : R) (rank : ℕ) → IsByRight order held sorted → Some (l, r) ≡ slice_get sorted rank → Contains held (l, r)
@@ -52,4 +66,4 @@ module _ {L : Type 0} (held sorted : List (L × ℕ)) (sorts : IsByRight nat_cmp
   pub none_last : None ≡ slice_get sorted (length sorted - 1) → (q : L × ℕ) → Contains held q → (r : ℕ) → nat_eq q.1 r ≡ false
   none_last at q held r =
       let m = (sorts.same q).0 held in
-      absurd (let i : None ≡ Some (get_or sorted (length sorted - 1) q) = at ∙ slice_get-get_or sorted (length sorted - 1) q (omega (arith, m.1)) in cc)
+      absurd (omega (arith, m.1, none_at sorted (length sorted - 1) (omega arith) at))

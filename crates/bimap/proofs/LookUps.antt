@@ -27,10 +27,6 @@ module _ {L R : Type 0} (same_left : L → L → Bool) (same_right : R → R →
   pub none_shares : LacksLeft same_left S l → LacksRight same_right S r → (q : L × R) → S q → shares same_left same_right q (l, r) ≡ false
   none_shares lefts rights q s = or_false (same_left q.0 l) (same_right q.1 r) (lefts q s) (rights q s)
 
-  -- interning answers the given right where the left is new
-  pub new_is_given : (T : L × R → Type 0) (x : R) → LacksLeft same_left S l → IsWithPut same_left same_right S (l, r) T → (k : L) × T (k, x) × (same_left k l ≡ true) → x ≡ r
-  new_is_given T x lacks put answer = elim ((put (answer.0, x)).0 answer.1) [ inl e ↦ ap (λ (q : L × R). q.1) e | inr s ↦ absurd (true≢false (sym answer.2 ∙ lacks (answer.0, x) s.0)) ]
-
 -- a pair without the value that was replaced stays: once for both sides, of which `part` is one
 pub others_stay : {L R K M : Type 0} (part : L × R → K) (pair : K → M → L × R) (same : K → K → Bool) (S : L × R → Type 0) (from to taken : K) (T : L × R → Type 0) → ((k : K) (m : M) → part (pair k m) ≡ k) → IsPartReplaced part pair same S from to taken T → (p : L × R) → S p → same (part p) from ≡ false → T p
 others_stay part pair same S from to taken T is r p s e = (r.exchanged.exchanged p).1 (inr (s, λ q. true≢false (sym r.by_part ∙ ap (λ k. same k from) (sym (is taken r.other)) ∙ ap (λ z. same (part z) from) (sym q) ∙ e)))

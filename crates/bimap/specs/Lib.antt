@@ -3,6 +3,7 @@ pub use Rattle.bimap_base.specs.Answer
 pub use Rattle.bimap_base.specs.Holding
 pub use Rattle.bimap_base.specs.InterningByRight
 pub use Rattle.bimap_base.specs.Kept
+pub use Rattle.bimap_kinds.specs.Extraction
 pub use Rattle.bimap_base.specs.Visited
 pub use Rattle.bimap_base.specs.Same
 pub use Rattle.bimap_base.specs.Copies

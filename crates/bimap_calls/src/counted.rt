@@ -35,7 +35,8 @@ impl Eq for Counted<'_> {
 impl PartialOrd for Counted<'_> {
     ghost partial_cmp = { as_partial_cmp (on (λ x. x.number) nat_cmp) };
 
-    ghost laws = { partial_order_from_own_ties (Prim.search (comparing, rules)) (Prim.search (comparing, rules)) };
+    ghost laws = { partial_order_from_own_ties (Prim.search (comparing, rules))
+        (Prim.search (comparing, rules)) };
 
     fn partial_cmp(&self, other: &Self) -> Option<Ordering> {
         Some(self.cmp(other))

@@ -46,14 +46,14 @@ impl Symbols {
         ensures { IsFoundByLeft (λ held sought. bytes_eq (string_bytes held) sought)
             self.now.table.held name.now result }
     {
-        self.table.held().get_by_left(name)
+        self.table.get_by_left(name)
     }
 
     /// The name of a number, by one search.
     pub fn name_of(&self, number: &u32) -> Option<&String>
         ensures { IsFoundByRight nat_eq self.now.table.held number.now result }
     {
-        self.table.held().get_by_right(number)
+        self.table.get_by_right(number)
     }
 
     // A number above all in use.
@@ -86,7 +86,7 @@ impl Symbols {
         ensures scopes { self.new.scopes ≡ self.old.scopes }
         ensures unchanged { OnErr result (self.new ≡ self.old) }
     {
-        if let Some(&number) = self.table.held().get_by_left(&name) {
+        if let Some(&number) = self.table.get_by_left(&name) {
             return Ok(number);
         }
         let Some(number) = self.fresh_number() else {

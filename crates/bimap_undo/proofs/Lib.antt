@@ -3,3 +3,4 @@ pub mod Paths
 pub mod Removing
 pub mod Replaced
 pub mod Items
+pub mod Vecs

@@ -3,6 +3,7 @@
 
 mod copy_left;
 mod entry;
+mod look_ups;
 mod operations;
 mod refusal;
 mod undoable;

@@ -299,7 +299,7 @@ impl<B: Bijection<L, R> + Drop, L: CopyLeft + Drop, R: Eq + Drop> Undoable<B, L,
     ///     seats.insert('a', 1)?;
     ///     seats.insert('a', 2)?;
     ///     seats.undo_last(1);
-    ///     seats.held().get_by_left(&'a'); // Some(&1)
+    ///     seats.get_by_left(&'a'); // Some(&1)
     pub fn undo_last(&mut self, n: usize)
         requires recorded { n ≤ length self.old.entries }
         ensures gone_back { IsReturn L.eq R.eq self.old (length self.old.entries - n) self.new }

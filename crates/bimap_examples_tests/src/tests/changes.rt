@@ -1,6 +1,7 @@
 //! Examples of insertions, removals and rooms. Each function is handed what the examples begin with.
-use super::{Seats, ordered};
+use super::{Seats, holds, ordered};
 use bimap::{BiHashMap, NotInserted, NotInsertedWith, OnHeld, Overwritten, Policy};
+use std::alloc::Global;
 use std::process::Abort;
 
 fn overwrites(rt: &impl Abort, seats: &mut Seats) {
@@ -52,11 +53,27 @@ fn keeps_some(rt: &impl Abort, seats: &mut Seats) {
     assert!(rt; seats.len() == 2);
 }
 
+fn moves_some(rt: &impl Abort, alloc: Global, seats: &mut Seats) {
+    let mut early = Vec::new(alloc);
+    assert!(rt; seats.extract_into(&mut early, |_: &char, seat: &u32| *seat < 3) == Ok(()));
+    assert!(rt; early.as_slice() == [('b', 1), ('c', 2)].as_slice());
+    assert!(rt; holds(seats, &[('a', 3)]));
+}
+
+fn moves_all(rt: &impl Abort, alloc: Global, seats: &mut Seats) {
+    let mut all = Vec::new(alloc);
+    assert!(rt; seats.drain_into(&mut all) == Ok(()));
+    assert!(rt; all.as_slice() == [('a', 3), ('b', 1), ('c', 2)].as_slice());
+    assert!(rt; (seats.len(), seats.capacity()) == (0, 4));
+}
+
 #[test]
 fn removes_and_undoes(rt: HostRuntime) {
     undoes(&rt, &mut ordered(&rt));
     removes(&rt, &mut ordered(&rt));
     keeps_some(&rt, &mut ordered(&rt));
+    moves_some(&rt, rt.alloc(), &mut ordered(&rt));
+    moves_all(&rt, rt.alloc(), &mut ordered(&rt));
 }
 
 #[test]

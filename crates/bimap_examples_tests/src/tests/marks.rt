@@ -105,7 +105,8 @@ fn undoes_the_last(rt: &impl Abort, seats: &mut Recorded) -> Result<(), Fail> {
     seats.insert('a', 1)?;
     seats.insert('a', 2)?;
     seats.undo_last(1);
-    assert!(rt; seats.held().get_by_left(&'a') == Some(&1));
+    assert!(rt; seats.get_by_left(&'a') == Some(&1));
+    assert!(rt; seats.get_by_right(&2) == None);
     Ok(())
 }
 
