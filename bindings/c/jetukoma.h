@@ -13,8 +13,8 @@
  * it alone is written, and the status is JETUKOMA_BUFFER_TOO_SHORT.
  *
  * A search takes logarithmic time where both sides are ordered, and expected constant time where both are hashed. A look-up
- * makes one, an insertion and a removal one a side. `.._new`, `.._reserve` and insertions ask for memory, and so do look-ups
- * and removals by bytes that are longer than any before; no other call does.
+ * makes one, an insertion and a removal one a side. `.._new`, `.._reserve`, insertions and JSON ask for memory, and so do
+ * look-ups and removals by bytes that are longer than any before; no other call does.
  *
  *     jetukoma_btree_u64_u64 seats = {0};
  *     uint64_t guest;
@@ -22,6 +22,15 @@
  *         jetukoma_btree_u64_u64_insert_no_overwrite(&seats, 7, 3); // JETUKOMA_DONE, or JETUKOMA_NO_MEMORY
  *         jetukoma_btree_u64_u64_get_by_right(&seats, 3, &guest);   // JETUKOMA_DONE, and guest is 7
  *         jetukoma_btree_u64_u64_free(&seats);
+ *     }
+ *
+ * To keep those pairs alone of which a function says so, walk row by row, and remove the others of a row before the next:
+ *
+ *     jetukoma_u64_u64_pair row[64];
+ *     for (size_t at = 0, count; !jetukoma_btree_u64_u64_fill(&seats, at, row, 64, &count) && count;) {
+ *         for (size_t i = 0; i < count; i++)
+ *             if (keeps(row[i])) at++;
+ *             else jetukoma_btree_u64_u64_remove_by_left(&seats, row[i].left, &row[i]);
  *     }
  *
  * Made by tools/exports from crates/bimap_c. `#define JETUKOMA_API` before the include makes true functions of the inline ones.
@@ -46,8 +55,8 @@ enum {
     /* The handle has no table of the call's kind, or is null; of `free`: it has no table; of `new`: it has one
      * already. Nothing has changed. */
     JETUKOMA_NO_TABLE = 2,
-    /* A value is contained, and may not be overwritten; or a flag is above 1, or a pointer to a value is null.
-     * Nothing has changed. */
+    /* A value is contained, and may not be overwritten; a flag is above 1; a pointer to a value is null; or there is
+     * no JSON of this table, or no table of this text. Nothing has changed. */
     JETUKOMA_REFUSED = 3,
     /* The buffer is too short, and the length wanted is written. Nothing else has changed. */
     JETUKOMA_BUFFER_TOO_SHORT = 4,
@@ -874,6 +883,25 @@ JETUKOMA_API uint32_t jetukoma_btree_bytes_u64_clear(jetukoma_btree_bytes_u64 *h
     return jetukoma_btree_bytes_u64_clear_unchecked(handle);
 }
 
+/* Writes the pairs as the text of a JSON object, a name and its number each, by the bytes of the names, to the front
+ * of a buffer, and its length. It asks for memory for all of them. 1: no memory; 3: a left is no UTF-8; 4: the
+ * buffer is too short, and the length alone is written. */
+uint32_t jetukoma_btree_bytes_u64_to_json_unchecked(jetukoma_btree_bytes_u64 *handle, uint8_t *buf, size_t buf_len, size_t *len);
+JETUKOMA_API uint32_t jetukoma_btree_bytes_u64_to_json(jetukoma_btree_bytes_u64 *handle, uint8_t *buf, size_t buf_len, size_t *len) {
+    if (!handle) return JETUKOMA_NO_TABLE;
+    if (!buf || buf_len > PTRDIFF_MAX / sizeof *buf || !len) return JETUKOMA_REFUSED;
+    return jetukoma_btree_bytes_u64_to_json_unchecked(handle, buf, buf_len, len);
+}
+
+/* Reads the text of such an object into the table, in place of its pairs. Nothing is struck out then. It asks for
+ * memory for all of them. 1: no memory; 3: the text is no such object, or has a name or a number twice. */
+uint32_t jetukoma_btree_bytes_u64_from_json_unchecked(jetukoma_btree_bytes_u64 *handle, const uint8_t *text, size_t text_len);
+JETUKOMA_API uint32_t jetukoma_btree_bytes_u64_from_json(jetukoma_btree_bytes_u64 *handle, const uint8_t *text, size_t text_len) {
+    if (!handle) return JETUKOMA_NO_TABLE;
+    if (!text || text_len > PTRDIFF_MAX / sizeof *text) return JETUKOMA_REFUSED;
+    return jetukoma_btree_bytes_u64_from_json_unchecked(handle, text, text_len);
+}
+
 /* Writes the pair with exactly `rank` lefts below its own: its left to the front of a buffer, the left's length, and
  * the right. It makes a search. 4: the buffer is too short, and the length alone is written; 5: there are no more
  * pairs. */
@@ -1053,6 +1081,25 @@ uint32_t jetukoma_hash_bytes_u64_clear_unchecked(jetukoma_hash_bytes_u64 *handle
 JETUKOMA_API uint32_t jetukoma_hash_bytes_u64_clear(jetukoma_hash_bytes_u64 *handle) {
     if (!handle) return JETUKOMA_NO_TABLE;
     return jetukoma_hash_bytes_u64_clear_unchecked(handle);
+}
+
+/* Writes the pairs as the text of a JSON object, a name and its number each, by the bytes of the names, to the front
+ * of a buffer, and its length. It asks for memory for all of them. 1: no memory; 3: a left is no UTF-8; 4: the
+ * buffer is too short, and the length alone is written. */
+uint32_t jetukoma_hash_bytes_u64_to_json_unchecked(jetukoma_hash_bytes_u64 *handle, uint8_t *buf, size_t buf_len, size_t *len);
+JETUKOMA_API uint32_t jetukoma_hash_bytes_u64_to_json(jetukoma_hash_bytes_u64 *handle, uint8_t *buf, size_t buf_len, size_t *len) {
+    if (!handle) return JETUKOMA_NO_TABLE;
+    if (!buf || buf_len > PTRDIFF_MAX / sizeof *buf || !len) return JETUKOMA_REFUSED;
+    return jetukoma_hash_bytes_u64_to_json_unchecked(handle, buf, buf_len, len);
+}
+
+/* Reads the text of such an object into the table, in place of its pairs. Nothing is struck out then. It asks for
+ * memory for all of them. 1: no memory; 3: the text is no such object, or has a name or a number twice. */
+uint32_t jetukoma_hash_bytes_u64_from_json_unchecked(jetukoma_hash_bytes_u64 *handle, const uint8_t *text, size_t text_len);
+JETUKOMA_API uint32_t jetukoma_hash_bytes_u64_from_json(jetukoma_hash_bytes_u64 *handle, const uint8_t *text, size_t text_len) {
+    if (!handle) return JETUKOMA_NO_TABLE;
+    if (!text || text_len > PTRDIFF_MAX / sizeof *text) return JETUKOMA_REFUSED;
+    return jetukoma_hash_bytes_u64_from_json_unchecked(handle, text, text_len);
 }
 
 #ifdef __cplusplus

@@ -1,5 +1,6 @@
 /* Tries each call of jetukoma.h, on each type: every status, null pointers, lengths of 0 and beyond memory, flags that are
- * none, a table freed twice and used after it; calls by chance beside a model; and each request for memory refused in turn.
+ * none, a table freed twice and used after it; calls by chance beside a model, so many of each type as the program is told, or
+ * 100,000; and each request for memory refused in turn.
  *
  *     cc -std=c11 -Wl,--wrap=malloc,--wrap=realloc,--wrap=free test.c libjetukoma.a -o test
  */
@@ -9,6 +10,7 @@
 #include <string.h>
 
 static int failed, tests_passed, tests_failed;
+static long calls = 100000;
 #define CHECK(it) ((it) ? 0 : (failed++, printf("%s:%d: %s\n", __FILE__, __LINE__, #it)))
 
 static void test(const char *type, const char *name, void (*run)(void)) {
@@ -132,7 +134,8 @@ static void of_another_type(void) {
     CHECK(!jetukoma_hash_u64_u64_free(it) && jetukoma_btree_bytes_u64_free(&t) == JETUKOMA_NO_TABLE && blocks == 0);
 }
 
-int main(void) {
+int main(int count, char **words) {
+    if (count > 1) calls = atol(words[1]);
     btree_u64_u64_tests();
     btree_bytes_u64_tests();
     btree_bytes_bytes_tests();

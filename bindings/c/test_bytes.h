@@ -87,6 +87,55 @@ static uint32_t OUR(walk)(OUR(table) *table, struct pair *row, size_t *count) {
 }
 #endif
 
+#if !RIGHT_IS_BYTES
+/* What is written as JSON, and what is read. Whatever is refused changes nothing. */
+static void OUR(reads)(OUR(table) *table, const char *text, uint32_t status, const char *written) {
+    char out[80];
+    size_t len = 0;
+    CHECK(CALL(from_json)(table, (const uint8_t *)text, strlen(text)) == status);
+    memset(out, 77, sizeof out);
+    CHECK(!CALL(to_json)(table, (uint8_t *)out, sizeof out, &len) && len == strlen(written) && !memcmp(out, written, len) && out[len] == 77);
+}
+static void OUR(json)(void) {
+    static const char *const faulty[] = {"", "{", "{}{}", "7", "[]", "null", "{\"a\":1,\"a\":2}", "{\"a\":1,\"\\u0061\":1}", "{\"a\":1,\"b\":1}",
+                                         "{\"a\":-1}", "{\"a\":1.5}", "{\"a\":\"1\"}", "{\"a\":null}", "{\"a\":18446744073709551616}", "{\"\xff\":1}"};
+    const char *both = "{\"\":18446744073709551615,\"\\n\\\"\":0,\"\xc3\xa9\":1}", *ann = "{\"ann\":12,\"bob\":7}";
+    OUR(table) t = {0};
+    uint8_t out[80] = {77};
+    size_t len = 99, n;
+    uint64_t right;
+    CHECK(CALL(to_json)(NULL, out, 80, &len) == JETUKOMA_NO_TABLE && CALL(from_json)(NULL, out, 0) == JETUKOMA_NO_TABLE);
+    CHECK(CALL(to_json)(&t, out, 80, &len) == JETUKOMA_NO_TABLE && CALL(from_json)(&t, out, 0) == JETUKOMA_NO_TABLE && len == 99);
+    CHECK(!CALL(new)(&t));
+    OUR(reads)(&t, "", JETUKOMA_REFUSED, "{}");
+    OUR(reads)(&t, " {\"bob\": 7, \"\\u0061nn\": 12}\n", 0, ann);
+    CHECK(!CALL(get_by_left)(&t, (const uint8_t *)"ann", 3, &right) && right == 12 && !CALL(len)(&t, &n) && n == 2);
+    CHECK(CALL(overwritten_left)(&t, 0, out, 80, &len) == JETUKOMA_NOT_FOUND);
+    for (size_t at = 0; at < sizeof faulty / sizeof *faulty; at++) OUR(reads)(&t, faulty[at], JETUKOMA_REFUSED, ann);
+    CHECK(CALL(from_json)(&t, NULL, 0) == JETUKOMA_REFUSED && CALL(to_json)(&t, NULL, 0, &len) == JETUKOMA_REFUSED);
+    CHECK(CALL(to_json)(&t, out, 80, NULL) == JETUKOMA_REFUSED && CALL(from_json)(&t, out, SIZE_MAX) == JETUKOMA_REFUSED);
+    CHECK(CALL(to_json)(&t, out, strlen(ann) - 1, &len) == JETUKOMA_BUFFER_TOO_SHORT && len == strlen(ann) && out[0] == 77);
+    CHECK(!CALL(to_json)(&t, out, strlen(ann), &len) && !memcmp(out, ann, len));
+    /* a left that is no text can't be written */
+    CHECK(!CALL(insert_no_overwrite)(&t, (const uint8_t *)"\xff", 1, 1));
+    out[0] = 77, len = 99;
+    CHECK(CALL(to_json)(&t, out, 80, &len) == JETUKOMA_REFUSED && out[0] == 77 && len == 99);
+    OUR(reads)(&t, both, 0, both);
+    /* memory refused in turn */
+    for (size_t most = 0, refused = 1; refused && most < 1000; most++) {
+        granted = most;
+        uint32_t written = CALL(to_json)(&t, out, 80, &len);
+        granted = most;
+        uint32_t read = CALL(from_json)(&t, (const uint8_t *)ann, strlen(ann));
+        granted = SIZE_MAX, refused = written | read;
+        CHECK((!written || written == JETUKOMA_NO_MEMORY) && (!read || read == JETUKOMA_NO_MEMORY) && most < 999);
+        CHECK(!CALL(len)(&t, &n) && n == (read ? 3 : 2));
+        OUR(reads)(&t, both, 0, both);
+    }
+    CHECK(!CALL(free)(&t) && blocks == 0);
+}
+#endif
+
 static void OUR(own)(OUR(table) *table, uint32_t status) {
     OUR(out) left, right;
     size_t len = 99;

@@ -99,9 +99,9 @@ static void OUR(calls)(void) {
     OUR(table) t = {0};
     empty_model();
     CHECK(!CALL(new)(&t));
-    for (int call = 0; call < 100000 && failed < 20; call++) {
+    for (long call = 0; call < calls && failed < 20; call++) {
         OUR(one)(&t);
-        if (call % 100 == 0) OUR(same)(&t);
+        if (call % (calls / 1000) == 0) OUR(same)(&t);
     }
     CHECK(!CALL(free)(&t) && blocks == 0);
 }
@@ -176,6 +176,11 @@ static void OUR(tests)(void) {
     test(TEXT(KIND) " " TEXT(SIDES), "statuses", OUR(statuses));
     test(TEXT(KIND) " " TEXT(SIDES), "calls by chance", OUR(calls));
     test(TEXT(KIND) " " TEXT(SIDES), "memory refused", OUR(memory));
+#if !BYTES
+    test(TEXT(KIND) " " TEXT(SIDES), "pairs kept by a walk", OUR(retain));
+#elif !RIGHT_IS_BYTES
+    test(TEXT(KIND) " " TEXT(SIDES), "JSON", OUR(json));
+#endif
 }
 #undef SIDES
 #undef LEFT

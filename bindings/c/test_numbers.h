@@ -72,6 +72,23 @@ static uint32_t OUR(pop)(OUR(table) *table, int first, struct pair *pair) {
 #endif
 
 /* What this type has alone, answered by a table, by a handle with none, and by null. */
+/* Pairs are kept as the header shows it. */
+static int OUR(keeps)(jetukoma_u64_u64_pair it) { return it.left % 3 == 0; }
+static void OUR(retain)(void) {
+    OUR(table) t = {0};
+    size_t n, taken;
+    jetukoma_u64_u64_pair row[64], one;
+    CHECK(!CALL(new)(&t));
+    for (uint64_t left = 0; left < 1000; left++) one.left = left, one.right = left * 7, CHECK(!CALL(insert_many)(&t, &one, 1, &taken) && taken == 1);
+    for (size_t at = 0, count; !CALL(fill)(&t, at, row, 64, &count) && count;) {
+        for (size_t i = 0; i < count; i++)
+            if (OUR(keeps)(row[i])) at++;
+            else CALL(remove_by_left)(&t, row[i].left, &row[i]);
+    }
+    CHECK(!CALL(len)(&t, &n) && n == 334);
+    for (uint64_t left = 0; left < 1000; left++) CHECK(CALL(contains_left)(&t, left) == (left % 3 ? JETUKOMA_NOT_FOUND : 0));
+    CHECK(!CALL(free)(&t) && blocks == 0);
+}
 static void OUR(own)(OUR(table) *table, uint32_t status) {
     jetukoma_u64_u64_pair row[3] = {{7, 7}, {8, 8}, {7, 9}};
     size_t n = 99;

@@ -238,9 +238,26 @@ class _Bimap(MutableMapping):
         self._take(item[0])
         return item
 
+    def retain(self, keep):
+        """Keeps the items of which keep(key, value) says so. It asks of each once, and then removes the others."""
+        gone = [key for key, value in self._walk() if not keep(key, value)]
+        for key in gone:
+            self._take(key)
+
     def clear(self):
         """Removes all items."""
         self._table.clear()
+
+    def to_json(self):
+        """The text of a JSON object with a name and its number for each item, of texts or bytes with ints."""
+        return self._table.to_json()
+
+    @classmethod
+    def from_json(cls, text, *, keys=str):
+        """The map of such a text. It is a ValueError if the text is none, or has a name or a number twice."""
+        it = cls(keys=keys)
+        it._table.from_json(text)
+        return it
 
     def copy(self):
         """A map with the same items."""

@@ -158,6 +158,27 @@ class Table:
         call, at, told, (left, right) = self.call("insert_with"), self._at, byref(c_uint64()), self.sides
         return lambda l, r, *refuses: inserted(call(at, *left.give(l), *right.give(r), *refuses, told))
 
+    def _json(self, name):
+        if self.numbers or self.sides[1].name != "u64":
+            raise TypeError("JSON is of texts or bytes with ints")
+        return self.call(name)
+
+    def to_json(self):
+        """The pairs as the text of a JSON object."""
+        call, side = self._json("to_json"), self.sides[0]
+        while (status := call(self._at, *side.out)) == BUFFER_TOO_SHORT:
+            side.grow()
+        if status == REFUSED:
+            raise UnicodeError("these bytes are no UTF-8")
+        sure(status)
+        return Bytes.got(side).decode()
+
+    def from_json(self, text):
+        """Takes the pairs of such a text in place of those that it has."""
+        text = str.encode(sort_of(str, text))
+        if not inserted(self._json("from_json")(self._at, text, c_size_t(len(text)))):
+            raise ValueError("this is no JSON object of names and numbers, each once")
+
     def rows(self):
         """The lefts and the rights, in the walk's order."""
         if self.kind != "btree":

@@ -1,7 +1,10 @@
 """Bad input, the types of sides, many items, and calls by chance beside two dicts."""
 import copy
+import json
 import pickle
 import random
+import subprocess
+import sys
 import unittest
 
 from jetukoma import BiBTreeMap, BiHashMap, DuplicationError, ValueDuplicationError
@@ -112,6 +115,68 @@ class Types(unittest.TestCase):
         self.assertEqual((it[b""], it.inverse[b""], it[b"z"]), (b"x" * 1000, b"y\0" * 5000, b"z"))
         self.assertEqual(list(it), [b"", b"y\0" * 5000, b"z"])
         self.assertEqual(it.popitem(last=False), (b"", b"x" * 1000))
+
+
+class Json(unittest.TestCase):
+    def test_out_and_in(self):
+        for kind in KINDS:
+            seats = kind({"bob": 7, "ann": 2**64 - 1, '"é\n': 0}, keys=str)
+            text = '{"\\"é\\n":0,"ann":18446744073709551615,"bob":7}'
+            self.assertEqual((seats.to_json(), seats.inverse.to_json()), (text, text))
+            self.assertEqual(json.loads(text), {"bob": 7, "ann": 2**64 - 1, '"é\n': 0})
+            it = kind.from_json(text)
+            self.assertEqual((len(it), it["ann"], it.inverse[0], type(it)), (3, 2**64 - 1, '"é\n', kind))
+            self.assertEqual(kind.from_json('{"a" : 1}', keys=bytes)[b"a"], 1)
+            for faulty in ["", "[]", '{"a":-1}', '{"a":"1"}', '{"a":1,"a":2}', '{"a":1,"b":1}']:
+                self.assertRaises(ValueError, kind.from_json, faulty)
+            self.assertRaises(UnicodeError, kind({b"\xff": 1}, keys=bytes).to_json)
+            self.assertRaises(UnicodeError, kind.from_json, "\ud800")
+            for call in [kind().to_json, kind(keys=bytes, values=bytes).to_json]:
+                self.assertRaises(TypeError, call)
+            self.assertRaises(TypeError, kind.from_json, "{}", keys=int)
+            self.assertRaises(TypeError, kind.from_json, b"{}")
+
+
+class Retain(unittest.TestCase):
+    def test_what_is_kept(self):
+        for kind in KINDS:
+            it = kind((number, number * 7) for number in range(1000))
+            asked = []
+            it.retain(lambda key, value: asked.append((key, value)) or key % 3 == 0)
+            self.assertEqual(sorted(asked), [(number, number * 7) for number in range(1000)])
+            self.assertEqual(it, {number: number * 7 for number in range(0, 1000, 3)})
+            it.inverse.retain(lambda value, key: value == key * 7 and key < 9)
+            self.assertEqual(it, {0: 0, 3: 21, 6: 42})
+            self.assertRaises(ZeroDivisionError, it.retain, lambda key, value: 1 // value)
+            self.assertEqual(len(it), 3)
+        texts = BiBTreeMap({"a": 1, "b": 2}, keys=str)
+        texts.retain(lambda key, value: key == "b")
+        self.assertEqual(texts, {"b": 2})
+        self.assertRaises(TypeError, BiHashMap(keys=str).retain, bool)
+
+
+class NoMemory(unittest.TestCase):
+    def test_with_little_memory(self):
+        program = """
+import resource
+from jetukoma import BiHashMap
+it, texts = BiHashMap(), BiHashMap({"a": 1}, keys=str)
+resource.setrlimit(resource.RLIMIT_AS, (200 << 20,) * 2)
+try:
+    for number in range(1 << 62):
+        it.put(number, number)
+except MemoryError:
+    length = len(it)
+    assert (number, it[number - 1], number in it, it.inverse[0]) == (length, length - 1, False, 0)
+try:
+    texts.put("b" * (150 << 20), 2)
+except MemoryError:
+    assert (len(texts), texts["a"]) == (1, 1)
+    it.clear()
+    print(len(it))
+"""
+        ran = subprocess.run([sys.executable, "-c", program], capture_output=True, text=True)
+        self.assertEqual((ran.stdout, ran.stderr), ("0\n", ""))
 
 
 class Many(unittest.TestCase):

@@ -74,6 +74,12 @@ pub trait Walked: Library {
     fn row(handle: &mut Handle<Self>, start: usize, most: usize) -> Vec<Found<Self>>;
 }
 
+/// Those of a table of bytes and numbers.
+pub trait Json: Library {
+    fn to_json(handle: &mut Handle<Self>) -> Result<Vec<u8>, Refusal>;
+    fn from_json(handle: &mut Handle<Self>, text: &[u8]) -> Result<(), Refusal>;
+}
+
 /// Those of a table of two ordered sides.
 pub trait InOrder: Walked {
     fn left_rank(handle: &mut Handle<Self>, left: &Self::Left) -> Result<usize, Refusal>;

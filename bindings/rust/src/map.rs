@@ -7,7 +7,7 @@ use std::fmt;
 use std::hash::{Hash, Hasher};
 use std::ops::{Bound, RangeBounds};
 
-use crate::library::{Handle, InOrder, Library, Refusal, Walked};
+use crate::library::{Handle, InOrder, Json, Library, Refusal, Walked};
 use crate::sides::{Key, PairedWith, Value};
 use crate::walk::{IntoIter, Iter, Walk};
 use crate::{Hashed, NoMemory, NotInserted, Ordered, Overwritten, Policy};
@@ -213,6 +213,27 @@ impl<L: PairedWith<R, K, Library: Walked>, R: Value, K> BijectiveMap<L, R, K> {
         let gone: Vec<L> = self.iter().filter(|(left, right)| !f(left, right)).map(|(left, _)| left).collect();
         for left in &gone {
             self.remove_by_left(left);
+        }
+    }
+}
+
+impl<L: PairedWith<u64, K, Library: Json>, K> BijectiveMap<L, u64, K> {
+    /// Returns the pairs as a JSON object, a name and its number each, or `None` where a left is no UTF-8.
+    pub fn to_json(&self) -> Option<String> {
+        match L::Library::to_json(self.handle()) {
+            Ok(text) => Some(String::from_utf8(text).expect("JSON is UTF-8")),
+            Err(Refusal::Held) => None,
+            Err(Refusal::Memory) => ended(Refusal::Memory),
+        }
+    }
+
+    /// Makes the map of such a JSON object, or returns `None` where the text is none, or has a name or a number twice.
+    pub fn from_json(text: &str) -> Option<Self> {
+        let map = Self::new();
+        match L::Library::from_json(map.handle(), text.as_bytes()) {
+            Ok(()) => Some(map),
+            Err(Refusal::Held) => None,
+            Err(Refusal::Memory) => ended(Refusal::Memory),
         }
     }
 }

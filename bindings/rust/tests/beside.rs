@@ -143,6 +143,21 @@ fn long_and_empty_bytes() {
 }
 
 #[test]
+fn json() {
+    let seats = BiBTreeMap::from_iter([("bob".to_string(), 7), ("ann".to_string(), u64::MAX), ("\"é\n".to_string(), 0)]);
+    let text = r#"{"\"é\n":0,"ann":18446744073709551615,"bob":7}"#;
+    assert_eq!(seats.to_json().as_deref(), Some(text));
+    assert_eq!(BiBTreeMap::from_json(text).as_ref(), Some(&seats));
+    let hashed: BiHashMap<Vec<u8>, u64> = BiHashMap::from_json(" { \"b\": 1, \"a\": 2 } ").unwrap();
+    assert_eq!((hashed.len(), hashed.get_by_right(&2)), (2, Some(b"a".to_vec())));
+    assert_eq!(hashed.to_json().as_deref(), Some(r#"{"a":2,"b":1}"#));
+    for faulty in ["", "[]", r#"{"a":-1}"#, r#"{"a":"1"}"#, r#"{"a":1,"a":2}"#, r#"{"a":1,"b":1}"#] {
+        assert_eq!(BiHashMap::<String, u64>::from_json(faulty).map(|it| it.len()), None, "{faulty}");
+    }
+    assert_eq!(BiBTreeMap::from_iter([(vec![255], 1)]).to_json(), None);
+}
+
+#[test]
 fn ends_and_ranks() {
     let mut bimap = BiBTreeMap::from_iter((0..1000).map(|it| (it * 2, it)));
     assert_eq!(

@@ -1,4 +1,5 @@
 mod Rows
 mod Steps
 mod TableAsBox
+mod Texts
 mod Values

@@ -5,24 +5,24 @@ use Rattle.std.specs.Prelude.{◌≡◌, ℕ, ◌<◌, ◌≤◌, ◌++◌, ◌�
 use Rattle.std.specs.Cmp.Lexicographic.{pointwise, slice_cmp}
 use Rattle.std.specs.Ordering.{is_lt, nat_cmp}
 use Rattle.std.specs.Map.Iter.{TakesFirst, TakesLast}
-use Rattle.std.specs.Global.{Vec}
 use Rattle.bimap.specs.Holding.{Holding, IsInsertionUnder, IsRemovalByLeft, IsRemovalByRight}
 use Rattle.bimap.specs.Types.{Overwritten, Neither, Left, Right, Pair, Both, Policy, NotInsertedWith}
 use Rattle.bimap_c.specs.Calls.{inserted_with, on_held, AreFlags, Clears}
+use Rattle.bimap_c.specs.declared.byte_string.ByteString.{ByteString}
 use Rattle.bimap_c.specs.declared.bytes.BytesTable.{BytesTable}
 
 -- the two have the same bytes
-abbrev pub same_bytes : Vec ℕ → Vec ℕ → Bool
-same_bytes v w = pointwise nat_eq v.items w.items
+abbrev pub same_bytes : ByteString → ByteString → Bool
+same_bytes v w = pointwise nat_eq v.bytes.items w.bytes.items
 
 -- what a bimap holds, what the last change struck out, and the last key, up to whose room the next one wants no memory
 pub record Kept (R : Type 0) : Type 0 where
-  pub held : Holding (Vec ℕ) R
-  pub struck : Overwritten (Vec ℕ) R
-  pub key : Vec ℕ
+  pub held : Holding (ByteString) R
+  pub struck : Overwritten (ByteString) R
+  pub key : ByteString
 
 -- the same of a table, by what its bimap holds
-abbrev pub kept : {R B : Type 0} → (B → Holding (Vec ℕ) R) → BytesTable R B → Kept R
+abbrev pub kept : {R B : Type 0} → (B → Holding (ByteString) R) → BytesTable R B → Kept R
 kept holding t = record { held = holding t.map; struck = t.struck; key = t.key }
 
 -- the pairs that an answer names, that of the left first
@@ -53,9 +53,9 @@ AreBytesOut None status old new told = status ≡ 5
 AreBytesOut (Some bytes) status old new told = IsCopiedOut bytes status old new told
 
 -- the bytes come out so, with a number beside them, which is written where they fit
-abbrev pub IsPairOut : Option (Vec ℕ × ℕ) → ℕ → List ℕ → List ℕ → ℕ → ℕ → Type 0
+abbrev pub IsPairOut : Option (ByteString × ℕ) → ℕ → List ℕ → List ℕ → ℕ → ℕ → Type 0
 IsPairOut None status old new told number = status ≡ 5
-IsPairOut (Some p) status old new told number = IsCopiedOut p.0.items status old new told × (status ≡ 0 → number ≡ p.1)
+IsPairOut (Some p) status old new told number = IsCopiedOut p.0.bytes.items status old new told × (status ≡ 0 → number ≡ p.1)
 
 -- the length of what comes out is written on 0, and on 4
 abbrev pub IsLengthWritten : ℕ → ℕ → ℕ → Type 0
@@ -66,26 +66,26 @@ module _ {R : Type 0} where
   pub record IsRead (old new : Kept R) : Type 0 where
     pub held : new.held ≡ old.held
     pub struck : new.struck ≡ old.struck
-    pub key_room : vec_capacity old.key ≤ vec_capacity new.key
+    pub key_room : vec_capacity old.key.bytes ≤ vec_capacity new.key.bytes
 
   -- with a copy of the bytes as its key the call is as P says; or there was no memory for one, which is longer than any before
-  abbrev pub IsByKey : Kept R → List ℕ → ℕ → Kept R → (Vec ℕ → Type 0) → Type 0
+  abbrev pub IsByKey : Kept R → List ℕ → ℕ → Kept R → (ByteString → Type 0) → Type 0
   IsByKey old bytes status new P =
-      ((status ≡ 1) × (vec_capacity old.key < length bytes) × IsRead old new) ⊎ ((new.key.items ≡ bytes) × P new.key)
+      ((status ≡ 1) × (vec_capacity old.key.bytes < length bytes) × IsRead old new) ⊎ ((new.key.bytes.items ≡ bytes) × P new.key)
 
   -- what a removal leaves as struck out, and its status
-  abbrev pub IsStruck : Overwritten (Vec ℕ) R → Option (Vec ℕ × R) → ℕ → Overwritten (Vec ℕ) R → Type 0
+  abbrev pub IsStruck : Overwritten (ByteString) R → Option (ByteString × R) → ℕ → Overwritten (ByteString) R → Type 0
   IsStruck old None status new = (status ≡ 5) × (new ≡ old)
   IsStruck old (Some p) status new = (status ≡ 0) × (new ≡ Pair p.0 p.1)
 
   -- of `remove_by_left`
   abbrev pub RemovesByLeft : Kept R → List ℕ → ℕ → Kept R → Type 0
-  RemovesByLeft old left status new = IsByKey old left status new (λ key. (taken : Option (Vec ℕ × R))
+  RemovesByLeft old left status new = IsByKey old left status new (λ key. (taken : Option (ByteString × R))
       × IsRemovalByLeft same_bytes old.held key taken new.held × IsStruck old.struck taken status new.struck)
 
   -- of `remove_by_right`
   abbrev pub RemovesByRight : (R → R → Bool) → Kept R → R → ℕ → Kept R → Type 0
-  RemovesByRight same_right old right status new = (taken : Option (Vec ℕ × R))
+  RemovesByRight same_right old right status new = (taken : Option (ByteString × R))
       × IsRemovalByRight same_right old.held right taken new.held × IsStruck old.struck taken status new.struck
 
   -- of `clear`
@@ -94,9 +94,9 @@ module _ {R : Type 0} where
 
   -- of an insertion under a policy, where there was memory for a copy of the left's bytes
   pub record IsInserted (same_right : R → R → Bool) (old : Kept R) (left : List ℕ) (right : R) (policy : Policy) (status : ℕ) (new : Kept R) : Type 0 where
-    pub key : Vec ℕ
-    pub copy : key.items ≡ left
-    pub result : Result (Overwritten (Vec ℕ) R) (NotInsertedWith (Vec ℕ) R)
+    pub key : ByteString
+    pub copy : key.bytes.items ≡ left
+    pub result : Result (Overwritten (ByteString) R) (NotInsertedWith (ByteString) R)
     pub inserted : IsInsertionUnder same_bytes same_right old.held (key, right) policy result new.held
     pub told : status ≡ inserted_with result
     pub struck : IfOk result (λ answer. new.struck ≡ answer)
@@ -119,18 +119,18 @@ module _ {R : Type 0} where
   -- of `left_rank`: so many lefts are below a copy of the bytes
   abbrev pub IsRanked : Kept R → List ℕ → ℕ → ℕ → Kept R → Type 0
   IsRanked old left status rank new = IsByKey old left status new (λ key. (status ≡ 0)
-      × (rank ≡ count_by (λ p. is_lt (slice_cmp nat_cmp p.0.items key.items)) old.held.pairs))
+      × (rank ≡ count_by (λ p. is_lt (slice_cmp nat_cmp p.0.bytes.items key.bytes.items)) old.held.pairs))
 
   -- what stays where a pair is taken off an end, and what is kept of it
-  pub record IsTaken (old : Kept R) (taken : Option (Vec ℕ × R)) (status : ℕ) (new : Kept R) : Type 0 where
+  pub record IsTaken (old : Kept R) (taken : Option (ByteString × R)) (status : ℕ) (new : Kept R) : Type 0 where
     pub struck : IsStruck old.struck taken status new.struck
     pub room : new.held.room ≡ old.held.room
     pub key : new.key ≡ old.key
 
   -- of `pop_first`
   abbrev pub PopsFirst : Kept R → ℕ → Kept R → Type 0
-  PopsFirst old status new = (taken : Option (Vec ℕ × R)) × TakesFirst (λ p. p) old.held.pairs taken new.held.pairs × IsTaken old taken status new
+  PopsFirst old status new = (taken : Option (ByteString × R)) × TakesFirst (λ p. p) old.held.pairs taken new.held.pairs × IsTaken old taken status new
 
   -- of `pop_last`
   abbrev pub PopsLast : Kept R → ℕ → Kept R → Type 0
-  PopsLast old status new = (taken : Option (Vec ℕ × R)) × TakesLast (λ p. p) old.held.pairs taken new.held.pairs × IsTaken old taken status new
+  PopsLast old status new = (taken : Option (ByteString × R)) × TakesLast (λ p. p) old.held.pairs taken new.held.pairs × IsTaken old taken status new

@@ -1,9 +1,9 @@
 -- What a contract sees of the table behind a handle.
 use Rattle.std.specs.Prelude.{ℕ, Option, None, Some}
-use Rattle.std.specs.Global.{Vec}
 use Rattle.bimap.specs.Holding.{Holding}
 use Rattle.bimap.specs.BTree.{holding}
 use Rattle.bimap_c.specs.Bytes.{Kept, kept}
+use Rattle.bimap_c.specs.declared.byte_string.ByteString.{ByteString}
 use Rattle.bimap_c.specs.declared.table.Table.{Table}
 use Rattle.bimap_c.specs.declared.table.Table.TheVariants.{BtreeU64U64, HashU64U64, BtreeBytesU64, HashBytesU64, BtreeBytesBytes, HashBytesBytes}
 
@@ -28,11 +28,11 @@ hash_bytes_u64 (Some (HashBytesU64 it)) = Some (kept holding it)
 hash_bytes_u64 table = None
 
 -- what an ordered table of two byte strings keeps, if the table is one
-abbrev pub btree_bytes_bytes : Option Table → Option (Kept (Vec ℕ))
+abbrev pub btree_bytes_bytes : Option Table → Option (Kept (ByteString))
 btree_bytes_bytes (Some (BtreeBytesBytes it)) = Some (kept holding it)
 btree_bytes_bytes table = None
 
 -- what a hashed one keeps
-abbrev pub hash_bytes_bytes : Option Table → Option (Kept (Vec ℕ))
+abbrev pub hash_bytes_bytes : Option Table → Option (Kept (ByteString))
 hash_bytes_bytes (Some (HashBytesBytes it)) = Some (kept holding it)
 hash_bytes_bytes table = None

@@ -2,6 +2,7 @@
 -- and that is what the status and the out-parameters tell.
 use Rattle.std.specs.Prelude.{◌≡◌, ◌⊎◌, ℕ, ◌<◌, Option, option_map, Result, List, ◌++◌, length, take, drop, map, min, nat_eq, Contains, IfOk}
 use Rattle.std.specs.Borrow.{Bor}
+use Rattle.std.specs.Iterator.{AlwaysYields}
 use Rattle.std.specs.Map.Iter.{TakesFirst, TakesLast, deref, deref_pair}
 use Rattle.bimap.specs.Holding.{Holding, IsFull, IsFoundByLeft, IsFoundByRight, IsInsertion, IsInsertionUnder, IsInsertionWithoutOverwriting, IsRemovalByLeft, IsRemovalByRight}
 use Rattle.bimap.specs.Survivors.{AreSurvivors}
@@ -55,7 +56,7 @@ module _ (old : Holding ℕ ℕ) (status : ℕ) where
 
     -- of `insert_many`: so many pairs were inserted, in order, which is all, or as many as there was memory for
     pub record InsertsMany (pairs : List Row) (taken : ℕ) : Type 0 where
-      pub survivors : AreSurvivors nat_eq nat_eq (Contains old.pairs) (map pair (take taken pairs)) (Contains new.pairs)
+      pub survivors : AreSurvivors nat_eq nat_eq (Contains old.pairs) (take taken (map pair pairs)) (Contains new.pairs)
       pub ends : ((status ≡ 0) × (taken ≡ length pairs)) ⊎ ((status ≡ 1) × (taken < length pairs) × IsFull new)
 
     -- of `remove_by_left`
@@ -80,14 +81,9 @@ module _ (old : Holding ℕ ℕ) (status : ℕ) where
 abbrev pub IsFilled : List (ℕ × ℕ) → List Row → ℕ → List Row → Type 0
 IsFilled walk old filled new = (filled ≡ min (length old) (length walk)) × (new ≡ map row (take filled walk) ++ drop filled old)
 
-module _ {W : Type 0} (gives : W → Option (Bor ℕ × Bor ℕ) → W → Type 0) where
-  -- the list tells which pairs are left of a walk
-  abbrev pub AreLeft : (W → List (ℕ × ℕ)) → Type 0
-  AreLeft left = (w : W) (p : Option (Bor ℕ × Bor ℕ)) (v : W) → gives w p v → TakesFirst deref_pair (left w) p (left v)
-
-  -- the front of a row is filled by the pairs that are left of a walk
-  abbrev pub IsFilledBy : W → List Row → ℕ → List Row → Type 0
-  IsFilledBy walk old filled new = (left : W → List (ℕ × ℕ)) → AreLeft left → IsFilled (left walk) old filled new
+-- the front of a row is filled by what a walk gives
+abbrev pub IsFilledBy : {W : Type 0} → (W → Option (Bor ℕ × Bor ℕ) → W → Type 0) → W → List Row → ℕ → List Row → Type 0
+IsFilledBy gives walk old filled new = (pairs : List (ℕ × ℕ)) → AlwaysYields gives deref_pair walk pairs → IsFilled pairs old filled new
 
 -- of `fill` and `fill_from`
 abbrev pub Fills : List (ℕ × ℕ) → ℕ → List Row → ℕ → List Row → Type 0

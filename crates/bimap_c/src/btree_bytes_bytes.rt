@@ -1,12 +1,12 @@
 //! The ordered bimap of two byte strings for C.
 ghost use Rattle.std.specs.Prelude.{◌≡◌, ◌≤◌, ℕ, Option, [], length, option_map, slice_get, vec_capacity, Contains};
 ghost use Rattle.std.specs.Borrow.{Bor};
-ghost use Rattle.std.specs.Global.{Vec};
 ghost use Rattle.bimap.specs.Holding.{IsFoundByLeft, IsFoundByRight};
 ghost use Rattle.bimap.specs.Sets.{HasLeft, HasRight};
 ghost use Rattle.bimap_c.specs.Bytes.{same_bytes, named_pairs, AreBytesOut, IsLengthWritten, IsRead, IsByKey, RemovesByLeft, RemovesByRight, ClearsAll, Inserts, InsertsFlagged, IsKind};
 ghost use Rattle.bimap_c.specs.BytesBytes.{WithCopy};
 ghost use Rattle.bimap_c.specs.Calls.{IsWritten, Reads, Changes, Makes, Frees, Tests, Reserves};
+ghost use Rattle.bimap_c.specs.declared.byte_string.ByteString.{ByteString};
 ghost use Rattle.bimap_c.specs.Tables.{btree_bytes_bytes};
 
 use crate::handle::Handle;
@@ -159,9 +159,9 @@ pub extern "C" fn jetukoma_btree_bytes_bytes_get_by_left_unchecked(
     len: &mut usize,
 ) -> u32
     ensures answer { Changes btree_bytes_bytes handle.old.slot.value result handle.new.slot.value
-        (λ old new. IsByKey old left.now result new (λ key. (found : Option (Bor (Vec ℕ)))
+        (λ old new. IsByKey old left.now result new (λ key. (found : Option (Bor ByteString))
         × IsFoundByLeft same_bytes old.held key found
-        × AreBytesOut (option_map (λ right. right.now.items) found) result buf.old buf.new
+        × AreBytesOut (option_map (λ right. right.now.bytes.items) found) result buf.old buf.new
         len.new) × IsRead old new) }
     ensures buf { IsWritten result buf.old buf.new }
     ensures len { IsLengthWritten result len.old len.new }
@@ -181,9 +181,9 @@ pub extern "C" fn jetukoma_btree_bytes_bytes_get_by_right_unchecked(
     len: &mut usize,
 ) -> u32
     ensures answer { Changes btree_bytes_bytes handle.old.slot.value result handle.new.slot.value
-        (λ old new. IsByKey old right.now result new (λ key. (found : Option (Bor (Vec ℕ)))
+        (λ old new. IsByKey old right.now result new (λ key. (found : Option (Bor ByteString))
         × IsFoundByRight same_bytes old.held key found
-        × AreBytesOut (option_map (λ left. left.now.items) found) result buf.old buf.new
+        × AreBytesOut (option_map (λ left. left.now.bytes.items) found) result buf.old buf.new
         len.new) × IsRead old new) }
     ensures buf { IsWritten result buf.old buf.new }
     ensures len { IsLengthWritten result len.old len.new }
@@ -229,7 +229,7 @@ pub extern "C" fn jetukoma_btree_bytes_bytes_remove_by_left_unchecked(
 ) -> u32
     ensures { Changes btree_bytes_bytes handle.old.slot.value result handle.new.slot.value
         (λ old new. RemovesByLeft old left.now result new
-        × (vec_capacity old.key ≤ vec_capacity new.key)) }
+        × (vec_capacity old.key.bytes ≤ vec_capacity new.key.bytes)) }
 {
     on_table!(handle, alloc, BtreeBytesBytes, table => bytes::remove_by_left(table, left))
 }
@@ -245,7 +245,7 @@ pub extern "C" fn jetukoma_btree_bytes_bytes_remove_by_right_unchecked(
     ensures { Changes btree_bytes_bytes handle.old.slot.value result handle.new.slot.value
         (λ old new. IsByKey old right.now result new (λ key.
         RemovesByRight same_bytes old key result new)
-        × (vec_capacity old.key ≤ vec_capacity new.key)) }
+        × (vec_capacity old.key.bytes ≤ vec_capacity new.key.bytes)) }
 {
     on_table!(handle, alloc, BtreeBytesBytes, table => bytes_bytes::remove_by_right(table, right))
 }
@@ -262,7 +262,7 @@ pub extern "C" fn jetukoma_btree_bytes_bytes_overwritten_left_unchecked(
     len: &mut usize,
 ) -> u32
     ensures answer { Reads btree_bytes_bytes handle.old.slot.value result
-        (λ kept. AreBytesOut (option_map (λ p. p.0.items)
+        (λ kept. AreBytesOut (option_map (λ p. p.0.bytes.items)
         (slice_get (named_pairs kept.struck) index)) result buf.old buf.new len.new) }
     ensures unchanged { handle.new.slot.value ≡ handle.old.slot.value }
     ensures buf { IsWritten result buf.old buf.new }
@@ -281,7 +281,7 @@ pub extern "C" fn jetukoma_btree_bytes_bytes_overwritten_right_unchecked(
     len: &mut usize,
 ) -> u32
     ensures answer { Reads btree_bytes_bytes handle.old.slot.value result
-        (λ kept. AreBytesOut (option_map (λ p. p.1.items)
+        (λ kept. AreBytesOut (option_map (λ p. p.1.bytes.items)
         (slice_get (named_pairs kept.struck) index)) result buf.old buf.new len.new) }
     ensures unchanged { handle.new.slot.value ≡ handle.old.slot.value }
     ensures buf { IsWritten result buf.old buf.new }

@@ -1,13 +1,14 @@
 //! The tables whose lefts are byte strings, and the bodies of their calls, over any bimap.
 ghost use Rattle.std.specs.Prelude.{◌≡◌, Option, ◌<◌, ◌≤◌, [], length, true, false, vec_capacity, option_map, slice_get, Contains};
 ghost use Rattle.std.specs.Borrow.{Bor};
-ghost use Rattle.std.specs.Global.{Vec};
 ghost use Rattle.std.specs.Map.Iter.{deref, deref_pair};
 ghost use Rattle.bimap.specs.Holding.{IsFoundByRight};
 ghost use Rattle.bimap.specs.Sets.{HasLeft, HasRight};
 ghost use Rattle.bimap_c.specs.Calls.{IsWritten, Tests};
+ghost use Rattle.bimap_c.specs.declared.byte_string.ByteString.{ByteString};
 ghost use Rattle.bimap_c.specs.Bytes.{kept, same_bytes, named_pairs, kind_of, IsRead, IsByKey, IsCopiedOut, AreBytesOut, IsLengthWritten, IsStruck, RemovesByLeft, RemovesByRight, ClearsAll, Inserts, InsertsFlagged, IsKind};
 
+use crate::byte_string::ByteString;
 use crate::calls::{found, policy, refused};
 use crate::status::{BUFFER_TOO_SHORT, DONE, NO_MEMORY, NOT_FOUND, REFUSED};
 use bimap::{Bijection, OnHeld, Overwritten, Policy};
@@ -19,9 +20,9 @@ pub struct BytesTable<R, B> {
     /// The bimap.
     pub map: B,
     /// What the last change struck out.
-    pub struck: Overwritten<Vec<u8>, R>,
+    pub struck: Overwritten<ByteString, R>,
     /// The key of the last look-up.
-    pub key: Vec<u8>,
+    pub key: ByteString,
 }
 
 /// Returns a table of this bimap, with which nothing was done.
@@ -32,20 +33,22 @@ pub(crate) fn table_of<R, B>(alloc: Global, map: B) -> BytesTable<R, B>
     BytesTable {
         map,
         struck: Overwritten::Neither,
-        key: Vec::new(alloc),
+        key: ByteString {
+            bytes: Vec::new(alloc),
+        },
     }
 }
 
 /// Writes the bytes over the key, where there is memory for them.
-pub(crate) fn note(key: &mut Vec<u8>, bytes: &[u8]) -> bool
-    ensures noted { result ≡ true → key.new.items ≡ bytes.now }
-    ensures full { result ≡ false → vec_capacity key.old < length bytes.now }
-    ensures room { vec_capacity key.old ≤ vec_capacity key.new }
+pub(crate) fn note(key: &mut ByteString, bytes: &[u8]) -> bool
+    ensures noted { result ≡ true → key.new.bytes.items ≡ bytes.now }
+    ensures full { result ≡ false → vec_capacity key.old.bytes < length bytes.now }
+    ensures room { vec_capacity key.old.bytes ≤ vec_capacity key.new.bytes }
 {
-    if key.resize(bytes.len(), 0).is_err() {
+    if key.bytes.resize(bytes.len(), 0).is_err() {
         return false;
     }
-    key.copy_from_slice(bytes);
+    key.bytes.copy_from_slice(bytes);
     true
 }
 
@@ -63,22 +66,22 @@ pub(crate) fn copy_out(bytes: &[u8], buf: &mut [u8], len: &mut usize) -> u32
 }
 
 /// Copies the bytes out, if there are some.
-pub(crate) fn tell_bytes(found: Option<&Vec<u8>>, buf: &mut [u8], len: &mut usize) -> u32
-    ensures out { AreBytesOut (option_map (λ v. v.now.items) found.entry) result buf.old buf.new
+pub(crate) fn tell_bytes(found: Option<&ByteString>, buf: &mut [u8], len: &mut usize) -> u32
+    ensures out { AreBytesOut (option_map (λ v. v.now.bytes.items) found.entry) result buf.old buf.new
         len.new }
     ensures buf { IsWritten result buf.old buf.new }
     ensures len { IsLengthWritten result len.old len.new }
 {
     match found {
-        Some(bytes) => copy_out(bytes, buf, len),
+        Some(found) => copy_out(&found.bytes, buf, len),
         None => NOT_FOUND,
     }
 }
 
 /// Keeps what a removal took out.
 pub(crate) fn strike<R: Drop>(
-    struck: &mut Overwritten<Vec<u8>, R>,
-    taken: Option<(Vec<u8>, R)>,
+    struck: &mut Overwritten<ByteString, R>,
+    taken: Option<(ByteString, R)>,
 ) -> u32
     ensures { IsStruck struck.old taken result struck.new }
 {
@@ -140,7 +143,7 @@ fn kind_of<L, R>(answer: &Overwritten<L, R>) -> u32
 }
 
 // Inserts a copy of the left with the right, where the policy lets it.
-fn insert_under<R: Eq + Drop, B: Bijection<Vec<u8>, R>>(
+fn insert_under<R: Eq + Drop, B: Bijection<ByteString, R>>(
     alloc: Global,
     table: &mut BytesTable<R, B>,
     left: &[u8],
@@ -150,7 +153,7 @@ fn insert_under<R: Eq + Drop, B: Bijection<Vec<u8>, R>>(
     ensures { Inserts R.eq (kept B.holding table.old) left.now right policy result
         (kept B.holding table.new) }
 {
-    let Ok(left) = Vec::from_slice(alloc, left) else {
+    let Some(left) = ByteString::copy_of(alloc, left) else {
         return NO_MEMORY;
     };
     match table.map.insert_with(left, right, policy) {
@@ -173,7 +176,7 @@ fn tell_kind<R, B>(table: &BytesTable<R, B>, status: u32, kind: &mut u32)
 }
 
 /// Inserts a copy of the left with the right, which overwrites what they share a value with.
-pub(crate) fn insert<R: Eq + Drop, B: Bijection<Vec<u8>, R>>(
+pub(crate) fn insert<R: Eq + Drop, B: Bijection<ByteString, R>>(
     alloc: Global,
     table: &mut BytesTable<R, B>,
     left: &[u8],
@@ -196,7 +199,7 @@ pub(crate) fn insert<R: Eq + Drop, B: Bijection<Vec<u8>, R>>(
 }
 
 /// Inserts a copy of the left with the right if neither is contained.
-pub(crate) fn insert_no_overwrite<R: Eq + Drop, B: Bijection<Vec<u8>, R>>(
+pub(crate) fn insert_no_overwrite<R: Eq + Drop, B: Bijection<ByteString, R>>(
     alloc: Global,
     table: &mut BytesTable<R, B>,
     left: &[u8],
@@ -214,7 +217,7 @@ pub(crate) fn insert_no_overwrite<R: Eq + Drop, B: Bijection<Vec<u8>, R>>(
 }
 
 /// Inserts a copy of the left with the right, where the flags let it overwrite what it shares a value with.
-pub(crate) fn insert_with<R: Eq + Drop, B: Bijection<Vec<u8>, R>>(
+pub(crate) fn insert_with<R: Eq + Drop, B: Bijection<ByteString, R>>(
     alloc: Global,
     table: &mut BytesTable<R, B>,
     left: &[u8],
@@ -237,15 +240,15 @@ pub(crate) fn insert_with<R: Eq + Drop, B: Bijection<Vec<u8>, R>>(
 }
 
 /// Tells the left of a right.
-pub(crate) fn get_by_right<R: Eq + Drop, B: Bijection<Vec<u8>, R>>(
+pub(crate) fn get_by_right<R: Eq + Drop, B: Bijection<ByteString, R>>(
     table: &BytesTable<R, B>,
     right: &R,
     buf: &mut [u8],
     len: &mut usize,
 ) -> u32
-    ensures told { (found : Option (Bor (Vec _)))
+    ensures told { (found : Option (Bor ByteString))
         × IsFoundByRight R.eq (B.holding table.now.map) right.now found
-        × AreBytesOut (option_map (λ v. v.now.items) found) result buf.old buf.new len.new }
+        × AreBytesOut (option_map (λ v. v.now.bytes.items) found) result buf.old buf.new len.new }
     ensures buf { IsWritten result buf.old buf.new }
     ensures len { IsLengthWritten result len.old len.new }
 {
@@ -253,7 +256,7 @@ pub(crate) fn get_by_right<R: Eq + Drop, B: Bijection<Vec<u8>, R>>(
 }
 
 /// Tells whether the left is contained.
-pub(crate) fn contains_left<R: Eq + Drop, B: Bijection<Vec<u8>, R>>(
+pub(crate) fn contains_left<R: Eq + Drop, B: Bijection<ByteString, R>>(
     table: &mut BytesTable<R, B>,
     left: &[u8],
 ) -> u32
@@ -269,7 +272,7 @@ pub(crate) fn contains_left<R: Eq + Drop, B: Bijection<Vec<u8>, R>>(
 }
 
 /// Tells whether the right is contained.
-pub(crate) fn contains_right<R: Eq + Drop, B: Bijection<Vec<u8>, R>>(
+pub(crate) fn contains_right<R: Eq + Drop, B: Bijection<ByteString, R>>(
     table: &BytesTable<R, B>,
     right: &R,
 ) -> u32
@@ -280,13 +283,13 @@ pub(crate) fn contains_right<R: Eq + Drop, B: Bijection<Vec<u8>, R>>(
 }
 
 /// Removes the pair of a left.
-pub(crate) fn remove_by_left<R: Eq + Drop, B: Bijection<Vec<u8>, R>>(
+pub(crate) fn remove_by_left<R: Eq + Drop, B: Bijection<ByteString, R>>(
     table: &mut BytesTable<R, B>,
     left: &[u8],
 ) -> u32
     ensures removed { RemovesByLeft (kept B.holding table.old) left.now result
         (kept B.holding table.new) }
-    ensures room { vec_capacity table.old.key ≤ vec_capacity table.new.key }
+    ensures room { vec_capacity table.old.key.bytes ≤ vec_capacity table.new.key.bytes }
 {
     if !note(&mut table.key, left) {
         return NO_MEMORY;
@@ -295,7 +298,7 @@ pub(crate) fn remove_by_left<R: Eq + Drop, B: Bijection<Vec<u8>, R>>(
 }
 
 /// Removes the pair of a right.
-pub(crate) fn remove_by_right<R: Eq + Drop, B: Bijection<Vec<u8>, R>>(
+pub(crate) fn remove_by_right<R: Eq + Drop, B: Bijection<ByteString, R>>(
     table: &mut BytesTable<R, B>,
     right: &R,
 ) -> u32
@@ -313,7 +316,7 @@ pub(crate) fn overwritten_left<R, B>(
     buf: &mut [u8],
     len: &mut usize,
 ) -> u32
-    ensures told { AreBytesOut (option_map (λ p. p.0.items)
+    ensures told { AreBytesOut (option_map (λ p. p.0.bytes.items)
         (slice_get (named_pairs table.now.struck) index)) result buf.old buf.new len.new }
     ensures buf { IsWritten result buf.old buf.new }
     ensures len { IsLengthWritten result len.old len.new }
@@ -322,7 +325,7 @@ pub(crate) fn overwritten_left<R, B>(
 }
 
 /// Removes all pairs, and forgets what was struck out.
-pub(crate) fn clear<R: Eq + Drop, B: Bijection<Vec<u8>, R>>(table: &mut BytesTable<R, B>) -> u32
+pub(crate) fn clear<R: Eq + Drop, B: Bijection<ByteString, R>>(table: &mut BytesTable<R, B>) -> u32
     ensures { ClearsAll (kept B.holding table.old) result (kept B.holding table.new) }
 {
     table.map.clear();

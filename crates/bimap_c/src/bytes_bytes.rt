@@ -1,15 +1,16 @@
 //! The bodies of the calls that want byte strings as rights, over any bimap of two byte strings.
 ghost use Rattle.std.specs.Prelude.{◌≤◌, ℕ, Option, option_map, slice_get, vec_capacity, Contains};
 ghost use Rattle.std.specs.Borrow.{Bor};
-ghost use Rattle.std.specs.Global.{Vec};
 ghost use Rattle.std.specs.Map.Iter.{deref_pair};
 ghost use Rattle.bimap.specs.BTree.{holding};
 ghost use Rattle.bimap.specs.Holding.{IsFoundByLeft, IsFoundByRight};
 ghost use Rattle.bimap.specs.Sets.{HasRight};
 ghost use Rattle.bimap_c.specs.Calls.{IsWritten, Tests};
 ghost use Rattle.bimap_c.specs.Bytes.{kept, same_bytes, named_pairs, AreBytesOut, IsLengthWritten, IsRead, IsByKey, RemovesByRight, Inserts, InsertsFlagged, IsKind};
+ghost use Rattle.bimap_c.specs.declared.byte_string.ByteString.{ByteString};
 ghost use Rattle.bimap_c.specs.BytesBytes.{WithCopy, AreBothOut};
 
+use crate::byte_string::ByteString;
 use crate::bytes::{self, BytesTable, note, right_at, strike, tell_bytes};
 use crate::calls::found;
 use crate::status::{BUFFER_TOO_SHORT, DONE, NO_MEMORY, NOT_FOUND};
@@ -17,9 +18,9 @@ use bimap::{BiBTreeMap, Bijection, OnHeld};
 use std::alloc::Global;
 
 /// Inserts copies of both, which overwrite what they share a value with.
-pub(crate) fn insert<B: Bijection<Vec<u8>, Vec<u8>>>(
+pub(crate) fn insert<B: Bijection<ByteString, ByteString>>(
     alloc: Global,
-    table: &mut BytesTable<Vec<u8>, B>,
+    table: &mut BytesTable<ByteString, B>,
     left: &[u8],
     right: &[u8],
     kind: &mut u32,
@@ -31,16 +32,16 @@ pub(crate) fn insert<B: Bijection<Vec<u8>, Vec<u8>>>(
     ensures kind { IsKind result kind.new (kept B.holding table.new) }
     ensures out { IsWritten result kind.old kind.new }
 {
-    let Ok(copy) = Vec::from_slice(alloc, right) else {
+    let Some(copy) = ByteString::copy_of(alloc, right) else {
         return NO_MEMORY;
     };
     bytes::insert(alloc, table, left, copy, kind)
 }
 
 /// Inserts copies of both if neither is contained.
-pub(crate) fn insert_no_overwrite<B: Bijection<Vec<u8>, Vec<u8>>>(
+pub(crate) fn insert_no_overwrite<B: Bijection<ByteString, ByteString>>(
     alloc: Global,
-    table: &mut BytesTable<Vec<u8>, B>,
+    table: &mut BytesTable<ByteString, B>,
     left: &[u8],
     right: &[u8],
 ) -> u32
@@ -49,16 +50,16 @@ pub(crate) fn insert_no_overwrite<B: Bijection<Vec<u8>, Vec<u8>>>(
         (record { left = OnHeld.Refuse; right = OnHeld.Refuse }) result
         (kept B.holding table.new)) }
 {
-    let Ok(copy) = Vec::from_slice(alloc, right) else {
+    let Some(copy) = ByteString::copy_of(alloc, right) else {
         return NO_MEMORY;
     };
     bytes::insert_no_overwrite(alloc, table, left, copy)
 }
 
 /// Inserts copies of both, where the flags let them overwrite what they share a value with.
-pub(crate) fn insert_with<B: Bijection<Vec<u8>, Vec<u8>>>(
+pub(crate) fn insert_with<B: Bijection<ByteString, ByteString>>(
     alloc: Global,
-    table: &mut BytesTable<Vec<u8>, B>,
+    table: &mut BytesTable<ByteString, B>,
     left: &[u8],
     right: &[u8],
     left_refuses: u8,
@@ -71,23 +72,23 @@ pub(crate) fn insert_with<B: Bijection<Vec<u8>, Vec<u8>>>(
     ensures kind { IsKind result kind.new (kept B.holding table.new) }
     ensures out { IsWritten result kind.old kind.new }
 {
-    let Ok(copy) = Vec::from_slice(alloc, right) else {
+    let Some(copy) = ByteString::copy_of(alloc, right) else {
         return NO_MEMORY;
     };
     bytes::insert_with(alloc, table, left, copy, left_refuses, right_refuses, kind)
 }
 
 /// Tells the right of a left.
-pub(crate) fn get_by_left<B: Bijection<Vec<u8>, Vec<u8>>>(
-    table: &mut BytesTable<Vec<u8>, B>,
+pub(crate) fn get_by_left<B: Bijection<ByteString, ByteString>>(
+    table: &mut BytesTable<ByteString, B>,
     left: &[u8],
     buf: &mut [u8],
     len: &mut usize,
 ) -> u32
     ensures told { IsByKey (kept B.holding table.old) left.now result (kept B.holding table.new)
-        (λ key. (found : Option (Bor (Vec ℕ)))
+        (λ key. (found : Option (Bor ByteString))
         × IsFoundByLeft same_bytes (B.holding table.old.map) key found
-        × AreBytesOut (option_map (λ v. v.now.items) found) result buf.old buf.new len.new) }
+        × AreBytesOut (option_map (λ v. v.now.bytes.items) found) result buf.old buf.new len.new) }
     ensures buf { IsWritten result buf.old buf.new }
     ensures len { IsLengthWritten result len.old len.new }
     ensures read { IsRead (kept B.holding table.old) (kept B.holding table.new) }
@@ -99,16 +100,16 @@ pub(crate) fn get_by_left<B: Bijection<Vec<u8>, Vec<u8>>>(
 }
 
 /// Tells the left of a right.
-pub(crate) fn get_by_right<B: Bijection<Vec<u8>, Vec<u8>>>(
-    table: &mut BytesTable<Vec<u8>, B>,
+pub(crate) fn get_by_right<B: Bijection<ByteString, ByteString>>(
+    table: &mut BytesTable<ByteString, B>,
     right: &[u8],
     buf: &mut [u8],
     len: &mut usize,
 ) -> u32
     ensures told { IsByKey (kept B.holding table.old) right.now result (kept B.holding table.new)
-        (λ key. (found : Option (Bor (Vec ℕ)))
+        (λ key. (found : Option (Bor ByteString))
         × IsFoundByRight same_bytes (B.holding table.old.map) key found
-        × AreBytesOut (option_map (λ v. v.now.items) found) result buf.old buf.new len.new) }
+        × AreBytesOut (option_map (λ v. v.now.bytes.items) found) result buf.old buf.new len.new) }
     ensures buf { IsWritten result buf.old buf.new }
     ensures len { IsLengthWritten result len.old len.new }
     ensures read { IsRead (kept B.holding table.old) (kept B.holding table.new) }
@@ -120,8 +121,8 @@ pub(crate) fn get_by_right<B: Bijection<Vec<u8>, Vec<u8>>>(
 }
 
 /// Tells whether the right is contained.
-pub(crate) fn contains_right<B: Bijection<Vec<u8>, Vec<u8>>>(
-    table: &mut BytesTable<Vec<u8>, B>,
+pub(crate) fn contains_right<B: Bijection<ByteString, ByteString>>(
+    table: &mut BytesTable<ByteString, B>,
     right: &[u8],
 ) -> u32
     ensures told { IsByKey (kept B.holding table.old) right.now result (kept B.holding table.new)
@@ -136,14 +137,14 @@ pub(crate) fn contains_right<B: Bijection<Vec<u8>, Vec<u8>>>(
 }
 
 /// Removes the pair of a right.
-pub(crate) fn remove_by_right<B: Bijection<Vec<u8>, Vec<u8>>>(
-    table: &mut BytesTable<Vec<u8>, B>,
+pub(crate) fn remove_by_right<B: Bijection<ByteString, ByteString>>(
+    table: &mut BytesTable<ByteString, B>,
     right: &[u8],
 ) -> u32
     ensures removed { IsByKey (kept B.holding table.old) right.now result (kept B.holding table.new)
         (λ key. RemovesByRight same_bytes (kept B.holding table.old) key result
         (kept B.holding table.new)) }
-    ensures room { vec_capacity table.old.key ≤ vec_capacity table.new.key }
+    ensures room { vec_capacity table.old.key.bytes ≤ vec_capacity table.new.key.bytes }
 {
     if !note(&mut table.key, right) {
         return NO_MEMORY;
@@ -153,12 +154,12 @@ pub(crate) fn remove_by_right<B: Bijection<Vec<u8>, Vec<u8>>>(
 
 /// Tells the right of this index among the pairs that were struck out last.
 pub(crate) fn overwritten_right<B>(
-    table: &BytesTable<Vec<u8>, B>,
+    table: &BytesTable<ByteString, B>,
     index: usize,
     buf: &mut [u8],
     len: &mut usize,
 ) -> u32
-    ensures told { AreBytesOut (option_map (λ p. p.1.items)
+    ensures told { AreBytesOut (option_map (λ p. p.1.bytes.items)
         (slice_get (named_pairs table.now.struck) index)) result buf.old buf.new len.new }
     ensures buf { IsWritten result buf.old buf.new }
     ensures len { IsLengthWritten result len.old len.new }
@@ -168,7 +169,7 @@ pub(crate) fn overwritten_right<B>(
 
 // Tells a pair, if there is one.
 fn tell_pair(
-    found: Option<(&Vec<u8>, &Vec<u8>)>,
+    found: Option<(&ByteString, &ByteString)>,
     left_buf: &mut [u8],
     left_len: &mut usize,
     right_buf: &mut [u8],
@@ -184,19 +185,19 @@ fn tell_pair(
     let Some((left, right)) = found else {
         return NOT_FOUND;
     };
-    *left_len = left.len();
-    *right_len = right.len();
-    if left_buf.len() < left.len() || right_buf.len() < right.len() {
+    *left_len = left.bytes.len();
+    *right_len = right.bytes.len();
+    if left_buf.len() < left.bytes.len() || right_buf.len() < right.bytes.len() {
         return BUFFER_TOO_SHORT;
     }
-    left_buf[..left.len()].copy_from_slice(left);
-    right_buf[..right.len()].copy_from_slice(right);
+    left_buf[..left.bytes.len()].copy_from_slice(&left.bytes);
+    right_buf[..right.bytes.len()].copy_from_slice(&right.bytes);
     DONE
 }
 
 /// Tells the pair with so many lefts below its own.
 pub(crate) fn pair_at_rank(
-    table: &BytesTable<Vec<u8>, BiBTreeMap<Vec<u8>, Vec<u8>>>,
+    table: &BytesTable<ByteString, BiBTreeMap<ByteString, ByteString>>,
     rank: usize,
     left_buf: &mut [u8],
     left_len: &mut usize,

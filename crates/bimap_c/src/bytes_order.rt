@@ -3,13 +3,14 @@ ghost use Rattle.bimap.specs.BTree.{holding};
 ghost use Rattle.bimap_c.specs.Bytes.{kept, IsRead, IsRanked, PopsFirst, PopsLast};
 ghost use Rattle.bimap_c.specs.Calls.{IsWritten};
 
+use crate::byte_string::ByteString;
 use crate::bytes::{BytesTable, note, strike};
 use crate::status::{DONE, NO_MEMORY};
 use bimap::BiBTreeMap;
 
 /// Tells how many lefts are below this one.
 pub(crate) fn left_rank<R: Ord + Drop>(
-    table: &mut BytesTable<R, BiBTreeMap<Vec<u8>, R>>,
+    table: &mut BytesTable<R, BiBTreeMap<ByteString, R>>,
     left: &[u8],
     rank: &mut usize,
 ) -> u32
@@ -26,14 +27,14 @@ pub(crate) fn left_rank<R: Ord + Drop>(
 }
 
 /// Removes the pair of the least left.
-pub(crate) fn pop_first<R: Ord + Drop>(table: &mut BytesTable<R, BiBTreeMap<Vec<u8>, R>>) -> u32
+pub(crate) fn pop_first<R: Ord + Drop>(table: &mut BytesTable<R, BiBTreeMap<ByteString, R>>) -> u32
     ensures { PopsFirst (kept holding table.old) result (kept holding table.new) }
 {
     strike(&mut table.struck, table.map.pop_first_by_left())
 }
 
 /// Removes the pair of the greatest left.
-pub(crate) fn pop_last<R: Ord + Drop>(table: &mut BytesTable<R, BiBTreeMap<Vec<u8>, R>>) -> u32
+pub(crate) fn pop_last<R: Ord + Drop>(table: &mut BytesTable<R, BiBTreeMap<ByteString, R>>) -> u32
     ensures { PopsLast (kept holding table.old) result (kept holding table.new) }
 {
     strike(&mut table.struck, table.map.pop_last_by_left())

@@ -7,13 +7,14 @@ ghost use Rattle.bimap.specs.Holding.{IsFoundByLeft};
 ghost use Rattle.bimap_c.specs.Calls.{IsWritten, Tells};
 ghost use Rattle.bimap_c.specs.Bytes.{kept, same_bytes, named_pairs, IsRead, IsByKey, IsPairOut, IsLengthWritten};
 
+use crate::byte_string::ByteString;
 use crate::bytes::{BytesTable, copy_out, note, right_at};
 use crate::status::{DONE, NO_MEMORY, NOT_FOUND};
 use crate::u64_u64::tell_value;
 use bimap::{BiBTreeMap, Bijection};
 
 /// Tells the right of a left.
-pub(crate) fn get_by_left<B: Bijection<Vec<u8>, u64>>(
+pub(crate) fn get_by_left<B: Bijection<ByteString, u64>>(
     table: &mut BytesTable<u64, B>,
     left: &[u8],
     right: &mut u64,
@@ -41,7 +42,7 @@ pub(crate) fn overwritten_right<B>(table: &BytesTable<u64, B>, index: usize, rig
 
 // Tells a pair, if there is one.
 fn tell_pair(
-    found: Option<(&Vec<u8>, &u64)>,
+    found: Option<(&ByteString, &u64)>,
     buf: &mut [u8],
     len: &mut usize,
     right: &mut u64,
@@ -55,7 +56,7 @@ fn tell_pair(
     let Some((left, number)) = found else {
         return NOT_FOUND;
     };
-    let status = copy_out(left, buf, len);
+    let status = copy_out(&left.bytes, buf, len);
     if status == DONE {
         *right = *number;
     }
@@ -64,7 +65,7 @@ fn tell_pair(
 
 /// Tells the pair with so many lefts below its own.
 pub(crate) fn pair_at_rank(
-    table: &BytesTable<u64, BiBTreeMap<Vec<u8>, u64>>,
+    table: &BytesTable<u64, BiBTreeMap<ByteString, u64>>,
     rank: usize,
     buf: &mut [u8],
     len: &mut usize,

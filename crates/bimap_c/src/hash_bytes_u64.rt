@@ -1,20 +1,24 @@
 //! The hashed bimap of byte strings and numbers for C.
 ghost use Rattle.std.specs.Prelude.{◌≡◌, ◌≤◌, ℕ, Option, [], length, nat_eq, option_map, slice_get, vec_capacity, Contains};
 ghost use Rattle.std.specs.Borrow.{Bor};
-ghost use Rattle.std.specs.Global.{Vec};
 ghost use Rattle.std.specs.Map.Iter.{deref};
+ghost use Rattle.bimap.specs.BTree.{holding};
 ghost use Rattle.bimap.specs.Holding.{IsFoundByLeft, IsFoundByRight};
 ghost use Rattle.bimap.specs.Sets.{HasLeft, HasRight};
 ghost use Rattle.bimap_c.specs.Bytes.{same_bytes, named_pairs, AreBytesOut, IsLengthWritten, IsRead, IsByKey, RemovesByLeft, RemovesByRight, ClearsAll, Inserts, InsertsFlagged, IsKind};
 ghost use Rattle.bimap_c.specs.Calls.{IsWritten, Reads, Changes, Makes, Frees, Tells, Tests, Reserves};
+ghost use Rattle.bimap_c.specs.declared.byte_string.ByteString.{ByteString};
+ghost use Rattle.bimap_c.specs.Json.{WritesTexts, ReadsJson};
 ghost use Rattle.bimap_c.specs.Tables.{hash_bytes_u64};
 
+use crate::byte_string::ByteString;
 use crate::handle::Handle;
-use crate::status::NO_TABLE;
+use crate::status::{NO_TABLE, REFUSED};
 use crate::table::Table;
-use crate::{bytes, bytes_u64, calls};
+use crate::{bytes, bytes_u64, calls, json};
 use bimap::{BiHashMap, OnHeld, Overwritten};
 use std::alloc::Global;
+use std::str;
 
 /// Makes an empty table of no places, in constant time, behind a handle that has none. 1: no memory; 2: the handle has
 /// a table.
@@ -170,8 +174,8 @@ pub extern "C" fn jetukoma_hash_bytes_u64_get_by_right_unchecked(
     len: &mut usize,
 ) -> u32
     ensures answer { Reads hash_bytes_u64 handle.old.slot.value result
-        (λ kept. (found : Option (Bor (Vec ℕ))) × IsFoundByRight nat_eq kept.held right found
-        × AreBytesOut (option_map (λ left. left.now.items) found) result buf.old buf.new len.new) }
+        (λ kept. (found : Option (Bor ByteString)) × IsFoundByRight nat_eq kept.held right found
+        × AreBytesOut (option_map (λ left. left.now.bytes.items) found) result buf.old buf.new len.new) }
     ensures unchanged { handle.new.slot.value ≡ handle.old.slot.value }
     ensures buf { IsWritten result buf.old buf.new }
     ensures len { IsLengthWritten result len.old len.new }
@@ -217,7 +221,7 @@ pub extern "C" fn jetukoma_hash_bytes_u64_remove_by_left_unchecked(
 ) -> u32
     ensures { Changes hash_bytes_u64 handle.old.slot.value result handle.new.slot.value
         (λ old new. RemovesByLeft old left.now result new
-        × (vec_capacity old.key ≤ vec_capacity new.key)) }
+        × (vec_capacity old.key.bytes ≤ vec_capacity new.key.bytes)) }
 {
     on_table!(handle, alloc, HashBytesU64, table => bytes::remove_by_left(table, left))
 }
@@ -248,7 +252,7 @@ pub extern "C" fn jetukoma_hash_bytes_u64_overwritten_left_unchecked(
     len: &mut usize,
 ) -> u32
     ensures answer { Reads hash_bytes_u64 handle.old.slot.value result
-        (λ kept. AreBytesOut (option_map (λ p. p.0.items)
+        (λ kept. AreBytesOut (option_map (λ p. p.0.bytes.items)
         (slice_get (named_pairs kept.struck) index)) result buf.old buf.new len.new) }
     ensures unchanged { handle.new.slot.value ≡ handle.old.slot.value }
     ensures buf { IsWritten result buf.old buf.new }
@@ -281,4 +285,52 @@ pub extern "C" fn jetukoma_hash_bytes_u64_clear_unchecked(alloc: Global, handle:
         (λ old new. ClearsAll old result new) }
 {
     on_table!(handle, alloc, HashBytesU64, table => bytes::clear(table))
+}
+
+/// Writes the pairs as the text of a JSON object, a name and its number each, by the bytes of the names, to the front of a
+/// buffer, and its length. It asks for memory for all of them. 1: no memory; 3: a left is no UTF-8; 4: the buffer is too
+/// short, and the length alone is written.
+#[unsafe(no_mangle)]
+pub extern "C" fn jetukoma_hash_bytes_u64_to_json_unchecked(
+    alloc: Global,
+    handle: &mut Handle,
+    buf: &mut [u8],
+    len: &mut usize,
+) -> u32
+    ensures answer { Reads hash_bytes_u64 handle.old.slot.value result
+        (λ kept. WritesTexts kept.held.pairs result buf.old buf.new len.new) }
+    ensures unchanged { handle.new.slot.value ≡ handle.old.slot.value }
+    ensures buf { IsWritten result buf.old buf.new }
+    ensures len { IsLengthWritten result len.old len.new }
+{
+    on_table!(handle, alloc, HashBytesU64, table => to_json(alloc, &table.map, buf, len))
+}
+
+/// Reads the text of such an object into the table, in place of its pairs. Nothing is struck out then. It asks for memory
+/// for all of them. 1: no memory; 3: the text is no such object, or has a name or a number twice.
+#[unsafe(no_mangle)]
+pub extern "C" fn jetukoma_hash_bytes_u64_from_json_unchecked(
+    alloc: Global,
+    handle: &mut Handle,
+    text: &[u8],
+) -> u32
+    ensures { Changes hash_bytes_u64 handle.old.slot.value result handle.new.slot.value
+        (λ old new. ReadsJson old text.now result new) }
+{
+    on_table!(handle, alloc, HashBytesU64, table => json::from_json(alloc, table, BiHashMap::new(alloc), text))
+}
+
+fn to_json(alloc: Global, map: &BiHashMap<ByteString, u64>, buf: &mut [u8], len: &mut usize) -> u32
+    ensures told { WritesTexts (holding map.now).pairs result buf.old buf.new len.new }
+    ensures buf { IsWritten result buf.old buf.new }
+    ensures len { IsLengthWritten result len.old len.new }
+{
+    if map
+        .iter()
+        .all(|(left, _)| str::from_utf8(&left.bytes).is_ok())
+    {
+        json::write_json(alloc, map, buf, len)
+    } else {
+        REFUSED
+    }
 }

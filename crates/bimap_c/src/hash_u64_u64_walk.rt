@@ -10,7 +10,6 @@ use crate::status::{DONE, NO_TABLE};
 use crate::table::Table;
 use crate::u64_u64::{Pair, write_row};
 use bimap::BiHashMap;
-use bimap::hash::Iter;
 use std::alloc::Global;
 
 /// Writes pairs in the order of their places, after the first `start`, to the front of a row, as many as there are and
@@ -32,24 +31,9 @@ pub extern "C" fn jetukoma_hash_u64_u64_fill_unchecked(
     on_table!(handle, alloc, HashU64U64, map => fill(map, start, row, filled))
 }
 
-// Passes over so many pairs of a walk.
-fn pass(walk: &mut Iter<'_, u64, u64>, count: usize)
-    ensures { walk.new ≡ drop count walk.old }
-{
-    let mut left = count;
-    'pairs: while left > 0 {
-        match walk.next() {
-            Some(_) => left -= 1,
-            None => return,
-        }
-    }
-}
-
 fn fill(map: &BiHashMap<u64, u64>, start: usize, row: &mut [Pair], filled: &mut usize) -> u32
     ensures { Fills (drop start (holding map.now).pairs) result row.old filled.new row.new }
 {
-    let mut walk = map.iter();
-    pass(&mut walk, start);
-    *filled = write_row(walk, row);
+    *filled = write_row(map.iter().skip(start), row);
     DONE
 }

@@ -10,8 +10,8 @@ pub const NO_MEMORY: u32 = 1;
 /// Nothing has changed.
 pub const NO_TABLE: u32 = 2;
 
-/// A value is contained, and may not be overwritten; or a flag is above 1, or a pointer to a value is null. Nothing has
-/// changed.
+/// A value is contained, and may not be overwritten; a flag is above 1; a pointer to a value is null; or there is no JSON of
+/// this table, or no table of this text. Nothing has changed.
 pub const REFUSED: u32 = 3;
 
 /// The buffer is too short, and the length wanted is written. Nothing else has changed.

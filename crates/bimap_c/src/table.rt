@@ -1,4 +1,5 @@
 //! The tables.
+use crate::byte_string::ByteString;
 use crate::bytes::BytesTable;
 use bimap::{BiBTreeMap, BiHashMap};
 
@@ -10,11 +11,11 @@ pub enum Table {
     /// Two hashed sides of numbers.
     HashU64U64(BiHashMap<u64, u64>),
     /// Two ordered sides of byte strings and numbers.
-    BtreeBytesU64(BytesTable<u64, BiBTreeMap<Vec<u8>, u64>>),
+    BtreeBytesU64(BytesTable<u64, BiBTreeMap<ByteString, u64>>),
     /// Two hashed sides of byte strings and numbers.
-    HashBytesU64(BytesTable<u64, BiHashMap<Vec<u8>, u64>>),
+    HashBytesU64(BytesTable<u64, BiHashMap<ByteString, u64>>),
     /// Two ordered sides of byte strings.
-    BtreeBytesBytes(BytesTable<Vec<u8>, BiBTreeMap<Vec<u8>, Vec<u8>>>),
+    BtreeBytesBytes(BytesTable<ByteString, BiBTreeMap<ByteString, ByteString>>),
     /// Two hashed sides of byte strings.
-    HashBytesBytes(BytesTable<Vec<u8>, BiHashMap<Vec<u8>, Vec<u8>>>),
+    HashBytesBytes(BytesTable<ByteString, BiHashMap<ByteString, ByteString>>),
 }

@@ -7,7 +7,7 @@ ghost use Rattle.bimap_c.specs.U64U64.{row, shown, IsFilledBy, GetsByLeft, GetsB
 
 use crate::calls::{policy, refused};
 use crate::status::{DONE, NO_MEMORY, NOT_FOUND, REFUSED};
-use bimap::{Bijection, NotInserted};
+use bimap::{Bijection, NotInserted, OnHeld, Policy, extend_with};
 
 /// A left and its right.
 #[repr(C)]
@@ -135,18 +135,21 @@ pub(crate) fn insert_many<B: Bijection<u64, u64>>(
 ) -> u32
     ensures { InsertsMany (B.holding map.old) result (B.holding map.new) pairs.now taken.new }
 {
-    let mut inserted = 0;
-    for pair in pairs {
-        match map.insert(pair.left, pair.right) {
-            Ok(_) => inserted += 1,
-            Err(_) => {
-                *taken = inserted;
-                return NO_MEMORY;
-            }
+    let policy = Policy {
+        left: OnHeld::Overwrite,
+        right: OnHeld::Overwrite,
+    };
+    let items = pairs.iter().map(|pair| (pair.left, pair.right));
+    match extend_with(map, items, policy) {
+        Ok(()) => {
+            *taken = pairs.len();
+            DONE
+        }
+        Err(refused) => {
+            *taken = refused.taken;
+            NO_MEMORY
         }
     }
-    *taken = inserted;
-    DONE
 }
 
 pub(crate) fn get_by_left<B: Bijection<u64, u64>>(map: &B, left: u64, right: &mut u64) -> u32
@@ -183,23 +186,24 @@ pub(crate) fn remove_by_right<B: Bijection<u64, u64>>(
 
 /// Writes the pairs of a walk to the front of a row, as many as there are and it has room for, and returns how many.
 pub(crate) fn write_row<'a, W: Iterator<Item = (&'a u64, &'a u64)>>(
-    mut walk: W,
+    walk: W,
     row: &mut [Pair],
 ) -> usize
     requires { W.can_next walk × IsFinite (W.remaining walk) }
     ensures { IsFilledBy W.next_gives walk row.old result row.new }
 {
+    if row.is_empty() {
+        return 0;
+    }
     let mut filled = 0;
-    'row: while filled < row.len() {
-        match walk.next() {
-            Some((left, right)) => {
-                row[filled] = Pair {
-                    left: *left,
-                    right: *right,
-                };
-                filled += 1;
-            }
-            None => return filled,
+    for (left, right) in walk {
+        row[filled] = Pair {
+            left: *left,
+            right: *right,
+        };
+        filled += 1;
+        if filled == row.len() {
+            return filled;
         }
     }
     filled

@@ -67,6 +67,18 @@ macro_rules! with_bytes {
 macro_rules! with_bytes_u64 {
     ($name:ident $prefix:literal) => {
         with_bytes!($name $prefix u64: right => (*right), (right: u64), number(it: *mut u64));
+        const _: () = {
+            external! { $name $prefix: to_json(buffer: *mut u8, size: usize, len: *mut usize); from_json(text: *const u8, text_len: usize); }
+            impl Json for $name {
+                fn to_json(handle: &mut Handle<Self>) -> Result<Vec<u8>, Refusal> {
+                    let text = bytes(|buffer, size, len| unsafe { to_json(handle, buffer, size, len) })?;
+                    Ok(text.expect("a table has JSON"))
+                }
+                fn from_json(handle: &mut Handle<Self>, text: &[u8]) -> Result<(), Refusal> {
+                    done(unsafe { from_json(handle, text.as_ptr(), text.len()) })
+                }
+            }
+        };
     };
 }
 

@@ -1,7 +1,8 @@
-use Rattle.std.proofs.Common.{refl, sym, subst, arith, length-drop}
+use Rattle.std.proofs.Common.{refl, sym, subst, arith, ◌≤◌, length, length-drop}
+use Rattle.std.proofs.lemmas.Option.{slice_get_cases}
 use Rattle.bimap.specs.BTree.{holding}
 use Rattle.bimap_c.specs.U64U64.{Fills}
-use Rattle.bimap_c.proofs.Rows.{from_rank, past_end}
+use Rattle.bimap_c.proofs.Rows.{from_rank}
 use Rattle.bimap_c.proofs.btree_u64_u64_walk.fill.Goals as goal
 
 pub returns-in-Some : goal.returns-in-Some
@@ -10,5 +11,5 @@ returns-in-Some c = subst (λ walk. Fills walk c.fill_from.result c.args.row.now
 pub returns-in-None : goal.returns-in-None
 returns-in-None c =
     let pairs = (holding c.args.map.now).pairs in
-    let past = past_end pairs c.args.start c.in-None.ensures in
+    let past : length pairs ≤ c.args.start = grind (arith, slice_get_cases pairs c.args.start, c.in-None.ensures) in
     (refl, (omega (arith, past, length-drop c.args.start pairs), refl))

@@ -1,6 +1,7 @@
-use Rattle.std.proofs.Common.{refl, ap, ◌∙◌, drop}
-use Rattle.bimap_c.proofs.Rows.{filled}
+use Rattle.std.proofs.Common.{refl}
+use Rattle.std.proofs.lemmas.Iterator.Adapters.{YieldsList-from_skip}
+use Rattle.std.proofs.lemmas.Iterator.Consumers.{YieldsList-from_rest}
 use Rattle.bimap_c.proofs.hash_u64_u64_walk.fill.Goals as goal
 
 pub returns : goal.returns
-returns c = (refl, filled _ _ _ _ _ (c.pass.ensures ∙ ap (λ walk. drop c.args.start walk) c.iter-walk.ensures.rest) c.write_row.ensures)
+returns c = (refl, c.write_row.ensures _ (YieldsList-from_skip c.args.start (YieldsList-from_rest _ (cc)) (cc)).runs)

@@ -1,7 +1,7 @@
 -- `empty` makes a slot that owns nothing.
-use Rattle.bimap_c.proofs.Steps.{sym, refl, subst, List, [], ◌∷◌, ◌++◌, None, Val, vint, w64, SProp, ent, emp, id⊢, ftrue, fsep, WpFn, tables, ‵, raw, ◌⊛◌, ◌$◌, ◌∵◌, !, qed, move, drop, join, split, fsplit, fjoin, fpack, feq_i, suffices, done, agg, lit, no_more, and_then, returns, enter, alloc_all, pass_all, free_all, look_at, get, sets, yes, type_at, nothing, null_ptr, RawPtr, Valss, within, shape, lit<, and_tt, handle_tells, says, Stays, stay_dropped, walk_of, ends_at, Goes-dropped, proved_at}
+use Rattle.bimap_c.proofs.Steps.{sym, refl, subst, List, [], ◌∷◌, ◌++◌, None, Val, vint, w64, SProp, ent, emp, id⊢, ftrue, fsep, WpFn, tables, ‵, raw, ◌⊛◌, ◌$◌, ◌∵◌, !, qed, move, drop, join, split, fsplit, fjoin, fpack, feq_i, suffices, done, agg, lit, no_more, and_then, returns, enter, alloc_all, pass_all, free_all, look_at, get, sets, yes, type_at, plain, nothing, null_ptr, RawPtr, Valss, within, shape, lit<, and_tt, handle_tells, says, Stays, stay_dropped, walk_of, ends_at, Goes-dropped, proved_at}
 use Rattle.bimap_c.proofs.Values.{both}
-use Rattle.bimap_c.proofs.TableAsBox.{E, FromGlobal as From}
+use Rattle.bimap_c.proofs.TableAsBox.{E}
 use Rattle.bimap_c.specs.contracts.slot.Slot as Held
 use Rattle.bimap_c.specs.contracts.slot.Slot.empty as F
 use Rattle.bimap_c.specs.contracts.slot.Slot.empty.Key.{name as #self}
@@ -10,8 +10,8 @@ use Rattle.bimap_c.proofs.slot.Slot.empty.Code as code
 
 pub empty_spec : {M : Type 1} → statement M
 empty_spec 𝓤 𝓛 𝓜 𝓡 wired =
-    let H = 𝓛.H in let 𝓣 = tables 𝓤 H 𝓜 𝓡 𝓡.env in let c = F.clauses 𝓛 𝓜.mem 𝓡.returns in let hs : Stays F.ended.signature.params F.ended.kept = (stay_dropped From yes, tt) in
-    proved_at 𝓛 F.ended hs c 𝓜 𝓡 (Goes-dropped 𝓛 0 From yes (λ κs x f. refl), tt) #self code.function (code.unfolded 𝓤 H 𝓜 𝓡 wired) (λ z are.
+    let H = 𝓛.H in let 𝓣 = tables 𝓤 H 𝓜 𝓡 𝓡.env in let c = F.clauses 𝓛 𝓜.mem 𝓡.returns in let hs : Stays F.ended.signature.params F.ended.kept = (stay_dropped (plain (λ _. E.al.row)) yes, tt) in
+    proved_at 𝓛 F.ended hs c 𝓜 𝓡 (Goes-dropped 𝓛 0 (plain (λ _. E.al.row)) yes (λ κs x f. refl), tt) #self code.function (code.unfolded 𝓤 H 𝓜 𝓡 wired) (λ z are.
     let a = z.0.3.0 in let To = type_at F.signature.result tt in let made : To.Denot = record { at = null_ptr; alloc = a; value = None } in
     let Run : List Val → SProp 𝓤 = λ us. WpFn 𝓤 H 𝓣.C 𝓣.Λ code.function us ((walk_of 𝓛 F.ended hs c).post z) in
     qed 𝓛 ((‵ ftrue ⊛ ‵ (fsep (E.al.row.own_val a z.0.4.0) ftrue)) ∷ raw (emp 𝓤) ∷ []) ∵ split ! $ drop ! $ fsplit ! $

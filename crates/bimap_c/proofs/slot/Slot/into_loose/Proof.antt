@@ -1,7 +1,7 @@
 -- `into_loose` moves two fields, and what they own goes with them.
-use Rattle.bimap_c.proofs.Steps.{sym, refl, subst, List, [], ◌∷◌, ◌++◌, Option, IsSome, Val, SProp, ent, id⊢, ftrue, fsep, WpFn, tables, fact, ‵, raw, ◌⊛◌, ◌$◌, ◌∵◌, !, qed, move, drop, use1, join, split, fsplit, fjoin, rewrite, suffices, done, whole, sub, agg, stop, fld, no_more, and_then, of_opd, returns, enter, alloc_all, pass_all, free_all, look_at, get, get_in, sets, yes, type_at, nothing, heard, says, Stays, stay_dropped, walk_of, ends_at, Goes-dropped, proved_at, D, B, word, box_typed, box_out, box_in}
+use Rattle.bimap_c.proofs.Steps.{sym, refl, subst, List, [], ◌∷◌, ◌++◌, Option, IsSome, Val, SProp, ent, id⊢, ftrue, fsep, WpFn, tables, fact, ‵, raw, ◌⊛◌, ◌$◌, ◌∵◌, !, qed, move, drop, use1, join, split, fsplit, fjoin, rewrite, suffices, done, whole, sub, agg, stop, fld, no_more, and_then, of_opd, returns, enter, alloc_all, pass_all, free_all, look_at, get, get_in, sets, yes, type_at, plain, nothing, heard, says, Stays, stay_dropped, walk_of, ends_at, Goes-dropped, proved_at, D, B, word, box_typed, box_out, box_in}
 use Rattle.bimap_base.proofs.Walk.{some_at}
-use Rattle.bimap_c.proofs.TableAsBox.{E, FromHeld as From}
+use Rattle.bimap_c.proofs.TableAsBox.{E}
 use Rattle.bimap_c.specs.contracts.slot.Slot as Held
 use Rattle.bimap_c.specs.contracts.table.Table as Table
 use Rattle.bimap_c.specs.contracts.slot.Slot.into_loose as F
@@ -11,8 +11,8 @@ use Rattle.bimap_c.proofs.slot.Slot.into_loose.Code as code
 
 pub into_loose_spec : {M : Type 1} → statement M
 into_loose_spec 𝓤 𝓛 𝓜 𝓡 wired =
-    let H = 𝓛.H in let 𝓣 = tables 𝓤 H 𝓜 𝓡 𝓡.env in let c = F.clauses 𝓛 𝓜.mem 𝓡.returns in let hs : Stays F.ended.signature.params F.ended.kept = (stay_dropped From yes, tt) in
-    proved_at 𝓛 F.ended hs c 𝓜 𝓡 (Goes-dropped 𝓛 0 From yes (λ κs x f. refl), tt) #self code.function (code.unfolded 𝓤 H 𝓜 𝓡 wired) (λ z are.
+    let H = 𝓛.H in let 𝓣 = tables 𝓤 H 𝓜 𝓡 𝓡.env in let c = F.clauses 𝓛 𝓜.mem 𝓡.returns in let hs : Stays F.ended.signature.params F.ended.kept = (stay_dropped (plain (λ _. Held.the_row)) yes, tt) in
+    proved_at 𝓛 F.ended hs c 𝓜 𝓡 (Goes-dropped 𝓛 0 (plain (λ _. Held.the_row)) yes (λ κs x f. refl), tt) #self code.function (code.unfolded 𝓤 H 𝓜 𝓡 wired) (λ z are.
     let s = z.0.3.0 in let Run : List Val → SProp 𝓤 = λ us. WpFn 𝓤 H 𝓣.C 𝓣.Λ code.function us ((walk_of 𝓛 F.ended hs c).post z) in
     qed 𝓛 ((‵ ftrue ⊛ ‵ (fsep (Held.the_row.own_val s z.0.4.0) ftrue)) ∷ raw (fact 𝓤 (IsSome s.value)) ∷ []) ∵ move ! (1 ∷ []) $ heard ! (IsSome s.value) (λ is. let found = some_at s.value is in
     let v : D E = record { ptr = s.at; alloc = s.alloc; value = found.0 } in let To = type_at F.signature.result tt in let made : To.Denot = record { at = v.ptr; alloc = v.alloc; value = v.value } in

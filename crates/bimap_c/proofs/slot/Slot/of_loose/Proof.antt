@@ -1,6 +1,7 @@
 -- `of_loose` moves two fields, and what they own goes with them.
-use Rattle.bimap_c.proofs.Steps.{sym, refl, subst, List, [], ◌∷◌, ◌++◌, Some, Val, SProp, ent, emp, id⊢, ftrue, fsep, WpFn, tables, ‵, raw, ◌⊛◌, ◌$◌, ◌∵◌, !, qed, move, drop, use1, join, split, fsplit, fjoin, suffices, done, whole, sub, agg, stop, fld, no_more, and_then, of_opd, returns, enter, alloc_all, pass_all, free_all, look_at, get, get_in, sets, yes, type_at, nothing, says, Stays, stay_dropped, walk_of, ends_at, Goes-dropped, proved_at, D, B, word, box_typed, box_out, box_in}
-use Rattle.bimap_c.proofs.TableAsBox.{E, FromLoose as From}
+use Rattle.bimap_c.proofs.Steps.{sym, refl, subst, List, [], ◌∷◌, ◌++◌, Some, Val, SProp, ent, emp, id⊢, ftrue, fsep, WpFn, tables, ‵, raw, ◌⊛◌, ◌$◌, ◌∵◌, !, qed, move, drop, use1, join, split, fsplit, fjoin, suffices, done, whole, sub, agg, stop, fld, no_more, and_then, of_opd, returns, enter, alloc_all, pass_all, free_all, look_at, get, get_in, sets, yes, type_at, plain, nothing, says, Stays, stay_dropped, walk_of, ends_at, Goes-dropped, proved_at, D, B, word, box_typed, box_out, box_in}
+use Rattle.bimap_c.proofs.TableAsBox.{E}
+use Rattle.bimap_c.specs.contracts.loose.Loose as Loose
 use Rattle.bimap_c.specs.contracts.slot.Slot.of_loose as F
 use Rattle.bimap_c.specs.contracts.slot.Slot.of_loose.Key.{name as #self}
 use Rattle.bimap_c.proofs.slot.Slot.of_loose.Statement.{statement}
@@ -8,8 +9,8 @@ use Rattle.bimap_c.proofs.slot.Slot.of_loose.Code as code
 
 pub of_loose_spec : {M : Type 1} → statement M
 of_loose_spec 𝓤 𝓛 𝓜 𝓡 wired =
-    let H = 𝓛.H in let 𝓣 = tables 𝓤 H 𝓜 𝓡 𝓡.env in let c = F.clauses 𝓛 𝓜.mem 𝓡.returns in let hs : Stays F.ended.signature.params F.ended.kept = (stay_dropped From yes, tt) in
-    proved_at 𝓛 F.ended hs c 𝓜 𝓡 (Goes-dropped 𝓛 0 From yes (λ κs x f. refl), tt) #self code.function (code.unfolded 𝓤 H 𝓜 𝓡 wired) (λ z are.
+    let H = 𝓛.H in let 𝓣 = tables 𝓤 H 𝓜 𝓡 𝓡.env in let c = F.clauses 𝓛 𝓜.mem 𝓡.returns in let hs : Stays F.ended.signature.params F.ended.kept = (stay_dropped (plain (λ _. Loose.the_row E.row E.al.row E.al.g)) yes, tt) in
+    proved_at 𝓛 F.ended hs c 𝓜 𝓡 (Goes-dropped 𝓛 0 (plain (λ _. Loose.the_row E.row E.al.row E.al.g)) yes (λ κs x f. refl), tt) #self code.function (code.unfolded 𝓤 H 𝓜 𝓡 wired) (λ z are.
     let v : D E = record { ptr = z.0.3.0.at; alloc = z.0.3.0.alloc; value = z.0.3.0.value } in let To = type_at F.signature.result tt in let made : To.Denot = record { at = v.ptr; alloc = v.alloc; value = Some v.value } in
     let Run : List Val → SProp 𝓤 = λ us. WpFn 𝓤 H 𝓣.C 𝓣.Λ code.function us ((walk_of 𝓛 F.ended hs c).post z) in
     qed 𝓛 ((‵ ftrue ⊛ ‵ (fsep ((B E).own_val v z.0.4.0) ftrue)) ∷ raw (emp 𝓤) ∷ []) ∵ split ! $ drop ! $ fsplit ! $
