@@ -49,7 +49,7 @@ static uint64_t memory() {
     return own * 4096;
 }
 
-template <class Bimap> void measure(const char *kind, Keys keys) {
+template <class Bimap, bool is_left_ordered> void measure(const char *kind, Keys keys) {
     typedef typename Bimap::value_type Pair;
     uint64_t n = keys.pairs;
     Bimap bimap;
@@ -80,6 +80,11 @@ template <class Bimap> void measure(const char *kind, Keys keys) {
         for (auto &pair : bimap.left) sum += pair.first ^ pair.second;
         return sum;
     });
+    if constexpr (is_left_ordered) timed(kind, "walk-back", n, [&] {
+        uint64_t sum = 0;
+        for (auto at = bimap.left.rbegin(); at != bimap.left.rend(); ++at) sum += at->first ^ at->second;
+        return sum;
+    });
     timed(kind, "remove", n, [&] { return keys.count([&](uint64_t at) { return bimap.left.erase(keys.left(at)) != 0; }); });
 }
 
@@ -91,8 +96,8 @@ int main(int count, char **words) {
     Keys keys(std::stoull(words[1]), std::string(words[3]) == "rising");
     std::string kind = words[4];
     typedef uint64_t N;
-    if (kind == "BiBTreeMap") measure<boost::bimap<set_of<N>, set_of<N>>>("BiBTreeMap", keys);
-    if (kind == "BiBTreeHashMap") measure<boost::bimap<set_of<N>, unordered_set_of<N>>>("BiBTreeHashMap", keys);
-    if (kind == "BiHashBTreeMap") measure<boost::bimap<unordered_set_of<N>, set_of<N>>>("BiHashBTreeMap", keys);
-    if (kind == "BiHashMap") measure<boost::bimap<unordered_set_of<N>, unordered_set_of<N>>>("BiHashMap", keys);
+    if (kind == "BiBTreeMap") measure<boost::bimap<set_of<N>, set_of<N>>, true>("BiBTreeMap", keys);
+    if (kind == "BiBTreeHashMap") measure<boost::bimap<set_of<N>, unordered_set_of<N>>, true>("BiBTreeHashMap", keys);
+    if (kind == "BiHashBTreeMap") measure<boost::bimap<unordered_set_of<N>, set_of<N>>, false>("BiHashBTreeMap", keys);
+    if (kind == "BiHashMap") measure<boost::bimap<unordered_set_of<N>, unordered_set_of<N>>, false>("BiHashMap", keys);
 }

@@ -17,9 +17,9 @@ use std::io::{self, ErrorKind, Print};
 use std::rt::Files;
 use std::time::Clock;
 
-// Times the calls over one kind of bimap, from the empty one to the empty one.
+// Times the calls over one kind of bimap, from the empty one to the empty one; those of an ordered left walk back, too.
 macro_rules! measure {
-    ($rt:expr, $report:expr, $kind:ident) => {{
+    ($rt:expr, $report:expr, $kind:ident $(, $rev:ident)?) => {{
         let mut bimap: $kind<u64, u64> = $kind::new($rt.alloc());
         let report = $report.of(stringify!($kind));
         fill($rt, &report, &mut bimap)?;
@@ -27,17 +27,22 @@ macro_rules! measure {
         let start = report.start($rt)?;
         let sum = total(bimap.iter());
         report.end($rt, "walk", start, sum)?;
+        $(
+            let start = report.start($rt)?;
+            let sum = total(bimap.iter().$rev());
+            report.end($rt, "walk-back", start, sum)?;
+        )?
         removals($rt, &report, &mut bimap)
     }};
 }
 
 // One kind a function: their calls in one function take minutes to prove, and apart seconds.
 fn ordered<R: AllocGlobal + Clock + Files + Print>(rt: &R, report: &Report) -> io::Result<()> {
-    measure!(rt, report, BiBTreeMap)
+    measure!(rt, report, BiBTreeMap, rev)
 }
 
 fn ordered_left<R: AllocGlobal + Clock + Files + Print>(rt: &R, report: &Report) -> io::Result<()> {
-    measure!(rt, report, BiBTreeHashMap)
+    measure!(rt, report, BiBTreeHashMap, rev)
 }
 
 fn ordered_right<R: AllocGlobal + Clock + Files + Print>(

@@ -18,6 +18,9 @@ pub trait Kind: Clone + Debug + Default + Extend<(Word, Word)> + FromIterator<(W
     fn remove_by_left(&mut self, left: &Word) -> Option<(Word, Word)>;
     fn remove_by_right(&mut self, right: &Word) -> Option<(Word, Word)>;
 
+    /// Keeps the pairs whose right passes a test.
+    fn keep(&mut self, test: impl Fn(&Word) -> bool);
+
     /// A call of no pair or one.
     fn call(&mut self, call: &str, words: &[Word]) -> Option<String>;
 
@@ -58,6 +61,10 @@ macro_rules! kind {
 
             fn remove_by_right(&mut self, right: &Word) -> Option<(Word, Word)> {
                 self.remove_by_right(right)
+            }
+
+            fn keep(&mut self, test: impl Fn(&Word) -> bool) {
+                self.retain(|_, right| test(right));
             }
 
             fn call(&mut self, call: &str, words: &[Word]) -> Option<String> {

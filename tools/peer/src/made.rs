@@ -51,6 +51,11 @@ pub fn make<B: Kind>(bimap: &mut B, call: &str, words: &[&str]) -> Option<()> {
                 bimap.insert(second.0, first.1);
             }
         }
+        ("extract_into", [least]) => {
+            let least = Word::read(least)?;
+            bimap.keep(|right| *right < least);
+        }
+        ("drain_into", []) => bimap.keep(|_| false),
         ("pop_first_by_left" | "pop_last_by_left", []) => {
             let left = bimap.end(call);
             left.map(|left| bimap.remove_by_left(&left));

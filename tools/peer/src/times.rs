@@ -1,4 +1,5 @@
-//! The calls of `crates/bimap_bench`, over a crate that is named `bimap`: the Rust crate, or the proved one from Rust.
+//! The calls of `crates/bimap_bench`, over a crate that is named `bimap`: the Rust crate, or the proved one from Rust, whose walks
+//! have no way back.
 use bimap::{BiBTreeMap, BiHashMap, Overwritten};
 use std::time::Instant;
 
@@ -57,7 +58,7 @@ fn memory() -> u64 {
 }
 
 macro_rules! measure {
-    ($kind:ident, $keys:expr) => {{
+    ($kind:ident, $keys:expr $(, $rev:ident)?) => {{
         let (name, keys, n) = (stringify!($kind), $keys, $keys.pairs);
         let mut bimap: $kind<u64, u64> = $kind::new();
         let insert = |bimap: &mut $kind<u64, u64>, apart: u64| {
@@ -83,6 +84,12 @@ macro_rules! measure {
         timed(name, "same-pair", n, || insert(&mut bimap, 0));
         timed(name, "overwrite", n, || insert(&mut bimap, n));
         timed(name, "walk", n, || bimap.iter().fold(0, |sum, (l, r)| sum.wrapping_add(l ^ r)));
+        $(
+            #[cfg(feature = "back")]
+            timed(name, "walk-back", n, || {
+                bimap.iter().$rev().fold(0, |sum, (l, r)| sum.wrapping_add(l ^ r))
+            });
+        )?
         timed(name, "remove", n, || {
             keys.count(|at| bimap.remove_by_left(&keys.left(at)).is_some())
         });
@@ -93,7 +100,7 @@ macro_rules! measure {
 pub fn times(pairs: &str, keys: &str, kind: &str) {
     let keys = Keys::new(pairs.parse().unwrap_or(1000), keys == "rising");
     match kind {
-        "BiBTreeMap" => measure!(BiBTreeMap, keys),
+        "BiBTreeMap" => measure!(BiBTreeMap, keys, rev),
         "BiHashMap" => measure!(BiHashMap, keys),
         kind => eprintln!("peer: no kind {kind}"),
     }
