@@ -1,6 +1,6 @@
 //! What a hashed left gives.
 use crate::course::follow;
-use crate::kind::{Words, copy_to, insert, say};
+use crate::kind::{Words, copy_to, insert, say, say_moved};
 use crate::request::Request;
 use crate::word::Word;
 use bimap_index::{CopiedIndex, HashIndex};
@@ -42,6 +42,20 @@ pub fn call<LS: BuildHasher + Clone + Drop, J: CopiedIndex<Word> + Drop>(
                 bimap.retain(|_left: &Word, right: &Word| *right >= least),
                 said,
             )
+        }
+        "extract_into" => {
+            let least = request.first;
+            let mut pairs = Vec::new(request.alloc);
+            let answer = bimap.extract_into(
+                &mut pairs,
+                |_left: &Word, right: &Word| *right >= least,
+            );
+            say_moved(answer, &pairs, said)
+        }
+        "drain_into" => {
+            let mut pairs = Vec::new(request.alloc);
+            let answer = bimap.drain_into(&mut pairs);
+            say_moved(answer, &pairs, said)
         }
         "clone" => {
             if copy_to(bimap, other, said)? {

@@ -23,6 +23,7 @@ STEPS: front back len copy rest   RANGE: .. b.. b..d b..=d ..d ..=d, and >b.. wi
   put POLICY L R · get_by_right_or_insert L R · get_by_left_or_insert_with L R
   extend PAIRS · extend_with POLICY PAIRS
   remove_by_left L · remove_by_right R · clear · retain R     (keeps the rights from R on)
+  extract_into R · drain_into                 (an empty list: the rights from R on, all)
   replace_left L L · replace_right R R · swap_partners L L
   reserve N · shrink_to N · shrink_to_fit
   undo_insert L ANSWER · can_undo_insert L ANSWER

@@ -1,8 +1,8 @@
 //! What the shell asks of a bimap of any kind, beside the calls that every bimap has.
 use crate::request::Request;
 use crate::word::Word;
-use bimap::BijectiveMap;
 use bimap::btree::Count;
+use bimap::{BijectiveMap, NoMemory};
 use bimap_calls::Counter;
 use bimap_index::{CopiedIndex, Index};
 use std::alloc::AllocError;
@@ -36,6 +36,19 @@ pub type Words<I, J> = BijectiveMap<Word, Word, I, J>;
 /// Writes what a call answered. It answers that there is the call.
 pub fn say<T: Debug + Drop>(answer: T, said: &mut String) -> Result<bool, AllocError> {
     write!(said, "{answer:?}")?;
+    Ok(true)
+}
+
+/// Writes which pairs a call moved to a list, or why it moved none. It answers that there is the call.
+pub fn say_moved(
+    answer: Result<(), NoMemory>,
+    pairs: &[(Word, Word)],
+    said: &mut String,
+) -> Result<bool, AllocError> {
+    match answer {
+        Ok(()) => write!(said, "Ok({pairs:?})")?,
+        Err(refused) => write!(said, "Err({refused:?})")?,
+    }
     Ok(true)
 }
 

@@ -32,6 +32,7 @@ fn words_of(name: &str) -> Option<Words> {
         | "remove_by_left"
         | "remove_by_right"
         | "retain"
+        | "extract_into"
         | "left_rank"
         | "right_rank" => Some(Words::Value),
         "insert"
@@ -73,6 +74,7 @@ fn nothing_after(name: &str) -> bool {
         | "is_empty"
         | "capacity"
         | "clear"
+        | "drain_into"
         | "shrink_to_fit"
         | "for_each"
         | "clone"
