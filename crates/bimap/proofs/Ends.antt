@@ -58,9 +58,13 @@ module _ {L : Type 0} (held sorted : List (L × ℕ)) (sorts : IsByRight nat_cmp
   pub last_is_greatest : (l : L) (r : ℕ) → Some (l, r) ≡ slice_get sorted (length sorted - 1) → (q : L × ℕ) → Contains held q → q.1 ≤ r
   last_is_greatest l r at q held = let w = by_rank l r (length sorted - 1) at q held in elim w.2 [ inl e ↦ omega (arith, e.1) | inr (inl b) ↦ omega (arith, b.1) | inr (inr b) ↦ absurd (omega (arith, w.1, b.0)) ]
 
-  -- the number after the last is free
+  -- the number after the last is above all
+  pub next_is_above : (l : L) (r : ℕ) → Some (l, r) ≡ slice_get sorted (length sorted - 1) → (q : L × ℕ) → Contains held q → q.1 < r + 1
+  next_is_above l r at q held = omega (arith, last_is_greatest l r at q held)
+
+  -- and so it is free
   pub after_last : (l : L) (r : ℕ) → Some (l, r) ≡ slice_get sorted (length sorted - 1) → (q : L × ℕ) → Contains held q → nat_eq q.1 (r + 1) ≡ false
-  after_last l r at q held = ne_eqb q.1 (r + 1) (λ e. omega (arith, last_is_greatest l r at q held, e))
+  after_last l r at q held = ne_eqb q.1 (r + 1) (λ e. omega (arith, next_is_above l r at q held, e))
 
   -- where nothing is last each number is free
   pub none_last : None ≡ slice_get sorted (length sorted - 1) → (q : L × ℕ) → Contains held q → (r : ℕ) → nat_eq q.1 r ≡ false

@@ -5,7 +5,7 @@ use Rattle.std.specs.Borrow.{Bor}
 use Rattle.std.specs.Cmp.{IsEquivalence}
 use Rattle.std.proofs.lemmas.Bool.{or_left, or_right}
 use Rattle.bimap_base.specs.Exchange.{IsPartReplaced}
-use Rattle.bimap_base.specs.Sets.{shares, IsApart, IsWithPut, LacksLeft, LacksRight}
+use Rattle.bimap_base.specs.Sets.{shares, IsApart, IsWithPut, LacksLeft, LacksRight, NoneShares}
 use Rattle.bimap_base.specs.Holding.{Holding, IsFoundByLeft, IsFoundByRight}
 use Rattle.bimap_base.proofs.Apart.{apart_unique}
 
@@ -21,6 +21,10 @@ module _ {L R : Type 0} (same_left : L → L → Bool) (same_right : R → R →
   -- a pair of before that shares no value with it is still there
   pub other_stays : IsWithPut same_left same_right S p T → (q : L × R) → S q → shares same_left same_right q p ≡ false → T q
   other_stays put q was apart = (put q).1 (inr (was, apart))
+
+  -- where none shares a value with it, all pairs of before are
+  pub all_stay : IsWithPut same_left same_right S p T → NoneShares same_left same_right S p → (q : L × R) → S q → T q
+  all_stay put none q was = other_stays put q was (none q was)
 
 module _ {L R : Type 0} (same_left : L → L → Bool) (same_right : R → R → Bool) (S : L × R → Type 0) (l : L) (r : R) where
   -- no pair shares a value with two that are both free

@@ -16,6 +16,7 @@ pub use bimap_base::{
 };
 pub use bimap_index::{Index, Lookup};
 pub use bimap_kinds::{BiBTreeHashMap, BiBTreeMap, BiHashBTreeMap, BiHashMap, BijectiveMap};
+pub use bimap_tree::Ordered;
 pub use call::{Call, Reply, RunRefused};
 pub use runs::{perform, run};
 pub use undone::{UndoRunStopped, undo_run};

@@ -2,6 +2,7 @@
 #![tactic(auto)]
 
 mod copy_left;
+mod ends;
 mod entry;
 mod look_ups;
 mod operations;

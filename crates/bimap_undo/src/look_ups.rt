@@ -10,7 +10,8 @@ impl<L: CopyLeft + Drop, R: Eq + Drop, I: Index<L> + Drop, J: Index<R> + Drop> U
     L,
     R,
 > {
-    /// Returns the right of a left, or `None` if the bimap doesn't contain the left, by its look-up.
+    /// Returns the right of a left, or `None` if the bimap doesn't contain the left. It costs the bimap's own look-up:
+    /// logarithmic time where lefts are ordered, constant time on average where they are hashed, and no memory.
     ///
     ///     seats.insert('a', 1)?;
     ///     seats.get_by_left(&'a'); // Some(&1)
@@ -23,7 +24,7 @@ impl<L: CopyLeft + Drop, R: Eq + Drop, I: Index<L> + Drop, J: Index<R> + Drop> U
         self.held().get_by_left(left)
     }
 
-    /// Returns the left of a right, or `None` if the bimap doesn't contain the right, by its look-up.
+    /// Returns the left of a right, or `None` if the bimap doesn't contain the right, at the cost of that look-up.
     pub fn get_by_right<Q: Query<R>>(&self, right: Q) -> Option<&L>
     where
         J: Lookup<R, Q>,

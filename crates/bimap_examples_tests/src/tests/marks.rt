@@ -152,6 +152,22 @@ fn forgets_changes(rt: &impl Abort, seats: &mut Recorded) -> Result<(), Fail> {
     takes_out_the_first(rt, seats)
 }
 
+fn shows_ends(rt: &impl Abort, seats: &mut Recorded) -> Result<(), Fail> {
+    seats.insert('b', 1)?;
+    seats.insert('a', 2)?;
+    assert!(rt; seats.first_by_left() == Some((&'a', &2)));
+    assert!(rt; seats.last_by_left() == Some((&'b', &1)));
+    assert!(rt; seats.first_by_right() == Some((&'b', &1)));
+    assert!(rt; seats.last_by_right() == Some((&'a', &2)));
+    Ok(())
+}
+
+#[test]
+fn ends_beside_a_record(rt: HostRuntime) -> Result<(), Fail> {
+    let mut seats = Undoable::new(rt.alloc(), Seats::new(rt.alloc()));
+    shows_ends(&rt, &mut seats)
+}
+
 #[test]
 fn shows_and_forgets(rt: HostRuntime) -> Result<(), Fail> {
     let mut seats = Undoable::new(rt.alloc(), Seats::new(rt.alloc()));
