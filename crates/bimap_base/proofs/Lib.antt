@@ -10,6 +10,7 @@ pub mod Fits
 pub mod FreeList
 pub mod HoldingsAlike
 pub mod Interned
+pub mod Inverse
 pub mod Meeting
 pub mod Members
 pub mod NodesInCells

@@ -12,10 +12,12 @@ pub mod Same
 pub mod Copies
 pub mod Exchange
 pub mod Put
+pub mod Inverse
 pub mod Extension
 pub mod Digits
 pub mod Slots
 pub mod FreeSlots
+pub mod InverseSlots
 pub mod Keyed
 pub mod Numbered
 pub mod NodesInCells

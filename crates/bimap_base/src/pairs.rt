@@ -4,6 +4,8 @@ ghost use Rattle.bimap_base.specs.Slots.{pair_at, IsLive, pair_count};
 ghost use Rattle.bimap_base.specs.Places.{pairs_in, compacted};
 ghost use Rattle.bimap_base.specs.FreeSlots.{pair_of, IsFreeList, IsSound, IsGrown};
 
+mod inverse;
+
 use crate::refusal::NoMemory;
 use std::alloc::Global;
 use std::marker::Model;

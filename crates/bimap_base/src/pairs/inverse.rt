@@ -1,0 +1,41 @@
+//! The store with the sides of its pairs exchanged.
+ghost use Rattle.std.specs.Prelude.{◌≡◌, IfOk, IfErr, map, option_map};
+ghost use Rattle.bimap_base.specs.Inverse.{inverse_pair};
+ghost use Rattle.bimap_base.specs.InverseSlots.{inverse_slot};
+
+use super::{Pairs, Slot};
+
+impl<L, R> Slot<L, R> {
+    // The slot with the sides of its pair exchanged. It names the same next place.
+    fn into_inverse(self) -> Slot<R, L>
+        ensures { result ≡ inverse_slot self }
+    {
+        match self {
+            Slot::Free(next) => Slot::Free(next),
+            Slot::Held(left, right) => Slot::Held(right, left),
+        }
+    }
+}
+
+impl<L: Drop, R: Drop> Pairs<L, R> {
+    /// The store with the sides of each pair exchanged, at the same places. It takes memory for as many places before it
+    /// moves a pair, and a refusal hands the very store back.
+    pub fn into_inverse(self) -> Result<Pairs<R, L>, Self>
+        ensures ok { IfOk result (λ inverse. inverse ≡ map (option_map inverse_pair) self) }
+        ensures err { IfErr result (λ same. same ≡ self) }
+    {
+        let alloc = *self.slots.allocator();
+        let Ok(mut turned) = Vec::with_capacity(alloc, self.slots.len()) else {
+            return Err(self);
+        };
+        let Pairs { slots, len, next } = self;
+        for slot in slots {
+            turned.push_reserved(slot.into_inverse());
+        }
+        Ok(Pairs {
+            slots: turned,
+            len,
+            next,
+        })
+    }
+}
