@@ -39,8 +39,8 @@ pub use policy::{OnHeld, Policy};
 pub use putting::{contains_pair, put};
 pub use query::{HashQuery, OrderQuery, Query};
 pub use refusal::{
-    ExtendStopped, ItemRefused, NoMemory, NoRoom, NotInserted, NotInsertedWith, NotReplaced,
-    NotSwapped, UndoStopped,
+    ExtendStopped, ItemRefused, NoMemory, NoRoom, NotInserted, NotInsertedWith, NotInverted,
+    NotReplaced, NotSwapped, UndoStopped,
 };
 pub use replace::{replace_left, replace_right};
 pub use side::{LeftSide, RightSide, Side};

@@ -79,6 +79,13 @@ pub enum NotSwapped {
     SecondMissing,
 }
 
+/// Out of memory for exchanging the sides of pairs. What was to be turned round is handed back as it was.
+#[derive(Debug, Drop, Eq, Error, PartialEq)]
+#[error("out of memory for the inverse")]
+pub struct NotInverted<B> {
+    pub given: B,
+}
+
 /// An item that the policy refused, or that was out of memory. The call says what became of those before it.
 #[derive(Debug, Drop, Eq, Error, PartialEq)]
 #[error("item {taken}: {why}")]

@@ -4,6 +4,7 @@ ghost use Rattle.bimap_base.specs.Inverse.{inverse_pair};
 ghost use Rattle.bimap_base.specs.InverseSlots.{inverse_slot};
 
 use super::{Pairs, Slot};
+use crate::refusal::NotInverted;
 
 impl<L, R> Slot<L, R> {
     // The slot with the sides of its pair exchanged. It names the same next place.
@@ -20,13 +21,13 @@ impl<L, R> Slot<L, R> {
 impl<L: Drop, R: Drop> Pairs<L, R> {
     /// The store with the sides of each pair exchanged, at the same places. It takes memory for as many places before it
     /// moves a pair, and a refusal hands the very store back.
-    pub fn into_inverse(self) -> Result<Pairs<R, L>, Self>
+    pub fn into_inverse(self) -> Result<Pairs<R, L>, NotInverted<Self>>
         ensures ok { IfOk result (λ inverse. inverse ≡ map (option_map inverse_pair) self) }
-        ensures err { IfErr result (λ same. same ≡ self) }
+        ensures err { IfErr result (λ e. e.given ≡ self) }
     {
         let alloc = *self.slots.allocator();
         let Ok(mut turned) = Vec::with_capacity(alloc, self.slots.len()) else {
-            return Err(self);
+            return Err(NotInverted { given: self });
         };
         let Pairs { slots, len, next } = self;
         for slot in slots {
