@@ -3,6 +3,7 @@ pub mod Counted
 pub mod Inserting
 pub mod Inserted
 pub mod Interned
+pub mod Inverses
 pub mod Removing
 pub mod Linking
 pub mod Parting

@@ -34,7 +34,7 @@ module _ {P : Type 0} where
 
 module _ {P K : Type 0} (key : P → K) where
   -- the keys of a walk are those of its pairs
-  keys_walked : (slots : List (Option P)) (places : List ℕ) → pairs_at (map (option_map key) slots) places ≡ map key (pairs_at slots places)
+  pub keys_walked : (slots : List (Option P)) (places : List ℕ) → pairs_at (map (option_map key) slots) places ≡ map key (pairs_at slots places)
   keys_walked slots [] = refl
   keys_walked slots (q ∷ qs) = by (pair_at slots q) refl (keys_walked slots qs)
     where

@@ -6,6 +6,7 @@ mod copy;
 mod for_each;
 mod insert;
 mod intern;
+mod inverse;
 mod outlet;
 mod partition;
 mod partition_in_turn;
