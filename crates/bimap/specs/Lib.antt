@@ -11,6 +11,7 @@ pub use Rattle.bimap_base.specs.Survivors
 pub use Rattle.bimap_base.specs.Undoing
 pub use Rattle.bimap_base.specs.Exchange
 pub use Rattle.bimap_base.specs.Put
+pub use Rattle.bimap_base.specs.Inverse
 pub use Rattle.bimap_base.specs.Extension
 pub use Rattle.bimap_base.specs.Digits
 pub use Rattle.bimap_base.specs.Capacity

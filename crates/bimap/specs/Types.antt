@@ -9,6 +9,7 @@ pub use Rattle.bimap_base.specs.declared.refusal.NoRoom.{NoRoom}
 pub use Rattle.bimap_base.specs.declared.refusal.NotInserted.{NotInserted}
 pub use Rattle.bimap_base.specs.declared.refusal.NotInsertedWith.{NotInsertedWith}
 pub use Rattle.bimap_base.specs.declared.refusal.ExtendStopped.{ExtendStopped}
+pub use Rattle.bimap_base.specs.declared.refusal.NotInverted.{NotInverted}
 pub use Rattle.bimap_base.specs.declared.refusal.NotReplaced.{NotReplaced}
 pub use Rattle.bimap_base.specs.declared.refusal.NotSwapped.{NotSwapped}
 pub use Rattle.bimap_base.specs.declared.refusal.ItemRefused.{ItemRefused}

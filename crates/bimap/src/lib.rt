@@ -10,8 +10,8 @@ pub mod value;
 
 pub use bimap_base::{
     Bijection, ExtendStopped, Interning, ItemRefused, NoMemory, NoRoom, NotInserted,
-    NotInsertedWith, NotReplaced, NotSwapped, OnHeld, OrderQuery, Overwritten, Policy, Query,
-    UndoStopped, contains_pair, extend_with, from_iter_with, get_by_left_or_insert_with,
+    NotInsertedWith, NotInverted, NotReplaced, NotSwapped, OnHeld, OrderQuery, Overwritten, Policy,
+    Query, UndoStopped, contains_pair, extend_with, from_iter_with, get_by_left_or_insert_with,
     get_by_right_or_insert, put, replace_left, replace_right, swap_partners,
 };
 pub use bimap_index::{Index, Lookup};

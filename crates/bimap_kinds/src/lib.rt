@@ -13,6 +13,7 @@ mod debug;
 mod ends;
 mod hashers;
 mod insert;
+mod inverse;
 mod look_up;
 mod loops;
 mod make;

@@ -1,6 +1,6 @@
 //! Examples of making a bimap. Each has a test of its own: kinds that meet in one function take minutes to prove.
 use super::{PAIRS, Seats, holds, ordered};
-use bimap::{BiBTreeMap, BiHashMap, NoMemory, Overwritten};
+use bimap::{BiBTreeMap, BiHashMap, NoMemory, NotInverted, Overwritten};
 use std::alloc::Global;
 use std::hash::RandomState;
 use std::process::Abort;
@@ -50,6 +50,18 @@ fn copied(rt: &impl Abort, seats: Seats) -> Result<(), NoMemory> {
 #[test]
 fn copies(rt: HostRuntime) {
     assert!(&rt; copied(&rt, ordered(&rt)) == Ok(()));
+}
+
+fn turned(rt: &impl Abort, seats: Seats) -> Result<(), NotInverted<Seats>> {
+    let turned = seats.into_inverse()?;
+    assert!(rt; turned.get_by_left(&3) == Some(&'a'));
+    assert!(rt; turned.capacity() == 4);
+    Ok(())
+}
+
+#[test]
+fn turns_round(rt: HostRuntime) {
+    assert!(&rt; turned(&rt, ordered(&rt)).is_ok());
 }
 
 #[test]

@@ -3,7 +3,7 @@ use super::ordered;
 use bimap::value::{JsonFault, ReadFault};
 use bimap::{
     BiBTreeMap, Call, ExtendStopped, ItemRefused, NoMemory, NoRoom, NotInserted, NotInsertedWith,
-    NotReplaced, Overwritten, RunRefused, UndoRunStopped, UndoStopped,
+    NotInverted, NotReplaced, Overwritten, RunRefused, UndoRunStopped, UndoStopped,
 };
 use bimap_undo::NotRecorded;
 use std::error::Error;
@@ -88,6 +88,12 @@ fn refusals_of_a_list(rt: HostRuntime) -> Result<(), Fail> {
     let calls = vec![in alloc; Call::<char, u32, u32>::Clear]?;
     says(&rt, RunRefused { calls }, "out of memory for the replies");
     Ok(())
+}
+
+#[test]
+fn refusal_of_an_inverse(rt: HostRuntime) {
+    let given = ordered(&rt);
+    says(&rt, NotInverted { given }, "out of memory for the inverse");
 }
 
 #[test]
