@@ -7,7 +7,7 @@
 //! - JSON, which it has by serde alone;
 //! - the first pairs of a hashed bimap, which are by chance;
 //! - answers of which the shell shows the two ends alone;
-//! - any, until a bimap is begun anew, where it isn't known what was refused for memory.
+//! - any, until a bimap is begun anew, where it isn't known what was refused for memory, or done from the other side.
 use crate::kind::{Hashed, Kind, MOST_ROOM, Ordered};
 use crate::made::{make, put_all};
 use crate::word::Word;
@@ -16,7 +16,7 @@ use std::{io, mem};
 /// The names of the shell's kinds. The crate has the first two.
 const KINDS: [&str; 5] = ["ordered", "hashed", "ordered-hashed", "hashed-ordered", "crowded"];
 /// What may stand before a call.
-const BEFORE: [&str; 5] = ["undoable", "counted", "bounded", "famine", "easing"];
+const BEFORE: [&str; 6] = ["undoable", "inverse", "counted", "bounded", "famine", "easing"];
 /// The bytes up to which the shell shows an answer whole.
 const WHOLE: usize = 4096;
 /// How many different answers of a call made many times are shown.
@@ -40,6 +40,10 @@ impl<B: Kind> Held<B> {
             ([], ["times", ..]) => self.times(line),
             ([], words) => self.call(words),
             (["famine"], words) => self.without_memory(words),
+            (before, _) if before.contains(&"inverse") => {
+                self.bimap = None;
+                None
+            }
             (before, words) if before.contains(&"undoable") => self.record(words),
             // (what is said beside the call's own answer is the shell's)
             (_, words) => {
@@ -128,7 +132,7 @@ impl<B: Kind> Held<B> {
     /// A call for which memory is refused, where it takes none.
     fn without_memory(&mut self, words: &[&str]) -> Option<String> {
         match words {
-            ["reserve" | "shrink_to" | "shrink_to_fit", ..] => None,
+            ["reserve" | "shrink_to" | "shrink_to_fit" | "extract_into" | "drain_into", ..] => None,
             ["clone"] => {
                 self.other = None;
                 None
