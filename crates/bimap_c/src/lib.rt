@@ -43,6 +43,4 @@ mod loose;
 pub mod slot;
 pub mod status;
 pub mod table;
-#[cfg(test)]
-mod tests;
 pub mod u64_u64;

@@ -1,3 +1,0 @@
-//! The exports, called from Rattle.
-mod bytes;
-mod numbers;
