@@ -1,0 +1,9 @@
+//! Places in a doubly linked list, in the order in which they were appended. It knows no values, and no keys.
+//!
+//! Each call takes constant time, but for `grow` and `ranks`, which alone ask for memory.
+#![tactic(auto)]
+
+mod linked_list;
+mod ranks;
+
+pub use linked_list::LinkedList;
