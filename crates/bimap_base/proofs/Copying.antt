@@ -95,7 +95,18 @@ module _ {L R : Type 0} (same_left : L → L → Bool) (same_right : R → R →
         sym (shares_along p q s.0 y first second) ∙ apart_head same_left same_right p ps apart s.0 s.1)
         (apart_clones ps qs later zip.1 (apart_tail same_left same_right p ps apart))
 
-    -- one more clone is put in, which shares no value with the others
+    -- a further clone shares no value with the others
+    pub apart_clone : (old rest new : List (L × R)) (p q : L × R) → IsApart same_left same_right old → AreClonesEqual is_clone_left is_clone_right same_left same_right old → (so_far : IsCopiedUpTo is_clone_left is_clone_right old (p ∷ rest) new) → IsPairClone is_clone_left is_clone_right p q → (x : L × R) → Contains so_far.clones x → shares same_left same_right x q ≡ false
+    apart_clone old rest new p q apart equal so_far clone x there =
+        let s = source_of (IsPairClone is_clone_left is_clone_right) so_far.before so_far.clones so_far.one_for_each x there in
+        let first = equal_clone old equal s.0 x (in_old s.0 (Contains-append_left so_far.before (p ∷ rest) s.0 s.1)) s.2 in
+        let second = equal_clone old equal p q (in_old p (Contains-append_right so_far.before (p ∷ rest) p (head_in p rest))) clone in
+        sym (shares_along s.0 x p q first second) ∙ apart_before so_far.before rest p s.0 (subst (IsApart same_left same_right) so_far.split apart) s.1
+      where
+        in_old : (x : L × R) → Contains (so_far.before ++ p ∷ rest) x → Contains old x
+        in_old x there = subst (λ xs. Contains xs x) (sym so_far.split) there
+
+    -- so one more is put in
     pub copied_more : (old rest new newer : List (L × R)) (p q : L × R) → IsApart same_left same_right old → AreClonesEqual is_clone_left is_clone_right same_left same_right old → IsCopiedUpTo is_clone_left is_clone_right old (p ∷ rest) new → IsPairClone is_clone_left is_clone_right p q → IsWithPut same_left same_right (Contains new) q (Contains newer) → IsCopiedUpTo is_clone_left is_clone_right old rest newer
     copied_more old rest new newer p q apart equal so_far clone put =
         record {
@@ -105,7 +116,7 @@ module _ {L R : Type 0} (same_left : L → L → Bool) (same_right : R → R →
           one_for_each = AllZip-push (IsPairClone is_clone_left is_clone_right) so_far.before so_far.clones p q so_far.one_for_each clone;
           held = λ x. (
             λ there. elim (Contains-push_cases so_far.clones q x there) [
-              | inl w ↦ (put x).1 (inr ((so_far.held x).0 w, apart_from x w))
+              | inl w ↦ (put x).1 (inr ((so_far.held x).0 w, apart_clone old rest new p q apart equal so_far clone x w))
               | inr e ↦ (put x).1 (inl (sym e))
             ],
             λ there. elim ((put x).0 there) [
@@ -114,16 +125,6 @@ module _ {L R : Type 0} (same_left : L → L → Bool) (same_right : R → R →
             ],
           );
         }
-      where
-        in_old : (x : L × R) → Contains (so_far.before ++ p ∷ rest) x → Contains old x
-        in_old x there = subst (λ xs. Contains xs x) (sym so_far.split) there
-
-        apart_from : (x : L × R) → Contains so_far.clones x → shares same_left same_right x q ≡ false
-        apart_from x there =
-            let s = source_of (IsPairClone is_clone_left is_clone_right) so_far.before so_far.clones so_far.one_for_each x there in
-            let first = equal_clone old equal s.0 x (in_old s.0 (Contains-append_left so_far.before (p ∷ rest) s.0 s.1)) s.2 in
-            let second = equal_clone old equal p q (in_old p (Contains-append_right so_far.before (p ∷ rest) p (head_in p rest))) clone in
-            sym (shares_along s.0 x p q first second) ∙ apart_before so_far.before rest p s.0 (subst (IsApart same_left same_right) so_far.split apart) s.1
 
     -- where nothing is left, the copy is whole
     pub copied_all : (old new : List (L × R)) → IsApart same_left same_right old → IsApart same_left same_right new → AreClonesEqual is_clone_left is_clone_right same_left same_right old → IsCopiedUpTo is_clone_left is_clone_right old [] new → IsCopy is_clone_left is_clone_right same_left same_right old new

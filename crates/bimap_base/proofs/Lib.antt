@@ -24,5 +24,6 @@ pub mod SetsAlike
 pub mod Survivors
 pub mod Swapping
 pub mod Testing
+pub mod Turns
 pub mod Undoing
 pub mod Walk

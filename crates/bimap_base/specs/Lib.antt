@@ -14,6 +14,7 @@ pub mod Exchange
 pub mod Put
 pub mod Inverse
 pub mod Extension
+pub mod Turns
 pub mod Digits
 pub mod Slots
 pub mod FreeSlots

@@ -1,10 +1,11 @@
 //! The interface that all bimaps share.
-ghost use Rattle.std.specs.Prelude.{◌≡◌, ◌≤◌, ◌↔◌, [], length, Contains, IsTrue, not};
+ghost use Rattle.std.specs.Prelude.{◌≡◌, ◌≤◌, ◌↔◌, [], length, Contains, IfOk, IsTrue, not};
 ghost use Rattle.bimap_base.specs.Capacity.{IsReservation};
 ghost use Rattle.bimap_base.specs.Fitting.{FitsLeft, FitsRight, Fits};
 ghost use Rattle.bimap_base.specs.Sets.{shares, IsApart, HasLeft, HasRight};
 ghost use Rattle.bimap_base.specs.Holding.{Holding, IsFoundByLeft, IsFoundByRight, IsInsertion, IsInsertionWithoutOverwriting, IsInsertionUnder, IsRemovalByLeft, IsRemovalByRight, IsRetention, IsUndoing};
 ghost use Rattle.bimap_base.specs.Kept.{MayTest};
+ghost use Rattle.bimap_base.specs.Turns.{StandsInTurn};
 ghost use Rattle.bimap_base.specs.Undoing.{IsUndoable};
 ghost use Rattle.bimap_base.specs.Visited.{MayVisit, IsVisited};
 
@@ -20,6 +21,9 @@ use crate::refusal::{NoMemory, NoRoom, NotInserted, NotInsertedWith, UndoStopped
 pub trait Bijection<L: Eq + Drop, R: Eq + Drop> {
     /// The pairs, each once, and the capacity.
     ghost holding: { Self → Holding L R };
+
+    /// The pairs stand in the order in which they were put in.
+    ghost appends: { Type 0 };
 
     /// Returns the number of pairs.
     fn len(&self) -> usize
@@ -45,8 +49,10 @@ pub trait Bijection<L: Eq + Drop, R: Eq + Drop> {
         right: R,
         policy: Policy,
     ) -> Result<Overwritten<L, R>, NotInsertedWith<L, R>>
-        ensures { IsInsertionUnder L.eq R.eq (holding self.old) (left, right) policy result
-            (holding self.new) };
+        ensures answer { IsInsertionUnder L.eq R.eq (holding self.old) (left, right) policy result
+            (holding self.new) }
+        ensures turn { appends → IfOk result (λ answer. StandsInTurn (holding self.old).pairs
+            (left, right) answer (holding self.new).pairs) };
 
     /// Removes the pair of a left and returns it, or `None` if the bimap doesn't contain the left.
     fn remove_by_left(&mut self, left: &L) -> Option<(L, R)>

@@ -2,6 +2,7 @@
 ghost use Rattle.std.specs.Prelude.{◌≡◌, ◌≤◌, [], length, List, Contains, OnOk, IfOk, IfErr};
 ghost use Rattle.std.specs.Iterator.{IsFiniteIterable};
 ghost use Rattle.bimap_base.specs.Extension.{IsExtension, IsExtensionStopped, IsExtensionUnder, IsExtensionStoppedUnder, IsRefusedNext, IsRefusedNextUnder};
+ghost use Rattle.bimap_base.specs.Turns.{FollowInTurn};
 
 use crate::bijection::Bijection;
 use crate::policy::{OnHeld, Policy};
@@ -24,6 +25,8 @@ pub fn extend<L: Eq + Drop, R: Eq + Drop, B: Bijection<L, R>, I: IntoIterator<It
     ensures stopped { IfErr result (λ e. IsExtensionStopped L.eq R.eq
         (I.into_iter_gives items) I.IntoIter.next_gives (B.holding bimap.old) e
         (B.holding bimap.new)) }
+    ensures turn { B.appends → OnOk result (FollowInTurn (I.into_iter_gives items)
+        I.IntoIter.next_gives (B.holding bimap.old).pairs (B.holding bimap.new).pairs) }
 {
     let policy = Policy {
         left: OnHeld::Overwrite,
@@ -62,6 +65,8 @@ pub fn extend_with<L: Eq + Drop, R: Eq + Drop, B: Bijection<L, R>, I: IntoIterat
     ensures stopped { IfErr result (λ e. IsExtensionStoppedUnder L.eq R.eq
         (I.into_iter_gives items) I.IntoIter.next_gives (B.holding bimap.old) policy e
         (B.holding bimap.new)) }
+    ensures turn { B.appends → OnOk result (FollowInTurn (I.into_iter_gives items)
+        I.IntoIter.next_gives (B.holding bimap.old).pairs (B.holding bimap.new).pairs) }
 {
     let mut taken = 0usize;
     for (left, right) in items {
@@ -93,6 +98,8 @@ pub fn from_iter<
     ensures stopped { IfErr result (λ e. (taken : List (L × R))
         × IsRefusedNext L.eq R.eq (I.into_iter_gives items) I.IntoIter.next_gives
         (Contains []) taken e) }
+    ensures turn { B.appends → IfOk result (λ bimap. FollowInTurn (I.into_iter_gives items)
+        I.IntoIter.next_gives [] (B.holding bimap).pairs) }
 {
     let mut bimap = empty;
     match extend(&mut bimap, items) {
@@ -121,6 +128,8 @@ pub fn from_iter_with<
     ensures stopped { IfErr result (λ e. (taken : List (L × R))
         × IsRefusedNextUnder L.eq R.eq (I.into_iter_gives items) I.IntoIter.next_gives (Contains [])
         ((B.holding empty).room ≤ length taken) taken policy e) }
+    ensures turn { B.appends → IfOk result (λ bimap. FollowInTurn (I.into_iter_gives items)
+        I.IntoIter.next_gives [] (B.holding bimap).pairs) }
 {
     let mut made = empty;
     match extend_with(&mut made, items, policy) {

@@ -35,6 +35,8 @@ impl<L: Eq + Drop, R: Eq + Drop> Plain<L, R> {
 impl<L: Eq + Drop, R: Eq + Drop> Bijection<L, R> for Plain<L, R> {
     ghost holding = { λ s. shown s.pairs.items (vec_capacity s.pairs) };
 
+    ghost appends = { ⊥ };
+
     fn len(&self) -> usize {
         self.pairs.len()
     }

@@ -1,7 +1,8 @@
-use Rattle.std.proofs.Common.{◌≡◌, refl, sym, subst, arith, Contains, rules}
+use Rattle.std.proofs.Common.{append-nil, ◌≡◌, refl, sym, subst, arith, Contains, rules}
 use Rattle.std.proofs.lemmas.List.{length_push}
 use Rattle.bimap_base.specs.Holding.{IsFull}
 use Rattle.bimap_base.proofs.Extending.{ArePutIn, put_in_none, put_in_more, put_in_full, refusal_along}
+use Rattle.bimap_base.proofs.Turns.{in_turn_more}
 use Rattle.bimap_base.proofs.fill.extend_with.Goals as goal
 
 pub loop-left-init : goal.loop-left-init
@@ -11,6 +12,7 @@ loop-left-init g c =
       callable = ready.0;
       ends = ready.1;
       taken = refl;
+      in_turn = λ appends all. sym (append-nil _);
       put_in = put_in_none g.L.PartialEq.eq g.R.PartialEq.eq (g.B.Bijection.holding c.args.bimap.now) c.args.policy;
     }
 
@@ -19,11 +21,12 @@ loop-left-preserved g c =
     let p = c.in-Some.ensures.goes.on c.loop-left.invariant.ends in
     let more = length_push c.loop-left.yielded (c.in-Some.left, c.in-Some.right) in
     let i = c.loop-left.invariant in
-    let e = c.in-Ok.ensures in
+    let e = c.in-Ok.ensures.answer in
     record {
       callable = p.0;
       ends = p.1;
       taken = omega (arith, more, c.saturating_add-taken.ensures, i.taken);
+      in_turn = λ appends. in_turn_more _ c.loop-left.yielded _ (c.in-Some.left, c.in-Some.right) c.in-Ok.answer _ i.put_in.no_longer (i.in_turn appends) e.count (c.in-Ok.ensures.turn appends);
       put_in = put_in_more g.L.PartialEq.eq g.R.PartialEq.eq (g.B.Bijection.holding c.args.bimap.now) c.loop-left.yielded c.args.policy (g.B.Bijection.holding c.loop-left.bimap) (c.in-Some.left, c.in-Some.right) (g.B.Bijection.holding c.insert_with.new.self)
           g.met.L.Eq.laws g.met.R.Eq.laws (g.met.B.Bijection.apart c.loop-left.bimap) (g.met.B.Bijection.apart c.insert_with.new.self) i.put_in e.allowed e.put e.room;
     }
@@ -33,7 +36,7 @@ returns-in-Err-clause-stopped g c =
     let first = g.B.Bijection.holding c.args.bimap.now in
     let old = g.B.Bijection.holding c.loop-left.bimap in
     let new = g.B.Bijection.holding c.insert_with.new.self in
-    let e = c.in-Err.ensures in
+    let e = c.in-Err.ensures.answer in
     let i = c.loop-left.invariant in
     let it = c.into_iter-left-iterator in
     let same : old ≡ new = sym e.unchanged in
@@ -76,3 +79,8 @@ returns-clause-extended g c =
 
 pub returns-in-Err-clause-extended : goal.returns-in-Err-clause-extended
 returns-in-Err-clause-extended g c = search
+
+pub returns-clause-turn : goal.returns-clause-turn
+returns-clause-turn g c appends =
+    let it = c.into_iter-left-iterator in
+    record { iterator = it.result; items = c.loop-left.yielded; given = it.ensures.into_iter_gives; all = search rules; in_turn = c.loop-left.invariant.in_turn appends }

@@ -1,5 +1,6 @@
 use Rattle.std.proofs.Common.{◌≡◌, ◌^◌, ◌-◌, length, min}
 use Rattle.bimap_base.proofs.Extending.{ArePutIn}
+use Rattle.bimap_base.proofs.Turns.{ComeInTurn}
 use Rattle.bimap_base.proofs.fill.extend_with.Given as goal
 
 abbrev pub invariant-loop-left : goal.invariant-loop-left
@@ -8,4 +9,5 @@ invariant-loop-left g l = record {
   ends : (goal.iterator-loop-left g).is_finite l.left-iterator;
   taken : l.taken ≡ min (length l.yielded) (2 ^ 64 - 1);
   put_in : ArePutIn g.L.PartialEq.eq g.R.PartialEq.eq (g.B.Bijection.holding l.initial.bimap) l.yielded l.fn.policy (g.B.Bijection.holding l.bimap);
+  in_turn : g.B.Bijection.appends → ComeInTurn (g.B.Bijection.holding l.initial.bimap).pairs l.yielded (g.B.Bijection.holding l.bimap).pairs;
 }

@@ -1,0 +1,28 @@
+-- Where pairs stand that were put in one after the other.
+use Rattle.std.proofs.Common.{◌≡◌, ◌+◌, ◌≤◌, List, [], ◌∷◌, ◌++◌, length, ap, sym, ◌∙◌, arith}
+use Rattle.std.proofs.lemmas.List.{append_assoc, length_push}
+use Rattle.bimap_base.specs.Answer.{named_count}
+use Rattle.bimap_base.specs.declared.overwritten.Overwritten.{Overwritten}
+use Rattle.bimap_base.specs.declared.overwritten.Overwritten.TheVariants.{Neither, Left, Right, Pair, Both}
+use Rattle.bimap_base.specs.Turns.{StandsInTurn}
+
+module _ {L R : Type 0} where
+  -- where nothing was overwritten, the pair comes last
+  pub stands_last : (old : List (L × R)) (pair : L × R) (answer : Overwritten L R) (new : List (L × R)) → named_count answer ≡ 0 → StandsInTurn old pair answer new → new ≡ old ++ pair ∷ []
+  stands_last old pair Neither new none stands = stands
+  stands_last old pair (Left l r) new none stands = absurd (omega (arith, none))
+  stands_last old pair (Right l r) new none stands = absurd (omega (arith, none))
+  stands_last old pair (Pair l r) new none stands = absurd (omega (arith, none))
+  stands_last old pair (Both p q) new none stands = absurd (omega (arith, none))
+
+  -- these items came last, in order, if there is a pair more for each
+  abbrev pub ComeInTurn : List (L × R) → List (L × R) → List (L × R) → Type 0
+  ComeInTurn old items new = length new ≡ length old + length items → new ≡ old ++ items
+
+  -- one item on
+  pub in_turn_more : (old items held : List (L × R)) (item : L × R) (answer : Overwritten L R) (new : List (L × R)) → length held ≤ length old + length items → ComeInTurn old items held → length new + named_count answer ≡ length held + 1 → StandsInTurn held item answer new → ComeInTurn old (items ++ item ∷ []) new
+  in_turn_more old items held item answer new no_longer before count stands all =
+      let more = length_push items item in
+      stands_last held item answer new (omega (arith, more, all, count, no_longer)) stands
+      ∙ ap (λ ps. ps ++ item ∷ []) (before (omega (arith, more, all, count, no_longer)))
+      ∙ append_assoc old items (item ∷ [])
