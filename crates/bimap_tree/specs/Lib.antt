@@ -11,4 +11,5 @@ pub mod Route
 pub mod Descent
 pub mod Remove
 pub mod Batches
+pub mod Ranges
 pub mod Spans

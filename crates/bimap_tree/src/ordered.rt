@@ -1,8 +1,6 @@
 //! The listed places in the order of their keys. It knows places, ranks and counts, and no key's value.
 ghost use Rattle.std.specs.Prelude.{◌≡◌, ◌≢◌, ◌⊎◌, ℕ, ◌+◌, ◌-◌, ◌*◌, ◌<◌, ◌≤◌, [], length, max, slice_get, Some, None, true, IsOk, OnOk, OnErr, IsSome, IfSome, IfNone};
 ghost use Rattle.std.specs.List.{AllPairs, Contains};
-ghost use Rattle.std.specs.Range.Bound.{bound_map};
-ghost use Rattle.std.specs.BTreeMap.Range.{is_from_start};
 ghost use Rattle.std.specs.declared.cmp.Ordering.{Ordering};
 ghost use Rattle.std.specs.declared.cmp.Ordering.TheVariants.{Equal};
 ghost use Rattle.bimap_base.specs.Digits.{most_height};
@@ -10,6 +8,7 @@ ghost use Rattle.bimap_base.specs.Keyed.{standing, Ascends, Adds, Drops};
 ghost use Rattle.bimap_tree.specs.Descent.{IsUnderWay, levels_left};
 ghost use Rattle.bimap_tree.specs.Filled.{IsRow};
 ghost use Rattle.bimap_tree.specs.Order.{count_below};
+ghost use Rattle.bimap_tree.specs.Ranges.{is_from_start};
 ghost use Rattle.bimap_tree.specs.Tree.{Tree, height};
 ghost use Rattle.bimap_tree.specs.Index.{IsBalancedIndex};
 ghost use Rattle.bimap_tree.specs.Route.{IsRoute};
@@ -19,7 +18,7 @@ use crate::by_width::{fill_around, place_in_tree, put_at, rank_in_tree, route_in
 use crate::descent::{Descent, finish_in_tree, step_in_tree};
 use crate::route::Route;
 use crate::search::find_in_tree;
-use crate::search_key::{AfterKey, ToKey, ToPlace, ToQuery};
+use crate::search_key::{AfterQuery, ToKey, ToPlace, ToQuery};
 use bimap_base::{Cells, Keys, Meter, NoMemory, Sought};
 use std::alloc::Global;
 use std::marker::Model;
@@ -336,14 +335,14 @@ impl Ordered {
     }
 
     /// How many listed places stand before the first one that the bound, taken as a start, lets in: in time logarithmic in the length.
-    pub fn rank_from<K: Keys, M: Meter>(
+    pub fn rank_from<K: Keys, Q: Sought<K>, M: Meter>(
         &self,
         keys: &K,
-        bound: Bound<&K::Key>,
+        bound: Bound<Q>,
         meter: &mut M,
     ) -> usize
         requires { Ascends (K.key_at keys.now) K.order self.now.places }
-        ensures cut { IsCut (is_from_start K.order (bound_map (λ x. x.now) bound.entry))
+        ensures cut { IsCut (is_from_start Q.order bound)
             (K.key_at keys.now) self.now.places result }
         ensures comparisons { M.comparisons meter.new ≤ M.comparisons meter.old
             + most_height (length self.now.places) }
@@ -352,16 +351,16 @@ impl Ordered {
     {
         match bound {
             Bound::Unbounded => 0,
-            Bound::Included(key) => rank_in_tree(
+            Bound::Included(query) => rank_in_tree(
                 &self.cells,
                 self.root,
-                &ToKey { keys, key },
+                &ToQuery { keys, query },
                 meter,
             ),
-            Bound::Excluded(key) => rank_in_tree(
+            Bound::Excluded(query) => rank_in_tree(
                 &self.cells,
                 self.root,
-                &AfterKey { keys, key },
+                &AfterQuery { keys, query },
                 meter,
             ),
         }

@@ -93,20 +93,20 @@ impl<K: Keys> SearchKey for ToPlace<'_, K> {
     }
 }
 
-// To the position just after a key.
+// To the position just after the key that a query asks for.
 #[derive(Drop)]
-pub struct AfterKey<'a, K: Keys> {
+pub struct AfterQuery<'a, K, Q> {
     pub keys: &'a K,
-    pub key: &'a K::Key,
+    pub query: Q,
 }
 
-impl<K: Keys> SearchKey for AfterKey<'_, K> {
+impl<K: Keys, Q: Sought<K>> SearchKey for AfterQuery<'_, K, Q> {
     ghost live = { λ s p. IsSome (K.key_at s.keys.now p) };
 
-    ghost go = { λ s p. after_key (standing K.order (K.key_at s.keys.now p) (Some s.key.now)) };
+    ghost go = { λ s p. after_key (standing Q.order (K.key_at s.keys.now p) (Some s.query)) };
 
     fn side<M: Meter>(&self, place: usize, meter: &mut M) -> Ordering {
-        match self.keys.compare(place, self.key, meter) {
+        match self.query.compare(self.keys, place, meter) {
             Ordering::Equal => Ordering::Less,
             other => other,
         }
