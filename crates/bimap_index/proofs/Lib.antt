@@ -3,3 +3,5 @@ pub mod Ascending
 pub mod Compaction
 pub mod Grown
 pub mod Hashing
+pub mod Insertion
+pub mod Ranked

@@ -4,3 +4,5 @@ pub mod ByHash
 pub mod SameLists
 pub mod OrderLaws
 pub mod HashLaws
+pub mod ByInsertion
+pub mod InsertionLaws

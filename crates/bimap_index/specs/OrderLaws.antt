@@ -22,7 +22,7 @@ use Rattle.bimap_index.specs.ByOrder.{ListsByOrder}
 use Rattle.bimap_index.specs.SameLists.{same_ascending}
 
 -- whether a list of numbers has one can be found out
-contains_from : (xs : List ℕ) (x : ℕ) → ∥ Contains xs x ∥₁ → Contains xs x
+pub contains_from : (xs : List ℕ) (x : ℕ) → ∥ Contains xs x ∥₁ → Contains xs x
 contains_from [] x c = absurd (∥∥₁_elim c (λ a b. absurd a) (none_in x))
 contains_from (y ∷ ys) x c =
     elim (cases_eq y x) [

@@ -48,27 +48,27 @@ pub trait CompactedIndex<K: Eq>: Index<K> {
     /// It is what the index adopts of a store compacted to so many places.
     ghost is_compacted: { Self → ℕ → Self.Compacted → Type 0 };
 
-    /// What the index is to adopt of a store compacted to `to` places, in time in proportion to the cells. It looks at no key.
-    /// A refusal makes nothing.
+    /// What the index is to adopt of a store compacted to `to` places. It looks at no key, and takes time in proportion to
+    /// the cells, but for a list that has an order of its own. A refusal makes nothing.
     fn compacted(&self, alloc: Global, to: usize) -> Result<Self::Compacted, NoMemory>
+        requires listing { (f : ℕ → Option K) × Self.is_listing self.now f }
         requires room { length (Self.places self.now) ≤ to }
         ensures { IfOk result (λ compacted. is_compacted self.now to compacted) };
 
-    /// Lists the places of the compacted side, in place of what it lists. It takes no memory.
+    /// Lists the places of the compacted side, in place of what it lists, and a walk goes over the keys in the order in which
+    /// it did. It takes no memory.
     fn adopt<S: Side<K>, M: Meter>(&mut self, compacted: Self::Compacted, side: S, meter: &mut M)
         requires from { (to : ℕ) × (f : ℕ → Option K) × is_compacted self.old to compacted
             × Self.is_listing self.old f × IsCompactedSide f (S.key_at side) to }
         ensures listing { Self.is_listing self.new (S.key_at side) }
+        ensures walk { (to : ℕ) (keys moved : List (Option K)) → is_compacted self.old to compacted →
+            Self.is_listing self.old (pair_at keys) → Self.is_listing self.new (pair_at moved) →
+            pairs_in moved ≡ pairs_in keys →
+            pairs_at moved (Self.places self.new) ≡ pairs_at keys (Self.places self.old) }
         ensures cells { (to : ℕ) → is_compacted self.old to compacted → Self.cells self.new ≡ to }
         ensures comparisons { M.comparisons meter.new ≤ M.comparisons meter.old
             + length (Self.places self.old) * Self.effort (length (Self.places self.old)) }
         ensures touches { M.touches meter.new ≤ M.touches meter.old
             + length (Self.places self.old)
             * (64 * (Self.effort (length (Self.places self.old)) + 1)) };
-
-    /// The keys and the order of their places decide the order of a walk.
-    ghost walks_alike: { (index other : Self) (keys moved : List (Option K)) →
-        Self.is_listing index (pair_at keys) → Self.is_listing other (pair_at moved) →
-        pairs_in moved ≡ pairs_in keys → pairs_at moved (Self.places other) ≡ pairs_at keys
-        (Self.places index) };
 }

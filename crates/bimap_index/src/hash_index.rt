@@ -7,7 +7,7 @@ ghost use Rattle.bimap_base.specs.Numbered.{number_by};
 ghost use Rattle.bimap_base.specs.Places.{pairs_in, compacted};
 ghost use Rattle.bimap_index.specs.ByHash.{ListsByHash, places_from};
 ghost use Rattle.bimap_index.specs.Listed.{IsFoundBy, IsWithout};
-ghost use Rattle.bimap_index.specs.HashLaws.{hash_listed, hash_distinct, hash_in_order, hash_respects, hash_settled, hash_walks_alike};
+ghost use Rattle.bimap_index.specs.HashLaws.{hash_listed, hash_distinct, hash_in_order, hash_respects, hash_settled};
 
 use crate::constructors::{CompactedIndex, CopiedIndex, DefaultIndex, EmptyIndex};
 use crate::index::Index;
@@ -102,6 +102,8 @@ impl<K: Eq + Hash, B: BuildHasher> Index<K> for HashIndex<B> {
     ghost places = { λ h. places_from 0 h.hashed };
 
     ghost walk_order = { λ h k l. Less };
+
+    ghost appends = { ⊥ };
 
     ghost cells = { λ h. length h.hashed };
 
@@ -230,9 +232,4 @@ impl<K: Eq + Hash, B: BuildHasher> CompactedIndex<K> for HashIndex<B> {
     fn adopt<S: Side<K>, M: Meter>(&mut self, compacted: Hashed, _side: S, _meter: &mut M) {
         self.hashed = compacted;
     }
-
-    ghost walks_alike = { λ h other. hash_walks_alike K.eq
-        (number_by B.Hasher.finish B.Hasher.write B.build_hasher K.hash_input h.builder)
-        (number_by B.Hasher.finish B.Hasher.write B.build_hasher K.hash_input other.builder)
-        h.hashed other.hashed };
 }

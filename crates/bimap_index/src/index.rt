@@ -1,9 +1,10 @@
 //! What a bimap asks of an index of one side. It knows neither order nor hash.
-ghost use Rattle.std.specs.Prelude.{◌≡◌, ◌≢◌, ◌↔◌, List, length, ◌+◌, ◌*◌, ◌≤◌, ◌<◌, ℕ, Option, None, Some, true, IsOk, IsSome, IfSome, IfNone, OnOk, OnErr};
+ghost use Rattle.std.specs.Prelude.{◌≡◌, ◌≢◌, ◌↔◌, List, [], ◌∷◌, ◌++◌, length, ◌+◌, ◌*◌, ◌≤◌, ◌<◌, ℕ, Option, None, Some, true, IsOk, IsSome, IfSome, IfNone, OnOk, OnErr};
 ghost use Rattle.std.specs.List.{AllPairs, Contains};
 ghost use Rattle.std.specs.declared.cmp.Ordering.{Ordering};
 ghost use Rattle.std.specs.declared.cmp.Ordering.TheVariants.{Less};
 ghost use Rattle.bimap_index.specs.Listed.{IsFoundBy, IsWithout, IsAlike, MayLink};
+ghost use Rattle.bimap_base.specs.Turns.{IsTakenOut};
 
 use bimap_base::{Meter, NoMemory, Side};
 
@@ -39,6 +40,9 @@ pub trait Index<K: Eq> {
 
     /// By this the keys of a walk ascend: each is `Less` than a later one. Where a walk has no order, any two are.
     ghost walk_order: { Self → K → K → Ordering };
+
+    /// A walk goes by the order in which the places were linked.
+    ghost appends: { Type 0 };
 
     /// How many places may be listed.
     ghost cells: { Self → ℕ };
@@ -130,6 +134,7 @@ pub trait Index<K: Eq> {
             × leads self.old m.f key spot.now }
         requires cell { place < cells self.old }
         ensures listing { is_listing self.new (S.key_at side) }
+        ensures last { appends → places self.new ≡ places self.old ++ place ∷ [] }
         ensures cells { cells self.new ≡ cells self.old }
         ensures comparisons { M.comparisons meter.new ≡ M.comparisons meter.old }
         ensures touches { M.touches meter.new ≤ M.touches meter.old
@@ -147,6 +152,7 @@ pub trait Index<K: Eq> {
             × is_for self.old key spot.now }
         requires cell { place < cells self.old }
         ensures listing { is_listing self.new (S.key_at side) }
+        ensures last { appends → places self.new ≡ places self.old ++ place ∷ [] }
         ensures cells { cells self.new ≡ cells self.old }
         ensures comparisons { M.comparisons meter.new ≤ M.comparisons meter.old
             + effort (length (places self.old)) }
@@ -159,6 +165,7 @@ pub trait Index<K: Eq> {
         requires live { IsSome (S.key_at side place) }
         ensures listing { (f : ℕ → Option K) → IsWithout f (S.key_at side) place →
             is_listing self.new f }
+        ensures others { appends → IsTakenOut (places self.old) place (places self.new) }
         ensures is_for { (key : K) (spot : Self.Spot) → is_for self.old key spot →
             is_for self.new key spot }
         ensures cells { cells self.new ≡ cells self.old }
@@ -174,6 +181,8 @@ pub trait Index<K: Eq> {
         ensures found { IsFoundBy (S.key_at side) K.eq key.now result }
         ensures listing { IfSome result (λ place. (f : ℕ → Option K) →
             IsWithout f (S.key_at side) place → is_listing self.new f) }
+        ensures others { appends → IfSome result (λ place. IsTakenOut (places self.old) place
+            (places self.new)) }
         ensures unchanged { IfNone result (self.new ≡ self.old) }
         ensures cells { cells self.new ≡ cells self.old }
         ensures comparisons { M.comparisons meter.new ≤ M.comparisons meter.old

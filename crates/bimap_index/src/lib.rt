@@ -8,10 +8,12 @@ mod borrowed;
 mod constructors;
 mod hash_index;
 mod index;
+mod insertion_order;
 mod lookup;
 mod ordered;
 
 pub use constructors::{CompactedIndex, CopiedIndex, DefaultIndex, EmptyIndex};
 pub use hash_index::HashIndex;
 pub use index::Index;
+pub use insertion_order::InsertionOrder;
 pub use lookup::Lookup;

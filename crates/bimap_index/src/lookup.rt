@@ -1,6 +1,7 @@
 //! Look-ups by a query, in an index of any kind.
 ghost use Rattle.std.specs.Prelude.{◌≡◌, ◌+◌, ◌*◌, ◌≤◌, ℕ, Option, length, IfSome, IfNone};
 ghost use Rattle.bimap_index.specs.Listed.{IsFoundBy, IsWithout};
+ghost use Rattle.bimap_base.specs.Turns.{IsTakenOut};
 
 use crate::index::Index;
 use bimap_base::{Meter, Query, Side};
@@ -22,6 +23,8 @@ pub trait Lookup<K: Eq, Q: Query<K>>: Index<K> {
         ensures found { IsFoundBy (S.key_at side) Q.same query result }
         ensures listing { IfSome result (λ place. (f : ℕ → Option K) →
             IsWithout f (S.key_at side) place → Self.is_listing self.new f) }
+        ensures others { Self.appends → IfSome result (λ place. IsTakenOut (Self.places self.old) place
+            (Self.places self.new)) }
         ensures unchanged { IfNone result (self.new ≡ self.old) }
         ensures cells { Self.cells self.new ≡ Self.cells self.old }
         ensures comparisons { M.comparisons meter.new ≤ M.comparisons meter.old

@@ -6,7 +6,7 @@ ghost use Rattle.bimap_tree.specs.Descent.{IsUnderWay, levels_left};
 ghost use Rattle.bimap_tree.specs.Route.{IsRoute};
 ghost use Rattle.bimap_index.specs.ByOrder.{ListsByOrder};
 ghost use Rattle.bimap_index.specs.Listed.{IsFoundBy, IsWithout};
-ghost use Rattle.bimap_index.specs.OrderLaws.{order_listed, order_distinct, order_in_order, order_respects, order_settled, order_walks_alike};
+ghost use Rattle.bimap_index.specs.OrderLaws.{order_listed, order_distinct, order_in_order, order_respects, order_settled};
 
 use crate::constructors::{CompactedIndex, CopiedIndex, DefaultIndex, EmptyIndex};
 use crate::index::Index;
@@ -72,6 +72,8 @@ impl<K: Ord> Index<K> for Ordered {
     ghost places = { λ o. o.places };
 
     ghost walk_order = { λ o. K.cmp };
+
+    ghost appends = { ⊥ };
 
     ghost cells = { λ o. length o.nodes };
 
@@ -212,7 +214,4 @@ impl<K: Ord> CompactedIndex<K> for Ordered {
             self.insert(&keys, place, meter);
         }
     }
-
-    ghost walks_alike = { λ o other. order_walks_alike K.cmp K.eq K.total K.matches_eq o.places
-        other.places };
 }

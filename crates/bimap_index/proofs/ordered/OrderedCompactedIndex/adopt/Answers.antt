@@ -1,5 +1,6 @@
 use Rattle.std.proofs.Common.{length, arith, refl, subst, ◌∙◌, ◌≡◌, ◌+◌, ◌*◌}
 use Rattle.bimap_base.specs.Digits.{most_height}
+use Rattle.bimap_index.specs.OrderLaws.{order_walks_alike}
 use Rattle.bimap_index.proofs.Ascending.{effort_least}
 use Rattle.bimap_index.proofs.Adopting.{IsListedUpTo, none_yet, one_more, costs, compacted_live, compacted_unequal, all_listed}
 use Rattle.bimap_index.proofs.ordered.OrderedCompactedIndex.adopt.Goals as goal
@@ -60,3 +61,6 @@ returns-clause-touches g c =
     let whole : c.loop-place.place ≡ length c.args.self.now.places = omega (arith, c.loop-place-test.false, c.loop-place.invariant.within, c.len-len.ensures.len) in
     let h = rw whole at c.loop-place.invariant.touched in
     omega (arith, h)
+
+pub returns-clause-walk : goal.returns-clause-walk
+returns-clause-walk g c to keys moved is listing listing' same = order_walks_alike g.K.Ord.cmp g.K.PartialEq.eq g.met.K.Ord.total g.met.K.Ord.matches_eq c.args.self.now.places c.loop-place.self.places keys moved listing listing' same
