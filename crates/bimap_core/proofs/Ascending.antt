@@ -82,7 +82,7 @@ module _ {P : Type 0} (slots : List (Option P)) (places : List ℕ) (live : (pla
           let here = ap (pair_at slots) at_rank ∙ has in
           cc
 
-      inside : rank < length (pairs_at slots places)
+      pub inside : rank < length (pairs_at slots places)
       inside = omega (arith, within, long_at slots places live)
 
       pub some_at_rank : slice_get (pairs_at slots places) rank ≡ Some p

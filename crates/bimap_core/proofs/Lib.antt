@@ -18,3 +18,4 @@ pub mod Ascending
 pub mod InTurn
 pub mod Below
 pub mod Writing
+pub mod Turns

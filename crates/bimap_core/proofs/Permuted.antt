@@ -72,7 +72,7 @@ module _ {X : Type 0} where
       back p (inr c) away = c
 
 -- pairs of which no two share a value are each there once
-distinct : {L R : Type 0} (same_left : L → L → Bool) (same_right : R → R → Bool) → IsEquivalence same_left → (pairs : List (L × R)) → IsApart same_left same_right pairs → AllPairs (λ p q. p ≢ q) pairs
+pub distinct : {L R : Type 0} (same_left : L → L → Bool) (same_right : R → R → Bool) → IsEquivalence same_left → (pairs : List (L × R)) → IsApart same_left same_right pairs → AllPairs (λ p q. p ≢ q) pairs
 distinct same_left same_right equal pairs all i j d before inside e =
     let p = get_or pairs i d in
     true≢false (sym (left_of_two (same_left p.0 p.0) (same_right p.1 p.1) (equal.refl p.0)) ∙ ap (shares same_left same_right p) e ∙ all i j d before inside)

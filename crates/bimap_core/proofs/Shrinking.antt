@@ -52,15 +52,15 @@ module _ {P K : Type 0} (key : P → K) where
       let tail : map key ps ≡ map key qs = cc in
       ap (λ z. z ∷ ps) (told p q (head_in p ps) (head_in q qs) head) ∙ ap (λ z. q ∷ z) (same_by_key ps qs (λ a b c d. told a b (more_in p ps a c) (more_in q qs b d)) tail)
 
--- where the walk of an index goes by the keys and the order of their places, pairs in the same order of places are walked
--- in the same order
+-- where the keys of a store whose pairs moved are walked in the order in which they were, so are the pairs
 pub walk_kept : {L R X : Type 0} {same_left : L → L → Bool} {same_right : R → R → Bool} → IsEquivalence same_left → IsEquivalence same_right → (IsListing : X → (ℕ → Option L) → Type 0) (places : X → List ℕ)
-    → ((index other : X) (keys moved : List (Option L)) → IsListing index (pair_at keys) → IsListing other (pair_at moved) → pairs_in moved ≡ pairs_in keys → pairs_at moved (places other) ≡ pairs_at keys (places index))
-    → (slots slots' : List (Option (L × R))) (index index' : X) → IsListing index (left_at slots) → IsListing index' (left_at slots') → IsWalk slots (places index) → IsWalk slots' (places index')
+    → (slots slots' : List (Option (L × R))) (index index' : X)
+    → ((keys moved : List (Option L)) → IsListing index (pair_at keys) → IsListing index' (pair_at moved) → pairs_in moved ≡ pairs_in keys → pairs_at moved (places index') ≡ pairs_at keys (places index))
+    → IsListing index (left_at slots) → IsListing index' (left_at slots') → IsWalk slots (places index) → IsWalk slots' (places index')
     → IsApart same_left same_right (pairs_in slots) → pairs_in slots' ≡ pairs_in slots → pairs_at slots' (places index') ≡ pairs_at slots (places index)
-walk_kept {L} {R} {X} {same_left} {same_right} equal_left equal_right IsListing places alike slots slots' index index' listing listing' walk walk' apart same =
+walk_kept {L} {R} {X} {same_left} {same_right} equal_left equal_right IsListing places slots slots' index index' alike listing listing' walk walk' apart same =
     same_by_key (λ p. p.0) (pairs_at slots' (places index')) (pairs_at slots (places index)) told
-    (sym (keys_walked (λ p. p.0) slots' (places index')) ∙ alike index index' (map (option_map (λ p. p.0)) slots) (map (option_map (λ p. p.0)) slots')
+    (sym (keys_walked (λ p. p.0) slots' (places index')) ∙ alike (map (option_map (λ p. p.0)) slots) (map (option_map (λ p. p.0)) slots')
     (subst (IsListing index) (λ i place. keys_at (λ p. p.0) slots place i) listing)
     (subst (IsListing index') (λ i place. keys_at (λ p. p.0) slots' place i) listing')
     (keys_in (λ p. p.0) slots' ∙ ap (map (λ p. p.0)) same ∙ sym (keys_in (λ p. p.0) slots))

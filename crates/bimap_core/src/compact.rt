@@ -1,6 +1,7 @@
 //! Exact shrinks. They know places, and what the indexes are to list of them.
 ghost use Rattle.std.specs.Prelude.{◌≡◌, ◌+◌, ◌*◌, ◌≤◌, length, OnOk, OnErr};
 ghost use Rattle.bimap_base.specs.Capacity.{IsShrink};
+ghost use Rattle.bimap_base.specs.PairsAt.{pairs_at};
 ghost use Rattle.bimap_base.specs.Places.{pairs_in};
 ghost use Rattle.bimap_base.specs.Slots.{pair_count};
 
@@ -19,6 +20,8 @@ impl<L: Eq, R: Eq, I: CompactedIndex<L>, J: CompactedIndex<R>> Table<L, R, I, J>
         R: Drop,
         ensures answer { IsShrink (holding_of self.old.pairs) least result
             (holding_of self.new.pairs) }
+        ensures walk { pairs_at self.new.pairs (I.places self.new.left)
+            ≡ pairs_at self.old.pairs (I.places self.old.left) }
         ensures comparisons { let lefts = length (I.places self.old.left) in
             let rights = length (J.places self.old.right) in
             M.comparisons meter.new ≤ M.comparisons meter.old + lefts * I.effort lefts
@@ -46,6 +49,8 @@ impl<L: Eq, R: Eq, I: CompactedIndex<L>, J: CompactedIndex<R>> Table<L, R, I, J>
         ensures ok { OnOk result (length self.new.pairs ≡ to) }
         ensures pairs { pairs_in self.new.pairs ≡ pairs_in self.old.pairs }
         ensures err { OnErr result (self.new.pairs ≡ self.old.pairs) }
+        ensures walk { pairs_at self.new.pairs (I.places self.new.left)
+            ≡ pairs_at self.old.pairs (I.places self.old.left) }
         ensures comparisons { let lefts = length (I.places self.old.left) in
             let rights = length (J.places self.old.right) in
             M.comparisons meter.new ≤ M.comparisons meter.old + lefts * I.effort lefts

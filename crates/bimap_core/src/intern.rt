@@ -1,9 +1,10 @@
 //! The partner of a left, which is put in where there is none. Each key is searched once, and nothing changes before the
 //! answer is decided.
-ghost use Rattle.std.specs.Prelude.{◌≡◌, ◌+◌, ◌*◌, ◌≤◌, OnErr, Contains, length};
+ghost use Rattle.std.specs.Prelude.{◌≡◌, ◌+◌, ◌*◌, ◌≤◌, ◌++◌, ◌∷◌, [], OnOk, OnErr, Contains, length};
 ghost use Rattle.bimap_base.specs.Holding.{IsInterning};
+ghost use Rattle.bimap_base.specs.PairsAt.{pairs_at};
 ghost use Rattle.bimap_base.specs.Places.{pairs_in};
-ghost use Rattle.bimap_base.specs.Sets.{HasLeft};
+ghost use Rattle.bimap_base.specs.Sets.{HasLeft, LacksLeft};
 
 use crate::table::Table;
 use bimap_base::{Meter, NotInserted};
@@ -24,6 +25,9 @@ impl<L: Eq + Drop, R: Copy + Eq + Drop, I: Index<L>, J: Index<R>> Table<L, R, I,
     ) -> Result<R, NotInserted<L, R>>
         ensures answer { IsInterning L.eq R.eq (holding_of self.old.pairs) (left, right) result
             (holding_of self.new.pairs) }
+        ensures turn { I.appends → LacksLeft L.eq (Contains (pairs_in self.old.pairs)) left →
+            OnOk result (pairs_at self.new.pairs (I.places self.new.left)
+            ≡ pairs_at self.old.pairs (I.places self.old.left) ++ (left, right) ∷ []) }
         ensures held_slots { HasLeft L.eq (Contains (pairs_in self.old.pairs)) left →
             self.new.pairs ≡ self.old.pairs }
         ensures held_places { HasLeft L.eq (Contains (pairs_in self.old.pairs)) left →

@@ -19,5 +19,6 @@ mod undo;
 mod write;
 
 pub use outlet::{Dropped, Outlet};
+pub use partition_in_turn::PartedIndex;
 pub use ranks::pair_at_rank;
 pub use table::Table;

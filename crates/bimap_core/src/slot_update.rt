@@ -1,6 +1,7 @@
 //! One index beside a place whose pair is written over. It is changed only where the key is new.
-ghost use Rattle.std.specs.Prelude.{◌≡◌, ◌<◌, ◌≤◌, ◌+◌, ◌*◌, ℕ, Option, IsSome, IsSomeAnd, MatchBool, MatchOption, is_some, true, length, if◌then◌else◌};
+ghost use Rattle.std.specs.Prelude.{◌≡◌, ◌<◌, ◌≤◌, ◌+◌, ◌*◌, ◌++◌, ◌∷◌, [], ℕ, Option, IsSome, IsSomeAnd, MatchBool, MatchOption, is_some, true, length, if◌then◌else◌};
 ghost use Rattle.bimap_index.specs.Listed.{IsWithout, MayLink};
+ghost use Rattle.bimap_base.specs.Turns.{IsTakenOut};
 
 use bimap_base::{Meter, Side};
 use bimap_index::Index;
@@ -43,6 +44,9 @@ pub(crate) fn unlist<K: Eq, I: Index<K>, S: Side<K>, M: Meter>(
         I.is_listing index.new f) (I.is_listing index.new (S.key_at side)) }
     ensures is_for { (key : K) (spot : I.Spot) → I.is_for index.old key spot →
         I.is_for index.new key spot }
+    ensures places { MatchBool is_new
+        (I.appends → IsTakenOut (I.places index.old) place (I.places index.new))
+        (I.places index.new ≡ I.places index.old) }
     ensures cells { I.cells index.new ≡ I.cells index.old }
     ensures effort { I.effort (length (I.places index.new))
         ≤ I.effort (length (I.places index.old)) }
@@ -69,6 +73,8 @@ pub(crate) fn relist<K: Eq, I: Index<K>, S: Side<K>, M: Meter>(
         × I.is_for index.old key s.now) }
     requires cell { place < I.cells index.old }
     ensures listing { I.is_listing index.new (S.key_at side) }
+    ensures places { MatchOption spot.entry (I.places index.new ≡ I.places index.old)
+        (λ _. I.appends → I.places index.new ≡ I.places index.old ++ place ∷ []) }
     ensures cells { I.cells index.new ≡ I.cells index.old }
     ensures comparisons { M.comparisons meter.new ≤ M.comparisons meter.old
         + (if is_some spot.entry then I.effort (length (I.places index.old)) else 0) }

@@ -1,7 +1,8 @@
 //! Writes at one place: the store and what changes of the indexes, together. It decides nothing.
-ghost use Rattle.std.specs.Prelude.{◌≡◌, ◌<◌, ◌≤◌, ◌+◌, ◌*◌, ℕ, true, length, Some, None, IsSomeAnd, MatchOption, is_some, OnOk, OnErr, max, slice_set, if◌then◌else◌};
+ghost use Rattle.std.specs.Prelude.{◌≡◌, ◌<◌, ◌≤◌, ◌+◌, ◌*◌, ◌++◌, ◌∷◌, [], ℕ, true, length, Some, None, IsSomeAnd, MatchOption, is_some, OnOk, OnErr, max, slice_set, if◌then◌else◌};
 ghost use Rattle.bimap_base.specs.Holding.{IsRoomAfter};
 ghost use Rattle.bimap_base.specs.Slots.{pair_at, left_at, right_at, IsLive, pair_count};
+ghost use Rattle.bimap_base.specs.Turns.{ComesLast, IsTakenOut};
 
 use crate::slot_update::{relist, unlist};
 use crate::table::Table;
@@ -31,6 +32,10 @@ impl<L: Eq, R: Eq, I: Index<L>, J: Index<R>> Table<L, R, I, J> {
         requires alone { IsAloneAt L.eq R.eq self.old.pairs place (left, right) }
         ensures was { pair_at self.old.pairs place ≡ Some result }
         ensures pairs { self.new.pairs ≡ slice_set self.old.pairs place (Some (left, right)) }
+        ensures left_places { MatchOption spots.entry.0
+            (I.places self.new.left ≡ I.places self.old.left)
+            (λ _. I.appends → ComesLast (I.places self.old.left) place place
+            (I.places self.new.left)) }
         ensures comparisons { M.comparisons meter.new ≤ M.comparisons meter.old
             + 2 * (if is_some spots.entry.0
             then I.effort (length (I.places self.old.left)) else 0)
@@ -59,6 +64,8 @@ impl<L: Eq, R: Eq, I: Index<L>, J: Index<R>> Table<L, R, I, J> {
         requires live { IsLive self.old.pairs place }
         ensures was { pair_at self.old.pairs place ≡ Some result }
         ensures pairs { self.new.pairs ≡ slice_set self.old.pairs place None }
+        ensures left_places { I.appends → IsTakenOut (I.places self.old.left) place
+            (I.places self.new.left) }
         ensures right_spots { (key : R) (spot : J.Spot) → J.is_for self.old.right key spot →
             J.is_for self.new.right key spot }
         ensures right_effort { J.effort (length (J.places self.new.right))
@@ -92,6 +99,8 @@ impl<L: Eq, R: Eq, I: Index<L>, J: Index<R>> Table<L, R, I, J> {
         ensures there { result < length self.old.pairs }
         ensures was_free { pair_at self.old.pairs result ≡ None }
         ensures pairs { self.new.pairs ≡ slice_set self.old.pairs result (Some (left, right)) }
+        ensures left_places { I.appends → I.places self.new.left
+            ≡ I.places self.old.left ++ result ∷ [] }
         ensures comparisons { M.comparisons meter.new ≡ M.comparisons meter.old }
         ensures touches { M.touches meter.new ≤ M.touches meter.old
             + 64 * (I.effort (length (I.places self.old.left)) + 1)

@@ -3,13 +3,15 @@ use Rattle.std.proofs.lemmas.Grind.{merely}
 use Rattle.bimap_base.specs.Sets.{IsApart}
 use Rattle.bimap_base.specs.Slots.{left_at, right_at}
 use Rattle.bimap_base.specs.Places.{pairs_in, compacted}
+use Rattle.bimap_base.proofs.Walk.{walk_of}
 use Rattle.bimap_index.proofs.Compaction.{compacted_side}
 use Rattle.bimap_core.proofs.Places.{fits_in}
-use Rattle.bimap_core.proofs.Shrinking.{pairs_compacted, long_compacted, places_fit}
+use Rattle.bimap_core.proofs.Shrinking.{pairs_compacted, long_compacted, places_fit, walk_kept}
 use Rattle.bimap_core.proofs.table.Table.compact.Goals as goal
 
 pub compacted-requires : goal.compacted-requires
 compacted-requires g c = record {
+  listing = (left_at c.args.self.now.pairs, g.met.I.Index.settled c.args.self.now.left (left_at c.args.self.now.pairs) c.args.self.now.left_listing);
   room =
       let map = c.args.self.now in
       let listing = g.met.I.Index.settled map.left (left_at map.pairs) map.left_listing in
@@ -18,6 +20,7 @@ compacted-requires g c = record {
 
 pub compacted-requires-2 : goal.compacted-requires-2
 compacted-requires-2 g c = record {
+  listing = (right_at c.args.self.now.pairs, g.met.J.Index.settled c.args.self.now.right (right_at c.args.self.now.pairs) c.args.self.now.right_listing);
   room =
       let map = c.args.self.now in
       let listing = g.met.J.Index.settled map.right (right_at map.pairs) map.right_listing in
@@ -59,3 +62,17 @@ invariant_of-self-2 g c =
 
 pub returns-clause-pairs : goal.returns-clause-pairs
 returns-clause-pairs g c = rw c.in_ok-compact.ensures.ok (pairs_compacted (pairs_in c.args.self.now.pairs) c.args.to)
+
+pub returns-clause-walk : goal.returns-clause-walk
+returns-clause-walk g c =
+    let map = c.args.self.now in
+    let slots = map.pairs in
+    let slots' = compacted (pairs_in slots) c.args.to in
+    let index' = c.adopt.new.self in
+    let listing = g.met.I.Index.settled map.left (left_at slots) map.left_listing in
+    let listing' = rw (c.new.ensures, c.in_ok-compact.ensures.ok) at c.adopt.ensures.listing in
+    rw c.in_ok-compact.ensures.ok
+    (walk_kept g.met.L.Eq.laws g.met.R.Eq.laws g.I.Index.is_listing g.I.Index.places slots slots' map.left index' (λ keys moved. c.adopt.ensures.walk c.args.to keys moved c.in_ok-left.ensures) listing listing'
+    (walk_of (λ p. p.0) slots (g.I.Index.places map.left) (g.met.I.Index.listed map.left (left_at slots) listing) (g.met.I.Index.distinct map.left (left_at slots) listing))
+    (walk_of (λ p. p.0) slots' (g.I.Index.places index') (g.met.I.Index.listed index' (left_at slots') listing') (g.met.I.Index.distinct index' (left_at slots') listing'))
+    map.apart (pairs_compacted (pairs_in slots) c.args.to))

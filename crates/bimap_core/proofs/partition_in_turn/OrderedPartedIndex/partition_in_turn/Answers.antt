@@ -4,22 +4,22 @@ use Rattle.bimap_base.proofs.Walk.{count_walked}
 use Rattle.bimap_core.proofs.Ascending.{order_walk, count_listed, rank_live, pair_at_rank, walked_without}
 use Rattle.bimap_core.proofs.InTurn.{start, may, room_for, passed, taken_out, ended}
 use Rattle.bimap_core.proofs.Retaining.{tested_at}
-use Rattle.bimap_core.proofs.partition_in_turn.Table+L+R+Ordered+J.partition_in_turn.Goals as goal
+use Rattle.bimap_core.proofs.partition_in_turn.OrderedPartedIndex.partition_in_turn.Goals as goal
 
 pub loop-rank-init : goal.loop-rank-init
 loop-rank-init g c = record { so_far = start g.F.FnMut g.S.Outlet.has_room g.S.Outlet.receives c.args.goes c.args.f c.args.outlet.now _ c.requires.fits; room = refl; batch = c.new-batch.ensures }
 
 pub place-place-requires-clause-listed : goal.place-place-requires-clause-listed
 place-place-requires-clause-listed g c =
-    let t = c.loop-rank.self in
-    let walk = order_walk (λ p. p.0) g.met.L.Ord.total g.met.L.Ord.matches_eq t.pairs t.left.places t.left_listing in
+    let t = c.loop-rank.table in
+    let walk = order_walk (λ p. p.0) g.met.K.Ord.total g.met.K.Ord.matches_eq t.pairs t.left.places t.left_listing in
     omega (arith, c.loop-rank-test.true, c.len.ensures.value, count_listed t.pairs t.left.places walk)
 
 pub goes_at-requires : goal.goes_at-requires
 goes_at-requires g c = record {
   may = λ p has.
-      let t = c.loop-rank.self in
-      let walk = order_walk (λ p. p.0) g.met.L.Ord.total g.met.L.Ord.matches_eq t.pairs t.left.places t.left_listing in
+      let t = c.loop-rank.table in
+      let walk = order_walk (λ p. p.0) g.met.K.Ord.total g.met.K.Ord.matches_eq t.pairs t.left.places t.left_listing in
       let count = count_walked t.pairs t.left.places walk in
       may g.F.FnMut g.S.Outlet.has_room g.S.Outlet.receives c.args.goes c.args.f c.loop-rank.f c.args.outlet.now c.loop-rank.outlet _ _ c.loop-rank.rank c.loop-rank.invariant.so_far p
       (pair_at_rank t.pairs t.left.places (λ q. (walk.live q).0) c.loop-rank.rank c.place-place.result c.place-place.ensures.place p has)
@@ -29,8 +29,8 @@ goes_at-requires g c = record {
 pub receive-requires : goal.receive-requires
 receive-requires g c = record {
   room =
-      let t = c.loop-rank.self in
-      let walk = order_walk (λ p. p.0) g.met.L.Ord.total g.met.L.Ord.matches_eq t.pairs t.left.places t.left_listing in
+      let t = c.loop-rank.table in
+      let walk = order_walk (λ p. p.0) g.met.K.Ord.total g.met.K.Ord.matches_eq t.pairs t.left.places t.left_listing in
       let count = count_walked t.pairs t.left.places walk in
       room_for g.F.FnMut g.S.Outlet.has_room g.S.Outlet.receives c.args.goes c.args.f c.loop-rank.f c.args.outlet.now c.loop-rank.outlet _ _ c.loop-rank.rank c.loop-rank.invariant.so_far c.take.result
       (pair_at_rank t.pairs t.left.places (λ q. (walk.live q).0) c.loop-rank.rank c.place-place.result c.place-place.ensures.place c.take.result c.take.ensures.was)
@@ -39,9 +39,9 @@ receive-requires g c = record {
 
 pub loop-rank-preserved-then-goes_at : goal.loop-rank-preserved-then-goes_at
 loop-rank-preserved-then-goes_at g c =
-    let t = c.loop-rank.self in
+    let t = c.loop-rank.table in
     let n = c.take.new.self in
-    let walk = order_walk (λ p. p.0) g.met.L.Ord.total g.met.L.Ord.matches_eq t.pairs t.left.places t.left_listing in
+    let walk = order_walk (λ p. p.0) g.met.K.Ord.total g.met.K.Ord.matches_eq t.pairs t.left.places t.left_listing in
     let count = count_walked t.pairs t.left.places walk in
     let place = c.place-place.result in
     let p = c.take.result in
@@ -50,7 +50,7 @@ loop-rank-preserved-then-goes_at g c =
       so_far = taken_out g.F.FnMut g.S.Outlet.has_room g.S.Outlet.receives c.args.goes c.args.f c.loop-rank.f c.args.outlet.now c.loop-rank.outlet _ _ c.loop-rank.rank c.loop-rank.invariant.so_far p
           (pair_at_rank t.pairs t.left.places (λ q. (walk.live q).0) c.loop-rank.rank place c.place-place.ensures.place p has)
           (omega arith) c.goes_at.new.f (tested_at g.F.FnMut _ p c.loop-rank.f _ c.goes_at.new.f has c.if-goes_at.ensures.tested) _
-          (walked_without g.met.L.Eq.laws g.met.R.Eq.laws (λ p. p.0) g.met.L.Ord.total g.met.L.Ord.matches_eq t.pairs n.pairs t.left.places n.left.places t.left_listing n.left_listing t.apart place p has c.take.ensures.pairs)
+          (walked_without g.met.K.Eq.laws g.met.R.Eq.laws (λ p. p.0) g.met.K.Ord.total g.met.K.Ord.matches_eq t.pairs n.pairs t.left.places n.left.places t.left_listing n.left_listing t.apart place p has c.take.ensures.pairs)
           c.receive.new.self c.receive.ensures.received c.receive.ensures.rest;
       room = ap length c.take.ensures.pairs ∙ length-set t.pairs place None ∙ c.loop-rank.invariant.room;
       batch = c.new-batch-then-goes_at.ensures;
@@ -58,8 +58,8 @@ loop-rank-preserved-then-goes_at g c =
 
 pub loop-rank-preserved : goal.loop-rank-preserved
 loop-rank-preserved g c =
-    let t = c.loop-rank.self in
-    let walk = order_walk (λ p. p.0) g.met.L.Ord.total g.met.L.Ord.matches_eq t.pairs t.left.places t.left_listing in
+    let t = c.loop-rank.table in
+    let walk = order_walk (λ p. p.0) g.met.K.Ord.total g.met.K.Ord.matches_eq t.pairs t.left.places t.left_listing in
     let count = count_walked t.pairs t.left.places walk in
     let place = c.place-place.result in
     let here = rank_live t.pairs t.left.places (λ q. (walk.live q).0) c.loop-rank.rank place c.place-place.ensures.place in
@@ -73,6 +73,6 @@ loop-rank-preserved g c =
 
 pub returns-clause-parted : goal.returns-clause-parted
 returns-clause-parted g c =
-    let t = c.loop-rank.self in
-    let walk = order_walk (λ p. p.0) g.met.L.Ord.total g.met.L.Ord.matches_eq t.pairs t.left.places t.left_listing in
+    let t = c.loop-rank.table in
+    let walk = order_walk (λ p. p.0) g.met.K.Ord.total g.met.K.Ord.matches_eq t.pairs t.left.places t.left_listing in
     ended g.F.FnMut g.S.Outlet.has_room g.S.Outlet.receives c.args.goes c.args.f c.loop-rank.f c.args.outlet.now c.loop-rank.outlet _ _ c.loop-rank.rank c.loop-rank.invariant.so_far (omega (arith, c.loop-rank-test.false, c.len.ensures.value, count_walked t.pairs t.left.places walk))
