@@ -1,18 +1,18 @@
 //! Iterators and ranges in the order of an index.
 ghost use Rattle.std.specs.Prelude.{◌≡◌, ◌≤◌, ◌+◌, ◌*◌, ℕ, length, option_map};
-ghost use Rattle.std.specs.BTreeMap.Range.{range_contains};
 ghost use Rattle.std.specs.List.{All, filter};
 ghost use Rattle.std.specs.Map.Iter.{ShowsInOrder, ShowsInReverse, GivesInOrder, GivesInReverse, deref_pair};
 ghost use Rattle.bimap_base.specs.Digits.{most_height};
 ghost use Rattle.bimap_base.specs.Keyed.{Ascends};
 ghost use Rattle.bimap_base.specs.PairsAt.{pairs_at};
 ghost use Rattle.bimap_base.specs.Slots.{IsLive, pair_at};
+ghost use Rattle.bimap_tree.specs.Ranges.{is_between};
 
 use crate::projection::Projection;
 use crate::window::Window;
-use bimap_base::{Keys, Meter, Pairs};
+use bimap_base::{Keys, Meter, Pairs, Sought};
 use bimap_tree::{Ordered, Span};
-use std::ops::RangeBounds;
+use std::ops::Bound;
 
 /// An iterator over the pairs in the order of an index, each as `(&L, &R)`. A step takes one descent at most.
 pub type Iter<'a, L, R> = crate::iter::Iter<'a, L, R, Ordered>;
@@ -40,31 +40,23 @@ pub fn iter<'a, L, R>(pairs: &'a Pairs<L, R>, index: &'a Ordered) -> Iter<'a, L,
     Iter::new(pairs, index, Window::whole(index))
 }
 
-/// Returns an iterator over the pairs whose projection lies in a range, in the order of the index that goes by it.
+/// Returns an iterator over the pairs whose projection lies between two ends, in the order of the index that goes by it.
 ///
-/// It makes two searches. A range that ends before it starts has no pair.
-pub fn range<
-    'a,
-    L,
-    R,
-    P: Projection<L, R>,
-    K: Keys<Key = P::Value>,
-    A: RangeBounds<P::Value>,
-    M: Meter,
->(
+/// It makes two searches. Where the end lies before the start, there is no pair.
+pub fn range<'a, L, R, P: Projection<L, R>, K: Keys<Key = P::Value>, Q: Sought<K>, M: Meter>(
     pairs: &'a Pairs<L, R>,
     index: &'a Ordered,
     _projection: P,
     keys: &K,
-    range: &A,
+    start: Bound<Q>,
+    end: Bound<Q>,
     meter: &mut M,
 ) -> Iter<'a, L, R>
     requires keys { (place : ℕ) → K.key_at keys.now place
         ≡ option_map P.of (pair_at pairs.now place) }
     requires ascends { Ascends (K.key_at keys.now) K.order index.now.places }
-    ensures rest { A.has_bounds range.now →
-        result ≡ filter (λ p. range_contains K.order (A.start_bound range.now)
-        (A.end_bound range.now) (P.of p)) (pairs_at pairs.now index.now.places) }
+    ensures rest { result ≡ filter (λ p. is_between Q.order start end (P.of p))
+        (pairs_at pairs.now index.now.places) }
     ensures runs { ShowsInOrder (deref_pair {K = L} {X = R}) }
     ensures runs_back { ShowsInReverse (deref_pair {K = L} {X = R}) }
     ensures comparisons { M.comparisons meter.new ≤ M.comparisons meter.old
@@ -72,7 +64,7 @@ pub fn range<
     ensures touches { M.touches meter.new ≤ M.touches meter.old
         + 4 * most_height (length index.now.places) }
 {
-    let span = Span::of(index, keys, range, meter);
+    let span = Span::of(index, keys, start, end, meter);
     let window = Window::new(index, span.front, span.back);
     Iter::new(pairs, index, window)
 }

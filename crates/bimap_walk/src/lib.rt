@@ -7,6 +7,7 @@
 
 pub mod by_place;
 pub mod by_rank;
+pub mod by_turn;
 mod course;
 mod into_iter;
 mod iter;

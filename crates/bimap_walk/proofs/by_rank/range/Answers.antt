@@ -1,11 +1,11 @@
 use Rattle.std.specs.Map.Iter.{deref_pair}
-use Rattle.std.specs.BTreeMap.Range.{range_contains}
 use Rattle.std.specs.Option.{option_map}
 use Rattle.std.proofs.Common.{sym, ap, subst, is_some, ◌∙◌}
 use Rattle.std.specs.List.{All}
 use Rattle.bimap_base.specs.PairsAt.{pairs_at}
 use Rattle.std_collections.proofs.IterRuns.{shows_in_order, shows_in_reverse}
 use Rattle.bimap_base.specs.Slots.{pair_at, IsLive}
+use Rattle.bimap_tree.specs.Ranges.{is_between}
 use Rattle.bimap_walk.proofs.InSpan.{pairs_in_span, span_of_keys, live_places, is_some-map, All-between}
 use Rattle.bimap_walk.proofs.by_rank.range.Goals as goal
 
@@ -21,11 +21,11 @@ new-requires g c =
     }
 
 pub returns-clause-rest : goal.returns-clause-rest
-returns-clause-rest g c = λ bounds.
+returns-clause-rest g c =
     let a = c.args in
     let s = c.of-span in
-    let test = range_contains g.K.Keys.order (g.A.RangeBounds.start_bound a.range.now) (g.A.RangeBounds.end_bound a.range.now) in
-    let span = span_of_keys test (g.K.Keys.key_at a.keys.now) (λ p. option_map g.P.Projection.of (pair_at a.pairs.now p)) a.index.now.places s.result.front s.result.back c.requires.keys (s.ensures.inside bounds) in
+    let test = is_between g.Q.Sought.order a.start a.end in
+    let span = span_of_keys test (g.K.Keys.key_at a.keys.now) (λ p. option_map g.P.Projection.of (pair_at a.pairs.now p)) a.index.now.places s.result.front s.result.back c.requires.keys s.ensures.inside in
     c.new.ensures ∙ ap (pairs_at a.pairs.now) c.new-window.ensures.places ∙ sym (pairs_in_span g.P.Projection.of test a.pairs.now a.index.now.places s.result.front s.result.back s.ensures.ordered span)
 
 pub returns-clause-runs : goal.returns-clause-runs
