@@ -10,7 +10,7 @@ use Rattle.bimap_base.specs.Inverse.{inverse_pair, IsInverse}
 use Rattle.bimap_base.specs.PairsAt.{pairs_at}
 use Rattle.bimap_base.specs.Sets.{IsApart}
 use Rattle.bimap_base.proofs.Walk.{IsWalk, walked, long_walked}
-use Rattle.bimap_core.proofs.Inverses.{inverse_in, in_inverse}
+use Rattle.bimap_base.proofs.Inverse.{inverse_in, in_inverse}
 use Rattle.bimap_core.proofs.Shrinking.{keys_walked}
 use Rattle.bimap_core.specs.declared.table.Table.{Table}
 use Rattle.bimap_kinds.specs.HeldTable.{held, held_by_right}

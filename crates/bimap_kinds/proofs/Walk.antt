@@ -24,12 +24,11 @@ use Rattle.bimap_base.specs.Places.{pairs_in}
 use Rattle.bimap_base.specs.Sets.{IsApart}
 use Rattle.bimap_base.specs.Slots.{pair_at, left_at, right_at, IsLive}
 use Rattle.bimap_base.proofs.HoldingsAlike.{AreAlike}
-use Rattle.bimap_base.proofs.Walk.{IsWalk, walk_of, walked, long_walked, fits_walked, listed_long, pairs_walked}
+use Rattle.bimap_base.proofs.Walk.{IsWalk, walked, long_walked, fits_walked, listed_long, pairs_walked}
 use Rattle.bimap_index.specs.ByOrder.{ListsByOrder}
-use Rattle.bimap_index.specs.ByHash.{ListsByHash, places_from}
-use Rattle.bimap_index.specs.HashLaws.{hash_settled, hash_listed, hash_distinct, hash_by_place, pairs_by_place}
 use Rattle.bimap_core.proofs.Ascending.{order_walk, order_ascends}
 use Rattle.bimap_core.proofs.Permuted.{walk_apart, walk_permuted}
+pub use Rattle.bimap_core.proofs.Turns.{hash_walk, pairs_kept, the_walk}
 use Rattle.bimap_core.specs.Partition.{IsPartition, answered_false}
 use Rattle.bimap_core.specs.Store.{holding_of}
 use Rattle.bimap_core.specs.declared.table.Table.{Table}
@@ -39,16 +38,6 @@ use Rattle.bimap_kinds.specs.Sorted.{IsByRight}
 -- the holding of a store whose pairs are walked by these places
 abbrev pub walked_by : {L R : Type 0} → List (Option (L × R)) → List ℕ → Holding L R
 walked_by slots places = record { pairs = pairs_at slots places; room = length slots }
-
--- an index lists the places of a walk
-pub the_walk : {P K X : Type 0} (key : P → K) (IsListing : X → (ℕ → Option K) → Type 0) (places : X → List ℕ)
-    → ((index : X) (f : ℕ → Option K) → IsListing index f → (p : ℕ) → Contains (places index) p ↔ IsSome (f p))
-    → ((index : X) (f : ℕ → Option K) → IsListing index f → AllPairs (λ a b. a ≢ b) (places index))
-    → ((index : X) (f : ℕ → Option K) → ∥ IsListing index f ∥₁ → IsListing index f)
-    → (slots : List (Option P)) (index : X) → ∥ IsListing index (λ place. option_map key (pair_at slots place)) ∥₁ → IsWalk slots (places index)
-the_walk key IsListing places listed distinct settled slots index listing =
-    let lists = settled index (λ place. option_map key (pair_at slots place)) listing in
-    walk_of key slots (places index) (listed index _ lists) (distinct index _ lists)
 
 module _ {L R : Type 0} (slots : List (Option (L × R))) (places : List ℕ) (walk : IsWalk slots places) where
   pub alike : AreAlike (holding_of slots) (walked_by slots places)
@@ -106,18 +95,6 @@ module _ {L R : Type 0} (slots : List (Option (L × R))) (places : List ℕ) (wa
       by [] e = refl
       by (x ∷ xs) e = absurd (omega (arith, e))
 
--- places that kept their pairs, walked in the same order
-pub pairs_kept : {P : Type 0} (old new : List (Option P)) (places places' : List ℕ) → ((place : ℕ) → pair_at new place ≡ pair_at old place) → places' ≡ places → pairs_at new places' ≡ pairs_at old places
-pairs_kept {P} old new places places' kept same = ap (pairs_at new) same ∙ each places
-  where
-    each : (places : List ℕ) → pairs_at new places ≡ pairs_at old places
-    each [] = refl
-    each (p ∷ ps) = by (pair_at old p) refl (each ps)
-      where
-        by : (o : Option P) → pair_at old p ≡ o → pairs_at new ps ≡ pairs_at old ps → pairs_at new (p ∷ ps) ≡ pairs_at old (p ∷ ps)
-        by None e rest = rw (kept p, e) rest
-        by (Some x) e rest = rw (kept p, e) (ap (λ xs. x ∷ xs) rest)
-
 -- what `retain` leaves, in the order of a walk
 module _ {F L R : Type 0} (g : Mut F (Bor L × (Bor R × Unit {0})) Bool) {same_left : L → L → Bool} {same_right : R → R → Bool} (equal_left : IsEquivalence same_left) (equal_right : IsEquivalence same_right)
     (slots : List (Option (L × R))) (places : List ℕ) (walk : IsWalk slots places) (apart : IsApart same_left same_right (pairs_in slots)) where
@@ -154,14 +131,6 @@ module _ {F L R : Type 0} (g : Mut F (Bor L × (Bor R × Unit {0})) (Unit {0})) 
         each_once = IsPermutation-trans (pairs_at slots places) (pairs_in slots) h.order (walk_permuted equal_left equal_right slots places walk apart) h.each_once;
         calls = h.calls;
       }
-
--- a hashed index is walked in the order of the store
-pub hash_walk : {P K : Type 0} (key : P → K) {same : K → K → Bool} {number : K → ℕ} (slots : List (Option P)) (numbers : List (Option ℕ)) → ∥ ListsByHash same number numbers (λ place. option_map key (pair_at slots place)) ∥₁ → pairs_at slots (places_from 0 numbers) ≡ pairs_in slots
-hash_walk {P} {K} key {same} {number} slots numbers h =
-    let side : ℕ → Option K = λ place. option_map key (pair_at slots place) in
-    let listing = hash_settled same number numbers side h in
-    let walk = walk_of key slots (places_from 0 numbers) (hash_listed same number numbers side listing) (hash_distinct same number numbers side listing) in
-    pairs_by_place slots (places_from 0 numbers) (hash_by_place same number numbers side listing) walk.live
 
 -- what a bimap says of what its table holds
 abbrev pub AreFacts : {L R : Type 0} → (L → L → Bool) → (R → R → Bool) → (L → L → Ordering) → Holding L R → List ℕ → List ℕ → Type 0

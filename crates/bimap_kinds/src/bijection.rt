@@ -14,6 +14,8 @@ impl<L: Eq + Drop, R: Eq + Drop, I: Index<L>, J: Index<R>> Bijection<L, R>
     for BijectiveMap<L, R, I, J> {
     ghost holding = { holding };
 
+    ghost appends = { I.appends };
+
     ghost apart = { λ b. b.apart };
 
     ghost fits = { λ b. b.fits };

@@ -2,6 +2,7 @@
 ghost use Rattle.std.specs.Prelude.{List, Contains, [], OnOk, IfOk, IfErr};
 ghost use Rattle.std.specs.Iterator.{IsFiniteIterable};
 ghost use Rattle.bimap_base.specs.Extension.{IsExtension, IsExtensionStopped, IsRefusedNext};
+ghost use Rattle.bimap_base.specs.Turns.{FollowInTurn};
 
 use crate::map::BijectiveMap;
 use bimap_base::ExtendStopped;
@@ -29,6 +30,8 @@ impl<L: Eq + Drop, R: Eq + Drop, I: Index<L>, J: Index<R>> BijectiveMap<L, R, I,
         ensures stopped { IfErr result (λ e. IsExtensionStopped L.eq R.eq
             (A.into_iter_gives items) A.IntoIter.next_gives (holding self.old) e
             (holding self.new)) }
+        ensures turn { I.appends → OnOk result (FollowInTurn (A.into_iter_gives items)
+            A.IntoIter.next_gives (holding self.old).pairs (holding self.new).pairs) }
     {
         bimap_base::extend(self, items)
     }
@@ -57,6 +60,8 @@ impl<L: Eq + Drop, R: Eq + Drop, I: EmptyIndex<L> + Drop, J: EmptyIndex<R> + Dro
         ensures stopped { IfErr result (λ e. (taken : List (L × R))
             × IsRefusedNext L.eq R.eq (A.into_iter_gives items) A.IntoIter.next_gives
             (Contains []) taken e) }
+        ensures turn { I.appends → IfOk result (λ bimap. FollowInTurn (A.into_iter_gives items)
+            A.IntoIter.next_gives [] (holding bimap).pairs) }
     {
         bimap_base::from_iter(BijectiveMap::empty(alloc), items)
     }

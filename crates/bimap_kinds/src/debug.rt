@@ -2,7 +2,7 @@
 ghost use Rattle.std.specs.Iterator.{IsFinite};
 
 use crate::map::BijectiveMap;
-use bimap_index::{HashIndex, Index};
+use bimap_index::{HashIndex, Index, InsertionOrder};
 use bimap_tree::Ordered;
 use std::fmt;
 use std::hash::{BuildHasher, Hash};
@@ -22,6 +22,14 @@ impl<
     LS: BuildHasher,
     J: Index<R>,
 > fmt::Debug for BijectiveMap<L, R, HashIndex<LS>, J> {
+    fn fmt<W: fmt::Write>(&self, f: &mut fmt::Formatter<W>) -> fmt::Result {
+        write_pairs(self.iter(), f)
+    }
+}
+
+/// Writes the pairs in the order of insertion, as `{'a' <> 1, 'b' <> 2}`.
+impl<L: Eq + fmt::Debug + Drop, R: Eq + fmt::Debug + Drop, I: Index<L>, J: Index<R>> fmt::Debug
+    for BijectiveMap<L, R, InsertionOrder<I>, J> {
     fn fmt<W: fmt::Write>(&self, f: &mut fmt::Formatter<W>) -> fmt::Result {
         write_pairs(self.iter(), f)
     }

@@ -1,11 +1,11 @@
 //! Insertions. There is one, under a policy, and each of the others is it under a policy of its own.
-ghost use Rattle.std.specs.Prelude.{◌≡◌, ◌+◌, ◌*◌, ◌≤◌, length};
+ghost use Rattle.std.specs.Prelude.{◌≡◌, ◌+◌, ◌*◌, ◌≤◌, ◌++◌, ◌∷◌, [], Contains, length, IfOk, OnOk};
 ghost use Rattle.bimap_base.specs.Holding.{IsInsertion, IsInsertionWithoutOverwriting, IsInsertionUnder, IsInterning};
+ghost use Rattle.bimap_base.specs.Sets.{LacksLeft};
+ghost use Rattle.bimap_base.specs.Turns.{StandsInTurn};
 
 use crate::map::BijectiveMap;
-use bimap_base::{
-    Bijection, Count, Meter, NoRoom, NotInserted, NotInsertedWith, OnHeld, Overwritten, Policy,
-};
+use bimap_base::{Count, Meter, NoRoom, NotInserted, NotInsertedWith, OnHeld, Overwritten, Policy};
 use bimap_index::Index;
 
 impl<L: Eq + Drop, R: Eq + Drop, I: Index<L>, J: Index<R>> BijectiveMap<L, R, I, J> {
@@ -16,7 +16,10 @@ impl<L: Eq + Drop, R: Eq + Drop, I: Index<L>, J: Index<R>> BijectiveMap<L, R, I,
     ///
     ///     seats.insert('a', 1); // Ok(Overwritten::Both(('a', 3), ('b', 1)))
     pub fn insert(&mut self, left: L, right: R) -> Result<Overwritten<L, R>, NoRoom<L, R>>
-        ensures { IsInsertion L.eq R.eq (holding self.old) (left, right) result (holding self.new) }
+        ensures answer { IsInsertion L.eq R.eq (holding self.old) (left, right) result
+            (holding self.new) }
+        ensures turn { I.appends → IfOk result (λ answer. StandsInTurn (holding self.old).pairs
+            (left, right) answer (holding self.new).pairs) }
     {
         self.insert_metered(left, right, &mut Count::new())
     }
@@ -25,10 +28,21 @@ impl<L: Eq + Drop, R: Eq + Drop, I: Index<L>, J: Index<R>> BijectiveMap<L, R, I,
     ///
     ///     seats.insert_no_overwrite('d', 3); // Err(NotInserted::Occupied('d', 3))
     pub fn insert_no_overwrite(&mut self, left: L, right: R) -> Result<(), NotInserted<L, R>>
-        ensures { IsInsertionWithoutOverwriting L.eq R.eq (holding self.old) (left, right) result
-            (holding self.new) }
+        ensures answer { IsInsertionWithoutOverwriting L.eq R.eq (holding self.old) (left, right)
+            result (holding self.new) }
+        ensures turn { I.appends → OnOk result ((holding self.new).pairs
+            ≡ (holding self.old).pairs ++ (left, right) ∷ []) }
     {
-        Bijection::insert_no_overwrite(self, left, right)
+        let policy = Policy {
+            left: OnHeld::Refuse,
+            right: OnHeld::Refuse,
+        };
+        match self.insert_with(left, right, policy) {
+            Ok(_) => Ok(()),
+            Err(NotInsertedWith::LeftHeld(left, right)) => Err(NotInserted::Occupied(left, right)),
+            Err(NotInsertedWith::RightHeld(left, right)) => Err(NotInserted::Occupied(left, right)),
+            Err(NotInsertedWith::Memory(left, right)) => Err(NotInserted::Memory(left, right)),
+        }
     }
 
     /// Inserts a pair where the policy lets it overwrite what it shares a value with, and returns the pairs that it
@@ -42,8 +56,10 @@ impl<L: Eq + Drop, R: Eq + Drop, I: Index<L>, J: Index<R>> BijectiveMap<L, R, I,
         right: R,
         policy: Policy,
     ) -> Result<Overwritten<L, R>, NotInsertedWith<L, R>>
-        ensures { IsInsertionUnder L.eq R.eq (holding self.old) (left, right) policy result
+        ensures answer { IsInsertionUnder L.eq R.eq (holding self.old) (left, right) policy result
             (holding self.new) }
+        ensures turn { I.appends → IfOk result (λ answer. StandsInTurn (holding self.old).pairs
+            (left, right) answer (holding self.new).pairs) }
     {
         self.table
             .insert_with(left, right, policy, &mut Count::new())
@@ -58,6 +74,8 @@ impl<L: Eq + Drop, R: Eq + Drop, I: Index<L>, J: Index<R>> BijectiveMap<L, R, I,
     ) -> Result<Overwritten<L, R>, NoRoom<L, R>>
         ensures answer { IsInsertion L.eq R.eq (holding self.old) (left, right) result
             (holding self.new) }
+        ensures turn { I.appends → IfOk result (λ answer. StandsInTurn (holding self.old).pairs
+            (left, right) answer (holding self.new).pairs) }
         ensures comparisons { let n = length (holding self.old).pairs in
             M.comparisons meter.new ≤ M.comparisons meter.old + 3 * I.effort n + 5 * J.effort n }
         ensures touches { let n = length (holding self.old).pairs in
@@ -88,7 +106,11 @@ impl<L: Eq + Drop, R: Copy + Eq + Drop, I: Index<L>, J: Index<R>> BijectiveMap<L
     ///     seats.get_by_left_or_insert('d', 4); // Ok(4)
     ///     seats.get_by_left_or_insert('e', 1); // Err(NotInserted::Occupied('e', 1))
     pub fn get_by_left_or_insert(&mut self, left: L, right: R) -> Result<R, NotInserted<L, R>>
-        ensures { IsInterning L.eq R.eq (holding self.old) (left, right) result (holding self.new) }
+        ensures answer { IsInterning L.eq R.eq (holding self.old) (left, right) result
+            (holding self.new) }
+        ensures turn { I.appends → LacksLeft L.eq (Contains (holding self.old).pairs) left →
+            OnOk result ((holding self.new).pairs
+            ≡ (holding self.old).pairs ++ (left, right) ∷ []) }
     {
         self.get_by_left_or_insert_metered(left, right, &mut Count::new())
     }
@@ -102,6 +124,9 @@ impl<L: Eq + Drop, R: Copy + Eq + Drop, I: Index<L>, J: Index<R>> BijectiveMap<L
     ) -> Result<R, NotInserted<L, R>>
         ensures answer { IsInterning L.eq R.eq (holding self.old) (left, right) result
             (holding self.new) }
+        ensures turn { I.appends → LacksLeft L.eq (Contains (holding self.old).pairs) left →
+            OnOk result ((holding self.new).pairs
+            ≡ (holding self.old).pairs ++ (left, right) ∷ []) }
         ensures comparisons { let n = length (holding self.old).pairs in
             M.comparisons meter.new ≤ M.comparisons meter.old + I.effort n + J.effort n }
         ensures touches { let n = length (holding self.old).pairs in

@@ -26,4 +26,7 @@ mod undo;
 mod walked_index;
 mod walks;
 
-pub use map::{BiBTreeHashMap, BiBTreeMap, BiHashBTreeMap, BiHashMap, BijectiveMap};
+pub use map::{
+    BiBTreeHashMap, BiBTreeMap, BiHashBTreeMap, BiHashMap, BiInsertionOrderMap, BijectiveMap,
+};
+pub use walked_index::WalkedIndex;

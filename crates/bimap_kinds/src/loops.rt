@@ -5,9 +5,9 @@ ghost use Rattle.bimap_kinds.specs.Held.{holding};
 
 use crate::map::BijectiveMap;
 use bimap_core::Table;
-use bimap_index::{HashIndex, Index};
+use bimap_index::{HashIndex, Index, InsertionOrder};
 use bimap_tree::Ordered;
-use bimap_walk::{by_place, by_rank};
+use bimap_walk::{by_place, by_rank, by_turn};
 use std::hash::{BuildHasher, Hash};
 
 impl<'a, L: Ord + Drop, R: Eq + Drop, J: Index<R>> IntoIterator
@@ -64,5 +64,32 @@ impl<L: Eq + Hash + Drop, R: Eq + Drop, LS: BuildHasher + Drop, J: Index<R> + Dr
     fn into_iter(self) -> by_place::IntoIter<L, R> {
         let Table { pairs, .. } = self.into_table();
         by_place::into_iter(pairs)
+    }
+}
+
+impl<'a, L: Eq + Drop, R: Eq + Drop, I: Index<L>, J: Index<R>> IntoIterator
+    for &'a BijectiveMap<L, R, InsertionOrder<I>, J> {
+    type Item = (&'a L, &'a R);
+
+    type IntoIter = by_turn::Iter<'a, L, R>;
+
+    ghost into_iter_gives = { λ m r. (r ≡ (holding m.now).pairs) × ShowsInOrder (deref_pair {K = L} {X = R}) };
+
+    fn into_iter(self) -> by_turn::Iter<'a, L, R> {
+        self.iter()
+    }
+}
+
+impl<L: Eq + Drop, R: Eq + Drop, I: Index<L> + Drop, J: Index<R> + Drop> IntoIterator
+    for BijectiveMap<L, R, InsertionOrder<I>, J> {
+    type Item = (L, R);
+
+    type IntoIter = by_turn::IntoIter<L, R>;
+
+    ghost into_iter_gives = { λ m r. (r ≡ (holding m).pairs) × GivesInOrder (L × R) };
+
+    fn into_iter(self) -> by_turn::IntoIter<L, R> {
+        let Table { pairs, left, .. } = self.into_table();
+        by_turn::into_iter(pairs, left.into_list())
     }
 }

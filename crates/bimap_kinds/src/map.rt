@@ -7,7 +7,7 @@ ghost use Rattle.bimap_base.specs.Sets.{IsApart};
 ghost use Rattle.bimap_kinds.specs.HeldTable.{held};
 
 use bimap_core::Table;
-use bimap_index::{HashIndex, Index};
+use bimap_index::{HashIndex, Index, InsertionOrder};
 use bimap_tree::Ordered;
 use std::hash::{BuildHasherDefault, FoldHasher};
 
@@ -82,3 +82,13 @@ pub type BiHashBTreeMap<L, R, LS = BuildHasherDefault<FoldHasher>> = BijectiveMa
     HashIndex<LS>,
     Ordered,
 >;
+
+/// A bimap with both sides hashed that is walked in the order in which its pairs were inserted.
+///
+/// A pair that is inserted takes the turn of one of an equal left that it overwrites, and else comes last.
+pub type BiInsertionOrderMap<
+    L,
+    R,
+    LS = BuildHasherDefault<FoldHasher>,
+    RS = BuildHasherDefault<FoldHasher>,
+> = BijectiveMap<L, R, InsertionOrder<HashIndex<LS>>, HashIndex<RS>>;

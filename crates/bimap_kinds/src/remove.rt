@@ -1,6 +1,7 @@
 //! Removals. The capacity stays.
-ghost use Rattle.std.specs.Prelude.{◌≡◌, ◌+◌, ◌*◌, ◌≤◌, [], length};
+ghost use Rattle.std.specs.Prelude.{◌≡◌, ◌+◌, ◌*◌, ◌≤◌, [], length, MatchOption};
 ghost use Rattle.bimap_base.specs.Holding.{IsRemovalByLeft, IsRemovalByRight};
+ghost use Rattle.bimap_base.specs.Turns.{IsTakenOut};
 
 use crate::map::BijectiveMap;
 use bimap_base::{Count, Meter, Query};
@@ -15,7 +16,11 @@ impl<L: Eq, R: Eq, I: Index<L>, J: Index<R>> BijectiveMap<L, R, I, J> {
     pub fn remove_by_left<Q: Query<L>>(&mut self, left: Q) -> Option<(L, R)>
     where
         I: Lookup<L, Q>,
-        ensures { IsRemovalByLeft Q.same (holding self.old) left result (holding self.new) }
+        ensures answer { IsRemovalByLeft Q.same (holding self.old) left result
+            (holding self.new) }
+        ensures turn { I.appends → MatchOption result
+            ((holding self.new).pairs ≡ (holding self.old).pairs)
+            (λ pair. IsTakenOut (holding self.old).pairs pair (holding self.new).pairs) }
     {
         self.remove_by_left_metered(left, &mut Count::new())
     }
@@ -26,7 +31,11 @@ impl<L: Eq, R: Eq, I: Index<L>, J: Index<R>> BijectiveMap<L, R, I, J> {
     pub fn remove_by_right<Q: Query<R>>(&mut self, right: Q) -> Option<(L, R)>
     where
         J: Lookup<R, Q>,
-        ensures { IsRemovalByRight Q.same (holding self.old) right result (holding self.new) }
+        ensures answer { IsRemovalByRight Q.same (holding self.old) right result
+            (holding self.new) }
+        ensures turn { I.appends → MatchOption result
+            ((holding self.new).pairs ≡ (holding self.old).pairs)
+            (λ pair. IsTakenOut (holding self.old).pairs pair (holding self.new).pairs) }
     {
         self.remove_by_right_metered(right, &mut Count::new())
     }
@@ -54,6 +63,9 @@ impl<L: Eq, R: Eq, I: Index<L>, J: Index<R>> BijectiveMap<L, R, I, J> {
     where
         I: Lookup<L, Q>,
         ensures answer { IsRemovalByLeft Q.same (holding self.old) left result (holding self.new) }
+        ensures turn { I.appends → MatchOption result
+            ((holding self.new).pairs ≡ (holding self.old).pairs)
+            (λ pair. IsTakenOut (holding self.old).pairs pair (holding self.new).pairs) }
         ensures comparisons { let n = length (holding self.old).pairs in
             M.comparisons meter.new ≤ M.comparisons meter.old + I.effort n + J.effort n }
         ensures touches { let n = length (holding self.old).pairs in
@@ -73,6 +85,9 @@ impl<L: Eq, R: Eq, I: Index<L>, J: Index<R>> BijectiveMap<L, R, I, J> {
         J: Lookup<R, Q>,
         ensures answer { IsRemovalByRight Q.same (holding self.old) right result
             (holding self.new) }
+        ensures turn { I.appends → MatchOption result
+            ((holding self.new).pairs ≡ (holding self.old).pairs)
+            (λ pair. IsTakenOut (holding self.old).pairs pair (holding self.new).pairs) }
         ensures comparisons { let n = length (holding self.old).pairs in
             M.comparisons meter.new ≤ M.comparisons meter.old + I.effort n + J.effort n }
         ensures touches { let n = length (holding self.old).pairs in

@@ -1,96 +1,23 @@
 //! Keeping what a closure wants, or taking it out.
-ghost use Rattle.std.specs.Prelude.{◌≡◌, ◌+◌, ◌≤◌, ◌++◌, ℕ, [], length, IsOk, OnOk, OnErr, vec_len, vec_capacity};
+ghost use Rattle.std.specs.Prelude.{◌≡◌, ◌+◌, ◌≤◌, ◌++◌, [], length, IsOk, OnOk, OnErr, vec_len, vec_capacity};
 ghost use Rattle.bimap_base.specs.Holding.{IsRetention, IsRetentionInTurn};
 ghost use Rattle.bimap_base.specs.Kept.{MayTest, MayTestInTurn};
-ghost use Rattle.bimap_base.specs.Places.{pairs_in};
-ghost use Rattle.bimap_core.specs.Partition.{IsPartition};
 ghost use Rattle.bimap_kinds.specs.Extraction.{IsExtraction};
 
 use crate::map::BijectiveMap;
+use crate::walked_index::WalkedIndex;
 use bimap_base::{Count, NoMemory};
-use bimap_core::{Dropped, Outlet};
-use bimap_index::{HashIndex, Index};
-use bimap_tree::Ordered;
-use std::hash::{BuildHasher, Hash};
+use bimap_core::Dropped;
+use bimap_index::Index;
 
-impl<L: Eq + Hash + Drop, R: Eq + Drop, LS: BuildHasher, J: Index<R>> BijectiveMap<
-    L,
-    R,
-    HashIndex<LS>,
-    J,
-> {
+impl<L: Eq + Drop, R: Eq + Drop, I: WalkedIndex<L>, J: Index<R>> BijectiveMap<L, R, I, J> {
     ghost use Rattle.bimap_kinds.specs.Held.{holding};
 
-    /// Keeps the pairs on which the closure returns true, asked once each in no set order.
+    /// Keeps the pairs on which the closure returns true, asked once each in the order of [`iter`](Self::iter), where
+    /// `Bijection::retain` asks in no set order. The others keep their order.
     ///
-    /// It takes time proportional to the capacity, which stays, and a removal for each pair that goes.
-    ///
-    ///     seats.retain(|_: &char, seat: &u32| *seat >= 2);
-    ///     seats.len(); // 2
-    pub fn retain<F: FnMut(&L, &R) -> bool>(&mut self, f: F)
-        requires may { MayTest F.FnMut f (holding self.old).pairs }
-        ensures { IsRetention F.FnMut (holding self.old) f (holding self.new) }
-    {
-        self.retain_by_place(f);
-    }
-
-    /// Moves the pairs on which the closure returns true to the end of a list, asked once each in the order of
-    /// [`iter`](Self::iter).
-    ///
-    /// It costs what [`retain`](Self::retain) does. Room for as many pairs as there are is made in the list first, which
-    /// asks for memory only where there is less: after an `Err` the closure was not asked, and all is as it was.
-    ///
-    ///     let mut early = Vec::new(alloc);
-    ///     seats.extract_into(&mut early, |_: &char, seat: &u32| *seat < 3); // Ok(())
-    ///     early.as_slice() == [('b', 1), ('c', 2)].as_slice(); // true
-    pub fn extract_into<F: FnMut(&L, &R) -> bool>(
-        &mut self,
-        pairs: &mut Vec<(L, R)>,
-        f: F,
-    ) -> Result<(), NoMemory>
-        requires may { MayTestInTurn F.FnMut f (holding self.old).pairs }
-        ensures extracted { OnOk result (IsExtraction F.FnMut (holding self.old) f pairs.old.items
-            (holding self.new) pairs.new.items) }
-        ensures had_room { vec_len pairs.old + length (holding self.old).pairs
-            ≤ vec_capacity pairs.old → IsOk result }
-        ensures unchanged { OnErr result (holding self.new ≡ holding self.old) }
-        ensures untouched { OnErr result (pairs.new.items ≡ pairs.old.items) }
-    {
-        pairs.try_reserve(self.len())?;
-        self.partition(true, f, pairs);
-        Ok(())
-    }
-
-    /// Moves all pairs to the end of a list, in the order of [`iter`](Self::iter), and keeps the capacity.
-    ///
-    /// It costs a removal for each pair, and asks for memory as [`extract_into`](Self::extract_into) does.
-    ///
-    ///     let mut all = Vec::new(alloc);
-    ///     seats.drain_into(&mut all); // Ok(())
-    ///     all.as_slice() == [('a', 3), ('b', 1), ('c', 2)].as_slice(); // true
-    ///     (seats.len(), seats.capacity()); // (0, 4)
-    pub fn drain_into(&mut self, pairs: &mut Vec<(L, R)>) -> Result<(), NoMemory>
-        ensures drained { OnOk result (pairs.new.items ≡ pairs.old.items
-            ++ (holding self.old).pairs) }
-        ensures empty { OnOk result ((holding self.new).pairs ≡ []) }
-        ensures room { (holding self.new).room ≡ (holding self.old).room }
-        ensures had_room { vec_len pairs.old + length (holding self.old).pairs
-            ≤ vec_capacity pairs.old → IsOk result }
-        ensures unchanged { OnErr result (holding self.new ≡ holding self.old) }
-        ensures untouched { OnErr result (pairs.new.items ≡ pairs.old.items) }
-    {
-        self.extract_into(pairs, |_: &L, _: &R| true)
-    }
-}
-
-impl<L: Ord + Drop, R: Eq + Drop, J: Index<R>> BijectiveMap<L, R, Ordered, J> {
-    ghost use Rattle.bimap_kinds.specs.Held.{holding};
-
-    /// Keeps the pairs on which the closure returns true, asked once each by ascending left, where `Bijection::retain`
-    /// asks in no set order.
-    ///
-    /// It takes the time of [`iter`](Self::iter), and a removal and a descent for each pair that goes. The capacity
-    /// stays.
+    /// It takes the time of [`iter`](Self::iter), and a removal for each pair that goes, on an ordered left a descent more.
+    /// The capacity stays.
     ///
     ///     seats.retain(|_: &char, seat: &u32| *seat >= 2);
     ///     seats.len(); // 2
@@ -98,8 +25,7 @@ impl<L: Ord + Drop, R: Eq + Drop, J: Index<R>> BijectiveMap<L, R, Ordered, J> {
         requires may { MayTestInTurn F.FnMut f (holding self.old).pairs }
         ensures { IsRetentionInTurn F.FnMut (holding self.old) f (holding self.new) }
     {
-        self.table
-            .partition_in_turn(false, f, &mut Dropped, &mut Count::new());
+        I::partition_in_turn(&mut self.table, false, f, &mut Dropped, &mut Count::new());
     }
 
     /// Moves the pairs on which the closure returns true to the end of a list, asked once each in the order of
@@ -125,8 +51,7 @@ impl<L: Ord + Drop, R: Eq + Drop, J: Index<R>> BijectiveMap<L, R, Ordered, J> {
         ensures untouched { OnErr result (pairs.new.items ≡ pairs.old.items) }
     {
         pairs.try_reserve(self.len())?;
-        self.table
-            .partition_in_turn(true, f, pairs, &mut Count::new());
+        I::partition_in_turn(&mut self.table, true, f, pairs, &mut Count::new());
         Ok(())
     }
 
@@ -163,23 +88,7 @@ impl<L: Eq, R: Eq, I: Index<L>, J: Index<R>> BijectiveMap<L, R, I, J> {
         requires may { MayTest F.FnMut f (holding self.old).pairs }
         ensures { IsRetention F.FnMut (holding self.old) f (holding self.new) }
     {
-        self.partition(false, f, &mut Dropped);
-    }
-
-    // The same, and hands the pairs on which it answers `goes` to an outlet.
-    fn partition<F: FnMut(&L, &R) -> bool, S: Outlet<(L, R)>>(
-        &mut self,
-        goes: bool,
-        f: F,
-        outlet: &mut S,
-    )
-        requires may { MayTestInTurn F.FnMut f (pairs_in self.old.table.pairs) }
-        requires fits { (n : ℕ) → n ≤ length (pairs_in self.old.table.pairs) →
-            S.has_room outlet.old n }
-        ensures parted { IsPartition F.FnMut S.receives goes f (pairs_in self.old.table.pairs)
-            (pairs_in self.new.table.pairs) outlet.old outlet.new }
-        ensures room { length self.new.table.pairs ≡ length self.old.table.pairs }
-    {
-        self.table.partition(goes, f, outlet, &mut Count::new());
+        self.table
+            .partition(false, f, &mut Dropped, &mut Count::new());
     }
 }

@@ -4,13 +4,15 @@ ghost use Rattle.bimap_base.specs.PairsAt.{pairs_at};
 ghost use Rattle.bimap_base.specs.Slots.{pair_at};
 
 use bimap_base::{Pairs, Side};
-use bimap_index::{HashIndex, Index};
+use bimap_core::PartedIndex;
+use bimap_index::{HashIndex, Index, InsertionOrder};
+use bimap_list::LinkedList;
 use bimap_tree::Ordered;
-use bimap_walk::{ByPlace, Course, Iter, by_place, by_rank};
+use bimap_walk::{ByPlace, Course, Iter, by_place, by_rank, by_turn};
 use std::hash::{BuildHasher, Hash};
 
 /// An index that leads an iterator through the pairs of a store.
-pub trait WalkedIndex<K: Eq>: Index<K> {
+pub trait WalkedIndex<K: Eq>: PartedIndex<K> {
     type Way: Course + 'static;
 
     /// Returns an iterator over all pairs of a store, of which the index lists a side.
@@ -46,5 +48,17 @@ impl<K: Eq + Hash, B: BuildHasher> WalkedIndex<K> for HashIndex<B> {
         pairs: &'a Pairs<L, R>,
     ) -> by_place::Iter<'a, L, R> {
         by_place::iter(pairs)
+    }
+}
+
+impl<K: Eq, I: Index<K>> WalkedIndex<K> for InsertionOrder<I> {
+    type Way = LinkedList;
+
+    fn walk<'a, S: Side<K>, L, R>(
+        &'a self,
+        _side: S,
+        pairs: &'a Pairs<L, R>,
+    ) -> by_turn::Iter<'a, L, R> {
+        by_turn::iter(pairs, self.list())
     }
 }

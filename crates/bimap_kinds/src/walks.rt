@@ -6,16 +6,17 @@ ghost use Rattle.std.specs.Map.{keys_of, values_of};
 ghost use Rattle.std.specs.Map.Iter.{ShowsInOrder, ShowsInReverse, deref, deref_pair};
 ghost use Rattle.bimap_kinds.specs.Held.{holding, by_right};
 ghost use Rattle.bimap_kinds.specs.Sorted.{IsByRight};
+ghost use Rattle.bimap_tree.specs.Ranges.{is_between};
 
 use crate::map::BijectiveMap;
 use crate::walked_index::WalkedIndex;
-use bimap_base::{ByOrder, Count, LeftSide, RightSide};
+use bimap_base::{ByOrder, Count, LeftSide, OrderQuery, RightSide};
 use bimap_index::{HashIndex, Index};
 use bimap_tree::Ordered;
 use bimap_walk::by_rank::{self, LeftRange, RightRange};
 use bimap_walk::{Iter, LeftProjection, LeftValues, RightProjection, RightValues, Values};
 use std::hash::{BuildHasher, Hash};
-use std::ops::RangeBounds;
+use std::ops::{Bound, RangeBounds};
 
 impl<L: Eq, R: Eq, I: WalkedIndex<L>, J: Index<R>> BijectiveMap<L, R, I, J> {
     /// Returns an iterator over the pairs: by ascending left and from both ends if the left is ordered, else in no set
@@ -78,6 +79,25 @@ impl<L: Ord, R: Eq, J: Index<R>> BijectiveMap<L, R, Ordered, J> {
         ensures runs { ShowsInOrder (deref_pair {K = L} {X = R}) }
         ensures runs_back { ShowsInReverse (deref_pair {K = L} {X = R}) }
     {
+        self.left_range_between(range.start_bound(), range.end_bound())
+    }
+
+    /// Returns an iterator over the pairs whose left lies between two ends, by ascending left and from both ends.
+    ///
+    /// Each end is a reference to a left, or a borrowed form of one, so that no key is built. It makes two searches. Where
+    /// the end lies before the start, there is no pair, and nothing panics.
+    ///
+    ///     numbers.left_range_between(Bound::Included("m"), Bound::Excluded("n")).len(); // 2
+    pub fn left_range_between<Q: OrderQuery<L>>(
+        &self,
+        start: Bound<Q>,
+        end: Bound<Q>,
+    ) -> LeftRange<'_, L, R>
+        ensures rest { result ≡ filter (λ p. is_between Q.order start end p.0)
+            (holding self.now).pairs }
+        ensures runs { ShowsInOrder (deref_pair {K = L} {X = R}) }
+        ensures runs_back { ShowsInReverse (deref_pair {K = L} {X = R}) }
+    {
         let table = &self.table;
         let lefts = ByOrder::new(LeftSide::new(&table.pairs));
         by_rank::range(
@@ -85,7 +105,8 @@ impl<L: Ord, R: Eq, J: Index<R>> BijectiveMap<L, R, Ordered, J> {
             &table.left,
             LeftProjection,
             &lefts,
-            &range,
+            start,
+            end,
             &mut Count::new(),
         )
     }
@@ -119,6 +140,24 @@ impl<L: Eq, R: Ord, I: Index<L>> BijectiveMap<L, R, I, Ordered> {
         ensures runs { ShowsInOrder (deref_pair {K = L} {X = R}) }
         ensures runs_back { ShowsInReverse (deref_pair {K = L} {X = R}) }
     {
+        self.right_range_between(range.start_bound(), range.end_bound())
+    }
+
+    /// Returns an iterator over the pairs whose right lies between two ends, by ascending right, else as
+    /// `left_range_between`.
+    ///
+    ///     seats.right_range_between(Bound::Excluded(&1), Bound::Unbounded).next(); // Some((&'c', &2))
+    pub fn right_range_between<Q: OrderQuery<R>>(
+        &self,
+        start: Bound<Q>,
+        end: Bound<Q>,
+    ) -> RightRange<'_, L, R>
+        ensures rest { result ≡ filter (λ p. is_between Q.order start end p.1)
+            (by_right self.now) }
+        ensures sorted { IsByRight R.cmp (holding self.now).pairs (by_right self.now) }
+        ensures runs { ShowsInOrder (deref_pair {K = L} {X = R}) }
+        ensures runs_back { ShowsInReverse (deref_pair {K = L} {X = R}) }
+    {
         let table = &self.table;
         let rights = ByOrder::new(RightSide::new(&table.pairs));
         by_rank::range(
@@ -126,7 +165,8 @@ impl<L: Eq, R: Ord, I: Index<L>> BijectiveMap<L, R, I, Ordered> {
             &table.right,
             RightProjection,
             &rights,
-            &range,
+            start,
+            end,
             &mut Count::new(),
         )
     }

@@ -1,4 +1,34 @@
+use Rattle.std.proofs.Common.{arith, refl, subst, Contains}
+use Rattle.std.proofs.lemmas.Bool.{or_left, or_right, or_from}
+use Rattle.bimap_base.specs.Sets.{NoneShares}
+use Rattle.bimap_base.proofs.Counts.{none_named}
+use Rattle.bimap_base.proofs.Turns.{stands_last}
+use Rattle.bimap_kinds.specs.Held.{holding}
 use Rattle.bimap_kinds.proofs.map.BijectiveMap.insert_no_overwrite.Goals as goal
 
-pub returns : goal.returns
-returns g c = search
+pub returns-in-Ok-clause-answer : goal.returns-in-Ok-clause-answer
+returns-in-Ok-clause-answer g c =
+    let e = c.in-Ok.ensures.answer in
+    let held = Contains (holding c.args.self.now).pairs in
+    let none : NoneShares g.L.PartialEq.eq g.R.PartialEq.eq held (c.args.left, c.args.right) = λ q m. or_from _ _ (e.allowed.left refl q m) (e.allowed.right refl q m) in
+    let named = none_named g.L.PartialEq.eq g.R.PartialEq.eq held (c.args.left, c.args.right) c.in-Ok.field-0 none e.answer in
+    record { none_held = none; put = e.put; count = omega (arith, named, e.count); refused = tt; unchanged = tt; room = c.insert_with.ensures.answer.room }
+
+pub returns-in-Ok-clause-turn : goal.returns-in-Ok-clause-turn
+returns-in-Ok-clause-turn g c appends =
+    let e = c.in-Ok.ensures.answer in
+    let held = Contains (holding c.args.self.now).pairs in
+    let none : NoneShares g.L.PartialEq.eq g.R.PartialEq.eq held (c.args.left, c.args.right) = λ q m. or_from _ _ (e.allowed.left refl q m) (e.allowed.right refl q m) in
+    stands_last _ (c.args.left, c.args.right) c.in-Ok.field-0 _ (none_named g.L.PartialEq.eq g.R.PartialEq.eq held (c.args.left, c.args.right) c.in-Ok.field-0 none e.answer) (c.in-Ok.ensures.turn appends)
+
+pub returns-in-Err-LeftHeld-clause-answer : goal.returns-in-Err-LeftHeld-clause-answer
+returns-in-Err-LeftHeld-clause-answer g c =
+    let e = c.in-Err-LeftHeld.ensures.answer in
+    let h = rw c.in-Err-LeftHeld.field-0-is at e.refused in
+    record { none_held = tt; put = tt; count = tt; refused = (h.0, (h.2.0, h.2.1, or_left _ _ h.2.2)); unchanged = e.unchanged; room = c.insert_with.ensures.answer.room }
+
+pub returns-in-Err-RightHeld-clause-answer : goal.returns-in-Err-RightHeld-clause-answer
+returns-in-Err-RightHeld-clause-answer g c =
+    let e = c.in-Err-RightHeld.ensures.answer in
+    let h = rw c.in-Err-RightHeld.field-0-is at e.refused in
+    record { none_held = tt; put = tt; count = tt; refused = (h.0, (h.3.0, h.3.1, or_right _ _ h.3.2)); unchanged = e.unchanged; room = c.insert_with.ensures.answer.room }

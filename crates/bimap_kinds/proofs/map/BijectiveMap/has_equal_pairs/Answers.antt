@@ -2,7 +2,7 @@ use Rattle.std.proofs.Common.{refl, sym, ◌∙◌, subst}
 use Rattle.std.proofs.lemmas.Bool.{false≢true}
 use Rattle.bimap_base.proofs.Meeting.{IsMetUpTo, met_more, met_all, unmet, unlike_long}
 use Rattle.bimap_kinds.specs.Held.{holding}
-use Rattle.bimap_kinds.proofs.compare_hashed.BijectiveMapHashIndexPartialEq.eq.Goals as goal
+use Rattle.bimap_kinds.proofs.map.BijectiveMap.has_equal_pairs.Goals as goal
 
 pub returns-then-len : goal.returns-then-len
 returns-then-len g c =
@@ -28,5 +28,5 @@ pub returns : goal.returns
 returns g c =
     let xs = (holding c.args.self.now).pairs in
     let ys = (holding c.args.other.now).pairs in
-    let so_far = subst (λ rest. IsMetUpTo g.L.PartialEq.eq g.R.PartialEq.eq xs rest ys) c.in-None.ensures.steps.0 c.loop-left.invariant in
+    let so_far = subst (λ rest. IsMetUpTo g.L.PartialEq.eq g.R.PartialEq.eq xs rest ys) c.in_default.ensures.steps.0 c.loop-left.invariant in
     sym (met_all g.L.PartialEq.eq g.R.PartialEq.eq xs ys (sym c.len.ensures ∙ c.if-len.false ∙ c.len-2.ensures) so_far)

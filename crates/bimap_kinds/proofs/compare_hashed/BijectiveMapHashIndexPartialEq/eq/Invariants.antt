@@ -1,6 +1,0 @@
-use Rattle.bimap_base.proofs.Meeting.{IsMetUpTo}
-use Rattle.bimap_kinds.specs.Held.{holding}
-use Rattle.bimap_kinds.proofs.compare_hashed.BijectiveMapHashIndexPartialEq.eq.Given as goal
-
-abbrev pub invariant-loop-left : goal.invariant-loop-left
-invariant-loop-left g l = IsMetUpTo g.L.PartialEq.eq g.R.PartialEq.eq (holding l.self).pairs l.left-iterator (holding l.other).pairs
