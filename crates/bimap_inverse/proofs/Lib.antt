@@ -1,0 +1,4 @@
+pub mod Sides
+pub mod Inserted
+pub mod Undone
+pub mod Called
