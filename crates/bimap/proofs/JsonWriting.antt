@@ -35,15 +35,15 @@ split_member (y ∷ ys) x c =
 pub middle_in : {X : Type 0} (before : List X) (x : X) (later : List X) → Contains (before ++ x ∷ later) x
 middle_in before x later = Contains-append_right before (x ∷ later) x (head_in x later)
 
-module _ {L R : Type 0} (key : L → List ℕ) (val : R → Data) where
-  module _ (reads_key : List ℕ → L → Type 0) (reads : Data → R → Type 0) (same_left : L → L → Bool) (same_right : R → R → Bool) where
-    pub each_push : (ps : List (L × R)) (p : L × R) → EachReadsBack key val reads_key reads same_left same_right ps → ReadsBack same_left (reads_key (key p.0)) p.0 → ReadsBack same_right (reads (val p.1)) p.1 → EachReadsBack key val reads_key reads same_left same_right (ps ++ p ∷ [])
-    each_push ps p each left right q c =
-        elim (Contains-push_cases ps p q c) [
-          | inl old ↦ each q old
-          | inr same ↦ subst (λ r. ReadsBack same_left (reads_key (key r.0)) r.0 × ReadsBack same_right (reads (val r.1)) r.1) same (left, right)
-        ]
+module _ {L R X : Type 0} (key : L → X) (val : R → Data) (reads_key : X → L → Type 0) (reads : Data → R → Type 0) (same_left : L → L → Bool) (same_right : R → R → Bool) where
+  pub each_push : (ps : List (L × R)) (p : L × R) → EachReadsBack key val reads_key reads same_left same_right ps → ReadsBack same_left (reads_key (key p.0)) p.0 → ReadsBack same_right (reads (val p.1)) p.1 → EachReadsBack key val reads_key reads same_left same_right (ps ++ p ∷ [])
+  each_push ps p each left right q c =
+      elim (Contains-push_cases ps p q c) [
+        | inl old ↦ each q old
+        | inr same ↦ subst (λ r. ReadsBack same_left (reads_key (key r.0)) r.0 × ReadsBack same_right (reads (val r.1)) r.1) same (left, right)
+      ]
 
+module _ {L R : Type 0} (key : L → List ℕ) (val : R → Data) where
   -- the entries after one more pair
   pub entries_push : (ps : List (L × R)) (p : L × R) (old new : Members) → new ≡ put (key p.0) (val p.1) old → Ascends (entries_of old) → Ascends (entries_of new) → ((e : Entry) → Contains (entries_of old) e ↔ IsLastEntryOf key val ps e) → (e : Entry) → Contains (entries_of new) e ↔ IsLastEntryOf key val (ps ++ p ∷ []) e
   entries_push ps p old new is up after are =

@@ -11,6 +11,7 @@ pub mod JsonTexts
 pub mod JsonNumbers
 pub mod JsonEntries
 pub mod JsonWriting
+pub mod JsonPairs
 pub mod JsonReading
 pub mod JsonWalks
 pub mod JsonRoundTrip

@@ -60,10 +60,10 @@ module _ {L R : Type 0} (writes_key : L → List ℕ) (writes : R → Data) wher
   abbrev pub IsLastEntryOf : List (L × R) → Entry → Type 0
   IsLastEntryOf pairs e = Survives IsWrittenAs TakesKey (λ s. ⊥) pairs e
 
-  -- what is written of each pair of the list reads as a pair that is equal to it on both sides
-  abbrev pub EachReadsBack : (List ℕ → L → Type 0) → (Data → R → Type 0) → (L → L → Bool) → (R → R → Bool) → List (L × R) → Type 0
-  EachReadsBack reads_key reads same_left same_right pairs =
-      (p : L × R) → Contains pairs p → ReadsBack same_left (reads_key (writes_key p.0)) p.0 × ReadsBack same_right (reads (writes p.1)) p.1
+-- what is written of each pair of the list, a left as an X, reads as a pair that is equal to it on both sides
+abbrev pub EachReadsBack : {L R X : Type 0} → (L → X) → (R → Data) → (X → L → Type 0) → (Data → R → Type 0) → (L → L → Bool) → (R → R → Bool) → List (L × R) → Type 0
+EachReadsBack {L} {R} writes_left writes reads_left reads same_left same_right pairs =
+    (p : L × R) → Contains pairs p → ReadsBack same_left (reads_left (writes_left p.0)) p.0 × ReadsBack same_right (reads (writes p.1)) p.1
 
 module _ {L R : Type 0} (reads_key : List ℕ → L → Type 0) (reads : Data → R → Type 0) where
   -- the entry reads as the pair

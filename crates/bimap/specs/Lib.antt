@@ -12,11 +12,15 @@ pub use Rattle.bimap_base.specs.Undoing
 pub use Rattle.bimap_base.specs.Exchange
 pub use Rattle.bimap_base.specs.Put
 pub use Rattle.bimap_base.specs.Inverse
+pub use Rattle.bimap_inverse.specs.Turned
 pub use Rattle.bimap_base.specs.Extension
+pub use Rattle.bimap_base.specs.Turns
+pub use Rattle.bimap_tree.specs.Ranges
 pub use Rattle.bimap_base.specs.Digits
 pub use Rattle.bimap_base.specs.Capacity
 pub mod BTree
 pub mod Hash
+pub mod InsertionOrder
 pub mod Test
 pub mod Growth
 pub mod History
@@ -26,6 +30,7 @@ pub mod JsonReading
 pub mod JsonTexts
 pub mod JsonObjects
 pub mod JsonDocument
+pub mod JsonPairs
 pub mod JsonNumbers
 pub mod Types
 pub use Rattle.serde_json.specs.Data

@@ -4,6 +4,7 @@
 pub mod btree;
 mod call;
 pub mod hash;
+pub mod insertion_order;
 mod runs;
 mod undone;
 pub mod value;
@@ -15,7 +16,11 @@ pub use bimap_base::{
     get_by_right_or_insert, put, replace_left, replace_right, swap_partners,
 };
 pub use bimap_index::{Index, Lookup};
-pub use bimap_kinds::{BiBTreeHashMap, BiBTreeMap, BiHashBTreeMap, BiHashMap, BijectiveMap};
+pub use bimap_inverse::Inverse;
+pub use bimap_kinds::{
+    BiBTreeHashMap, BiBTreeMap, BiHashBTreeMap, BiHashMap, BiInsertionOrderMap, BijectiveMap,
+    WalkedIndex,
+};
 pub use bimap_tree::Ordered;
 pub use call::{Call, Reply, RunRefused};
 pub use runs::{perform, run};

@@ -8,7 +8,7 @@ ghost use Rattle.bimap.specs.JsonObjects.{IsObjectOf, IsEntryOf, EachReadsBack, 
 use crate::value::object::{JsonFault, JsonObject, read_into, write_walk};
 use crate::value::sides::{JsonKey, JsonValue};
 use bimap_base::NoMemory;
-use bimap_kinds::{BiBTreeHashMap, BiBTreeMap, BiHashBTreeMap, BiHashMap};
+use bimap_kinds::{BiBTreeHashMap, BiBTreeMap, BiHashBTreeMap, BiHashMap, BiInsertionOrderMap};
 use serde_json::Value;
 use std::alloc::Global;
 use std::hash::{BuildHasher, Hash};
@@ -110,5 +110,16 @@ impl<L: JsonKey + Hash + Drop, R: JsonValue + Ord + Drop> JsonObject<L, R>
 
     fn from_value(alloc: Global, value: &Value) -> Result<BiHashBTreeMap<L, R>, JsonFault> {
         read_into(alloc, BiHashBTreeMap::new(alloc), value)
+    }
+}
+
+impl<L: JsonKey + Hash + Drop, R: JsonValue + Hash + Drop> JsonObject<L, R>
+    for BiInsertionOrderMap<L, R> {
+    fn to_value(&self, alloc: Global) -> Result<Value, NoMemory> {
+        write_walk(alloc, self.iter())
+    }
+
+    fn from_value(alloc: Global, value: &Value) -> Result<BiInsertionOrderMap<L, R>, JsonFault> {
+        read_into(alloc, BiInsertionOrderMap::new(alloc), value)
     }
 }

@@ -40,7 +40,7 @@ returns-in-Ok-insert_no_overwrite-clause-room g c =
 
 pub returns-in-Ok-insert_with-clause-room : goal.returns-in-Ok-insert_with-clause-room
 returns-in-Ok-insert_with-clause-room g c =
-    let e = c.in-Ok-insert_with.ensures in
+    let e = c.in-Ok-insert_with.ensures.answer in
     let pair : g.row.L.Denot × g.row.R.Denot = (c.in-InsertWith.left, c.in-InsertWith.right) in
     rw c.in-InsertWith.is (room_after g.L.PartialEq.eq g.R.PartialEq.eq (Puts {K = g.row.K.Denot}) (g.B.Bijection.holding c.args.bimap.now) (g.B.Bijection.holding c.insert_with.new.self) pair (InsertWith pair.0 pair.1 c.in-InsertWith.policy, Inserted c.in-Ok-insert_with.answer) (overwrites c.in-Ok-insert_with.answer) refl (g.met.B.Bijection.fits c.args.bimap.now)
     (answer_overwrites g.L.PartialEq.eq g.R.PartialEq.eq (Contains (g.B.Bijection.holding c.args.bimap.now).pairs) pair c.in-Ok-insert_with.answer e.answer) e.room)
@@ -55,7 +55,7 @@ returns-in-Retain-clause-step g c =
 
 pub returns-in-Ok-insert_with-clause-step : goal.returns-in-Ok-insert_with-clause-step
 returns-in-Ok-insert_with-clause-step g c =
-    rw c.in-InsertWith.is (put_touches g.L.PartialEq.eq g.R.PartialEq.eq _ _ _ c.in-Ok-insert_with.ensures.put)
+    rw c.in-InsertWith.is (put_touches g.L.PartialEq.eq g.R.PartialEq.eq _ _ _ c.in-Ok-insert_with.ensures.answer.put)
 
 pub returns-in-ContainsLeft-clause-right : goal.returns-in-ContainsLeft-clause-right
 returns-in-ContainsLeft-clause-right g c =

@@ -32,7 +32,7 @@ loop-key-preserved g c =
       reading = reading_more key val g.L.PartialEq.eq g.R.PartialEq.eq c.args.policy all (entries_of (members_view c.next.new.self)) (string_bytes c.in-Some-next.key.now, view c.in-Some-next.value.now) places held (g.B.Bijection.holding c.insert_with.new.self) c.loop-key.at p c.in-Ok-insert_with.struck
           (subst (λ l. IsReading key val g.L.PartialEq.eq g.R.PartialEq.eq c.args.policy all (entries_of (members_view l)) places held c.loop-key.at) c.in-Some-next.ensures.steps i.reading)
           (read_key g (goal.at.loop-key-preserved g c).In-Ok, c.in-Ok-from_json.ensures)
-          (g.met.B.Bijection.apart c.loop-key.bimap) (g.met.B.Bijection.fits c.loop-key.bimap) c.in-Ok-insert_with.ensures;
+          (g.met.B.Bijection.apart c.loop-key.bimap) (g.met.B.Bijection.fits c.loop-key.bimap) c.in-Ok-insert_with.ensures.answer;
       counted = omega (arith, ap length c.in-Some-next.ensures.steps, i.counted);
     }
 
@@ -88,7 +88,7 @@ pub returns-in-Err-LeftHeld : goal.returns-in-Err-LeftHeld
 returns-in-Err-LeftHeld g c =
     let held = g.B.Bijection.holding c.loop-key.bimap in
     let pair : g.row.L.Denot × g.row.R.Denot = (c.in-Ok.left, c.in-Ok-from_json.right) in
-    let why = subst (IsRefusalUnder g.L.PartialEq.eq g.R.PartialEq.eq (Contains held.pairs) (IsFull held) pair c.args.policy) c.in-Err-LeftHeld.field-0-is c.in-Err-LeftHeld.ensures.refused in
+    let why = subst (IsRefusalUnder g.L.PartialEq.eq g.R.PartialEq.eq (Contains held.pairs) (IsFull held) pair c.args.policy) c.in-Err-LeftHeld.field-0-is c.in-Err-LeftHeld.ensures.answer.refused in
     stops g (goal.at.returns-in-Err-LeftHeld g c).In-Some-next _
     (λ S same. (pair, (read_key g (goal.at.returns-in-Err-LeftHeld g c).In-Ok, c.in-Ok-from_json.ensures), left_kept g.L.JsonKey.reads_key g.R.JsonValue.reads g.L.PartialEq.eq g.R.PartialEq.eq c.args.policy (Contains held.pairs) S (IsFull held) pair c.in-Err-LeftHeld.field-0-0 c.in-Err-LeftHeld.field-0-1 same why))
 
@@ -96,6 +96,6 @@ pub returns-in-Err-RightHeld : goal.returns-in-Err-RightHeld
 returns-in-Err-RightHeld g c =
     let held = g.B.Bijection.holding c.loop-key.bimap in
     let pair : g.row.L.Denot × g.row.R.Denot = (c.in-Ok.left, c.in-Ok-from_json.right) in
-    let why = subst (IsRefusalUnder g.L.PartialEq.eq g.R.PartialEq.eq (Contains held.pairs) (IsFull held) pair c.args.policy) c.in-Err-RightHeld.field-0-is c.in-Err-RightHeld.ensures.refused in
+    let why = subst (IsRefusalUnder g.L.PartialEq.eq g.R.PartialEq.eq (Contains held.pairs) (IsFull held) pair c.args.policy) c.in-Err-RightHeld.field-0-is c.in-Err-RightHeld.ensures.answer.refused in
     stops g (goal.at.returns-in-Err-RightHeld g c).In-Some-next _
     (λ S same. (pair, (read_key g (goal.at.returns-in-Err-RightHeld g c).In-Ok, c.in-Ok-from_json.ensures), right_kept g.L.JsonKey.reads_key g.R.JsonValue.reads g.L.PartialEq.eq g.R.PartialEq.eq c.args.policy (Contains held.pairs) S (IsFull held) pair c.in-Err-RightHeld.field-0-0 c.in-Err-RightHeld.field-0-1 same why))
