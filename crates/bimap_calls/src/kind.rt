@@ -64,12 +64,13 @@ impl<
     }
 }
 
-/// Calls a test over the two mixed kinds of bimap of these values, in which either index stands on either side:
-/// `over_mixed_kinds!(TEST, LEFT, RIGHT, RUNTIME)`, with a further `?` where it answers a `Result`.
+/// Calls a test over the two mixed kinds of bimap of these values, in which either index stands on either side, and over that
+/// in the order of insertion: `over_mixed_kinds!(TEST, LEFT, RIGHT, RUNTIME)`, with a further `?` where it answers a `Result`.
 #[macro_export]
 macro_rules! over_mixed_kinds {
     ($test:ident, $left:ty, $right:ty, $rt:expr $(, $try:tt)?) => {{
         $test::<bimap::BiBTreeHashMap<$left, $right>>($rt, $rt.alloc()) $($try)?;
         $test::<bimap::BiHashBTreeMap<$left, $right>>($rt, $rt.alloc()) $($try)?;
+        $test::<bimap::BiInsertionOrderMap<$left, $right>>($rt, $rt.alloc()) $($try)?;
     }};
 }

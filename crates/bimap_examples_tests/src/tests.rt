@@ -2,6 +2,7 @@
 mod any;
 mod changes;
 mod constructors;
+mod inverse;
 mod json;
 mod looks;
 mod marks;

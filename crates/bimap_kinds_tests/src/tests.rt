@@ -7,3 +7,4 @@ mod few_tests;
 mod loops;
 mod meters;
 mod no_bytes;
+mod turns;

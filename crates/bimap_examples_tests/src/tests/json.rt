@@ -1,7 +1,10 @@
 //! Examples of JSON.
 use super::{Seats, holds, ordered};
-use bimap::value::{JsonFault, JsonObject, Value, read_into_with, read_text_with, reread};
-use bimap::{BiBTreeMap, NoMemory, OnHeld, Policy};
+use bimap::value::{
+    JsonFault, JsonObject, PairsFault, Value, read_into_with, read_pairs, read_text_with, reread,
+    write_pairs,
+};
+use bimap::{BiBTreeMap, BiInsertionOrderMap, NoMemory, OnHeld, Policy};
 use std::alloc::Global;
 use std::test::Fail;
 
@@ -72,4 +75,47 @@ fn writes_seats_and_reads_them_back(rt: HostRuntime) {
     let text = value.to_string(alloc).expect(&rt, "memory");
     assert!(&rt; text.as_str() == r#"{"a":3,"b":1,"c":2}"#);
     assert!(&rt; reads_back(alloc, ordered(&rt)) == Ok(true));
+}
+
+type Turns = BiInsertionOrderMap<char, u32>;
+
+fn pairs_written(alloc: Global, seats: &Turns) -> Result<Value, NoMemory> {
+    let value = write_pairs(alloc, seats.iter())?;
+    Ok(value)
+}
+
+fn pairs_read(alloc: Global, value: &Value) -> Result<Vec<(char, u32)>, PairsFault> {
+    let pairs: Vec<(char, u32)> = read_pairs(alloc, &value)?;
+    Ok(pairs)
+}
+
+#[test]
+fn pairs_keep_their_order(rt: HostRuntime) -> Result<(), Fail> {
+    let alloc = rt.alloc();
+    let value = Value::from_str(alloc, r#"[["c", 2], ["a", 3]]"#)?;
+    let pairs = pairs_read(alloc, &value)
+        .ok()
+        .expect(&rt, "each item reads");
+    assert!(&rt; pairs.as_slice() == [('c', 2), ('a', 3)].as_slice());
+    let seats = Turns::from_iter(alloc, pairs).ok().expect(&rt, "memory");
+    let written = pairs_written(alloc, &seats).expect(&rt, "memory");
+    let text = written.to_string(alloc).expect(&rt, "memory");
+    assert!(&rt; text.as_str() == r#"[["c",2],["a",3]]"#);
+    Ok(())
+}
+
+#[test]
+fn pairs_are_named_where_they_do_not_read(rt: HostRuntime) -> Result<(), Fail> {
+    let alloc = rt.alloc();
+    for (text, fault) in [
+        ("{}", PairsFault::NotAnArray),
+        (r#"[["a", 1], ["b"]]"#, PairsFault::NotAPair(1)),
+        (r#"[["a", 1, 2]]"#, PairsFault::NotAPair(0)),
+        (r#"[["a", 1], ["bc", "d"]]"#, PairsFault::BadLeft(1)),
+        (r#"[["a", "b"], 7]"#, PairsFault::BadRight(0)),
+    ] {
+        let value = Value::from_str(alloc, text)?;
+        assert!(&rt; pairs_read(alloc, &value).err() == Some(fault));
+    }
+    Ok(())
 }

@@ -1,6 +1,7 @@
 //! Examples of look-ups by a borrowed form of a key.
 use bimap::{BiBTreeMap, BiHashMap};
 use std::alloc::AllocError;
+use std::ops::Bound;
 use std::process::Abort;
 
 const NAMES: [(&str, u32); 4] = [("", 0), ("main", 1), ("mainly", 2), ("z", 3)];
@@ -49,6 +50,28 @@ fn a_hashed_text_is_asked_for_by_a_str(rt: HostRuntime) {
     assert!(&rt; names.remove_by_right("mainl").is_none());
     let taken = names.remove_by_right("mainly").expect(&rt, "not removed");
     assert!(&rt; taken.0 == 2 && names.len() == 3);
+}
+
+#[test]
+fn a_range_of_texts_ends_at_strs(rt: HostRuntime) {
+    let numbers = ordered_names(&rt).ok().expect(&rt, "no memory");
+    let main = Bound::Included("main");
+    let past_main = Bound::Excluded("main");
+    assert!(&rt;
+        numbers
+            .left_range_between(Bound::Included("m"), Bound::Excluded("n"))
+            .len()
+            == 2
+    );
+    assert!(&rt;
+        numbers
+            .left_range_between(past_main, Bound::Unbounded)
+            .len()
+            == 2
+    );
+    assert!(&rt; numbers.left_range_between(Bound::Unbounded, main).len() == 2);
+    assert!(&rt; numbers.left_range_between(Bound::Included("z"), main).len() == 0);
+    assert!(&rt; numbers.left_range_between(past_main, past_main).len() == 0);
 }
 
 fn row(rt: &impl AllocGlobal, bytes: &[u8]) -> Result<Vec<u8>, AllocError> {

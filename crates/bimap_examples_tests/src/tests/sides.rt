@@ -1,6 +1,7 @@
 //! Examples of walks and ranges. Each is made in a function of its own, whose loan ends with it.
 use super::{PAIRS, Seats, ordered};
 use bimap::BiBTreeHashMap;
+use std::ops::Bound;
 
 fn first(seats: &Seats) -> Option<(&char, &u32)> {
     seats.iter().next()
@@ -24,6 +25,12 @@ fn least_right(seats: &Seats) -> Option<&u32> {
 
 fn first_from_right(seats: &Seats) -> Option<(&char, &u32)> {
     seats.right_range(2..).next()
+}
+
+fn first_past_right(seats: &Seats) -> Option<(&char, &u32)> {
+    seats
+        .right_range_between(Bound::Excluded(&1), Bound::Unbounded)
+        .next()
 }
 
 fn walk_length(seats: &Seats) -> usize {
@@ -53,6 +60,7 @@ fn walks_in_order(rt: HostRuntime) {
     assert!(&rt; first_from_left(&seats) == Some((&'b', &1)));
     assert!(&rt; least_right(&seats) == Some(&1));
     assert!(&rt; first_from_right(&seats) == Some((&'c', &2)));
+    assert!(&rt; first_past_right(&seats) == Some((&'c', &2)));
 }
 
 #[test]
