@@ -1,7 +1,9 @@
 //! JSON both ways: each type as both sides, and each as a left and as a right beside another.
 use crate::texts::{numbered, repeated};
 use bimap::value::{JsonFault, JsonKey, JsonObject, JsonValue, read_text_with, reread};
-use bimap::{BiBTreeHashMap, BiBTreeMap, BiHashBTreeMap, BiHashMap, NoMemory, Policy};
+use bimap::{
+    BiBTreeHashMap, BiBTreeMap, BiHashBTreeMap, BiHashMap, BiInsertionOrderMap, NoMemory, Policy,
+};
 use serde_json::Value;
 use std::alloc::{AllocError, Global};
 use std::hash::Hash;
@@ -96,6 +98,19 @@ fn ordered_right<L: JsonKey + Hash + Drop, R: JsonValue + Ord + Drop>(
     )
 }
 
+fn insertion_order<L: JsonKey + Hash + Drop, R: JsonValue + Hash + Drop>(
+    text: &str,
+    request: &JsonCall<'_>,
+    said: &mut String,
+) -> Result<bool, AllocError> {
+    both_ways!(
+        BiInsertionOrderMap::<L, R>::new(request.alloc),
+        text,
+        request,
+        said
+    )
+}
+
 // A text as it stands, or that of an object of so many members for `each N MEMBER`.
 fn text_of(alloc: Global, text: &str) -> Result<String, AllocError> {
     let Some((count, member)) = repeated(text) else {
@@ -123,6 +138,7 @@ fn of_kind<L: JsonKey + Ord + Hash + Drop, R: JsonValue + Ord + Hash + Drop>(
         1 => hashed::<L, R>(text, request, said),
         2 => ordered_left::<L, R>(text, request, said),
         3 => ordered_right::<L, R>(text, request, said),
+        5 => insertion_order::<L, R>(text, request, said),
         _ => Ok(false),
     }
 }

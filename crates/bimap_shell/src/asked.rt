@@ -7,9 +7,27 @@ use crate::request::Request;
 use crate::word::Word;
 use crate::{hashed_left, ordered_left, right};
 use bimap::btree::Count;
-use bimap::{BiBTreeHashMap, BiBTreeMap, BiHashBTreeMap, BiHashMap};
+use bimap::{BiBTreeHashMap, BiBTreeMap, BiHashBTreeMap, BiHashMap, NotInverted};
 use bimap_calls::{Counter, Crowded};
 use std::alloc::AllocError;
+
+// The body of `turned`, by what shows the inverse.
+macro_rules! turned {
+    ($bimap:ident, $said:ident, $show:expr) => {
+        match $bimap.into_inverse() {
+            Ok(inverse) => {
+                write!($said, "Ok(")?;
+                $show(&inverse, $said)?;
+                write!($said, ")")?;
+                inverse.into_inverse().map_err(|_| AllocError)
+            }
+            Err(NotInverted { given }) => {
+                write!($said, "Err(NotInverted)")?;
+                Ok(given)
+            }
+        }
+    };
+}
 
 impl ShellKind for BiBTreeMap<Word, Word> {
     fn show(&self, said: &mut String) -> Result<(), AllocError> {
@@ -23,6 +41,10 @@ impl ShellKind for BiBTreeMap<Word, Word> {
         said: &mut String,
     ) -> Result<bool, AllocError> {
         Ok(ordered_left::call(self, other, request, said)? || right::call(self, request, said)?)
+    }
+
+    fn turned(self, said: &mut String) -> Result<Self, AllocError> {
+        turned!(self, said, ShellKind::show)
     }
 
     fn count(
@@ -56,6 +78,10 @@ impl ShellKind for BiHashMap<Word, Word> {
         )
     }
 
+    fn turned(self, said: &mut String) -> Result<Self, AllocError> {
+        turned!(self, said, hashed_left::show)
+    }
+
     fn count(
         &mut self,
         request: &Request<'_>,
@@ -83,6 +109,10 @@ impl ShellKind for BiBTreeHashMap<Word, Word> {
         )
     }
 
+    fn turned(self, said: &mut String) -> Result<Self, AllocError> {
+        turned!(self, said, hashed_left::show)
+    }
+
     fn count(
         &mut self,
         request: &Request<'_>,
@@ -105,6 +135,10 @@ impl ShellKind for BiHashBTreeMap<Word, Word> {
         said: &mut String,
     ) -> Result<bool, AllocError> {
         Ok(hashed_left::call(self, other, request, said)? || right::call(self, request, said)?)
+    }
+
+    fn turned(self, said: &mut String) -> Result<Self, AllocError> {
+        turned!(self, said, ShellKind::show)
     }
 
     fn count(
@@ -132,6 +166,10 @@ impl ShellKind for Crowded<Word, Word> {
             hashed_left::call(self, other, request, said)?
                 || right::values_by_place(self, request, said)?,
         )
+    }
+
+    fn turned(self, said: &mut String) -> Result<Self, AllocError> {
+        turned!(self, said, hashed_left::show)
     }
 
     fn count(

@@ -1,6 +1,6 @@
 //! What a hashed left gives.
 use crate::course::follow;
-use crate::kind::{Words, copy_to, insert, say, say_moved};
+use crate::kind::{Words, copy_to, insert, parted, say};
 use crate::request::Request;
 use crate::word::Word;
 use bimap_index::{CopiedIndex, HashIndex};
@@ -36,27 +36,6 @@ pub fn call<LS: BuildHasher + Clone + Drop, J: CopiedIndex<Word> + Drop>(
     said: &mut String,
 ) -> Result<bool, AllocError> {
     match request.call {
-        "retain" => {
-            let least = request.first;
-            say(
-                bimap.retain(|_left: &Word, right: &Word| *right >= least),
-                said,
-            )
-        }
-        "extract_into" => {
-            let least = request.first;
-            let mut pairs = Vec::new(request.alloc);
-            let answer = bimap.extract_into(
-                &mut pairs,
-                |_left: &Word, right: &Word| *right >= least,
-            );
-            say_moved(answer, &pairs, said)
-        }
-        "drain_into" => {
-            let mut pairs = Vec::new(request.alloc);
-            let answer = bimap.drain_into(&mut pairs);
-            say_moved(answer, &pairs, said)
-        }
         "clone" => {
             if copy_to(bimap, other, said)? {
                 write!(said, "Ok({other:?})")?;
@@ -70,6 +49,10 @@ pub fn call<LS: BuildHasher + Clone + Drop, J: CopiedIndex<Word> + Drop>(
         "eq" => say(bimap == other, said),
         "is_subset_of" => say(bimap.is_subset_of(other), said),
         "holds_same_pairs" => say(bimap.holds_same_pairs(other), said),
-        _ => Ok(walk(bimap, request, said)? || insert(bimap, request, said)?),
+        _ => Ok(
+            walk(bimap, request, said)?
+                || parted(bimap, request, said)?
+                || insert(bimap, request, said)?,
+        ),
     }
 }

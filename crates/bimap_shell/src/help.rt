@@ -33,6 +33,7 @@ STEPS: front back len copy rest   RANGE: .. b.. b..d b..=d ..d ..=d, and >b.. wi
   left_range RANGE STEPS · right_range RANGE STEPS
   first_by_left · last_by_left · pop_first_by_left · pop_last_by_left
   pair_at_left_rank N · left_rank L           all six also by right
+  into_inverse                                shows the bimap turned round, and turns it back
   clone · swap · eq · partial_cmp · cmp · hash · is_subset_of · holds_same_pairs     (with the other bimap, which clone makes)
   undoable insert L R · undoable insert_with POLICY L R · undoable insert_all POLICY PAIRS
   undoable replace_left L L · undoable replace_right R R
@@ -45,6 +46,7 @@ STEPS: front back len copy rest   RANGE: .. b.. b..d b..=d ..d ..=d, and >b.. wi
 
 Before a call:
   times N CALL                # in its words is the turn, % a turn in mixed order; seven digits
+  inverse CALL                of the bimap seen from its other side (`Inverse`): look-ups, calls of one pair, runs
   counted CALL                shows the comparisons
   bounded CALL                shows whether they are within the bound
   famine CALL                 every request for memory is refused

@@ -19,6 +19,7 @@ fn is_refusal(said: &str) -> bool {
         || said.starts_with("Err(ExtendStopped")
         || said.starts_with("Err(RunRefused")
         || said.starts_with("Err(UndoStopped")
+        || said.starts_with("Err(NotInverted")
         || said.contains("why: Memory")
         || said.starts_with("NoRoom(")
 }

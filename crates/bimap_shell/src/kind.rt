@@ -2,7 +2,7 @@
 use crate::request::Request;
 use crate::word::Word;
 use bimap::btree::Count;
-use bimap::{BijectiveMap, NoMemory};
+use bimap::{BijectiveMap, NoMemory, WalkedIndex};
 use bimap_calls::Counter;
 use bimap_index::{CopiedIndex, Index};
 use std::alloc::AllocError;
@@ -20,6 +20,9 @@ pub trait ShellKind: Sized {
         request: &Request<'_>,
         said: &mut String,
     ) -> Result<bool, AllocError>;
+
+    /// Turns the bimap round, writes what it is then, and turns it back. Where that is refused, it is as it was.
+    fn turned(self, said: &mut String) -> Result<Self, AllocError>;
 
     /// A call with a meter.
     fn count(
@@ -39,8 +42,8 @@ pub fn say<T: Debug + Drop>(answer: T, said: &mut String) -> Result<bool, AllocE
     Ok(true)
 }
 
-/// Writes which pairs a call moved to a list, or why it moved none. It answers that there is the call.
-pub fn say_moved(
+// Writes which pairs a call moved to a list, or why it moved none. It answers that there is the call.
+fn say_moved(
     answer: Result<(), NoMemory>,
     pairs: &[(Word, Word)],
     said: &mut String,
@@ -53,7 +56,7 @@ pub fn say_moved(
 }
 
 /// Puts a copy in the place of the other bimap, and answers whether there is one.
-pub fn copy_to<I: CopiedIndex<Word> + Drop, J: CopiedIndex<Word> + Drop>(
+pub fn copy_to<I: CopiedIndex<Word> + WalkedIndex<Word> + Drop, J: CopiedIndex<Word> + Drop>(
     bimap: &Words<I, J>,
     other: &mut Words<I, J>,
     said: &mut String,
@@ -67,6 +70,34 @@ pub fn copy_to<I: CopiedIndex<Word> + Drop, J: CopiedIndex<Word> + Drop>(
             write!(said, "Err({refused:?})")?;
             Ok(false)
         }
+    }
+}
+
+/// What keeps pairs by a test of the right, or takes them out.
+pub fn parted<I: WalkedIndex<Word>, J: Index<Word>>(
+    bimap: &mut Words<I, J>,
+    request: &Request<'_>,
+    said: &mut String,
+) -> Result<bool, AllocError> {
+    let least = request.first;
+    let mut pairs = Vec::new(request.alloc);
+    match request.call {
+        "retain" => say(
+            bimap.retain(|_left: &Word, right: &Word| *right >= least),
+            said,
+        ),
+        "extract_into" => {
+            let answer = bimap.extract_into(
+                &mut pairs,
+                |_left: &Word, right: &Word| *right >= least,
+            );
+            say_moved(answer, &pairs, said)
+        }
+        "drain_into" => {
+            let answer = bimap.drain_into(&mut pairs);
+            say_moved(answer, &pairs, said)
+        }
+        _ => Ok(false),
     }
 }
 

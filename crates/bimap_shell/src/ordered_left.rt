@@ -1,7 +1,7 @@
 //! What an ordered left gives.
 use crate::course::follow;
 use crate::forward::forward;
-use crate::kind::{Words, copy_to, insert, say, say_moved};
+use crate::kind::{Words, copy_to, insert, parted, say};
 use crate::request::Request;
 use crate::word::Word;
 use bimap::btree::Count;
@@ -78,27 +78,6 @@ pub fn call<J: CopiedIndex<Word> + Drop>(
     said: &mut String,
 ) -> Result<bool, AllocError> {
     match request.call {
-        "retain" => {
-            let least = request.first;
-            say(
-                bimap.retain(|_left: &Word, right: &Word| *right >= least),
-                said,
-            )
-        }
-        "extract_into" => {
-            let least = request.first;
-            let mut pairs = Vec::new(request.alloc);
-            let answer = bimap.extract_into(
-                &mut pairs,
-                |_left: &Word, right: &Word| *right >= least,
-            );
-            say_moved(answer, &pairs, said)
-        }
-        "drain_into" => {
-            let mut pairs = Vec::new(request.alloc);
-            let answer = bimap.drain_into(&mut pairs);
-            say_moved(answer, &pairs, said)
-        }
         "clone" => {
             if copy_to(bimap, other, said)? {
                 write!(said, "Ok({other:?})")?;
@@ -113,6 +92,7 @@ pub fn call<J: CopiedIndex<Word> + Drop>(
             walk(bimap, request, said)?
                 || end(bimap, request, said)?
                 || compare(bimap, other, call, said)?
+                || parted(bimap, request, said)?
                 || insert(bimap, request, said)?,
         ),
     }

@@ -84,7 +84,8 @@ fn nothing_after(name: &str) -> bool {
         | "cmp"
         | "hash"
         | "is_subset_of"
-        | "holds_same_pairs" => true,
+        | "holds_same_pairs"
+        | "into_inverse" => true,
         "first_by_left" | "last_by_left" | "pop_first_by_left" | "pop_last_by_left" => true,
         "first_by_right" | "last_by_right" | "pop_first_by_right" | "pop_last_by_right" => true,
         "last_change" | "mark" | "forget" | "held" | "into_inner" => true,
@@ -198,6 +199,7 @@ fn before<'a>(words: &mut SplitWhitespace<'a>) -> Option<(On, Memory, usize, &'a
     for _ in 0..4u32 {
         match words.next()? {
             "undoable" => on = On::Record,
+            "inverse" => on = On::Inverse,
             "counted" => on = On::Counted,
             "bounded" => on = On::Bounded,
             "famine" => memory = Memory::Famine,

@@ -23,6 +23,8 @@ pub enum On {
     Counted,
     /// Of the bimap, with a meter whose number is compared with the bound.
     Bounded,
+    /// Of the bimap seen from its other side.
+    Inverse,
     /// Of the bimap with a record.
     Record,
 }

@@ -48,6 +48,10 @@ pub fn call<B: CopyKind<Word, Word> + ShellKind>(
             each(&session.bimap, said);
             write!(said, "]")?;
         }
+        "into_inverse" => {
+            let empty = B::empty(session.alloc);
+            session.bimap = mem::replace(&mut session.bimap, empty).turned(said)?;
+        }
         "swap" => return say(mem::swap(&mut session.bimap, &mut session.other), said),
         _ => return room(session, request, said),
     }

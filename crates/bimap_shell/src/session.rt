@@ -3,11 +3,12 @@ use crate::kind::ShellKind;
 use crate::request::{On, Request};
 use crate::word::Word;
 use crate::{counted, items, look, marks, put, rooms, runs};
-use bimap::Bijection;
+use bimap::{Bijection, Inverse};
 use bimap_calls::CopyKind;
 use bimap_undo::Undoable;
 use std::alloc::{AllocError, Global};
 use std::fmt::Debug;
+use std::mem;
 
 /// The bimap, another one beside it, and one with a record.
 #[derive(Drop)]
@@ -55,6 +56,7 @@ impl<B: CopyKind<Word, Word> + ShellKind> Session<B> {
     ) -> Result<bool, AllocError> {
         match request.on {
             On::Bimap => self.plain(request, said),
+            On::Inverse => self.inverse(request, said),
             On::Record => marks::call(self, request, said),
             On::Counted | On::Bounded => counted::call(&mut self.bimap, request, said),
         }
@@ -67,6 +69,21 @@ impl<B: CopyKind<Word, Word> + ShellKind> Session<B> {
                 || self.of_pairs(request, said)?
                 || self.of_sides(request, said)?,
         )
+    }
+
+    // A call of the bimap seen from its other side.
+    fn inverse(
+        &mut self,
+        request: &mut Request<'_>,
+        said: &mut String,
+    ) -> Result<bool, AllocError> {
+        let empty = B::empty(self.alloc);
+        let mut view = Inverse::new(mem::replace(&mut self.bimap, empty));
+        let has = look::call(&view, request, said)?
+            || put::call(&mut view, request, said)?
+            || runs::call(self.alloc, &mut view, request, said)?;
+        self.bimap = view.into_inner();
+        Ok(has)
     }
 
     fn of_pairs(
