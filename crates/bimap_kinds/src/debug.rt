@@ -2,34 +2,17 @@
 ghost use Rattle.std.specs.Iterator.{IsFinite};
 
 use crate::map::BijectiveMap;
-use bimap_index::{HashIndex, Index, InsertionOrder};
-use bimap_tree::Ordered;
+use crate::walked_index::WalkedIndex;
+use bimap_index::Index;
 use std::fmt;
-use std::hash::{BuildHasher, Hash};
 
-/// Writes the pairs by ascending left, as `{'a' <> 1, 'b' <> 2}`.
-impl<L: Ord + fmt::Debug + Drop, R: Eq + fmt::Debug + Drop, J: Index<R>> fmt::Debug
-    for BijectiveMap<L, R, Ordered, J> {
-    fn fmt<W: fmt::Write>(&self, f: &mut fmt::Formatter<W>) -> fmt::Result {
-        write_pairs(self.iter(), f)
-    }
-}
-
-/// Writes the pairs in no set order, as `{'a' <> 1, 'b' <> 2}`.
+/// Writes the pairs in the order of `iter`, as `{'a' <> 1, 'b' <> 2}`.
 impl<
-    L: Eq + Hash + fmt::Debug + Drop,
+    L: Eq + fmt::Debug + Drop,
     R: Eq + fmt::Debug + Drop,
-    LS: BuildHasher,
+    I: WalkedIndex<L>,
     J: Index<R>,
-> fmt::Debug for BijectiveMap<L, R, HashIndex<LS>, J> {
-    fn fmt<W: fmt::Write>(&self, f: &mut fmt::Formatter<W>) -> fmt::Result {
-        write_pairs(self.iter(), f)
-    }
-}
-
-/// Writes the pairs in the order of insertion, as `{'a' <> 1, 'b' <> 2}`.
-impl<L: Eq + fmt::Debug + Drop, R: Eq + fmt::Debug + Drop, I: Index<L>, J: Index<R>> fmt::Debug
-    for BijectiveMap<L, R, InsertionOrder<I>, J> {
+> fmt::Debug for BijectiveMap<L, R, I, J> {
     fn fmt<W: fmt::Write>(&self, f: &mut fmt::Formatter<W>) -> fmt::Result {
         write_pairs(self.iter(), f)
     }

@@ -46,7 +46,7 @@ fn array_of_two(alloc: Global, first: Value, second: Value) -> Result<Value, NoM
 
 /// Returns the array of the pairs that an iterator gives, in their order, each as an array of its left and its right.
 ///
-/// Takes memory for each pair. An `Err` leaves nothing.
+/// Takes time proportional to the number of pairs, and memory for each. An `Err` leaves nothing.
 ///
 ///     let value = write_pairs(alloc, seats.iter())?;
 ///     // [["c",2],["a",3]]
@@ -89,7 +89,8 @@ fn as_two(value: &Value) -> Option<(&Value, &Value)>
 /// Returns the pairs of an array of arrays of two, in their order. `from_iter` and `from_iter_with` make a bimap of
 /// them, and `BiInsertionOrderMap` keeps the order.
 ///
-/// Takes memory for each pair. An `Err` names the first item that doesn't read, and leaves nothing.
+/// Takes time proportional to the length, and memory for each pair. An `Err` names the first item that doesn't read, and
+/// leaves nothing.
 ///
 ///     // of [["c", 2], ["a", 3]]
 ///     let pairs: Vec<(char, u32)> = read_pairs(alloc, &value)?;
