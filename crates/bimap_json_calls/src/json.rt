@@ -1,4 +1,5 @@
 //! JSON both ways: each type as both sides, and each as a left and as a right beside another.
+use crate::pairs::pairs_of_kind;
 use crate::texts::{numbered, repeated};
 use bimap::value::{JsonFault, JsonKey, JsonObject, JsonValue, read_text_with, reread};
 use bimap::{
@@ -6,12 +7,15 @@ use bimap::{
 };
 use serde_json::Value;
 use std::alloc::{AllocError, Global};
+use std::fmt::Debug;
 use std::hash::Hash;
 
 /// What a line asks for.
 #[derive(Clone, Copy)]
 pub struct JsonCall<'a> {
     pub alloc: Global,
+    /// An array of pairs in place of an object.
+    pub of_pairs: bool,
     pub types: (&'a str, &'a str),
     pub policy: Policy,
     pub text: &'a str,
@@ -126,11 +130,13 @@ fn text_of(alloc: Global, text: &str) -> Result<String, AllocError> {
     Ok(object)
 }
 
-fn of_kind<L: JsonKey + Ord + Hash + Drop, R: JsonValue + Ord + Hash + Drop>(
-    kind: usize,
-    request: &JsonCall<'_>,
-    said: &mut String,
-) -> Result<bool, AllocError> {
+fn of_kind<
+    L: JsonKey + JsonValue + Debug + Ord + Hash + Drop,
+    R: JsonValue + Debug + Ord + Hash + Drop,
+>(kind: usize, request: &JsonCall<'_>, said: &mut String) -> Result<bool, AllocError> {
+    if request.of_pairs {
+        return pairs_of_kind::<L, R>(kind, request, said);
+    }
     let text = text_of(request.alloc, request.text)?;
     let text = text.as_str();
     match kind {

@@ -2,6 +2,7 @@
 #![tactic(auto)]
 
 mod json;
+mod pairs;
 mod texts;
 
 pub use json::{JsonCall, json_call};
