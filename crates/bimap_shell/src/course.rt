@@ -1,8 +1,7 @@
 //! Iterators, step by step.
 use crate::request::Step;
 use crate::word::Word;
-use bimap_tree::Ordered;
-use bimap_walk::{ByPlace, IntoIter, Iter, Projection, Values};
+use bimap_walk::{Course, CourseBack, IntoIter, Iter, Projection, Values};
 use std::alloc::AllocError;
 use std::fmt::Debug;
 
@@ -20,30 +19,18 @@ pub trait Walk: Sized {
     fn left(&self) -> usize;
 
     /// Another iterator over the same items; `None` where it gives them by value.
-    fn copy(&self) -> Result<Option<Self>, AllocError>;
-}
-
-impl<'a> Walk for Iter<'a, Word, Word, Ordered> {
-    type Item = (&'a Word, &'a Word);
-
-    fn front(&mut self) -> Option<(&'a Word, &'a Word)> {
-        self.next()
-    }
-
-    fn back(&mut self) -> Option<Option<(&'a Word, &'a Word)>> {
-        Some(self.next_back())
-    }
-
-    fn left(&self) -> usize {
-        self.len()
-    }
-
     fn copy(&self) -> Result<Option<Self>, AllocError> {
-        Ok(Some(self.clone()?))
+        Ok(None)
     }
 }
 
-impl<'a> Walk for Iter<'a, Word, Word, ByPlace> {
+/// One that can go from its end.
+pub trait WalkBack: Walk {
+    /// The next item from the back.
+    fn last(&mut self) -> Option<Self::Item>;
+}
+
+impl<'a, C: Course> Walk for Iter<'a, Word, Word, C> {
     type Item = (&'a Word, &'a Word);
 
     fn front(&mut self) -> Option<(&'a Word, &'a Word)> {
@@ -63,27 +50,13 @@ impl<'a> Walk for Iter<'a, Word, Word, ByPlace> {
     }
 }
 
-impl<'a, P: Projection<Word, Word, Value = Word>> Walk for Values<'a, Word, Word, Ordered, P> {
-    type Item = &'a Word;
-
-    fn front(&mut self) -> Option<&'a Word> {
-        self.next()
-    }
-
-    fn back(&mut self) -> Option<Option<&'a Word>> {
-        Some(self.next_back())
-    }
-
-    fn left(&self) -> usize {
-        self.len()
-    }
-
-    fn copy(&self) -> Result<Option<Self>, AllocError> {
-        Ok(Some(self.clone()?))
+impl<'a, C: CourseBack> WalkBack for Iter<'a, Word, Word, C> {
+    fn last(&mut self) -> Option<(&'a Word, &'a Word)> {
+        self.next_back()
     }
 }
 
-impl<'a, P: Projection<Word, Word, Value = Word>> Walk for Values<'a, Word, Word, ByPlace, P> {
+impl<'a, C: Course, P: Projection<Word, Word, Value = Word>> Walk for Values<'a, Word, Word, C, P> {
     type Item = &'a Word;
 
     fn front(&mut self) -> Option<&'a Word> {
@@ -103,27 +76,14 @@ impl<'a, P: Projection<Word, Word, Value = Word>> Walk for Values<'a, Word, Word
     }
 }
 
-impl Walk for IntoIter<Word, Word, Ordered> {
-    type Item = (Word, Word);
-
-    fn front(&mut self) -> Option<(Word, Word)> {
-        self.next()
-    }
-
-    fn back(&mut self) -> Option<Option<(Word, Word)>> {
-        Some(self.next_back())
-    }
-
-    fn left(&self) -> usize {
-        self.len()
-    }
-
-    fn copy(&self) -> Result<Option<Self>, AllocError> {
-        Ok(None)
+impl<'a, C: CourseBack, P: Projection<Word, Word, Value = Word>> WalkBack
+    for Values<'a, Word, Word, C, P> {
+    fn last(&mut self) -> Option<&'a Word> {
+        self.next_back()
     }
 }
 
-impl Walk for IntoIter<Word, Word, ByPlace> {
+impl<C: Course> Walk for IntoIter<Word, Word, C> {
     type Item = (Word, Word);
 
     fn front(&mut self) -> Option<(Word, Word)> {
@@ -137,9 +97,35 @@ impl Walk for IntoIter<Word, Word, ByPlace> {
     fn left(&self) -> usize {
         self.len()
     }
+}
+
+impl<C: CourseBack> WalkBack for IntoIter<Word, Word, C> {
+    fn last(&mut self) -> Option<(Word, Word)> {
+        self.next_back()
+    }
+}
+
+/// An iterator that is asked from both ends.
+#[derive(Drop)]
+pub struct BothEnds<W>(pub W);
+
+impl<W: WalkBack> Walk for BothEnds<W> {
+    type Item = W::Item;
+
+    fn front(&mut self) -> Option<W::Item> {
+        self.0.front()
+    }
+
+    fn back(&mut self) -> Option<Option<W::Item>> {
+        Some(self.0.last())
+    }
+
+    fn left(&self) -> usize {
+        self.0.left()
+    }
 
     fn copy(&self) -> Result<Option<Self>, AllocError> {
-        Ok(None)
+        Ok(self.0.copy()?.map(BothEnds))
     }
 }
 

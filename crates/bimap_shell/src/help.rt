@@ -3,8 +3,9 @@
 /// The language.
 pub const HELP: &str =
     "A line is a call, made on each kind of bimap: ordered (BiBTreeMap), hashed (BiHashMap), ordered-hashed
-(BiBTreeHashMap), hashed-ordered (BiHashBTreeMap), crowded (BiHashMap whose keys all have one hash number).
-Answers that differ have the kind before them. A kind that lacks the call says nothing. An answer of more
+(BiBTreeHashMap), hashed-ordered (BiHashBTreeMap), crowded (BiHashMap whose keys all have one hash number),
+insertion-order (BiInsertionOrderMap).
+Answers that differ have their kinds before them. A kind that lacks the call says nothing. An answer of more
 than 4,096 bytes is shown by its two ends, with its length.
 
 Values L and R are words of up to 16 bytes, with a note where one is wanted: ann, ann'2. Notes are printed,
@@ -31,6 +32,7 @@ STEPS: front back len copy rest   RANGE: .. b.. b..d b..=d ..d ..=d, and >b.. wi
   perform CALL · run CALL; CALL; ..
   iter STEPS · into_iter STEPS · left_values STEPS · right_values STEPS
   left_range RANGE STEPS · right_range RANGE STEPS
+  left_range_between RANGE STEPS · right_range_between RANGE STEPS     (also backwards: empty)
   first_by_left · last_by_left · pop_first_by_left · pop_last_by_left
   pair_at_left_rank N · left_rank L           all six also by right
   into_inverse                                shows the bimap turned round, and turns it back
@@ -43,6 +45,7 @@ STEPS: front back len copy rest   RANGE: .. b.. b..d b..=d ..d ..=d, and >b.. wi
   undoable new · undoable held · undoable into_inner
   json LEFT RIGHT POLICY TEXT                 types, each with itself: char String bool u8 u16 u32 u64 usize
       i8 i16 i32 i64; and char u8 · char i32 · String char · String u8 · u8 String · u32 i64 · u64 char · i32 u8 · i32 u64 · i64 u32
+  json_pairs LEFT RIGHT POLICY TEXT           the same of an array of pairs, which keeps the order of a walk
 
 Before a call:
   times N CALL                # in its words is the turn, % a turn in mixed order; seven digits

@@ -2,27 +2,30 @@
 use crate::request::Request;
 use crate::word::Word;
 use bimap::btree::Count;
-use bimap::{BijectiveMap, NoMemory, WalkedIndex};
+use bimap::{BijectiveMap, NoMemory, NotInverted, WalkedIndex};
 use bimap_calls::Counter;
 use bimap_index::{CopiedIndex, Index};
 use std::alloc::AllocError;
 use std::fmt::Debug;
 
-/// A kind that the shell asks. Each call answers whether there is one on this kind, and writes what it said.
-pub trait ShellKind: Sized {
-    /// The bimap by `Debug`.
+/// What the shell shows of a kind.
+pub trait Shown: Sized {
+    /// Writes the bimap by `Debug`.
     fn show(&self, said: &mut String) -> Result<(), AllocError>;
 
-    /// A walk, an end, a rank, or a comparison with the other bimap, whose place a clone takes.
+    /// Turns the bimap round, writes what it is then, and turns it back. Where that is refused, it is as it was.
+    fn turned(self, said: &mut String) -> Result<Self, AllocError>;
+}
+
+/// A kind that the shell asks. Each call answers whether there is one on this kind, and writes what it said.
+pub trait ShellKind: Shown {
+    /// A walk, an end, a rank, a change, or a comparison with the other bimap, whose place a clone takes.
     fn call(
         &mut self,
         other: &mut Self,
         request: &Request<'_>,
         said: &mut String,
     ) -> Result<bool, AllocError>;
-
-    /// Turns the bimap round, writes what it is then, and turns it back. Where that is refused, it is as it was.
-    fn turned(self, said: &mut String) -> Result<Self, AllocError>;
 
     /// A call with a meter.
     fn count(
@@ -35,6 +38,25 @@ pub trait ShellKind: Sized {
 
 /// A bimap of words.
 pub type Words<I, J> = BijectiveMap<Word, Word, I, J>;
+
+impl<I: WalkedIndex<Word> + Drop, J: WalkedIndex<Word> + Drop> Shown for Words<I, J> {
+    fn show(&self, said: &mut String) -> Result<(), AllocError> {
+        write!(said, "{self:?}")
+    }
+
+    fn turned(self, said: &mut String) -> Result<Self, AllocError> {
+        match self.into_inverse() {
+            Ok(inverse) => {
+                write!(said, "Ok({inverse:?})")?;
+                inverse.into_inverse().map_err(|_| AllocError)
+            }
+            Err(NotInverted { given }) => {
+                write!(said, "Err(NotInverted)")?;
+                Ok(given)
+            }
+        }
+    }
+}
 
 /// Writes what a call answered. It answers that there is the call.
 pub fn say<T: Debug + Drop>(answer: T, said: &mut String) -> Result<bool, AllocError> {
@@ -55,8 +77,8 @@ fn say_moved(
     Ok(true)
 }
 
-/// Puts a copy in the place of the other bimap, and answers whether there is one.
-pub fn copy_to<I: CopiedIndex<Word> + WalkedIndex<Word> + Drop, J: CopiedIndex<Word> + Drop>(
+// Puts a copy in the place of the other bimap, and writes it, or why there is none. It answers that there is the call.
+fn copy_to<I: CopiedIndex<Word> + WalkedIndex<Word> + Drop, J: CopiedIndex<Word> + Drop>(
     bimap: &Words<I, J>,
     other: &mut Words<I, J>,
     said: &mut String,
@@ -64,17 +86,15 @@ pub fn copy_to<I: CopiedIndex<Word> + WalkedIndex<Word> + Drop, J: CopiedIndex<W
     match bimap.clone() {
         Ok(copy) => {
             *other = copy;
-            Ok(true)
+            write!(said, "Ok({other:?})")?;
         }
-        Err(refused) => {
-            write!(said, "Err({refused:?})")?;
-            Ok(false)
-        }
+        Err(refused) => write!(said, "Err({refused:?})")?,
     }
+    Ok(true)
 }
 
-/// What keeps pairs by a test of the right, or takes them out.
-pub fn parted<I: WalkedIndex<Word>, J: Index<Word>>(
+// What keeps pairs by a test of the right, or takes them out.
+fn parted<I: WalkedIndex<Word>, J: Index<Word>>(
     bimap: &mut Words<I, J>,
     request: &Request<'_>,
     said: &mut String,
@@ -101,8 +121,8 @@ pub fn parted<I: WalkedIndex<Word>, J: Index<Word>>(
     }
 }
 
-/// Insertions by the calls of the bimap's own, which users make. (A run makes those of every bimap)
-pub fn insert<I: Index<Word>, J: Index<Word>>(
+// Insertions by the calls of the bimap's own, which users make. (A run makes those of every bimap)
+fn insert<I: Index<Word>, J: Index<Word>>(
     bimap: &mut Words<I, J>,
     request: &Request<'_>,
     said: &mut String,
@@ -114,6 +134,21 @@ pub fn insert<I: Index<Word>, J: Index<Word>>(
         "insert_with" => say(bimap.insert_with(left, right, request.policy), said),
         "get_by_left_or_insert" => say(bimap.get_by_left_or_insert(left, right), said),
         _ => Ok(false),
+    }
+}
+
+/// A comparison with the other bimap, whose place a clone takes, or a change.
+pub fn call<I: CopiedIndex<Word> + WalkedIndex<Word> + Drop, J: CopiedIndex<Word> + Drop>(
+    bimap: &mut Words<I, J>,
+    other: &mut Words<I, J>,
+    request: &Request<'_>,
+    said: &mut String,
+) -> Result<bool, AllocError> {
+    match request.call {
+        "clone" => copy_to(bimap, other, said),
+        "is_subset_of" => say(bimap.is_subset_of(other), said),
+        "holds_same_pairs" => say(bimap.holds_same_pairs(other), said),
+        _ => Ok(parted(bimap, request, said)? || insert(bimap, request, said)?),
     }
 }
 

@@ -1,20 +1,21 @@
-//! The five kinds, and what each answers to a line.
+//! The six kinds, and what each answers to a line.
 use crate::hunger;
 use crate::request::{On, Request};
 use crate::session::Session;
 use crate::word::Word;
-use bimap::{BiBTreeHashMap, BiBTreeMap, BiHashBTreeMap, BiHashMap};
+use bimap::{BiBTreeHashMap, BiBTreeMap, BiHashBTreeMap, BiHashMap, BiInsertionOrderMap};
 use bimap_calls::{Crowded, Zero};
 use bimap_json_calls::{JsonCall, json_call};
 use std::alloc::AllocError;
 
 /// How a line and an answer name the kinds.
-pub const NAMES: [&str; 5] = [
+pub const NAMES: [&str; 6] = [
     "ordered",
     "hashed",
     "ordered-hashed",
     "hashed-ordered",
     "crowded",
+    "insertion-order",
 ];
 
 /// Whether a kind has its lefts in order.
@@ -131,6 +132,24 @@ impl OneNumber {
     }
 }
 
+/// Both sides by hash, in the order of insertion.
+#[derive(Drop)]
+struct InsertionOrder {
+    session: Option<Session<BiInsertionOrderMap<Word, Word>>>,
+}
+
+impl InsertionOrder {
+    fn call(&mut self, request: &mut Request<'_>, said: &mut String) -> Result<bool, AllocError> {
+        let (alloc, capacity) = (request.alloc, request.number);
+        let made = made!(
+            request,
+            BiInsertionOrderMap::new(alloc),
+            BiInsertionOrderMap::with_capacity(alloc, capacity)
+        );
+        hunger::call(&mut self.session, made, request, said)
+    }
+}
+
 /// A session of each kind.
 #[derive(Drop)]
 pub struct Kinds {
@@ -139,6 +158,7 @@ pub struct Kinds {
     ordered_left: OrderedLeft,
     ordered_right: OrderedRight,
     crowded: OneNumber,
+    insertion_order: InsertionOrder,
 }
 
 impl Kinds {
@@ -150,6 +170,7 @@ impl Kinds {
             ordered_left: OrderedLeft { session: None },
             ordered_right: OrderedRight { session: None },
             crowded: OneNumber { session: None },
+            insertion_order: InsertionOrder { session: None },
         }
     }
 
@@ -161,9 +182,10 @@ impl Kinds {
         said: &mut String,
     ) -> Result<bool, AllocError> {
         request.kind = kind;
-        if request.call == "json" {
+        if request.call == "json" || request.call == "json_pairs" {
             let json = JsonCall {
                 alloc: request.alloc,
+                of_pairs: request.call == "json_pairs",
                 types: request.types,
                 policy: request.policy,
                 text: request.text,
@@ -175,7 +197,8 @@ impl Kinds {
             1 => self.hashed.call(request, said),
             2 => self.ordered_left.call(request, said),
             3 => self.ordered_right.call(request, said),
-            _ => self.crowded.call(request, said),
+            4 => self.crowded.call(request, said),
+            _ => self.insertion_order.call(request, said),
         }
     }
 }

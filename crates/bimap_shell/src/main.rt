@@ -8,6 +8,7 @@ mod forward;
 mod hashed_left;
 mod help;
 mod hunger;
+mod insertion_left;
 mod items;
 mod kind;
 mod kinds;

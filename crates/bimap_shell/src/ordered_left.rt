@@ -1,15 +1,16 @@
 //! What an ordered left gives.
-use crate::course::follow;
+use crate::course::{BothEnds, follow};
 use crate::forward::forward;
-use crate::kind::{Words, copy_to, insert, parted, say};
+use crate::kind::{self, Words, say};
 use crate::request::Request;
 use crate::word::Word;
 use bimap::btree::Count;
 use bimap_calls::Counter;
-use bimap_index::CopiedIndex;
+use bimap_index::{CopiedIndex, HashIndex};
 use bimap_tree::Ordered;
 use std::alloc::AllocError;
-use std::hash::{FoldHasher, Hash, Hasher};
+use std::hash::{BuildHasher, FoldHasher, Hash, Hasher};
+use std::ops::RangeBounds;
 
 fn hash_of<J: CopiedIndex<Word> + Drop>(bimap: &Words<Ordered, J>) -> u64 {
     let mut state = FoldHasher::default();
@@ -25,8 +26,6 @@ fn compare<J: CopiedIndex<Word> + Drop>(
 ) -> Result<bool, AllocError> {
     match call {
         "eq" => say(bimap == other, said),
-        "is_subset_of" => say(bimap.is_subset_of(other), said),
-        "holds_same_pairs" => say(bimap.holds_same_pairs(other), said),
         "partial_cmp" => say(bimap.partial_cmp(other), said),
         "cmp" => say(bimap.cmp(other), said),
         "hash" => say(hash_of(bimap) == hash_of(other), said),
@@ -41,10 +40,14 @@ fn walk<J: CopiedIndex<Word> + Drop>(
 ) -> Result<bool, AllocError> {
     let steps = request.steps.as_slice();
     match request.call {
-        "iter" => follow(bimap.iter(), steps, said),
-        "left_values" => follow(bimap.left_values(), steps, said),
+        "iter" => follow(BothEnds(bimap.iter()), steps, said),
+        "left_values" => follow(BothEnds(bimap.left_values()), steps, said),
+        "left_range_between" => {
+            let (start, end) = (request.range.start_bound(), request.range.end_bound());
+            follow(BothEnds(bimap.left_range_between(start, end)), steps, said)
+        }
         "left_range" => match forward(request.range) {
-            Some(range) => follow(bimap.left_range(range), steps, said),
+            Some(range) => follow(BothEnds(bimap.left_range(range)), steps, said),
             None => {
                 write!(said, "runs backwards")?;
                 Ok(true)
@@ -70,7 +73,7 @@ fn end<J: CopiedIndex<Word> + Drop>(
     }
 }
 
-/// A walk, an end, a rank, or a comparison with the other bimap, whose place a clone takes.
+/// What every kind gives, walks from both ends, ends, ranks, and comparisons by the order.
 pub fn call<J: CopiedIndex<Word> + Drop>(
     bimap: &mut Words<Ordered, J>,
     other: &mut Words<Ordered, J>,
@@ -78,23 +81,32 @@ pub fn call<J: CopiedIndex<Word> + Drop>(
     said: &mut String,
 ) -> Result<bool, AllocError> {
     match request.call {
-        "clone" => {
-            if copy_to(bimap, other, said)? {
-                write!(said, "Ok({other:?})")?;
-            }
-            Ok(true)
-        }
         "into_iter" => match bimap.clone() {
-            Ok(copy) => follow(copy.into_iter(), request.steps.as_slice(), said),
+            Ok(copy) => follow(BothEnds(copy.into_iter()), request.steps.as_slice(), said),
             Err(_) => Err(AllocError),
         },
         call => Ok(
             walk(bimap, request, said)?
                 || end(bimap, request, said)?
                 || compare(bimap, other, call, said)?
-                || parted(bimap, request, said)?
-                || insert(bimap, request, said)?,
+                || kind::call(bimap, other, request, said)?,
         ),
+    }
+}
+
+/// The rights by hash, in the order of the lefts.
+pub fn right_values<RS: BuildHasher>(
+    bimap: &Words<Ordered, HashIndex<RS>>,
+    request: &Request<'_>,
+    said: &mut String,
+) -> Result<bool, AllocError> {
+    match request.call {
+        "right_values" => follow(
+            BothEnds(bimap.right_values()),
+            request.steps.as_slice(),
+            said,
+        ),
+        _ => Ok(false),
     }
 }
 

@@ -57,10 +57,12 @@ fn words_of(name: &str) -> Option<Words> {
         | "undo_last" => Some(Words::Number),
         "undo_insert" | "can_undo_insert" => Some(Words::Undo),
         "iter" | "into_iter" | "left_values" | "right_values" => Some(Words::Steps),
-        "left_range" | "right_range" => Some(Words::RangeSteps),
+        "left_range" | "right_range" | "left_range_between" | "right_range_between" => {
+            Some(Words::RangeSteps)
+        }
         "perform" => Some(Words::Call),
         "run" => Some(Words::Calls),
-        "json" => Some(Words::Json),
+        "json" | "json_pairs" => Some(Words::Json),
         _ => nothing_after(name).then_some(Words::None),
     }
 }

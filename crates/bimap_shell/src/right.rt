@@ -1,5 +1,5 @@
 //! What a right gives, ordered or hashed.
-use crate::course::follow;
+use crate::course::{BothEnds, follow};
 use crate::forward::forward;
 use crate::kind::{Words, say};
 use crate::request::Request;
@@ -10,6 +10,7 @@ use bimap_index::{CopiedIndex, HashIndex};
 use bimap_tree::Ordered;
 use std::alloc::AllocError;
 use std::hash::BuildHasher;
+use std::ops::RangeBounds;
 
 fn walk<I: CopiedIndex<Word> + Drop>(
     bimap: &Words<I, Ordered>,
@@ -18,9 +19,13 @@ fn walk<I: CopiedIndex<Word> + Drop>(
 ) -> Result<bool, AllocError> {
     let steps = request.steps.as_slice();
     match request.call {
-        "right_values" => follow(bimap.right_values(), steps, said),
+        "right_values" => follow(BothEnds(bimap.right_values()), steps, said),
+        "right_range_between" => {
+            let (start, end) = (request.range.start_bound(), request.range.end_bound());
+            follow(BothEnds(bimap.right_range_between(start, end)), steps, said)
+        }
         "right_range" => match forward(request.range) {
-            Some(range) => follow(bimap.right_range(range), steps, said),
+            Some(range) => follow(BothEnds(bimap.right_range(range)), steps, said),
             None => {
                 write!(said, "runs backwards")?;
                 Ok(true)
@@ -74,26 +79,14 @@ pub fn count<I: CopiedIndex<Word> + Drop>(
     }
 }
 
-/// The values of a hashed right, in the order of the lefts.
-pub fn values_in_order<RS: BuildHasher + Clone + Drop>(
-    bimap: &Words<Ordered, HashIndex<RS>>,
-    request: &Request<'_>,
-    said: &mut String,
-) -> Result<bool, AllocError> {
-    if request.call != "right_values" {
-        return Ok(false);
-    }
-    follow(bimap.right_values(), request.steps.as_slice(), said)
-}
-
-/// The same by place.
-pub fn values_by_place<LS: BuildHasher + Clone + Drop, RS: BuildHasher + Clone + Drop>(
+/// The values of a hashed right, by place.
+pub fn values<LS: BuildHasher, RS: BuildHasher>(
     bimap: &Words<HashIndex<LS>, HashIndex<RS>>,
     request: &Request<'_>,
     said: &mut String,
 ) -> Result<bool, AllocError> {
-    if request.call != "right_values" {
-        return Ok(false);
+    match request.call {
+        "right_values" => follow(bimap.right_values(), request.steps.as_slice(), said),
+        _ => Ok(false),
     }
-    follow(bimap.right_values(), request.steps.as_slice(), said)
 }

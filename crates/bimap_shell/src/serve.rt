@@ -33,7 +33,23 @@ fn shortened(alloc: Global, said: String) -> Result<String, AllocError> {
     }
 }
 
-// The answers, each with the number of its kind: one line where they are alike.
+// The names of the kinds that gave an answer.
+fn names_of(
+    alloc: Global,
+    answers: &[(usize, String)],
+    answer: &str,
+) -> Result<String, AllocError> {
+    let mut names = String::new(alloc);
+    for (kind, given) in answers {
+        if given.as_str() == answer {
+            let comma = if names.is_empty() { "" } else { ", " };
+            write!(names, "{comma}{}", NAMES.get(*kind).unwrap_or(&""))?;
+        }
+    }
+    Ok(names)
+}
+
+// The answers, each once, after the names of its kinds; without names where all are alike.
 fn lines(alloc: Global, answers: &[(usize, String)]) -> Result<String, AllocError> {
     let mut text = String::new(alloc);
     let Some((_, first)) = answers.first() else {
@@ -43,8 +59,15 @@ fn lines(alloc: Global, answers: &[(usize, String)]) -> Result<String, AllocErro
         writeln!(text, "{first}")?;
         return Ok(text);
     }
-    for (kind, answer) in answers {
-        writeln!(text, "[{}] {answer}", NAMES.get(*kind).unwrap_or(&""))?;
+    for (at, (_, answer)) in answers.iter().enumerate() {
+        if !answers
+            .iter()
+            .take(at)
+            .any(|(_, before)| *before == *answer)
+        {
+            let names = names_of(alloc, answers, answer.as_str())?;
+            writeln!(text, "[{names}] {answer}")?;
+        }
     }
     Ok(text)
 }

@@ -4,10 +4,10 @@ use crate::kind::Kind;
 use crate::word::Word;
 
 /// Those that leave what is held.
-const KEEPING: [&str; 17] = [
+const KEEPING: [&str; 20] = [
     "capacity", "contains_pair", "is_subset_of", "holds_same_pairs", "for_each", "reserve", "shrink_to", "shrink_to_fit",
     "can_undo_insert", "undo_run", "first_by_left", "last_by_left", "first_by_right", "last_by_right", "left_rank",
-    "right_rank", "json",
+    "right_rank", "left_range_between", "right_range_between", "json", "json_pairs",
 ];
 
 /// Makes a call, where it is one of the shell's.

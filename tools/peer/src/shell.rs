@@ -14,7 +14,7 @@ use crate::word::Word;
 use std::{io, mem};
 
 /// The names of the shell's kinds. The crate has the first two.
-const KINDS: [&str; 5] = ["ordered", "hashed", "ordered-hashed", "hashed-ordered", "crowded"];
+const KINDS: [&str; 6] = ["ordered", "hashed", "ordered-hashed", "hashed-ordered", "crowded", "insertion-order"];
 /// What may stand before a call.
 const BEFORE: [&str; 6] = ["undoable", "inverse", "counted", "bounded", "famine", "easing"];
 /// The bytes up to which the shell shows an answer whole.
