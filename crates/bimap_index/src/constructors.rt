@@ -61,8 +61,9 @@ pub trait CompactedIndex<K: Eq>: Index<K> {
         requires from { (to : ℕ) × (f : ℕ → Option K) × is_compacted self.old to compacted
             × Self.is_listing self.old f × IsCompactedSide f (S.key_at side) to }
         ensures listing { Self.is_listing self.new (S.key_at side) }
-        ensures walk { (to : ℕ) (keys moved : List (Option K)) → is_compacted self.old to compacted →
-            Self.is_listing self.old (pair_at keys) → Self.is_listing self.new (pair_at moved) →
+        ensures walk { (to : ℕ) (keys moved : List (Option K)) →
+            is_compacted self.old to compacted → Self.is_listing self.old (pair_at keys) →
+            Self.is_listing self.new (pair_at moved) →
             pairs_in moved ≡ pairs_in keys →
             pairs_at moved (Self.places self.new) ≡ pairs_at keys (Self.places self.old) }
         ensures cells { (to : ℕ) → is_compacted self.old to compacted → Self.cells self.new ≡ to }

@@ -23,8 +23,8 @@ pub trait Lookup<K: Eq, Q: Query<K>>: Index<K> {
         ensures found { IsFoundBy (S.key_at side) Q.same query result }
         ensures listing { IfSome result (λ place. (f : ℕ → Option K) →
             IsWithout f (S.key_at side) place → Self.is_listing self.new f) }
-        ensures others { Self.appends → IfSome result (λ place. IsTakenOut (Self.places self.old) place
-            (Self.places self.new)) }
+        ensures others { Self.appends → IfSome result (λ place.
+            IsTakenOut (Self.places self.old) place (Self.places self.new)) }
         ensures unchanged { IfNone result (self.new ≡ self.old) }
         ensures cells { Self.cells self.new ≡ Self.cells self.old }
         ensures comparisons { M.comparisons meter.new ≤ M.comparisons meter.old

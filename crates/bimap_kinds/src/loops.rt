@@ -73,7 +73,8 @@ impl<'a, L: Eq + Drop, R: Eq + Drop, I: Index<L>, J: Index<R>> IntoIterator
 
     type IntoIter = by_turn::Iter<'a, L, R>;
 
-    ghost into_iter_gives = { λ m r. (r ≡ (holding m.now).pairs) × ShowsInOrder (deref_pair {K = L} {X = R}) };
+    ghost into_iter_gives = { λ m r. (r ≡ (holding m.now).pairs)
+        × ShowsInOrder (deref_pair {K = L} {X = R}) };
 
     fn into_iter(self) -> by_turn::Iter<'a, L, R> {
         self.iter()
