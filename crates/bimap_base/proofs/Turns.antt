@@ -1,5 +1,5 @@
 -- Where pairs stand that were put in one after the other.
-use Rattle.std.proofs.Common.{◌≡◌, ◌+◌, ◌≤◌, List, [], ◌∷◌, ◌++◌, length, ap, sym, ◌∙◌, arith}
+use Rattle.std.proofs.Common.{◌≡◌, ◌+◌, ◌≤◌, List, [], ◌∷◌, ◌++◌, length, ap, ◌∙◌, arith}
 use Rattle.std.proofs.lemmas.List.{append_assoc, length_push}
 use Rattle.bimap_base.specs.Answer.{named_count}
 use Rattle.bimap_base.specs.declared.overwritten.Overwritten.{Overwritten}

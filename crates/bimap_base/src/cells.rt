@@ -2,7 +2,7 @@
 ghost use Rattle.std.specs.Prelude.{◌≡◌, ℕ, ◌+◌, ◌<◌, ◌≤◌, ◌^◌, max, true, false, cond, Some, [], length, map, slice_get, slice_set, vec_len, OnOk, OnErr, IfOk, IsOk};
 ghost use Rattle.bimap_base.specs.Digits.{most_height};
 ghost use Rattle.bimap_base.specs.declared.cells.Node.{Node};
-ghost use Rattle.bimap_base.specs.NodesInCells.{IsThere, IsAmong, CanCount, recounted, link_of, narrow_node, wide_node, nodes_in};
+ghost use Rattle.bimap_base.specs.NodesInCells.{IsThere, IsAmong, CanCount, counted, link_of, linked, recounted, narrow_node, wide_node, nodes_in};
 
 use crate::meter::Meter;
 use crate::refusal::NoMemory;
@@ -47,10 +47,15 @@ pub trait Cell: Copy + Drop {
     fn child(self, turn: bool) -> Option<usize>
         ensures { result ≡ cond turn (node_in self).right (node_in self).left };
 
-    /// The cell that keeps the same node with this child on the side of the turn, and a place more or less below it.
-    fn recounted(self, turn: bool, child: Option<usize>, grew: bool) -> Self
-        requires { (n : ℕ) × (n < most) × IsThere n child × CanCount n grew (node_in self) }
-        ensures { node_in result ≡ recounted turn child grew (node_in self) };
+    /// The cell that keeps the same node with this child on the side of the turn.
+    fn linked(self, turn: bool, child: Option<usize>) -> Self
+        requires { (n : ℕ) × (n < most) × IsThere n child }
+        ensures { node_in result ≡ linked turn child (node_in self) };
+
+    /// The cell that keeps the same node with a place more or less below it.
+    fn counted(self, grew: bool) -> Self
+        requires { (n : ℕ) × (n < most) × CanCount n grew (node_in self) }
+        ensures { node_in result ≡ counted grew (node_in self) };
 }
 
 /// A node as it is kept where there are fewer than 2^26 places, in 12 bytes: each child's place plus one, and 0 for no child; then the height times 2^26, plus the size.
@@ -90,7 +95,7 @@ impl<C: Cell> Model for Nodes<C> {
     ghost invariant = { λ n. length n.cells.items < C.most };
 }
 
-/// A node for each place below a number, in 12 bytes where there are fewer than 2^26, and else in 32. There is no way to a node but `read`, `cell`, `write` and `recount`, which count a touch each.
+/// A node for each place below a number, in 12 bytes where there are fewer than 2^26, and else in 32. There is no way to a node but `read`, `cell`, `write`, `relink`, `recount` and `count`, which count a touch each.
 #[derive(Drop)]
 pub enum Cells {
     Narrow(Nodes<NarrowCell>),
@@ -154,11 +159,20 @@ impl Cell for NarrowCell {
     }
 
     #[inline(always)]
-    fn recounted(self, turn: bool, child: Option<usize>, grew: bool) -> Self {
+    fn linked(self, turn: bool, child: Option<usize>) -> Self {
         let link = link_to(child) as u32;
         NarrowCell {
             left: if turn { self.left } else { link },
             right: if turn { link } else { self.right },
+            count: self.count,
+        }
+    }
+
+    #[inline(always)]
+    fn counted(self, grew: bool) -> Self {
+        NarrowCell {
+            left: self.left,
+            right: self.right,
             count: if grew { self.count + 1 } else { self.count - 1 },
         }
     }
@@ -195,11 +209,21 @@ impl Cell for WideCell {
     }
 
     #[inline(always)]
-    fn recounted(self, turn: bool, child: Option<usize>, grew: bool) -> Self {
+    fn linked(self, turn: bool, child: Option<usize>) -> Self {
         let link = link_to(child);
         WideCell {
             left: if turn { self.left } else { link },
             right: if turn { link } else { self.right },
+            height: self.height,
+            size: self.size,
+        }
+    }
+
+    #[inline(always)]
+    fn counted(self, grew: bool) -> Self {
+        WideCell {
+            left: self.left,
+            right: self.right,
             height: self.height,
             size: if grew { self.size + 1 } else { self.size - 1 },
         }
@@ -286,6 +310,27 @@ impl<C: Cell> Nodes<C> {
         cells[place] = C::of(node);
     }
 
+    /// Makes this the child of a place's node on the side of the turn.
+    #[inline(always)]
+    pub fn relink<M: Meter>(
+        &mut self,
+        place: usize,
+        turn: bool,
+        child: Option<usize>,
+        meter: &mut M,
+    )
+        requires place { place < length self.old }
+        requires child { IsThere (length self.old) child }
+        ensures written { (n : Node) → slice_get self.old place ≡ Some n →
+            self.new ≡ slice_set self.old place (linked turn child n) }
+        ensures comparisons { M.comparisons meter.new ≡ M.comparisons meter.old }
+        ensures touches { M.touches meter.new ≡ M.touches meter.old + 1 }
+    {
+        meter.touched();
+        let cells = &mut self.cells;
+        cells[place] = cells[place].linked(turn, child);
+    }
+
     /// Makes this the child of a place's node on the side of the turn, and counts a place more or less below it.
     #[inline(always)]
     pub fn recount<M: Meter>(
@@ -306,7 +351,22 @@ impl<C: Cell> Nodes<C> {
     {
         meter.touched();
         let cells = &mut self.cells;
-        cells[place] = cells[place].recounted(turn, child, grew);
+        cells[place] = cells[place].linked(turn, child).counted(grew);
+    }
+
+    /// Counts a place more or less below a place.
+    #[inline(always)]
+    pub fn count<M: Meter>(&mut self, place: usize, grew: bool, meter: &mut M)
+        requires { (n : Node) × (slice_get self.old place ≡ Some n)
+            × CanCount (length self.old) grew n }
+        ensures written { (n : Node) → slice_get self.old place ≡ Some n →
+            self.new ≡ slice_set self.old place (counted grew n) }
+        ensures comparisons { M.comparisons meter.new ≡ M.comparisons meter.old }
+        ensures touches { M.touches meter.new ≡ M.touches meter.old + 1 }
+    {
+        meter.touched();
+        let cells = &mut self.cells;
+        cells[place] = cells[place].counted(grew);
     }
 }
 

@@ -10,7 +10,7 @@ use Rattle.bimap_tree.specs.Tree.{Tree, Stands, reading, height, size, branch, n
 use Rattle.bimap_tree.specs.Index.{height_at}
 use Rattle.bimap_tree.specs.Order.{first_equal, count_below}
 use Rattle.bimap_tree.specs.Path.{Path, below, plug, wanted, Follows}
-use Rattle.bimap_tree.specs.Steps.{IsNoted, step_at}
+use Rattle.bimap_tree.specs.Steps.{Way, IsNoted, packed, step_at}
 use Rattle.bimap_tree.specs.Remove.{CanDescend, IsFirst}
 use Rattle.bimap_tree.specs.Route.{CanFollow, IsFollowed}
 use Rattle.bimap_tree.specs.declared.route.Route.{Route}
@@ -237,7 +237,7 @@ module _ (ns : List Node) (live : ℕ → Type 0) (go : ℕ → Ordering) (top :
     pub goes_end : (found : Option ℕ) → found ≡ root → (last : Route) → step_at last ≡ step_at now → (path : Path) (s : Tree) → CanFollow ns top live go first start path s → (low : Path) × (e : Tree) × IsFollowed go last depth found (plug path s) low e
     goes_end found same last noted path s h =
         let (low, x, k, w, f) = d.alike path s h in
-        (low, x, record { whole = w; follows = subst (λ x. Follows x low) (sym noted) k.follows; depth_is = k.depth_is; wants = k.wants; root_is = k.seek.tree.root_is ∙ sym same })
+        (low, x, record { whole = w; follows = subst (λ x. Follows packed x low) (sym noted) k.follows; depth_is = k.depth_is; wants = k.wants; root_is = k.seek.tree.root_is ∙ sym same })
 
     module _ (at : ℕ) (is : root ≡ Some at) (node : Node) (told : slice_get ns at ≡ Some node) where
       pub goes_live : (path : Path) (s : Tree) → CanFollow ns top live go first start path s → live at
@@ -252,7 +252,7 @@ module _ (ns : List Node) (live : ℕ → Type 0) (go : ℕ → Ordering) (top :
       pub goes_here : go at ≡ Equal → (path : Path) (s : Tree) → CanFollow ns top live go first start path s → Some at ≡ first_equal go (reading s)
       goes_here same path s h = let (low, x, k, w, f) = d.alike path s h in sym (f ∙ here ns live go root at node x k.seek is told same)
 
-      pub goes_down : (turn : Bool) → go at ≡ wanted turn → (next : Option ℕ) → next ≡ near_of turn node → (then : Route) → IsNoted (step_at now) depth (at, turn) (step_at then) → Goes next then (depth + 1)
+      pub goes_down : (turn : Bool) → go at ≡ wanted turn → (next : Option ℕ) → next ≡ near_of turn node → (then : Route) → IsNoted (step_at now) depth (packed at, turn) (step_at then) → Goes next then (depth + 1)
       goes_down turn w next e then noted = record {
         alike = λ path s h. let (low, x, k, whole, f) = d.alike path s h in
             let (near, far, o) = step_on ns live go root at node turn x k.seek is told in
@@ -265,31 +265,31 @@ module _ (ns : List Node) (live : ℕ → Type 0) (go : ℕ → Ordering) (top :
             );
       }
 
-      pub goes_right : (turn : Bool) → turn ≡ true → go at ≡ Less → (next : Option ℕ) → next ≡ node.right → (then : Route) → IsNoted (step_at now) depth (at, turn) (step_at then) → Goes next then (depth + 1)
+      pub goes_right : (turn : Bool) → turn ≡ true → go at ≡ Less → (next : Option ℕ) → next ≡ node.right → (then : Route) → IsNoted (step_at now) depth (packed at, turn) (step_at then) → Goes next then (depth + 1)
       goes_right turn right less next e then noted = goes_down turn (less ∙ ap wanted (sym right)) next (e ∙ ap (λ x. near_of x node) (sym right)) then noted
 
 -- ---- the way to a tree's first place
-module _ (ns : List Node) (top start : ℕ) (old : Route) where
+module _ (ns : List Node) (top start : ℕ) (old : Way) where
   -- what the way from here on notes is noted of the way from the top
-  pub record Descends (at depth : ℕ) (now : Route) : Type 0 where
-    pub alike : (s : Tree) → CanDescend ns top start s → (e : Tree) × CanDescend ns at depth e × ((last : Route) (first low : ℕ) → (lefts : List (ℕ × Tree)) × (rest : Tree) × IsFirst now last depth e first low lefts rest → (lefts : List (ℕ × Tree)) × (rest : Tree) × IsFirst old last start s first low lefts rest)
+  pub record Descends (at depth : ℕ) (now : Way) : Type 0 where
+    pub alike : (s : Tree) → CanDescend ns top start s → (e : Tree) × CanDescend ns at depth e × ((last : Way) (first low : ℕ) → (lefts : List (ℕ × Tree)) × (rest : Tree) × IsFirst now last depth e first low lefts rest → (lefts : List (ℕ × Tree)) × (rest : Tree) × IsFirst old last start s first low lefts rest)
 
   pub descends_top : Descends top start old
   descends_top = record { alike = λ s h. (s, h, λ last first low i. i) }
 
-  module _ (at depth : ℕ) (now : Route) (d : Descends at depth now) (node : Node) (told : slice_get ns at ≡ Some node) where
+  module _ (at depth : ℕ) (now : Way) (d : Descends at depth now) (node : Node) (told : slice_get ns at ≡ Some node) where
     pub descends_deep : (s : Tree) → CanDescend ns top start s → depth < 91
     descends_deep s h = let (e, k, f) = d.alike s h in let (l, r, i) = descent ns at depth node e k told in i.here
 
     pub descends_end : node.left ≡ None → (s : Tree) → CanDescend ns top start s → (lefts : List (ℕ × Tree)) × (rest : Tree) × IsFirst old now start s at depth lefts rest
     descends_end none s h = let (e, k, f) = d.alike s h in f now at depth (first_here ns at depth node e k told none now)
 
-    pub descends_on : (left : ℕ) → node.left ≡ Some left → (next : Route) → IsNoted (step_at now) depth (at, false) (step_at next) → Descends left (depth + 1) next
-    descends_on left is next noted = record {
+    pub descends_on : (left : ℕ) → node.left ≡ Some left → (next : Way) → IsNoted now.step_at depth (now.kept at, false) next.step_at → next.kept ≡ now.kept → Descends left (depth + 1) next
+    descends_on left is next noted same = record {
       alike = λ s h. let (e, k, f) = d.alike s h in
           let (l, r, i) = descent ns at depth node e k told in (
             l,
             record { tree = Stands-at ns node.left (Some left) l is i.left_stands; deep = i.deeper },
-            λ last first low w. f last first low (first_left ns at depth node e k told now next last l r i noted first low w),
+            λ last first low w. f last first low (first_left ns at depth node e k told now next last l r i noted same first low w),
           );
     }

@@ -22,3 +22,5 @@ pub mod UnderWay
 pub mod Routes
 pub mod Spans
 pub mod Climbs
+pub mod Retracing
+pub mod Replaced

@@ -1,16 +1,18 @@
 -- Ways down a tree.
-use Rattle.std.proofs.Common.{◌≡◌, ℕ, ◌+◌, ◌≤◌, ◌<◌, Bool, true, false, List, [], ◌∷◌, ◌++◌, sym, subst, ◌∙◌, ap, arith, append_assoc, append-nil}
-use Rattle.std.specs.Prelude.{slice_get}
+use Rattle.std.proofs.Common.{◌≡◌, ℕ, ◌+◌, ◌≤◌, ◌<◌, Bool, true, false, List, [], ◌∷◌, ◌++◌, refl, sym, subst, ◌∙◌, ap, arith, append_assoc, append-nil}
+use Rattle.std.specs.Prelude.{slice_get, slice_set}
+use Rattle.std.proofs.lemmas.Option.{slice_get_within}
 use Rattle.std.specs.declared.cmp.Ordering.{Ordering}
 use Rattle.std.specs.declared.cmp.Ordering.TheVariants.{Less, Greater}
 use Rattle.bimap_base.specs.declared.cells.Node.{Node}
-use Rattle.bimap_tree.specs.Tree.{Tree, fork, reading, height, size, occurs, IsBalanced, Shows, branch, node_on}
+use Rattle.bimap_base.specs.NodesInCells.{linked}
+use Rattle.bimap_tree.specs.Tree.{Tree, fork, reading, height, size, occurs, is_at, root_of, IsBalanced, Shows, branch, node_on}
 use Rattle.bimap_tree.specs.Order.{AllStand, IsSplit}
 use Rattle.bimap_tree.specs.Steps.{IsNoted}
 use Rattle.bimap_tree.specs.Path.{Path, top, below, plug, steps, front, back, occurs_on, size_on, Follows, Wants, Tells, Holds}
-use Rattle.bimap_tree.proofs.Branch.{height-branch, size-branch, occurs-branch, far-node_on, height-node_on, size-node_on, parts, level, IsBalanced-branch}
+use Rattle.bimap_tree.proofs.Branch.{root-branch, near-node_on, height-branch, size-branch, occurs-branch, far-node_on, height-node_on, size-node_on, parts, level, IsBalanced-branch}
 use Rattle.bimap_tree.proofs.Distinct.{all_append}
-use Rattle.bimap_tree.proofs.Shown.{is_at-same, Shows-frame}
+use Rattle.bimap_tree.proofs.Shown.{is_at-same, is_at-apart, get-written, get-elsewhere, Shows-frame}
 use Rattle.bimap_tree.proofs.Split.{split_below, split_above}
 
 -- what a whole tree has, it has beside the subtree or in it
@@ -36,7 +38,7 @@ balanced_inside top t h = h
 balanced_inside (below up turn p sister) t h = (level turn t p sister (balanced_inside up (branch turn t p sister) h)).near_balanced
 
 pub tells : (turn : Bool) (s sister : Tree) → Tells turn (node_on turn s sister) s sister
-tells turn s sister = record { far_is = far-node_on turn s sister; height_is = height-node_on turn s sister; size_is = size-node_on turn s sister }
+tells turn s sister = record { near_is = near-node_on turn s sister; far_is = far-node_on turn s sister; height_is = height-node_on turn s sister; size_is = size-node_on turn s sister }
 
 -- nodes that show a whole tree hold the path, and show the subtree
 pub holds_of : (ns : List Node) (path : Path) (t : Tree) → Shows ns (plug path t) → Holds ns path t × Shows ns t
@@ -56,13 +58,13 @@ Holds-frame ns ms (below up turn p sister) s same h = (
 )
 
 -- steps that agree as far as the path goes follow it too
-pub Follows-frame : (noted other : ℕ → ℕ × Bool) (path : Path) → ((i : ℕ) → i < steps path → other i ≡ noted i) → Follows noted path → Follows other path
-Follows-frame noted other top same h = tt
-Follows-frame noted other (below up turn p sister) same h = (same (steps up) (omega arith) ∙ h.0, Follows-frame noted other up (λ i l. same i (omega arith)) h.1)
+pub Follows-frame : (kept : ℕ → ℕ) (noted other : ℕ → ℕ × Bool) (path : Path) → ((i : ℕ) → i < steps path → other i ≡ noted i) → Follows kept noted path → Follows kept other path
+Follows-frame kept noted other top same h = tt
+Follows-frame kept noted other (below up turn p sister) same h = (same (steps up) (omega arith) ∙ h.0, Follows-frame kept noted other up (λ i l. same i (omega arith)) h.1)
 
 -- a step noted at the path's end
-pub Follows-noted : (old new : ℕ → ℕ × Bool) (path : Path) (turn : Bool) (p : ℕ) (sister : Tree) (depth : ℕ) → depth ≡ steps path → IsNoted old depth (p, turn) new → Follows old path → Follows new (below path turn p sister)
-Follows-noted old new path turn p sister depth is n h = (ap new (sym is) ∙ n.here, Follows-frame old new path (λ i l. n.elsewhere i (λ e. absurd (omega arith))) h)
+pub Follows-noted : (kept : ℕ → ℕ) (old new : ℕ → ℕ × Bool) (path : Path) (turn : Bool) (p : ℕ) (sister : Tree) (depth : ℕ) → depth ≡ steps path → IsNoted old depth (kept p, turn) new → Follows kept old path → Follows kept new (below path turn p sister)
+Follows-noted kept old new path turn p sister depth is n h = (ap new (sym is) ∙ n.here, Follows-frame kept old new path (λ i l. n.elsewhere i (λ e. absurd (omega arith))) h)
 
 -- ---- what stands before the path's end is below the key, and what stands behind it is above
 pub beside : (go : ℕ → Ordering) (path : Path) (t : Tree) → IsSplit go (reading (plug path t)) → Wants go path → AllStand go Less (front path) × AllStand go Greater (back path)
@@ -83,16 +85,35 @@ pub Wants-alike : (go other : ℕ → Ordering) (path : Path) → ((q : ℕ) →
 Wants-alike go other top same w = tt
 Wants-alike go other (below up turn p sister) same w = (same p (omega (arith, is_at-same p)) ∙ w.0, Wants-alike go other up (λ q o. same q (omega arith)) w.1)
 
--- only the height and the size of a subtree matter to the places above
-pub Holds-alike : (ns : List Node) (path : Path) (s t : Tree) → height t ≡ height s → size t ≡ size s → Holds ns path s → Holds ns path t
-Holds-alike ns top s t a b h = tt
-Holds-alike ns (below up turn p sister) s t a b h = (
-  (h.0.0, h.0.1, record { far_is = h.0.2.far_is; height_is = omega arith; size_is = omega arith }),
+-- only the root, the height and the size of a subtree matter to the places above
+Holds-alike : (ns : List Node) (path : Path) (s t : Tree) → root_of t ≡ root_of s → height t ≡ height s → size t ≡ size s → Holds ns path s → Holds ns path t
+Holds-alike ns top s t r a b h = tt
+Holds-alike ns (below up turn p sister) s t r a b h = (
+  (h.0.0, h.0.1, record { near_is = h.0.2.near_is ∙ sym r; far_is = h.0.2.far_is; height_is = omega arith; size_is = omega arith }),
   h.1,
   Holds-alike ns up (branch turn s p sister) (branch turn t p sister)
+      (root-branch turn t p sister ∙ sym (root-branch turn s p sister))
       (omega (arith, height-branch turn s p sister, height-branch turn t p sister, a))
       (omega (arith, size-branch turn s p sister, size-branch turn t p sister, b)) h.2,
 )
+
+tells-linked : (turn : Bool) (node : Node) (s t sister : Tree) → height t ≡ height s → size t ≡ size s → Tells turn node s sister → Tells turn (linked turn (root_of t) node) t sister
+tells-linked true node s t sister a b h = record { near_is = refl; far_is = h.far_is; height_is = omega (arith, h.height_is, a); size_is = omega (arith, h.size_is, b) }
+tells-linked false node s t sister a b h = record { near_is = refl; far_is = h.far_is; height_is = omega (arith, h.height_is, a); size_is = omega (arith, h.size_is, b) }
+
+-- nor does its root, once the place above is told of it
+pub Holds-linked : (ns ms : List Node) (up : Path) (turn : Bool) (p : ℕ) (sister s t : Tree) → ((q : ℕ) → occurs_on q (below up turn p sister) ≤ 1) → height t ≡ height s → size t ≡ size s → (h : Holds ns (below up turn p sister) s) → ms ≡ slice_set ns p (linked turn (root_of t) h.0.0) → Holds ms (below up turn p sister) t
+Holds-linked ns ms up turn p sister s t once a b h e =
+    let within = slice_get_within ns p h.0.0 h.0.1 in
+    let same : (q : ℕ) → is_at q p ≡ 0 → slice_get ms q ≡ slice_get ns q = λ q other. ap (λ x. slice_get x q) e ∙ get-elsewhere ns p q (linked turn (root_of t) h.0.0) (is_at-apart q p other) in (
+      (linked turn (root_of t) h.0.0, ap (λ x. slice_get x p) e ∙ get-written ns p (linked turn (root_of t) h.0.0) within, tells-linked turn h.0.0 s t sister a b h.0.2),
+      Shows-frame ns ms sister (λ q o. same q (let d = once q in omega arith)) h.1,
+      Holds-frame ns ms up (branch turn t p sister) (λ q o. same q (let d = once q in omega arith))
+          (Holds-alike ns up (branch turn s p sister) (branch turn t p sister)
+          (root-branch turn t p sister ∙ sym (root-branch turn s p sister))
+          (omega (arith, height-branch turn s p sister, height-branch turn t p sister, a))
+          (omega (arith, size-branch turn s p sister, size-branch turn t p sister, b)) h.2),
+    )
 
 -- a subtree of the same height keeps the whole in balance
 pub IsBalanced-alike : (path : Path) (s t : Tree) → height t ≡ height s → IsBalanced t → IsBalanced (plug path s) → IsBalanced (plug path t)

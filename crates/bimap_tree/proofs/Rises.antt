@@ -4,12 +4,11 @@ use Rattle.std.specs.Prelude.{slice_get, slice_set}
 use Rattle.std.proofs.lemmas.Option.{slice_get_within}
 use Rattle.std.proofs.lemmas.Bool.Decides.{leb_tells}
 use Rattle.bimap_base.specs.declared.cells.Node.{Node}
-use Rattle.bimap_base.specs.NodesInCells.{IsThere, CanCount, recounted}
+use Rattle.bimap_base.specs.NodesInCells.{IsThere, CanCount, counted, recounted}
 use Rattle.bimap_tree.specs.Tree.{Tree, leaf, fork, reading, height, size, root_of, Stands, branch, node_on, near_of, far_of}
 use Rattle.bimap_tree.specs.Link.{CanRebalance, IsRebalanced}
-use Rattle.bimap_tree.specs.Path.{Path, top, below, steps, front, back, Tells, one_if, Moves, CanRise, CanRelink, CanPut, IsRisen}
-use Rattle.bimap_tree.specs.Steps.{step_at}
-use Rattle.bimap_tree.specs.declared.route.Route.{Route}
+use Rattle.bimap_tree.specs.Path.{Path, top, below, steps, front, back, Tells, one_if, Moves, KeepsWhole, CanRise, CanRelink, CanPut, IsRisen}
+use Rattle.bimap_tree.specs.Steps.{Way}
 use Rattle.bimap_tree.proofs.Branch.{height-branch, size-branch, height-node_on, size-node_on, near-node_on, far-node_on, node_is, level, Shows-linked}
 use Rattle.bimap_tree.proofs.Paths.{balanced_inside, Holds-frame, holds_of}
 use Rattle.bimap_tree.proofs.Rotate.{can_link, no_rotation}
@@ -27,6 +26,14 @@ near-recounted false child grew n = refl
 pub far-recounted : (turn : Bool) (child : Option ℕ) (grew : Bool) (n : Node) → far_of turn (recounted turn child grew n) ≡ far_of turn n
 far-recounted true child grew n = refl
 far-recounted false child grew n = refl
+
+counted-near : (turn : Bool) (child : Option ℕ) (grew : Bool) (n : Node) → near_of turn n ≡ child → counted grew n ≡ recounted turn child grew n
+counted-near true child grew n e = ap (λ c. counted grew record { left = n.left; right = c; height = n.height; size = n.size }) e
+counted-near false child grew n e = ap (λ c. counted grew record { left = c; right = n.right; height = n.height; size = n.size }) e
+
+-- to count alone is enough where the child is the one that the node has
+pub counted_alone : (turn : Bool) (child : Option ℕ) (grew : Bool) (n : Node) (old new : List Node) (at : ℕ) → near_of turn n ≡ child → new ≡ slice_set old at (counted grew n) → new ≡ slice_set old at (recounted turn child grew n)
+counted_alone turn child grew n old new at e f = f ∙ ap (λ x. slice_set old at x) (counted-near turn child grew n e)
 
 size-recounted : (turn : Bool) (child : Option ℕ) (grew : Bool) (n : Node) → (grew ≡ false → 0 < n.size) → (recounted turn child grew n).size + one_if (not grew) ≡ n.size + one_if grew
 size-recounted turn child true n some = omega arith
@@ -110,22 +117,23 @@ module _ (nodes : List Node) (at : ℕ) (turn grew : Bool) (node : Node) (sister
       (omega arith, omega arith)
 
 -- ---- a step of the path
-module _ (nodes : List Node) (route : Route) (grew : Bool) (s u : Tree) where
+module _ (nodes : List Node) (way : Way) (grew : Bool) (s u : Tree) where
   -- the path's last step
   pub record LastStep (depth at : ℕ) (turn : Bool) (path up : Path) (sister : Tree) : Type 0 where
     pub is : path ≡ below up turn at sister
     pub above : depth - 1 ≡ steps up
-    pub here : CanRise nodes route (below up turn at sister) grew s u
+    pub here : CanRise nodes way (below up turn at sister) grew s u
 
-  pub last_step : (depth : ℕ) (path : Path) → CanRise nodes route path grew s u → depth ≡ steps path → depth ≢ 0 → (at : ℕ) (turn : Bool) → (at, turn) ≡ step_at route (depth - 1) → (up : Path) × (sister : Tree) × LastStep depth at turn path up sister
+  pub last_step : (depth : ℕ) (path : Path) → CanRise nodes way path grew s u → depth ≡ steps path → depth ≢ 0 → (at : ℕ) (turn : Bool) → (at, turn) ≡ way.step_at (depth - 1) → (up : Path) × (sister : Tree) × LastStep depth at turn path up sister
   last_step depth top c e n at turn step = absurd (n e)
-  last_step depth (below up way place sister) c e n at turn step =
+  last_step depth (below up side place sister) c e n at turn step =
       let above : depth - 1 ≡ steps up = omega (arith, e) in
-      let same : (place, way) ≡ (at, turn) = sym c.follows.0 ∙ ap (step_at route) (sym above) ∙ sym step in
-      let is : below up way place sister ≡ below up turn at sister = ap (λ x. below up x.1 x.0 sister) same in
-      (up, sister, record { is = is; above = above; here = subst (λ x. CanRise nodes route x grew s u) is c })
+      let whole = c.whole place (slice_get_within nodes place c.holds.0.0 c.holds.0.1) in
+      let same : (place, side) ≡ (at, turn) = ap (λ p. (p, side)) (sym whole) ∙ sym c.follows.0 ∙ ap way.step_at (sym above) ∙ sym step in
+      let is : below up side place sister ≡ below up turn at sister = ap (λ x. below up x.1 x.0 sister) same in
+      (up, sister, record { is = is; above = above; here = subst (λ x. CanRise nodes way x grew s u) is c })
 
-  module _ (up : Path) (turn : Bool) (at : ℕ) (sister : Tree) (c : CanRise nodes route (below up turn at sister) grew s u) where
+  module _ (up : Path) (turn : Bool) (at : ℕ) (sister : Tree) (c : CanRise nodes way (below up turn at sister) grew s u) where
     pub within : at < length nodes
     within = slice_get_within nodes at c.holds.0.0 c.holds.0.1
 
@@ -146,9 +154,10 @@ module _ (nodes : List Node) (route : Route) (grew : Bool) (s u : Tree) where
           moves = c.moves;
         }
 
-    pub can_rise : (new : List Node) (t : Tree) → IsRebalanced nodes new turn at u sister t → Moves grew (branch turn s at sister) t → CanRise new route up grew (branch turn s at sister) t
+    pub can_rise : (new : List Node) (t : Tree) → IsRebalanced nodes new turn at u sister t → Moves grew (branch turn s at sister) t → CanRise new way up grew (branch turn s at sister) t
     can_rise new t b m = record {
       follows = c.follows.1;
+      whole = λ p few. c.whole p (omega (arith, few, b.same_length));
       holds = Holds-frame nodes new up (branch turn s at sister) (λ q o. b.same_elsewhere q (let d = c.distinct q in omega arith)) c.holds.2;
       shown = b.shown;
       distinct = λ q. let d = c.distinct q in omega (arith, b.same_places q);
@@ -175,8 +184,8 @@ risen_on nodes new last path up turn at sister u t root v is b r =
     subst (λ x. IsRisen nodes last x u root v) (sym is) done
 
 -- the way up is at its end
-pub at_top : (nodes : List Node) (route : Route) (path : Path) (grew : Bool) (s u : Tree) (depth : ℕ) (root : Option ℕ) → CanRise nodes route path grew s u → depth ≡ steps path → depth ≡ 0 → root_of u ≡ root → (v : Tree) × IsRisen nodes nodes path u root v
-at_top nodes route top grew s u depth root c e n r = (
+pub at_top : (nodes : List Node) (way : Way) (path : Path) (grew : Bool) (s u : Tree) (depth : ℕ) (root : Option ℕ) → CanRise nodes way path grew s u → depth ≡ steps path → depth ≡ 0 → root_of u ≡ root → (v : Tree) × IsRisen nodes nodes path u root v
+at_top nodes way top grew s u depth root c e n r = (
   u,
   record {
     tree = record { root_is = r; shown = c.shown };
@@ -186,16 +195,17 @@ at_top nodes route top grew s u depth root c e n r = (
     same_length = refl;
   },
 )
-at_top nodes route (below up turn p sister) grew s u depth root c e n r = absurd (omega (arith, e, n))
+at_top nodes way (below up turn p sister) grew s u depth root c e n r = absurd (omega (arith, e, n))
 
 -- ---- a place alone at a path's end
-module _ (nodes : List Node) (route : Route) (path : Path) (place : ℕ) (h : CanPut nodes route path place) (new : List Node) (e : new ≡ slice_set nodes place (node_on false leaf leaf)) where
-  pub can_put : CanRise new route path true leaf (fork leaf place leaf)
-  can_put =
+module _ (nodes : List Node) (way : Way) (path : Path) (place : ℕ) (h : CanPut nodes way path place) (new : List Node) (e : new ≡ slice_set nodes place (node_on false leaf leaf)) where
+  pub can_put : KeepsWhole nodes way → CanRise new way path true leaf (fork leaf place leaf)
+  can_put whole =
       let (holds, none) = holds_of nodes path leaf h.shown in
       let z = is_at-same place in
       record {
         follows = h.follows;
+        whole = λ p few. whole p (omega (arith, few, ap length e, length-set nodes place (node_on false leaf leaf)));
         holds = Holds-frame nodes new path leaf (λ q o. rw e (get-elsewhere nodes place q (node_on false leaf leaf) (is_at-apart q place (let d = h.distinct q in omega arith)))) holds;
         shown = Shows-linked nodes new false leaf place leaf e h.has_cell refl refl tt tt;
         distinct = λ q. let d = h.distinct q in omega arith;

@@ -9,13 +9,14 @@ use Rattle.bimap_base.specs.declared.cells.Node.{Node}
 use Rattle.bimap_base.specs.Digits.{bits, most_height}
 use Rattle.bimap_base.specs.Keyed.{standing, Ascends, Follows, Adds, Drops}
 use Rattle.bimap_base.specs.QueryLaws.{follows_itself}
-use Rattle.bimap_tree.specs.Tree.{Tree, leaf, fork, reading, height, size, occurs, is_at, IsBalanced, IsDistinctTree, Stands, Shows}
+use Rattle.bimap_tree.specs.Tree.{Tree, leaf, fork, reading, height, size, occurs, is_at, IsBalanced, IsDistinctTree, Stands, Shows, root_of}
 use Rattle.bimap_tree.specs.Index.{Index, IsIndex, IsBalancedIndex, IsWhole, index_of, tree_in}
 use Rattle.bimap_tree.specs.Order.{after_key, first_equal, IsSplit}
 use Rattle.bimap_tree.specs.Path.{Path, top, plug, front, back, Wants, CanPut, IsRisen}
 use Rattle.bimap_tree.specs.Remove.{CanTake, IsTaken}
 use Rattle.bimap_tree.specs.Route.{IsRoute, CanFollow, IsFollowed}
 use Rattle.bimap_tree.specs.Search.{CanSeek}
+use Rattle.bimap_tree.specs.Steps.{way_of}
 use Rattle.bimap_tree.specs.declared.route.Route.{Route}
 use Rattle.bimap_tree.proofs.Ascending.{live_all, split, split_after, only_one, own_key, ascends_with, ascends_without}
 use Rattle.bimap_tree.proofs.Distinct.{absent_reading, adds, drops, contains_occurs, occurs_all}
@@ -152,6 +153,9 @@ module _ (ns : List Node) (root : Option ℕ) (len : ℕ) (v : Index) (w : IsWho
     at_fields : IsIndex ns root (plug r.path leaf)
     at_fields = subst (λ x. IsIndex x.nodes x.root (plug r.path leaf)) (sym e) r.of_index.tree
 
+    pub put_root : root_of (plug r.path leaf) ≡ root
+    put_root = at_fields.tree.root_is
+
     pub route_depth : route.depth ≤ most_height (length v.places)
     route_depth =
         let n : size (plug r.path leaf) ≡ length v.places = sym (size-reading (plug r.path leaf)) ∙ ap length r.of_index.in_order in
@@ -168,7 +172,7 @@ module _ (ns : List Node) (root : Option ℕ) (len : ℕ) (v : Index) (w : IsWho
       room : size (plug r.path leaf) + 1 ≤ length ns
       room = size_room ns (plug r.path leaf) place at_fields.tree.shown within (λ q. with_absent (plug r.path leaf) place q at_fields.distinct none)
 
-      pub can_put : CanPut ns route r.path place
+      pub can_put : CanPut ns (way_of route) r.path place
       can_put = record {
         follows = r.follows;
         depth_is = r.depth_is;
@@ -235,7 +239,10 @@ module _ (ns : List Node) (root : Option ℕ) (len : ℕ) (v : Index) (w : IsWho
     is_whole : plug low (fork end.0 found end.1) ≡ tree_in ns root
     is_whole = ap (λ x. plug low x) (sym end.2) ∙ f.whole
 
-    pub can_take : CanTake ns route low end.0 found end.1
+    pub take_root : root_of (plug low (fork end.0 found end.1)) ≡ root
+    take_root = ap root_of is_whole ∙ w.index.tree.root_is
+
+    pub can_take : CanTake ns (way_of route) low end.0 found end.1
     can_take = record {
       follows = f.follows;
       depth_is = f.depth_is;

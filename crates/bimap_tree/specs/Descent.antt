@@ -6,7 +6,7 @@ use Rattle.bimap_base.specs.declared.cells.Node.{Node}
 use Rattle.bimap_tree.specs.Tree.{Tree, root_of}
 use Rattle.bimap_tree.specs.Index.{Index, IsBalancedIndex, height_at}
 use Rattle.bimap_tree.specs.Path.{Path, plug, steps, Follows, Wants}
-use Rattle.bimap_tree.specs.Steps.{step_at}
+use Rattle.bimap_tree.specs.Steps.{packed, step_at}
 use Rattle.bimap_tree.specs.declared.descent.Descent.{Descent}
 use Rattle.bimap_tree.specs.declared.route.Route.{Route}
 
@@ -21,7 +21,7 @@ pub record IsUnderWay (index : Index) (go : ℕ → Ordering) (descent : Descent
   pub rest : Tree
   pub of_index : IsBalancedIndex index (plug path rest)
   pub root_is : root_of rest ≡ descent.root
-  pub follows : Follows (step_at route) path
+  pub follows : Follows packed (step_at route) path
   pub depth_is : descent.depth ≡ steps path
   pub wants : Wants go path
   pub found : descent.is_found ≡ true → (place : ℕ) × (descent.root ≡ Some place) × (go place ≡ Equal)

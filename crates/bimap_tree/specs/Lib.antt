@@ -8,6 +8,7 @@ pub mod RankedSubtree
 pub mod Steps
 pub mod Path
 pub mod Route
+pub mod Retraced
 pub mod Descent
 pub mod Remove
 pub mod Batches

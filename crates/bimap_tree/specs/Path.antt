@@ -3,9 +3,8 @@ use Rattle.std.specs.Prelude.{◌≡◌, ℕ, suc, ◌+◌, ◌≤◌, ◌<◌, 
 use Rattle.std.specs.declared.cmp.Ordering.{Ordering}
 use Rattle.std.specs.declared.cmp.Ordering.TheVariants.{Less, Greater}
 use Rattle.bimap_base.specs.declared.cells.Node.{Node}
-use Rattle.bimap_tree.specs.declared.route.Route.{Route}
-use Rattle.bimap_tree.specs.Steps.{step_at}
-use Rattle.bimap_tree.specs.Tree.{Tree, leaf, reading, height, size, occurs, is_at, root_of, IsBalanced, Shows, Stands, branch, far_of}
+use Rattle.bimap_tree.specs.Steps.{Way}
+use Rattle.bimap_tree.specs.Tree.{Tree, leaf, reading, height, size, occurs, is_at, root_of, IsBalanced, Shows, Stands, branch, near_of, far_of}
 
 -- no step, or a path, and below it a turn at a place, to its right if the turn is true, away from the sister tree
 pub data Path : Type 0 where
@@ -43,10 +42,10 @@ abbrev pub size_on : Path → ℕ
 size_on top = 0
 size_on (below up turn p sister) = size_on up + size sister + 1
 
--- the steps noted at the depths of the path are its own
-abbrev pub Follows : (ℕ → ℕ × Bool) → Path → Type 0
-Follows noted top = Unit {0}
-Follows noted (below up turn p sister) = (noted (steps up) ≡ (p, turn)) × Follows noted up
+-- the steps noted at the depths of the path are its own, with so much kept of their places
+abbrev pub Follows : (ℕ → ℕ) → (ℕ → ℕ × Bool) → Path → Type 0
+Follows kept noted top = Unit {0}
+Follows kept noted (below up turn p sister) = (noted (steps up) ≡ (kept p, turn)) × Follows kept noted up
 
 -- the way that a key wants at a turn
 abbrev pub wanted : Bool → Ordering
@@ -58,8 +57,9 @@ abbrev pub Wants : (ℕ → Ordering) → Path → Type 0
 Wants go top = Unit {0}
 Wants go (below up turn p sister) = (go p ≡ wanted turn) × Wants go up
 
--- what the node of a place tells of the sister, and of the height and the size that it has with the subtree s
+-- what the node of a place tells of the subtree s and the sister, and of the height and the size that it has with them
 pub record Tells (turn : Bool) (node : Node) (s sister : Tree) : Type 0 where
+  pub near_is : near_of turn node ≡ root_of s
   pub far_is : far_of turn node ≡ root_of sister
   pub height_is : node.height ≡ max (height s) (height sister) + 1
   pub size_is : node.size ≡ size s + size sister + 1
@@ -80,9 +80,14 @@ pub record Moves (grew : Bool) (s u : Tree) : Type 0 where
   pub not_lower : height s ≤ height u + one_if (not grew)
   pub not_higher : height u ≤ height s + one_if grew
 
+-- the way keeps the places of these nodes whole
+abbrev pub KeepsWhole : List Node → Way → Type 0
+KeepsWhole nodes way = (p : ℕ) → p < length nodes → way.kept p ≡ p
+
 -- at the path's end the tree u stands in place of s, of which the places above do not know yet
-pub record CanRise (nodes : List Node) (route : Route) (path : Path) (grew : Bool) (s u : Tree) : Type 0 where
-  pub follows : Follows (step_at route) path
+pub record CanRise (nodes : List Node) (way : Way) (path : Path) (grew : Bool) (s u : Tree) : Type 0 where
+  pub follows : Follows way.kept way.step_at path
+  pub whole : KeepsWhole nodes way
   pub holds : Holds nodes path s
   pub shown : Shows nodes u
   pub distinct : (q : ℕ) → occurs_on q path + occurs q u ≤ 1
@@ -113,10 +118,10 @@ pub record IsRisen (old new : List Node) (path : Path) (u : Tree) (root : Option
   pub same_length : length new ≡ length old
 
 -- a place may be put at the path's end, where no place is
-pub record CanPut (nodes : List Node) (route : Route) (path : Path) (place : ℕ) : Type 0 where
-  pub follows : Follows (step_at route) path
-  pub depth_is : route.depth ≡ steps path
-  pub deep : route.depth ≤ 91
+pub record CanPut (nodes : List Node) (way : Way) (path : Path) (place : ℕ) : Type 0 where
+  pub follows : Follows way.kept way.step_at path
+  pub depth_is : way.depth ≡ steps path
+  pub deep : way.depth ≤ 91
   pub shown : Shows nodes (plug path leaf)
   pub distinct : (q : ℕ) → occurs_on q path + is_at q place ≤ 1
   pub balanced : IsBalanced (plug path leaf)

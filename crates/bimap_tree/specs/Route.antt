@@ -6,21 +6,21 @@ use Rattle.bimap_tree.specs.Tree.{Tree, leaf, height, root_of}
 use Rattle.bimap_tree.specs.Index.{Index, IsBalancedIndex}
 use Rattle.bimap_tree.specs.Path.{Path, plug, steps, Follows, Wants}
 use Rattle.bimap_tree.specs.Search.{CanSeek}
-use Rattle.bimap_tree.specs.Steps.{step_at}
+use Rattle.bimap_tree.specs.Steps.{packed, step_at}
 use Rattle.bimap_tree.specs.declared.route.Route.{Route}
 
 -- the route leads down the index's tree, as places that stand so to a key want, to where no place is
 pub record IsRoute (index : Index) (go : ℕ → Ordering) (route : Route) : Type 0 where
   pub path : Path
   pub of_index : IsBalancedIndex index (plug path leaf)
-  pub follows : Follows (step_at route) path
+  pub follows : Follows packed (step_at route) path
   pub depth_is : route.depth ≡ steps path
   pub wants : Wants go path
 
 -- the search has come along the path to the subtree s, and may go on
 pub record CanFollow (nodes : List Node) (root : Option ℕ) (live : ℕ → Type 0) (go : ℕ → Ordering) (route : Route) (depth : ℕ) (path : Path) (s : Tree) : Type 0 where
   pub seek : CanSeek nodes root live go s
-  pub follows : Follows (step_at route) path
+  pub follows : Follows packed (step_at route) path
   pub depth_is : depth ≡ steps path
   pub wants : Wants go path
   pub deep : depth + height s ≤ 91
@@ -28,7 +28,7 @@ pub record CanFollow (nodes : List Node) (root : Option ℕ) (live : ℕ → Typ
 -- the search has come along the path, from a tree t, to a subtree at this root
 pub record IsFollowed (go : ℕ → Ordering) (route : Route) (depth : ℕ) (root : Option ℕ) (t : Tree) (path : Path) (e : Tree) : Type 0 where
   pub whole : plug path e ≡ t
-  pub follows : Follows (step_at route) path
+  pub follows : Follows packed (step_at route) path
   pub depth_is : depth ≡ steps path
   pub wants : Wants go path
   pub root_is : root_of e ≡ root

@@ -1,10 +1,11 @@
 //! The calls of a tree over cells of either width: each asks once which they have.
 ghost use Rattle.std.specs.Prelude.{Some, length, slice_get, ◌*◌, ◌+◌, ◌<◌, ◌^◌, ◌≡◌, ◌≤◌};
-ghost use Rattle.bimap_tree.specs.Tree.{IsBalanced, Stands, Tree, fork, height, leaf, reading, size};
+ghost use Rattle.bimap_tree.specs.Tree.{IsBalanced, Stands, Tree, fork, height, leaf, reading, root_of, size};
 ghost use Rattle.bimap_tree.specs.Search.{CanSeek};
 ghost use Rattle.bimap_tree.specs.Order.{count_below, first_equal};
 ghost use Rattle.bimap_tree.specs.Path.{CanPut, IsRisen, Path, plug};
 ghost use Rattle.bimap_tree.specs.Route.{CanFollow, IsFollowed};
+ghost use Rattle.bimap_tree.specs.Steps.{way_of};
 ghost use Rattle.bimap_tree.specs.Filled.{IsRow};
 ghost use Rattle.bimap_tree.specs.Remove.{CanTake, IsTaken};
 ghost use Rattle.bimap_base.specs.NodesInCells.{nodes_in};
@@ -118,41 +119,47 @@ pub fn fill_around<M: Meter>(
 #[inline(always)]
 pub fn put_at<M: Meter>(
     cells: &mut Cells,
+    root: Option<usize>,
     route: &Route,
     place: usize,
     meter: &mut M,
 ) -> Option<usize>
-    requires { (path : Path) × CanPut (nodes_in cells.old) route.now path place }
-    ensures tree { (path : Path) → CanPut (nodes_in cells.old) route.now path place →
-        (v : Tree) × IsRisen (nodes_in cells.old) (nodes_in cells.new) path
+    requires { (path : Path) × CanPut (nodes_in cells.old) (way_of route.now) path place
+        × (root_of (plug path leaf) ≡ root) }
+    ensures tree { (path : Path) → CanPut (nodes_in cells.old) (way_of route.now) path place →
+        root_of (plug path leaf) ≡ root → (v : Tree) × IsRisen (nodes_in cells.old) (nodes_in cells.new) path
         (fork leaf place leaf) result v }
     ensures comparisons { M.comparisons meter.new ≡ M.comparisons meter.old }
-    ensures touches { M.touches meter.new ≤ M.touches meter.old + 11 * route.now.depth + 1 }
+    ensures touches { M.touches meter.new ≤ M.touches meter.old + 12 * route.now.depth + 1 }
 {
     match cells {
-        Cells::Narrow(nodes) => rise::put_at(nodes, route, place, meter),
-        Cells::Wide(nodes) => rise::put_at(nodes, route, place, meter),
+        Cells::Narrow(nodes) => rise::put_at(nodes, root, route, place, meter),
+        Cells::Wide(nodes) => rise::put_at(nodes, root, route, place, meter),
     }
 }
 
 #[inline(always)]
 pub fn take_at<M: Meter>(
     cells: &mut Cells,
+    root: Option<usize>,
     route: &mut Route,
     at: usize,
     meter: &mut M,
 ) -> Option<usize>
     requires { (path : Path) × (l : Tree) × (r : Tree)
-        × CanTake (nodes_in cells.old) route.old path l at r }
-    ensures tree { (path : Path) (l r : Tree) → CanTake (nodes_in cells.old) route.old path l at r →
-        (v : Tree) × IsTaken (nodes_in cells.old) (nodes_in cells.new) path l r result v }
+        × CanTake (nodes_in cells.old) (way_of route.old) path l at r
+        × (root_of (plug path (fork l at r)) ≡ root) }
+    ensures tree { (path : Path) (l r : Tree) →
+        CanTake (nodes_in cells.old) (way_of route.old) path l at r →
+        root_of (plug path (fork l at r)) ≡ root → (v : Tree) × IsTaken (nodes_in cells.old) (nodes_in cells.new) path l r result v }
     ensures comparisons { M.comparisons meter.new ≡ M.comparisons meter.old }
     ensures touches { (path : Path) (l r : Tree) →
-        CanTake (nodes_in cells.old) route.old path l at r →
-        M.touches meter.new ≤ M.touches meter.old + 12 * height (plug path (fork l at r)) + 4 }
+        CanTake (nodes_in cells.old) (way_of route.old) path l at r →
+        root_of (plug path (fork l at r)) ≡ root →
+        M.touches meter.new ≤ M.touches meter.old + 13 * height (plug path (fork l at r)) + 4 }
 {
     match cells {
-        Cells::Narrow(nodes) => remove::take_at(nodes, route, at, meter),
-        Cells::Wide(nodes) => remove::take_at(nodes, route, at, meter),
+        Cells::Narrow(nodes) => remove::take_at(nodes, root, route, at, meter),
+        Cells::Wide(nodes) => remove::take_at(nodes, root, route, at, meter),
     }
 }

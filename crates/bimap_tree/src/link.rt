@@ -141,6 +141,7 @@ pub fn rotate<C: Cell, M: Meter>(
 }
 
 // Links a place above two trees whose heights differ by at most two, and rotates where it must.
+#[inline(always)]
 pub fn rebalance<C: Cell, M: Meter>(
     cells: &mut Nodes<C>,
     place: usize,

@@ -215,7 +215,7 @@ impl Ordered {
     {
         // Cells are fewer than 2^64.
         let _ = self.cells.places();
-        self.root = put_at(&mut self.cells, route, place, meter);
+        self.root = put_at(&mut self.cells, self.root, route, place, meter);
         self.len += 1;
     }
 
@@ -249,7 +249,7 @@ impl Ordered {
             &mut route,
             meter,
         );
-        self.root = put_at(&mut self.cells, &route, place, meter);
+        self.root = put_at(&mut self.cells, self.root, &route, place, meter);
         self.len += 1;
     }
 
@@ -276,7 +276,7 @@ impl Ordered {
             &mut route,
             meter,
         );
-        self.root = take_at(&mut self.cells, &mut route, place, meter);
+        self.root = take_at(&mut self.cells, self.root, &mut route, place, meter);
         self.len -= 1;
     }
 
@@ -311,7 +311,7 @@ impl Ordered {
             &mut route,
             meter,
         )?;
-        self.root = take_at(&mut self.cells, &mut route, found, meter);
+        self.root = take_at(&mut self.cells, self.root, &mut route, found, meter);
         self.len -= 1;
         Some(found)
     }

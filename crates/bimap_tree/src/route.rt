@@ -6,9 +6,9 @@ ghost use Rattle.bimap_tree.specs.Order.{first_equal};
 ghost use Rattle.bimap_tree.specs.Index.{Index, IsBalancedIndex};
 ghost use Rattle.bimap_tree.specs.Path.{Path, plug};
 ghost use Rattle.bimap_tree.specs.Route.{CanFollow, IsFollowed, IsRoute};
-ghost use Rattle.bimap_tree.specs.Steps.{IsNoted, step_at};
 
 use crate::search_key::SearchKey;
+use crate::way::{PACKED, Steps};
 use bimap_base::{Cell, Meter, Nodes};
 
 /// The way that a search went down an index: at each depth a place, and whether the way goes on to its right.
@@ -16,8 +16,8 @@ use bimap_base::{Cell, Meter, Nodes};
 /// It is as long as the highest balanced tree of fewer than 2^64 places, and takes no memory from an allocator.
 #[derive(Drop)]
 pub struct Route {
-    places: [usize; 91],
-    turns: [bool; 91],
+    // At each depth twice the place, modulo 2^31, and one more where the way goes on to its right.
+    steps: [u32; 91],
     depth: usize,
 }
 
@@ -28,35 +28,29 @@ impl Route {
             IsRoute index go result }
     {
         Route {
-            places: [0; 91],
-            turns: [false; 91],
+            steps: [0; 91],
             depth: 0,
         }
     }
+}
 
-    // The number of steps.
-    pub(crate) fn depth(&self) -> usize
-        ensures { result ≡ self.now.depth }
-    {
+impl Steps for Route {
+    ghost use Rattle.bimap_tree.specs.Steps.{way_of};
+
+    ghost way = { way_of };
+
+    fn depth(&self) -> usize {
         self.depth
     }
 
-    // The place and the turn at a depth.
-    pub(crate) fn step(&self, depth: usize) -> (usize, bool)
-        requires { depth < 91 }
-        ensures { result ≡ step_at self.now depth }
-    {
-        (self.places[depth], self.turns[depth])
+    fn step(&self, depth: usize) -> (usize, bool) {
+        let step = self.steps[depth] as usize;
+        (step / 2, step % 2 == 1)
     }
 
-    // Notes the place and the turn at a depth.
-    pub(crate) fn note(&mut self, depth: usize, place: usize, turn: bool)
-        requires { depth < 91 }
-        ensures noted { IsNoted (step_at self.old) depth (place, turn) (step_at self.new) }
-        ensures depth { self.new.depth ≡ self.old.depth }
-    {
-        self.places[depth] = place;
-        self.turns[depth] = turn;
+    fn note(&mut self, depth: usize, place: usize, turn: bool) {
+        let to_right = if turn { 1 } else { 0 };
+        self.steps[depth] = (place % PACKED * 2 + to_right) as u32;
     }
 }
 

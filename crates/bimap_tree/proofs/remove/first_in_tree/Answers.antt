@@ -20,7 +20,7 @@ loop-left-smaller g c = falls _ _ _ _ _ _ c.loop-left.invariant.touched _ refl _
 pub loop-left-preserved : goal.loop-left-preserved
 loop-left-preserved g c =
     record {
-      descends = descends_on _ _ _ _ _ _ _ c.loop-left.invariant.descends _ c.read.ensures.node _ c.in-Some.is _ c.note.ensures.noted;
+      descends = descends_on _ _ _ _ _ _ _ c.loop-left.invariant.descends _ c.read.ensures.node _ c.in-Some.is _ c.note.ensures.noted c.note.ensures.kept;
       compared = omega arith;
       touched = costs_on _ _ _ _ _ _ c.loop-left.invariant.touched _ refl _ c.read.ensures.node false _ (sym c.in-Some.is) _ (omega arith);
     }

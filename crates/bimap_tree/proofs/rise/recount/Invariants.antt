@@ -1,13 +1,13 @@
 use Rattle.std.proofs.Common.{◌≡◌, ◌+◌, ◌≤◌}
-use Rattle.bimap_tree.proofs.Climbs.{Stays, Climbs}
+use Rattle.bimap_tree.proofs.Climbs.{Stays, StaysAt, Climbs}
 use Rattle.bimap_tree.proofs.rise.recount.Given as goal
 
 abbrev pub invariant-loop-depth : goal.invariant-loop-depth
 invariant-loop-depth g l =
     record {
-      climbs : Climbs l.fn.cells l.route l.grew l.fn.depth (Stays l.fn.child) l.cells l.depth (Stays l.child);
+      climbs : Climbs l.fn.cells (g.W.Steps.way l.way) l.grew l.fn.depth (Stays l.fn.child) l.cells l.depth (StaysAt l.top);
       compared : g.M.Meter.comparisons l.meter ≡ g.M.Meter.comparisons l.initial.meter;
-      touched : g.M.Meter.touches l.meter + l.depth ≤ g.M.Meter.touches l.initial.meter + l.fn.depth;
+      touched : g.M.Meter.touches l.meter + l.depth ≤ g.M.Meter.touches l.initial.meter + l.initial.depth;
     }
 
 abbrev pub decreases-loop-depth : goal.decreases-loop-depth

@@ -1,9 +1,23 @@
-use Rattle.std.proofs.Common.{ap, ◌∙◌}
-use Rattle.bimap_base.specs.NodesInCells.{recounted}
+use Rattle.std.proofs.Common.{ap, ◌∙◌, arith, length, ◌<◌}
+use Rattle.std.proofs.lemmas.List.{length-map}
+use Rattle.bimap_base.specs.NodesInCells.{counted, linked}
 use Rattle.bimap_base.proofs.NodesInCells.{map-written, read-mapped}
 use Rattle.bimap_base.proofs.cells.Nodes.recount.Goals as goal
+
+pub linked-requires : goal.linked-requires
+linked-requires g c =
+    let few : length c.args.self.now < g.C.Cell.most = omega (arith, c.self.invariant, ap length c.self.view_is, length-map c.self.inside.cells.items g.C.Cell.node_in) in
+    (_, few, c.requires.child)
+
+pub counted-requires : goal.counted-requires
+counted-requires g c =
+    let few : length c.args.self.now < g.C.Cell.most = omega (arith, c.self.invariant, ap length c.self.view_is, length-map c.self.inside.cells.items g.C.Cell.node_in) in
+    let (n, told, can) = c.requires.count in
+    let is = read-mapped g.C.Cell.node_in _ _ _ _ n c.index.ensures c.self.view_is told in
+    let kept = c.linked.ensures ∙ ap (λ z. linked c.args.turn c.args.child z) is in
+    (_, few, record { more = λ e. omega (arith, can.more e, ap (λ z. z.size) kept); less = λ e. omega (arith, can.less e, ap (λ z. z.size) kept) })
 
 pub returns-clause-written : goal.returns-clause-written
 returns-clause-written g c n told =
     let is = read-mapped g.C.Cell.node_in _ _ _ _ n c.index.ensures c.self.view_is told in
-    map-written g.C.Cell.node_in _ _ _ _ _ c.self.view_is (c.recounted.ensures ∙ ap (λ z. recounted c.args.turn c.args.child c.args.grew z) is)
+    map-written g.C.Cell.node_in _ _ _ _ _ c.self.view_is (c.counted.ensures ∙ ap (λ z. counted c.args.grew z) (c.linked.ensures ∙ ap (λ z. linked c.args.turn c.args.child z) is))

@@ -5,7 +5,7 @@ use Rattle.bimap_tree.specs.Index.{tree_in}
 use Rattle.bimap_tree.specs.Path.{top}
 use Rattle.bimap_tree.specs.Route.{IsRoute}
 use Rattle.bimap_tree.proofs.Ascending.{key_is}
-use Rattle.bimap_tree.proofs.Whole.{can_seek_place, can_follow, place_route, height_within, can_put, len_fits, put_whole, put_length, put_adds, put_cells, put_ascends, route_depth}
+use Rattle.bimap_tree.proofs.Whole.{can_seek_place, can_follow, place_route, height_within, can_put, put_root, len_fits, put_whole, put_length, put_adds, put_cells, put_ascends, route_depth}
 use Rattle.bimap_tree.proofs.ordered.Ordered.insert.Given.{Over}
 use Rattle.bimap_tree.proofs.ordered.Ordered.insert.Goals as goal
 use Rattle.bimap_tree.proofs.ordered.Ordered.insert.Goals.{After-route_in_tree-self-inside}
@@ -25,7 +25,7 @@ the_route g c =
 pub put_at-self-inside-requires : goal.put_at-self-inside-requires
 put_at-self-inside-requires g c =
     let (k, is, r) = the_route g (goal.at.put_at-self-inside-requires g c).After-route_in_tree-self-inside in
-    (_, can_put _ _ _ _ c.self.invariant c.self.view_is _ _ r _ _ c.requires.cell c.requires.unlisted c.places.ensures (omega arith))
+    (_, can_put _ _ _ _ c.self.invariant c.self.view_is _ _ r _ _ c.requires.cell c.requires.unlisted c.places.ensures (omega arith), put_root _ _ _ _ c.self.invariant c.self.view_is _ _ r)
 
 pub overflow_add-self : goal.overflow_add-self
 overflow_add-self g c =
@@ -36,12 +36,12 @@ pub invariant_of-self : goal.invariant_of-self
 invariant_of-self g c =
     let (k, is, r) = the_route g (goal.at.invariant_of-self g c).After-route_in_tree-self-inside in
     let h = can_put _ _ _ _ c.self.invariant c.self.view_is _ _ r _ _ c.requires.cell c.requires.unlisted c.places.ensures (omega arith) in
-    put_whole _ _ _ _ c.self.invariant c.self.view_is _ _ r _ _ c.requires.cell c.requires.unlisted c.places.ensures (omega arith) _ _ (c.put_at-self-inside.ensures.tree _ h)
+    put_whole _ _ _ _ c.self.invariant c.self.view_is _ _ r _ _ c.requires.cell c.requires.unlisted c.places.ensures (omega arith) _ _ (c.put_at-self-inside.ensures.tree _ h (put_root _ _ _ _ c.self.invariant c.self.view_is _ _ r))
 
 pub returns : goal.returns
 returns g c =
     let (k, is, r) = the_route g (goal.at.returns g c).After-route_in_tree-self-inside in
-    let done = c.put_at-self-inside.ensures.tree _ (can_put _ _ _ _ c.self.invariant c.self.view_is _ _ r _ _ c.requires.cell c.requires.unlisted c.places.ensures (omega arith)) in
+    let done = c.put_at-self-inside.ensures.tree _ (can_put _ _ _ _ c.self.invariant c.self.view_is _ _ r _ _ c.requires.cell c.requires.unlisted c.places.ensures (omega arith)) (put_root _ _ _ _ c.self.invariant c.self.view_is _ _ r) in
     record {
       len = put_length _ _ _ _ c.self.invariant c.self.view_is _ _ r _ _ c.requires.cell c.requires.unlisted c.places.ensures (omega arith) _ _ done;
       adds = put_adds _ _ _ _ c.self.invariant c.self.view_is _ _ r _ _ c.requires.cell c.requires.unlisted c.places.ensures (omega arith) _ _ done;

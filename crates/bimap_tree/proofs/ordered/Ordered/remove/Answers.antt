@@ -6,7 +6,7 @@ use Rattle.bimap_tree.specs.Path.{Path, top}
 use Rattle.bimap_tree.specs.Route.{IsFollowed}
 use Rattle.bimap_tree.specs.Tree.{Tree}
 use Rattle.bimap_tree.proofs.Ascending.{key_listed}
-use Rattle.bimap_tree.proofs.Whole.{can_seek_place, can_follow, place_found, height_within, can_take, take_height, take_whole, take_length, take_drops, take_cells, take_ascends}
+use Rattle.bimap_tree.proofs.Whole.{can_seek_place, can_follow, place_found, height_within, can_take, take_root, take_height, take_whole, take_length, take_drops, take_cells, take_ascends}
 use Rattle.bimap_tree.proofs.ordered.Ordered.remove.Given.{Over}
 use Rattle.bimap_tree.proofs.ordered.Ordered.remove.Goals as goal
 use Rattle.bimap_tree.proofs.ordered.Ordered.remove.Goals.{After-route_in_tree-self-inside}
@@ -27,23 +27,24 @@ the_way g c =
 pub take_at-self-inside-requires : goal.take_at-self-inside-requires
 take_at-self-inside-requires g c =
     let (low, s, f) = the_way g (goal.at.take_at-self-inside-requires g c).After-route_in_tree-self-inside in
-    (low, _, _, can_take _ _ _ _ c.self.invariant c.self.view_is _ _ _ low s f)
+    (low, _, _, can_take _ _ _ _ c.self.invariant c.self.view_is _ _ _ low s f, take_root _ _ _ _ c.self.invariant c.self.view_is _ _ _ low s f)
 
 pub invariant_of-self : goal.invariant_of-self
 invariant_of-self g c =
     let (low, s, f) = the_way g (goal.at.invariant_of-self g c).After-route_in_tree-self-inside in
-    take_whole _ _ _ _ c.self.invariant c.self.view_is _ _ _ low s f _ _ (c.take_at-self-inside.ensures.tree low _ _ (can_take _ _ _ _ c.self.invariant c.self.view_is _ _ _ low s f))
+    take_whole _ _ _ _ c.self.invariant c.self.view_is _ _ _ low s f _ _ (c.take_at-self-inside.ensures.tree low _ _ (can_take _ _ _ _ c.self.invariant c.self.view_is _ _ _ low s f) (take_root _ _ _ _ c.self.invariant c.self.view_is _ _ _ low s f))
 
 pub returns : goal.returns
 returns g c =
     let (low, s, f) = the_way g (goal.at.returns g c).After-route_in_tree-self-inside in
     let can = can_take _ _ _ _ c.self.invariant c.self.view_is _ _ _ low s f in
-    let done = c.take_at-self-inside.ensures.tree low _ _ can in
+    let at_root = take_root _ _ _ _ c.self.invariant c.self.view_is _ _ _ low s f in
+    let done = c.take_at-self-inside.ensures.tree low _ _ can at_root in
     record {
       len = take_length _ _ _ _ c.self.invariant c.self.view_is _ _ _ low s f _ _ done;
       drops = take_drops _ _ _ _ c.self.invariant c.self.view_is _ _ _ low s f _ _ done;
       ascends = take_ascends _ _ _ _ c.self.invariant c.self.view_is _ _ _ low s f _ _ done _ _ c.requires.ascends;
       cells = take_cells _ _ _ _ c.self.invariant c.self.view_is _ _ _ low s f _ _ done;
       comparisons = omega (arith, c.route_in_tree-self-inside.ensures.comparisons _ c.self.invariant.index.tree, height_within _ _ _ _ c.self.invariant c.self.view_is);
-      touches = omega (arith, c.route_in_tree-self-inside.ensures.touches _ c.self.invariant.index.tree, height_within _ _ _ _ c.self.invariant c.self.view_is, c.take_at-self-inside.ensures.touches low _ _ can, take_height _ _ _ _ c.self.invariant c.self.view_is _ _ _ low s f);
+      touches = omega (arith, c.route_in_tree-self-inside.ensures.touches _ c.self.invariant.index.tree, height_within _ _ _ _ c.self.invariant c.self.view_is, c.take_at-self-inside.ensures.touches low _ _ can at_root, take_height _ _ _ _ c.self.invariant c.self.view_is _ _ _ low s f);
     }

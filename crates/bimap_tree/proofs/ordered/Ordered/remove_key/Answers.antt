@@ -7,7 +7,7 @@ use Rattle.bimap_tree.specs.Path.{Path, top}
 use Rattle.bimap_tree.specs.Route.{IsFollowed}
 use Rattle.bimap_tree.specs.Tree.{Tree}
 use Rattle.bimap_tree.proofs.Found.{found_in, none_told}
-use Rattle.bimap_tree.proofs.Whole.{can_seek, can_follow, places_are, height_within, can_take, take_height, take_whole, take_length, take_drops, take_cells, take_ascends}
+use Rattle.bimap_tree.proofs.Whole.{can_seek, can_follow, places_are, height_within, can_take, take_root, take_height, take_whole, take_length, take_drops, take_cells, take_ascends}
 use Rattle.bimap_tree.proofs.ordered.Ordered.remove_key.Given.{Over}
 use Rattle.bimap_tree.proofs.ordered.Ordered.remove_key.Goals as goal
 use Rattle.bimap_tree.proofs.ordered.Ordered.remove_key.Goals.{After-route_in_tree, In_ok-found}
@@ -41,18 +41,19 @@ the_way g c =
 pub take_at-self-inside-requires : goal.take_at-self-inside-requires
 take_at-self-inside-requires g c =
     let (low, s, f) = the_way g (goal.at.take_at-self-inside-requires g c).In_ok-found in
-    (low, _, _, can_take _ _ _ _ c.self.invariant c.self.view_is _ _ _ low s f)
+    (low, _, _, can_take _ _ _ _ c.self.invariant c.self.view_is _ _ _ low s f, take_root _ _ _ _ c.self.invariant c.self.view_is _ _ _ low s f)
 
 pub invariant_of-self : goal.invariant_of-self
 invariant_of-self g c =
     let (low, s, f) = the_way g (goal.at.invariant_of-self g c).In_ok-found in
-    take_whole _ _ _ _ c.self.invariant c.self.view_is _ _ _ low s f _ _ (c.take_at-self-inside.ensures.tree low _ _ (can_take _ _ _ _ c.self.invariant c.self.view_is _ _ _ low s f))
+    take_whole _ _ _ _ c.self.invariant c.self.view_is _ _ _ low s f _ _ (c.take_at-self-inside.ensures.tree low _ _ (can_take _ _ _ _ c.self.invariant c.self.view_is _ _ _ low s f) (take_root _ _ _ _ c.self.invariant c.self.view_is _ _ _ low s f))
 
 pub returns : goal.returns
 returns g c =
     let (low, s, f) = the_way g (goal.at.returns g c).In_ok-found in
     let can = can_take _ _ _ _ c.self.invariant c.self.view_is _ _ _ low s f in
-    let done = c.take_at-self-inside.ensures.tree low _ _ can in
+    let at_root = take_root _ _ _ _ c.self.invariant c.self.view_is _ _ _ low s f in
+    let done = c.take_at-self-inside.ensures.tree low _ _ can at_root in
     record {
       found = found_in (λ q. standing g.Q.Sought.order (g.K.Keys.key_at c.args.keys.now q) (Some c.args.query)) _ (Some c.in_ok-found.found) (sym c.in_ok-found.was ∙ first g (goal.at.returns g c).After-route_in_tree);
       none = tt;
@@ -62,5 +63,5 @@ returns g c =
       ascends = take_ascends _ _ _ _ c.self.invariant c.self.view_is _ _ _ low s f _ _ done _ _ c.requires;
       cells = take_cells _ _ _ _ c.self.invariant c.self.view_is _ _ _ low s f _ _ done;
       comparisons = omega (arith, c.route_in_tree.ensures.comparisons _ c.self.invariant.index.tree, height_within _ _ _ _ c.self.invariant c.self.view_is);
-      touches = omega (arith, c.route_in_tree.ensures.touches _ c.self.invariant.index.tree, height_within _ _ _ _ c.self.invariant c.self.view_is, c.take_at-self-inside.ensures.touches low _ _ can, take_height _ _ _ _ c.self.invariant c.self.view_is _ _ _ low s f);
+      touches = omega (arith, c.route_in_tree.ensures.touches _ c.self.invariant.index.tree, height_within _ _ _ _ c.self.invariant c.self.view_is, c.take_at-self-inside.ensures.touches low _ _ can at_root, take_height _ _ _ _ c.self.invariant c.self.view_is _ _ _ low s f);
     }

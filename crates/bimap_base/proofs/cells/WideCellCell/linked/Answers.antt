@@ -1,0 +1,4 @@
+use Rattle.bimap_base.proofs.cells.WideCellCell.linked.Goals as goal
+
+pub link_to-link-requires : goal.link_to-link-requires
+link_to-link-requires c = (c.requires.0, (c.requires.2, c.requires.1))

@@ -1,0 +1,98 @@
+//! The steps of a way down a tree.
+ghost use Rattle.std.specs.Prelude.{◌≡◌, ℕ, ◌+◌, ◌<◌, ◌≤◌, ◌^◌, length, true};
+ghost use Rattle.bimap_tree.specs.Path.{Path};
+ghost use Rattle.bimap_tree.specs.Retraced.{CanRetrace, IsRetraced};
+ghost use Rattle.bimap_tree.specs.Steps.{IsNoted, long_way_of, way_of};
+ghost use Rattle.bimap_tree.specs.Tree.{Tree};
+
+use crate::route::Route;
+use bimap_base::{Cell, Meter, Nodes};
+
+// A route's steps tell the places whole where there are no more than this.
+pub(crate) const PACKED: usize = 2_147_483_648;
+
+// The steps of a way, by depth: a place, as it is kept, and whether the way goes on to its right.
+pub trait Steps {
+    ghost use Rattle.bimap_tree.specs.Steps.{Way};
+
+    ghost way: { Self → Way };
+
+    // The number of steps.
+    fn depth(&self) -> usize
+        ensures { result ≡ (way self.now).depth };
+
+    // The place, as it is kept, and the turn at a depth.
+    fn step(&self, depth: usize) -> (usize, bool)
+        requires { depth < 91 }
+        ensures { result ≡ (way self.now).step_at depth };
+
+    // Notes the place and the turn at a depth.
+    fn note(&mut self, depth: usize, place: usize, turn: bool)
+        requires { depth < 91 }
+        ensures noted { IsNoted (way self.old).step_at depth ((way self.old).kept place, turn)
+            (way self.new).step_at }
+        ensures kept { (way self.new).kept ≡ (way self.old).kept }
+        ensures depth { (way self.new).depth ≡ (way self.old).depth };
+}
+
+// The way of a route in a tree of more places than its steps tell whole.
+#[derive(Drop)]
+pub struct LongRoute {
+    places: [usize; 91],
+    turns: [bool; 91],
+    depth: usize,
+}
+
+impl Steps for LongRoute {
+    ghost way = { long_way_of };
+
+    fn depth(&self) -> usize {
+        self.depth
+    }
+
+    fn step(&self, depth: usize) -> (usize, bool) {
+        (self.places[depth], self.turns[depth])
+    }
+
+    fn note(&mut self, depth: usize, place: usize, turn: bool) {
+        self.places[depth] = place;
+        self.turns[depth] = turn;
+    }
+}
+
+// Whether a route's steps tell the places of these nodes whole.
+pub fn fits<C: Cell>(cells: &Nodes<C>) -> bool
+    ensures { result ≡ true → length cells.now ≤ 2 ^ 31 }
+{
+    cells.places() <= PACKED
+}
+
+// The way of a route once more, by its turns.
+pub fn retraced<C: Cell, M: Meter>(
+    cells: &Nodes<C>,
+    root: Option<usize>,
+    route: &Route,
+    meter: &mut M,
+) -> LongRoute
+    requires { (path : Path) × (s : Tree) × CanRetrace cells.now root (way_of route.now) path s }
+    ensures way { (path : Path) (s : Tree) → CanRetrace cells.now root (way_of route.now) path s →
+        IsRetraced (long_way_of result) path }
+    ensures comparisons { M.comparisons meter.new ≡ M.comparisons meter.old }
+    ensures touches { M.touches meter.new ≤ M.touches meter.old + route.now.depth }
+{
+    let mut way = LongRoute {
+        places: [0; 91],
+        turns: [false; 91],
+        depth: route.depth(),
+    };
+    let mut root = root;
+    for depth in 0..way.depth {
+        let Some(at) = root else {
+            unreachable!();
+        };
+        let (_, turn) = route.step(depth);
+        way.note(depth, at, turn);
+        root = cells.cell(at, meter).child(turn);
+    }
+    way
+}
