@@ -6,7 +6,7 @@ use Rattle.std.proofs.lemmas.Option.{slice_get_within, slice_get-get_or, get_or_
 use Rattle.std.proofs.Math.Seq.{get_or-append_seam}
 use Rattle.bimap_base.specs.declared.pairs.Slot.{Slot}
 use Rattle.bimap_base.specs.declared.pairs.Slot.TheVariants.{Free, Held}
-use Rattle.bimap_base.specs.FreeSlots.{pair_of, IsFreeList, IsSound, IsGrown}
+use Rattle.bimap_base.specs.FreeSlots.{pair_of, AddsFree, IsFreeList, IsSound, IsGrown}
 
 -- the default at the end of a list changes no read
 get_or-push_default : {X : Type 0} (xs : List X) (d : X) (i : ℕ) → get_or (xs ++ d ∷ []) i d ≡ get_or xs i d
@@ -110,43 +110,33 @@ module _ {L R : Type 0} where
         linked = IsFreeList-set slots place (Held m s) sound.free next (λ k _. held_is_off_list slots place l r found k) sound.linked;
       }
 
-  -- a free slot more at the end, which names the number of slots, is the last of the list
-  pub IsFreeList-push : (slots : List (Slot L R)) (n first : ℕ) → IsFreeList slots n first → IsFreeList (slots ++ Free (length slots + 1) ∷ []) (suc n) first
-  IsFreeList-push slots zero first p =
-      let slot = Free (length slots + 1) in
-      let longer = length_push slots slot in
-      let there : slice_get (slots ++ slot ∷ []) (length slots) ≡ Some slot =
-      slice_get-get_or (slots ++ slot ∷ []) (length slots) slot (omega arith) ∙ ap Some (get_or-append_seam slots slot [] slot) in
-      (length slots + 1, rw p there, omega arith)
-  IsFreeList-push slots (suc n) first p =
-      let slot = Free (length slots + 1) in
-      let within = slice_get_within slots first _ p.1 in
-      let kept : slice_get (slots ++ slot ∷ []) first ≡ Some (Free p.0) =
-      slice_get-get_or (slots ++ slot ∷ []) first slot (omega (arith, length_push slots slot))
-      ∙ ap Some (get_or_append_left slots (slot ∷ []) slot first within ∙ get_or_from_slice_get slots first _ slot p.1) in
-      (p.0, kept, IsFreeList-push slots n p.0 p.2)
+  -- ---- a free slot more at the end
+  pub before_push : (slots : List (Slot L R)) (slot : Slot L R) (p : ℕ) → p < length slots → slice_get (slots ++ slot ∷ []) p ≡ slice_get slots p
+  before_push slots slot p within =
+      slice_get-get_or (slots ++ slot ∷ []) p slot (omega (arith, within, length_push slots slot))
+      ∙ ap Some (get_or_append_left slots (slot ∷ []) slot p within)
+      ∙ sym (slice_get-get_or slots p slot within)
+
+  pub at_push : (slots : List (Slot L R)) (after p q : ℕ) → p ≡ length slots → after ≡ q → slice_get (slots ++ Free after ∷ []) p ≡ Some (Free q)
+  at_push slots after p q here same =
+      slice_get-get_or (slots ++ Free after ∷ []) p (Free after) (let longer = length_push slots (Free after) in omega (arith, here, longer))
+      ∙ ap Some (subst (λ x. get_or (slots ++ Free after ∷ []) x (Free after) ≡ Free after) (sym here) (get_or-append_seam slots (Free after) [] (Free after)) ∙ ap (λ n. Free n) same)
+
+  pub adds_none : (slots : List (Slot L R)) → AddsFree slots slots
+  adds_none slots = record { kept = λ _. refl; count = refl }
+
+  pub adds_push : (first slots : List (Slot L R)) (after : ℕ) → AddsFree first slots → AddsFree first (slots ++ Free after ∷ [])
+  adds_push first slots after a =
+      let pushed : map pair_of (slots ++ Free after ∷ []) ≡ map pair_of slots ++ None ∷ [] = map_push pair_of slots (Free after) in
+      let same = sum_by_push (λ o. cond (is_some o) 1 0) (map pair_of slots) None in
+      let counts : count_by is_some (map pair_of (slots ++ Free after ∷ [])) ≡ count_by is_some (map pair_of slots) = rw pushed (omega arith) in
+      record {
+        kept = λ place. rw pushed (get_or-push_default (map pair_of slots) None place ∙ a.kept place);
+        count = counts ∙ a.count;
+      }
 
   pub IsSound-empty : IsSound {L = L} {R = R} [] 0 0
   IsSound-empty = record { counted = refl; free = 0; total = refl; linked = refl }
 
   pub IsGrown-start : (slots : List (Slot L R)) (len next : ℕ) → IsSound slots len next → IsGrown slots slots len next
-  IsGrown-start slots len next sound = record { sound = sound; kept = λ _. refl; count = refl }
-
-  pub IsGrown-push : (first slots : List (Slot L R)) (len next : ℕ) → IsGrown first slots len next → IsGrown first (slots ++ Free (length slots + 1) ∷ []) len next
-  IsGrown-push first slots len next grown =
-      let sound = grown.sound in
-      let slot = Free (length slots + 1) in
-      let longer = length_push slots slot in
-      let pushed : map pair_of (slots ++ slot ∷ []) ≡ map pair_of slots ++ None ∷ [] = map_push pair_of slots slot in
-      let same = sum_by_push (λ o. cond (is_some o) 1 0) (map pair_of slots) None in
-      let counts : count_by is_some (map pair_of (slots ++ slot ∷ [])) ≡ count_by is_some (map pair_of slots) = rw pushed (omega arith) in
-      record {
-        sound = record {
-          counted = sound.counted ∙ sym counts;
-          free = suc sound.free;
-          total = omega (arith, sound.total);
-          linked = IsFreeList-push slots sound.free next sound.linked;
-        };
-        kept = λ place. rw pushed (get_or-push_default (map pair_of slots) None place ∙ grown.kept place);
-        count = counts ∙ grown.count;
-      }
+  IsGrown-start slots len next sound = record { sound = sound; adds = adds_none slots }

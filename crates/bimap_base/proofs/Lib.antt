@@ -8,6 +8,7 @@ pub mod Digits
 pub mod Extending
 pub mod Fits
 pub mod FreeList
+pub mod FreeRuns
 pub mod HoldingsAlike
 pub mod Interned
 pub mod Inverse

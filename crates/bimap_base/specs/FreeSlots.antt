@@ -1,5 +1,5 @@
 -- How `Pairs` lays out its slots. No public clause cites this module.
-use Rattle.std.specs.Prelude.{◌≡◌, ℕ, zero, suc, ◌+◌, List, map, length, Option, Some, None, is_some, count_by, slice_get, get_or}
+use Rattle.std.specs.Prelude.{◌≡◌, ℕ, zero, suc, ◌+◌, ◌<◌, ◌≤◌, List, map, length, Option, Some, None, is_some, count_by, slice_get, get_or}
 use Rattle.bimap_base.specs.declared.pairs.Slot.{Slot}
 use Rattle.bimap_base.specs.declared.pairs.Slot.TheVariants.{Free, Held}
 
@@ -21,8 +21,17 @@ module _ {L R : Type 0} where
     pub total : len + free ≡ length slots
     pub linked : IsFreeList slots free next
 
-  -- more slots at the end are free, and no pair has moved
-  pub record IsGrown (first : List (Slot L R)) (slots : List (Slot L R)) (len next : ℕ) : Type 0 where
-    pub sound : IsSound slots len next
+  -- free slots from one place up to another each name the next, and the last names `after`
+  pub record IsRun (slots : List (Slot L R)) (from to after : ℕ) : Type 0 where
+    pub next : (p : ℕ) → from ≤ p → p + 1 < to → slice_get slots p ≡ Some (Free (p + 1))
+    pub last : (p : ℕ) → p + 1 ≡ to → slice_get slots p ≡ Some (Free after)
+
+  -- more slots at the end have no pair
+  pub record AddsFree (first slots : List (Slot L R)) : Type 0 where
     pub kept : (place : ℕ) → get_or (map pair_of slots) place None ≡ get_or (map pair_of first) place None
     pub count : count_by is_some (map pair_of slots) ≡ count_by is_some (map pair_of first)
+
+  -- more slots at the end are free, and listed so
+  pub record IsGrown (first : List (Slot L R)) (slots : List (Slot L R)) (len next : ℕ) : Type 0 where
+    pub sound : IsSound slots len next
+    pub adds : AddsFree first slots

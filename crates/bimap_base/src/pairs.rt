@@ -1,8 +1,8 @@
 //! The store: pairs in numbered places. It knows nothing of their values, nor of how places are found.
-ghost use Rattle.std.specs.Prelude.{◌≡◌, ◌+◌, ◌<◌, ◌≤◌, [], max, map, length, option_map, Some, None, IsOk, IsSome, OnOk, OnErr, slice_set, slice_index_or, replicate, ℕ, vec_len, vec_capacity};
+ghost use Rattle.std.specs.Prelude.{◌≡◌, ◌+◌, ◌<◌, ◌≤◌, [], max, map, length, option_map, Some, None, IsOk, IsSome, OnOk, OnErr, slice_set, slice_get, slice_index_or, replicate, ℕ, vec_len, vec_capacity};
 ghost use Rattle.bimap_base.specs.Slots.{pair_at, IsLive, pair_count};
 ghost use Rattle.bimap_base.specs.Places.{pairs_in, compacted};
-ghost use Rattle.bimap_base.specs.FreeSlots.{pair_of, IsFreeList, IsSound, IsGrown};
+ghost use Rattle.bimap_base.specs.FreeSlots.{pair_of, AddsFree, IsFreeList, IsRun, IsSound, IsGrown};
 
 mod inverse;
 
@@ -40,8 +40,45 @@ impl<L, R> Model for Pairs<L, R> {
     ghost invariant = { λ s. IsSound s.slots.items s.len s.next };
 }
 
-// Pushes free slots up to a number, which the vector has room for. They come after those that are free already, the lowest
-// of them first.
+// Pushes free slots up to a place, each naming the next one, and the last one `after`.
+fn push_run<L, R>(slots: &mut Vec<Slot<L, R>>, to: usize, after: usize)
+    requires room { to ≤ vec_capacity slots.old }
+    requires more { vec_len slots.old < to }
+    ensures kept { (p : ℕ) → p < vec_len slots.old →
+        slice_get slots.new.items p ≡ slice_get slots.old.items p }
+    ensures adds { AddsFree slots.old.items slots.new.items }
+    ensures run { IsRun slots.new.items (vec_len slots.old) to after }
+    ensures long { vec_len slots.new ≡ to }
+    ensures capacity { vec_capacity slots.new ≡ vec_capacity slots.old }
+{
+    while slots.len() + 1 < to {
+        let next = slots.len() + 1;
+        slots.push_reserved(Slot::Free(next));
+    }
+    slots.push_reserved(Slot::Free(after));
+}
+
+// Free slots in a row that are taken in another order than the blocks before.
+const BLOCK: usize = 1_024;
+
+// Pushes a block of free slots. After the first one, the taking begins in their midst, elsewhere in each block: where keys rise,
+// the places at the top of a tree lie powers of two apart, and would all fall into the same few lines of a processor's cache.
+fn push_block<L, R>(slots: &mut Vec<Slot<L, R>>)
+    requires { vec_len slots.old + 1_024 ≤ vec_capacity slots.old }
+    ensures grown { (first : _) (len next : ℕ) → IsGrown first slots.old.items len next →
+        IsGrown first slots.new.items len next }
+    ensures long { vec_len slots.new ≡ vec_len slots.old + 1_024 }
+    ensures capacity { vec_capacity slots.new ≡ vec_capacity slots.old }
+{
+    let first = slots.len();
+    let middle = first + 2 + first / BLOCK * 37 % 1_000;
+    let end = first + BLOCK;
+    slots.push_reserved(Slot::Free(middle));
+    push_run(slots, middle, end);
+    push_run(slots, end, first + 1);
+}
+
+// Pushes free slots up to a number, which the vector has room for. They come after those that are free already.
 fn push_free<L, R>(slots: &mut Vec<Slot<L, R>>, to: usize)
     requires room { to ≤ vec_capacity slots.old }
     requires fits { vec_len slots.old ≤ to }
@@ -49,9 +86,11 @@ fn push_free<L, R>(slots: &mut Vec<Slot<L, R>>, to: usize)
         IsGrown slots.old.items slots.new.items len next }
     ensures long { vec_len slots.new ≡ to }
 {
-    while slots.len() < to {
-        let after = slots.len() + 1;
-        slots.push_reserved(Slot::Free(after));
+    while to - slots.len() >= BLOCK {
+        push_block(slots);
+    }
+    if slots.len() < to {
+        push_run(slots, to, to);
     }
 }
 

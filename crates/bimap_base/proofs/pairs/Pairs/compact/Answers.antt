@@ -65,4 +65,4 @@ returns-clause-ok g c =
     let count = subst (λ v. pair_count v ≤ c.args.to) (sym c.self.view_is) c.requires.fits in
     subst (λ v. map pair_of new.items ≡ compacted (pairs_in v) c.args.to) c.self.view_is
     (all_compacted (map pair_of new.items) (pairs_in (map pair_of slots)) c.args.to (omega (arith, count, counted_in (map pair_of slots))) (omega (arith, length-map new.items pair_of, c.push_free.ensures.long, new.ok))
-    (λ k. grown.kept k ∙ ap (λ z. get_or z k None) moved))
+    (λ k. grown.adds.kept k ∙ ap (λ z. get_or z k None) moved))
