@@ -7,6 +7,11 @@ use Rattle.bimap_tree.specs.Tree.{Tree, leaf, fork, height, size, IsBalanced}
 use Rattle.bimap_base.specs.Digits.{bits, most_height}
 use Rattle.bimap_base.proofs.Digits.{bits-enough, bits_mono}
 
+-- a tree has no more levels than places
+pub height_below_size : (t : Tree) → height t ≤ size t
+height_below_size leaf = omega arith
+height_below_size (fork l p r) = omega (arith, height_below_size l, height_below_size r)
+
 -- a balanced tree of height 2 k - 1 or more has at least 2 ^ k - 1 places
 pub many_places : (t : Tree) → IsBalanced t → (k : ℕ) → 2 * k ≤ height t + 1 → 2 ^ k ≤ size t + 1
 many_places leaf b zero le = omega (arith, pow_pos 0)
@@ -23,14 +28,27 @@ height-bound t b =
       | inr w ↦ absurd (omega (arith, pow-suc 2 (bits (size t)), bits-enough (size t), many_places t b (suc (bits (size t))) (omega arith), pow_pos (bits (size t))))
     ]
 
+-- one of height 2 k or more, where k is not 0, has at least 2 ^ k
+many_even : (t : Tree) → IsBalanced t → (k : ℕ) → 2 * suc k ≤ height t → 2 ^ suc k ≤ size t
+many_even leaf b k le = absurd (omega (arith, le))
+many_even (fork l p r) b zero le = omega (arith, pow-suc 2 0, height_below_size (fork l p r))
+many_even (fork l p r) b (suc k) le = omega (arith, pow-suc 2 (suc k), many_even l b.2 k (omega arith), many_even r b.3 k (omega arith))
+
+too_few : (t : Tree) → IsBalanced t → (k : ℕ) → 0 < size t → size t < 2 ^ k → 2 * k ≤ height t → ⊥
+too_few t b zero some few tall = absurd (omega (arith, some, few, pow_pos 0))
+too_few t b (suc k) some few tall = absurd (omega (arith, few, many_even t b k tall))
+
+-- so it has a level less than twice its digits, where it has a place
+pub below_bound : (t : Tree) → IsBalanced t → 0 < size t → height t + 1 ≤ 2 * bits (size t)
+below_bound t b some =
+    elim (leb_tells (height t + 1) (2 * bits (size t))) [
+      | inl w ↦ w.1
+      | inr w ↦ absurd (too_few t b (bits (size t)) some (bits-enough (size t)) (omega arith))
+    ]
+
 -- and no more than twice those of any number that is not lower
 pub low : (t : Tree) → IsBalanced t → (n : ℕ) → size t ≤ n → height t ≤ most_height n
 low t b n le = omega (arith, height-bound t b, bits_mono (size t) n le)
-
--- a tree has no more levels than places
-pub height_below_size : (t : Tree) → height t ≤ size t
-height_below_size leaf = omega arith
-height_below_size (fork l p r) = omega (arith, height_below_size l, height_below_size r)
 
 -- a balanced tree of so many levels has at least so many places
 abbrev HasPlaces : ℕ → ℕ → Type 0

@@ -24,3 +24,4 @@ pub mod Spans
 pub mod Climbs
 pub mod Retracing
 pub mod Replaced
+pub mod Firsts

@@ -63,15 +63,15 @@ module _ (nodes : List Node) (at depth : ℕ) (node : Node) (s : Tree) (h : CanD
       )
 
 -- ---- turns to the left
-plug-onward : (path : Path) (lefts : List (ℕ × Tree)) (t : Tree) → plug (onward path lefts) t ≡ plug path (hang lefts t)
+pub plug-onward : (path : Path) (lefts : List (ℕ × Tree)) (t : Tree) → plug (onward path lefts) t ≡ plug path (hang lefts t)
 plug-onward path [] t = refl
 plug-onward path (x ∷ xs) t = plug-onward (below path false x.0 x.1) xs t
 
-steps-onward : (path : Path) (lefts : List (ℕ × Tree)) → steps (onward path lefts) ≡ steps path + length lefts
+pub steps-onward : (path : Path) (lefts : List (ℕ × Tree)) → steps (onward path lefts) ≡ steps path + length lefts
 steps-onward path [] = omega arith
 steps-onward path (x ∷ xs) = omega (arith, steps-onward (below path false x.0 x.1) xs)
 
-occurs-hang : (q : ℕ) (lefts : List (ℕ × Tree)) (t : Tree) → occurs q (hang lefts t) ≡ occurs q (hang lefts leaf) + occurs q t
+pub occurs-hang : (q : ℕ) (lefts : List (ℕ × Tree)) (t : Tree) → occurs q (hang lefts t) ≡ occurs q (hang lefts leaf) + occurs q t
 occurs-hang q [] t = omega arith
 occurs-hang q (x ∷ xs) t = omega (arith, occurs-hang q xs t)
 
@@ -80,11 +80,11 @@ height-hang [] t = omega arith
 height-hang (x ∷ xs) t = omega (arith, height-hang xs t)
 
 -- the first place is read first
-reading-hang : (lefts : List (ℕ × Tree)) (first : ℕ) (rest : Tree) → reading (hang lefts (fork leaf first rest)) ≡ first ∷ reading (hang lefts rest)
+pub reading-hang : (lefts : List (ℕ × Tree)) (first : ℕ) (rest : Tree) → reading (hang lefts (fork leaf first rest)) ≡ first ∷ reading (hang lefts rest)
 reading-hang [] first rest = refl
 reading-hang (x ∷ xs) first rest = ap (λ z. z ++ x.0 ∷ reading x.1) (reading-hang xs first rest)
 
-Follows-onward : (kept : ℕ → ℕ) (noted : ℕ → ℕ × Bool) (path : Path) (lefts : List (ℕ × Tree)) → Follows kept noted path → FollowsOn kept noted (steps path) lefts → Follows kept noted (onward path lefts)
+pub Follows-onward : (kept : ℕ → ℕ) (noted : ℕ → ℕ × Bool) (path : Path) (lefts : List (ℕ × Tree)) → Follows kept noted path → FollowsOn kept noted (steps path) lefts → Follows kept noted (onward path lefts)
 Follows-onward kept noted path [] h on = h
 Follows-onward kept noted path (x ∷ xs) h on = Follows-onward kept noted (below path false x.0 x.1) xs (on.0, h) on.1
 

@@ -38,7 +38,7 @@ module _ (ns : List Node) (root : Option ℕ) (len : ℕ) (v : Index) (w : IsWho
   pub length_is : len ≡ length v.places
   length_is = w.counted ∙ sym (size-reading (tree_in ns root)) ∙ ap length places_are
 
-  size_is : size (tree_in ns root) ≡ length v.places
+  pub size_is : size (tree_in ns root) ≡ length v.places
   size_is = sym w.counted ∙ length_is
 
   few : size (tree_in ns root) < 2 ^ 64

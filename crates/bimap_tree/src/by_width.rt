@@ -3,7 +3,8 @@ ghost use Rattle.std.specs.Prelude.{Some, length, slice_get, ◌*◌, ◌+◌, �
 ghost use Rattle.bimap_tree.specs.Tree.{IsBalanced, Stands, Tree, fork, height, leaf, reading, root_of, size};
 ghost use Rattle.bimap_tree.specs.Search.{CanSeek};
 ghost use Rattle.bimap_tree.specs.Order.{count_below, first_equal};
-ghost use Rattle.bimap_tree.specs.Path.{CanPut, IsRisen, Path, plug};
+ghost use Rattle.bimap_tree.specs.Path.{CanPut, IsRisen, Path, plug, top};
+ghost use Rattle.bimap_base.specs.Digits.{most_height};
 ghost use Rattle.bimap_tree.specs.Route.{CanFollow, IsFollowed};
 ghost use Rattle.bimap_tree.specs.Steps.{way_of};
 ghost use Rattle.bimap_tree.specs.Filled.{IsRow};
@@ -45,6 +46,36 @@ pub fn route_in_tree<S: SearchKey, M: Meter>(
     match cells {
         Cells::Narrow(nodes) => route::route_in_tree(nodes, root, depth, sought, route, meter),
         Cells::Wide(nodes) => route::route_in_tree(nodes, root, depth, sought, route, meter),
+    }
+}
+
+#[inline(always)]
+pub fn route_from_first<S: SearchKey, M: Meter>(
+    cells: &Cells,
+    root: Option<usize>,
+    is_first: bool,
+    sought: &S,
+    route: &mut Route,
+    meter: &mut M,
+) -> Option<usize>
+    requires { (t : Tree) × CanFollow (nodes_in cells.now) root (S.live sought.now)
+        (S.go sought.now) route.old 0 top t }
+    ensures found { (t : Tree) → CanFollow (nodes_in cells.now) root (S.live sought.now)
+        (S.go sought.now) route.old 0 top t →
+        result ≡ first_equal (S.go sought.now) (reading t) }
+    ensures follows { (t : Tree) → CanFollow (nodes_in cells.now) root (S.live sought.now)
+        (S.go sought.now) route.old 0 top t → (low : Path) × (e : Tree)
+        × IsFollowed (S.go sought.now) route.new route.new.depth result t low e }
+    ensures comparisons { (t : Tree) → Stands (nodes_in cells.now) root t → IsBalanced t →
+        M.comparisons meter.new ≤ M.comparisons meter.old + most_height (size t) }
+    ensures touches { (t : Tree) → Stands (nodes_in cells.now) root t →
+        M.touches meter.new ≤ M.touches meter.old + 2 * height t }
+{
+    match cells {
+        Cells::Narrow(nodes) => route::route_from_first(
+            nodes, root, is_first, sought, route, meter,
+        ),
+        Cells::Wide(nodes) => route::route_from_first(nodes, root, is_first, sought, route, meter),
     }
 }
 
@@ -127,8 +158,8 @@ pub fn put_at<M: Meter>(
     requires { (path : Path) × CanPut (nodes_in cells.old) (way_of route.now) path place
         × (root_of (plug path leaf) ≡ root) }
     ensures tree { (path : Path) → CanPut (nodes_in cells.old) (way_of route.now) path place →
-        root_of (plug path leaf) ≡ root → (v : Tree) × IsRisen (nodes_in cells.old) (nodes_in cells.new) path
-        (fork leaf place leaf) result v }
+        root_of (plug path leaf) ≡ root → (v : Tree)
+        × IsRisen (nodes_in cells.old) (nodes_in cells.new) path (fork leaf place leaf) result v }
     ensures comparisons { M.comparisons meter.new ≡ M.comparisons meter.old }
     ensures touches { M.touches meter.new ≤ M.touches meter.old + 12 * route.now.depth + 1 }
 {
@@ -151,7 +182,8 @@ pub fn take_at<M: Meter>(
         × (root_of (plug path (fork l at r)) ≡ root) }
     ensures tree { (path : Path) (l r : Tree) →
         CanTake (nodes_in cells.old) (way_of route.old) path l at r →
-        root_of (plug path (fork l at r)) ≡ root → (v : Tree) × IsTaken (nodes_in cells.old) (nodes_in cells.new) path l r result v }
+        root_of (plug path (fork l at r)) ≡ root → (v : Tree)
+        × IsTaken (nodes_in cells.old) (nodes_in cells.new) path l r result v }
     ensures comparisons { M.comparisons meter.new ≡ M.comparisons meter.old }
     ensures touches { (path : Path) (l r : Tree) →
         CanTake (nodes_in cells.old) (way_of route.old) path l at r →

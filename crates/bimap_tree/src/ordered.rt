@@ -14,7 +14,9 @@ ghost use Rattle.bimap_tree.specs.Index.{IsBalancedIndex};
 ghost use Rattle.bimap_tree.specs.Route.{IsRoute};
 ghost use Rattle.bimap_tree.specs.Spans.{IsCut};
 
-use crate::by_width::{fill_around, place_in_tree, put_at, rank_in_tree, route_in_tree, take_at};
+use crate::by_width::{
+    fill_around, place_in_tree, put_at, rank_in_tree, route_from_first, route_in_tree, take_at,
+};
 use crate::descent::{Descent, finish_in_tree, step_in_tree};
 use crate::route::Route;
 use crate::search::find_in_tree;
@@ -32,6 +34,8 @@ pub struct Ordered {
     cells: Cells,
     root: Option<usize>,
     len: usize,
+    // Whether the next place to be taken off is most likely the first, as the last one was.
+    takes_first: bool,
 }
 
 impl Model for Ordered {
@@ -57,6 +61,7 @@ impl Ordered {
             cells: Cells::new(alloc),
             root: None,
             len: 0,
+            takes_first: false,
         }
     }
 
@@ -268,14 +273,15 @@ impl Ordered {
     {
         let mut route = Route::new();
         // It leads to the place.
-        let _ = route_in_tree(
+        let _ = route_from_first(
             &self.cells,
             self.root,
-            0,
+            self.takes_first,
             &ToPlace { keys, place },
             &mut route,
             meter,
         );
+        self.takes_first = route.goes_left();
         self.root = take_at(&mut self.cells, self.root, &mut route, place, meter);
         self.len -= 1;
     }
@@ -303,14 +309,15 @@ impl Ordered {
             + 64 * (most_height (length self.old.places) + 1) }
     {
         let mut route = Route::new();
-        let found = route_in_tree(
+        let found = route_from_first(
             &self.cells,
             self.root,
-            0,
+            self.takes_first,
             &ToQuery { keys, query },
             &mut route,
             meter,
         )?;
+        self.takes_first = route.goes_left();
         self.root = take_at(&mut self.cells, self.root, &mut route, found, meter);
         self.len -= 1;
         Some(found)

@@ -12,7 +12,7 @@ use crate::way::{Steps, fits, retraced};
 use bimap_base::{Cell, Meter, Nodes};
 
 // Notes the way down to a tree's first place, and answers that place and its depth.
-fn first_in_tree<C: Cell, W: Steps, M: Meter>(
+pub fn first_in_tree<C: Cell, W: Steps, M: Meter>(
     cells: &Nodes<C>,
     at: usize,
     depth: usize,

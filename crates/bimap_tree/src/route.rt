@@ -1,12 +1,14 @@
 //! The way of a search down a tree. It knows which way a key wants, and not the key.
-ghost use Rattle.std.specs.Prelude.{◌≡◌, ℕ, ◌+◌, ◌<◌, ◌≤◌};
+ghost use Rattle.std.specs.Prelude.{◌≡◌, ℕ, ◌+◌, ◌*◌, ◌<◌, ◌≤◌};
 ghost use Rattle.std.specs.declared.cmp.Ordering.{Ordering};
-ghost use Rattle.bimap_tree.specs.Tree.{Tree, leaf, Stands, height, reading};
+ghost use Rattle.bimap_tree.specs.Tree.{IsBalanced, Tree, leaf, Stands, height, reading, size};
+ghost use Rattle.bimap_base.specs.Digits.{most_height};
 ghost use Rattle.bimap_tree.specs.Order.{first_equal};
 ghost use Rattle.bimap_tree.specs.Index.{Index, IsBalancedIndex};
-ghost use Rattle.bimap_tree.specs.Path.{Path, plug};
+ghost use Rattle.bimap_tree.specs.Path.{Path, plug, top};
 ghost use Rattle.bimap_tree.specs.Route.{CanFollow, IsFollowed, IsRoute};
 
+use crate::remove::first_in_tree;
 use crate::search_key::SearchKey;
 use crate::way::{PACKED, Steps};
 use bimap_base::{Cell, Meter, Nodes};
@@ -31,6 +33,19 @@ impl Route {
             steps: [0; 91],
             depth: 0,
         }
+    }
+}
+
+impl Route {
+    // Whether the way most likely goes to the left all along. It looks at a few steps without a branch, and what it answers
+    // decides where a search begins, and nothing of what it finds.
+    pub(crate) fn goes_left(&self) -> bool {
+        let depth = self.depth;
+        if depth < 4 || depth > 91 {
+            return false;
+        }
+        let steps = &self.steps;
+        (steps[0] | steps[1] | steps[2] | steps[depth / 2] | steps[depth - 1]) % 2 == 0
     }
 }
 
@@ -114,4 +129,36 @@ pub fn route_in_tree<C: Cell, S: SearchKey, M: Meter>(
     }
     route.depth = depth;
     root
+}
+
+// Goes down to what is sought, noting the way, and answers the place there. Where that is most likely the first place, it is
+// looked at before any other.
+pub fn route_from_first<C: Cell, S: SearchKey, M: Meter>(
+    cells: &Nodes<C>,
+    root: Option<usize>,
+    is_first: bool,
+    sought: &S,
+    route: &mut Route,
+    meter: &mut M,
+) -> Option<usize>
+    requires { (t : Tree) × CanFollow cells.now root (S.live sought.now) (S.go sought.now)
+        route.old 0 top t }
+    ensures found { (t : Tree) → CanFollow cells.now root (S.live sought.now) (S.go sought.now)
+        route.old 0 top t → result ≡ first_equal (S.go sought.now) (reading t) }
+    ensures follows { (t : Tree) → CanFollow cells.now root (S.live sought.now)
+        (S.go sought.now) route.old 0 top t → (low : Path) × (e : Tree)
+        × IsFollowed (S.go sought.now) route.new route.new.depth result t low e }
+    ensures comparisons { (t : Tree) → Stands cells.now root t → IsBalanced t →
+        M.comparisons meter.new ≤ M.comparisons meter.old + most_height (size t) }
+    ensures touches { (t : Tree) → Stands cells.now root t →
+        M.touches meter.new ≤ M.touches meter.old + 2 * height t }
+{
+    if let (true, Some(at)) = (is_first, root) {
+        let (first, depth) = first_in_tree(cells, at, 0, route, meter);
+        if sought.side(first, meter).is_eq() {
+            route.depth = depth;
+            return Some(first);
+        }
+    }
+    route_in_tree(cells, root, 0, sought, route, meter)
 }
