@@ -17,10 +17,9 @@ leads c links heads b p t e =
     let o = of_bucket (length heads) b (number_at c p) e in
     t.links_lead p o.0 o.1 ∙ ap (λ k. last_below c (length heads) k p) o.2
 
--- The walk has come to `end`: `over` is the place whose link was read, and `at` is what was read.
-pub record AtStep (c : Numbers) (n b place : ℕ) (over : Option ℕ) (end : ℕ) (at : Option ℕ) : Type 0 where
+-- A walk has come to `end`: `over` is the place whose link was read, and `at` is what was read.
+pub record Along (c : Numbers) (n b : ℕ) (over : Option ℕ) (end : ℕ) (at : Option ℕ) : Type 0 where
   pub at_last : at ≡ last_below c n b end
-  pub above : place < end
   pub within : end ≤ length c
   pub over_end : MatchOption over (end ≡ length c) (λ p. (p ≡ end) × (p < length c) × (is_of n b (number_at c p) ≡ true))
 
@@ -31,29 +30,27 @@ arrived c n b end next last within e =
     let o = of_bucket n b (number_at c next) f.1 in
     (f.0, omega (arith, f.0, within), (o.0, o.1))
 
-pub stepped : (c : Numbers) (links heads : List (Option ℕ)) (b place : ℕ) (over : Option ℕ) (end next : ℕ) {at : Option ℕ} (read : Option ℕ) → IsThreaded c links heads → AtStep c (length heads) b place over end at → at ≡ Some next → place < next → read ≡ slice_index_or links next None → AtStep c (length heads) b place (Some next) next read
-stepped c links heads b place over end next read t s e l r =
+pub stepped : (c : Numbers) (links heads : List (Option ℕ)) (b : ℕ) (over : Option ℕ) (end next : ℕ) {at : Option ℕ} (read : Option ℕ) → IsThreaded c links heads → Along c (length heads) b over end at → at ≡ Some next → read ≡ slice_index_or links next None → Along c (length heads) b (Some next) next read
+stepped c links heads b over end next read t s e r =
     let f = found (length heads) b c end next (sym s.at_last ∙ e) in
-    record { at_last = r ∙ leads c links heads b next t f.1; above = l; within = omega (arith, f.0, s.within); over_end = (refl, omega (arith, f.0, s.within), f.1) }
+    record { at_last = r ∙ leads c links heads b next t f.1; within = omega (arith, f.0, s.within); over_end = (refl, omega (arith, f.0, s.within), f.1) }
 
 -- what is not of the bucket up to the end
-over_of : (c : Numbers) (n b place : ℕ) (over : Option ℕ) (end : ℕ) (at : Option ℕ) → AtStep c n b place over end at → NoneWithin c n b (place + 1) end → GoesOver c n b place over
-over_of c n b place None end at s h = subst (λ m. NoneWithin c n b (place + 1) m) s.over_end h
-over_of c n b place (Some p) end at s h =
-    (omega (arith, s.over_end.0, s.above), s.over_end.1, s.over_end.2, subst (λ m. NoneWithin c n b (place + 1) m) (sym s.over_end.0) h)
+over_of : (c : Numbers) (n b place : ℕ) (over : Option ℕ) (end : ℕ) (at : Option ℕ) → Along c n b over end at → place < end → NoneWithin c n b (place + 1) end → GoesOver c n b place over
+over_of c n b place None end at s l h = subst (λ m. NoneWithin c n b (place + 1) m) s.over_end h
+over_of c n b place (Some p) end at s l h =
+    (omega (arith, s.over_end.0, l), s.over_end.1, s.over_end.2, subst (λ m. NoneWithin c n b (place + 1) m) (sym s.over_end.0) h)
 
-pub ended_none : (c : Numbers) (n b place : ℕ) (over : Option ℕ) (end : ℕ) {at : Option ℕ} → AtStep c n b place over end at → at ≡ None → GoesOver c n b place over
-ended_none c n b place over end {at} s e = over_of c n b place over end at s (λ q l r. found_none n b c end (sym s.at_last ∙ e) q (omega arith) r)
+pub ended_none : (c : Numbers) (n b place : ℕ) (over : Option ℕ) (end : ℕ) {at : Option ℕ} → Along c n b over end at → place < end → at ≡ None → GoesOver c n b place over
+ended_none c n b place over end {at} s l e = over_of c n b place over end at s l (λ q i r. found_none n b c end (sym s.at_last ∙ e) q (omega arith) r)
 
-pub ended_some : (c : Numbers) (n b place : ℕ) (over : Option ℕ) (end next : ℕ) {at : Option ℕ} → AtStep c n b place over end at → at ≡ Some next → next ≤ place → GoesOver c n b place over
-ended_some c n b place over end next {at} s e l =
-    over_of c n b place over end at s (λ q i j. (found n b c end next (sym s.at_last ∙ e)).2 q (omega arith) j)
+pub ended_some : (c : Numbers) (n b place : ℕ) (over : Option ℕ) (end next : ℕ) {at : Option ℕ} → Along c n b over end at → place < end → at ≡ Some next → next ≤ place → GoesOver c n b place over
+ended_some c n b place over end next {at} s k e l =
+    over_of c n b place over end at s k (λ q i j. (found n b c end next (sym s.at_last ∙ e)).2 q (omega arith) j)
 
--- The search has come to `end`: `at` is the next place, and what stands from `end` on does not match.
-pub record Searched {Key : Type 0} (key_at : ℕ → Option Key) (test : Key → Bool) (c : Numbers) (n b end : ℕ) (at : Option ℕ) : Type 0 where
-  pub at_last : at ≡ last_below c n b end
-  pub within : end ≤ length c
-  pub passed : (p : ℕ) → end ≤ p → Matches key_at test c p → ⊥
+-- What a search has passed, from `end` on, does not match.
+abbrev pub Passed : {Key : Type 0} → (ℕ → Option Key) → (Key → Bool) → Numbers → ℕ → Type 0
+Passed key_at test c end = (p : ℕ) → end ≤ p → Matches key_at test c p → ⊥
 
 has : {Key : Type 0} (P : Key → Type 0) (o : Option Key) → IsSomeAnd o P → IsSome o
 has P (Some k) h = refl
@@ -108,20 +105,13 @@ module _ {Key : Type 0} (key_at : ℕ → Option Key) (number_of : Key → ℕ) 
   pub its_number : (p number : ℕ) → AreNumbered key_at number_of c → ((k : Key) → IsTrue (test k) → number_of k ≡ number) → Matches key_at test c p → number_at c p ≡ Some number
   its_number p number a u m = m.0.1 ∙ ap Some (same_number test number_of number m.0.0 (key_at p) (a.numbered p m.0.0 m.0.1) m.1 u)
 
-  pub gone_on : (links heads : List (Option ℕ)) (b number end place : ℕ) {at : Option ℕ} (read : Option ℕ) → IsThreaded c links heads → AreNumbered key_at number_of c → ((k : Key) → IsTrue (test k) → number_of k ≡ number)
-      → b ≡ number % length heads → Searched key_at test c (length heads) b end at → at ≡ Some place → (Matches key_at test c place → ⊥)
-      → read ≡ slice_index_or links place None → Searched key_at test c (length heads) b place read
-  gone_on links heads b number end place read t a u i s e absent r =
-      let n = length heads in
-      let f = found n b c end place (sym s.at_last ∙ e) in
-      record {
-        at_last = r ∙ leads c links heads b place t f.1;
-        within = omega (arith, f.0, s.within);
-        passed = λ p l m. three place end p l (λ j. absent (subst (λ q. Matches key_at test c q) (sym j) m))
-            (λ j k. other c number n p (its_number p number a u m) (subst (λ k. is_of n k (number_at c p) ≡ false) i (f.2 p (omega arith) k))) (λ k. s.passed p k m);
-      }
+  pub gone_on : (n b number end place : ℕ) (over : Option ℕ) {at : Option ℕ} → AreNumbered key_at number_of c → ((k : Key) → IsTrue (test k) → number_of k ≡ number)
+      → b ≡ number % n → Along c n b over end at → Passed key_at test c end → at ≡ Some place → (Matches key_at test c place → ⊥) → Passed key_at test c place
+  gone_on n b number end place over a u i s passed e absent p l m =
+      three place end p l (λ j. absent (subst (λ q. Matches key_at test c q) (sym j) m))
+      (λ j k. other c number n p (its_number p number a u m) (subst (λ k. is_of n k (number_at c p) ≡ false) i ((found n b c end place (sym s.at_last ∙ e)).2 p (omega arith) k))) (λ k. passed p k m)
 
   -- at the end of the chain
-  pub nothing_left : (n b number end : ℕ) {at : Option ℕ} → AreNumbered key_at number_of c → ((k : Key) → IsTrue (test k) → number_of k ≡ number) → b ≡ number % n → Searched key_at test c n b end at → at ≡ None → (p : ℕ) → Matches key_at test c p → ⊥
-  nothing_left n b number end a u i s e p m =
-      elim (cases_lt p end) [ inl l ↦ other c number n p (its_number p number a u m) (subst (λ k. is_of n k (number_at c p) ≡ false) i (found_none n b c end (sym s.at_last ∙ e) p (omega arith) l)) | inr l ↦ s.passed p l m ]
+  pub nothing_left : (n b number end : ℕ) (over : Option ℕ) {at : Option ℕ} → AreNumbered key_at number_of c → ((k : Key) → IsTrue (test k) → number_of k ≡ number) → b ≡ number % n → Along c n b over end at → Passed key_at test c end → at ≡ None → (p : ℕ) → Matches key_at test c p → ⊥
+  nothing_left n b number end over a u i s passed e p m =
+      elim (cases_lt p end) [ inl l ↦ other c number n p (its_number p number a u m) (subst (λ k. is_of n k (number_at c p) ≡ false) i (found_none n b c end (sym s.at_last ∙ e) p (omega arith) l)) | inr l ↦ passed p l m ]

@@ -79,6 +79,43 @@ impl<L: Link> Threads<L> {
         }
     }
 
+    /// Goes along the chain of a bucket for the listed place whose key the query asks for. Answers that place, and the one whose
+    /// link goes over it.
+    #[inline(always)]
+    fn seek<S: Spread>(
+        &self,
+        bucket: usize,
+        spread: &S,
+        number: u32,
+        query: S::Query,
+    ) -> (Option<usize>, Option<usize>)
+        requires threaded { IsThreaded (numbers_of self.now) (links_of self.now) self.now.heads }
+        requires bucket { bucket ≡ number % length self.now.heads }
+        requires bound { bucket < length self.now.heads }
+        requires numbered { AreNumbered (S.key_at spread.now) (S.number_of spread.now)
+            (numbers_of self.now) }
+        requires number { number ≡ S.query_number spread.now query }
+        ensures found { IfSome result.0 (Matches (S.key_at spread.now) (λ k. S.same_key k query)
+            (numbers_of self.now)) }
+        ensures over { IfSome result.0 (λ p. GoesOver (numbers_of self.now)
+            (length self.now.heads) bucket p result.1) }
+        ensures absent { IfNone result.0 ((p : ℕ) →
+            ¬ Matches (S.key_at spread.now) (λ k. S.same_key k query) (numbers_of self.now) p) }
+    {
+        let mut over = None;
+        let mut end = self.len();
+        let mut at = self.head(bucket);
+        while let Some(place) = at {
+            if self.has_number(place, number) && spread.same(place, query) {
+                return (at, over);
+            }
+            over = at;
+            end = place;
+            at = self.next(place);
+        }
+        (None, over)
+    }
+
     /// The listed place whose key the query asks for, by the number of the query.
     #[inline(always)]
     pub(crate) fn find_numbered<S: Spread>(
@@ -99,17 +136,7 @@ impl<L: Link> Threads<L> {
         if self.buckets() == 0 {
             return None;
         }
-        let bucket = self.bucket(number);
-        let mut end = self.len();
-        let mut at = self.head(bucket);
-        while let Some(place) = at {
-            if self.has_number(place, number) && spread.same(place, query) {
-                return Some(place);
-            }
-            end = place;
-            at = self.next(place);
-        }
-        None
+        self.seek(self.bucket(number), spread, number, query).0
     }
 
     /// Lists the place under a number. It takes no memory.
@@ -129,6 +156,21 @@ impl<L: Link> Threads<L> {
         self.set_link(bucket, over, Some(place));
     }
 
+    /// Takes out a place, and the link that goes over it leads on to the next. It takes no memory.
+    #[inline(always)]
+    fn cut(&mut self, bucket: usize, over: Option<usize>, place: usize)
+        requires sound { IsSound self.old }
+        requires listed { (number : ℕ) × (number_at (numbers_of self.old) place ≡ Some number)
+            × (bucket ≡ number % length self.old.heads) }
+        requires over { GoesOver (numbers_of self.old) (length self.old.heads) bucket place over }
+        ensures sound { IsSound self.new }
+        ensures numbers { numbers_of self.new ≡ slice_set (numbers_of self.old) place None }
+    {
+        let next = self.next(place);
+        self.unlist(place);
+        self.set_link(bucket, over, next);
+    }
+
     /// Takes the place out. It takes no memory.
     #[inline(always)]
     pub(crate) fn remove(&mut self, place: usize)
@@ -141,10 +183,37 @@ impl<L: Link> Threads<L> {
             unreachable!()
         };
         let bucket = self.bucket(number);
-        let over = self.over(bucket, place);
-        let next = self.next(place);
-        self.unlist(place);
-        self.set_link(bucket, over, next);
+        self.cut(bucket, self.over(bucket, place), place);
+    }
+
+    /// Takes out the place whose key the query asks for, and answers it: one way along the chain. It takes no memory.
+    #[inline(always)]
+    pub(crate) fn take_numbered<S: Spread>(
+        &mut self,
+        spread: &S,
+        number: u32,
+        query: S::Query,
+    ) -> Option<usize>
+        requires sound { IsSound self.old }
+        requires numbered { AreNumbered (S.key_at spread.now) (S.number_of spread.now)
+            (numbers_of self.old) }
+        requires number { number ≡ S.query_number spread.now query }
+        ensures sound { IsSound self.new }
+        ensures found { IfSome result (Matches (S.key_at spread.now) (λ k. S.same_key k query)
+            (numbers_of self.old)) }
+        ensures numbers { IfSome result (λ p. numbers_of self.new
+            ≡ slice_set (numbers_of self.old) p None) }
+        ensures absent { IfNone result ((p : ℕ) →
+            ¬ Matches (S.key_at spread.now) (λ k. S.same_key k query) (numbers_of self.old) p) }
+        ensures unchanged { IfNone result (self.new ≡ self.old) }
+    {
+        if self.buckets() == 0 {
+            return None;
+        }
+        let bucket = self.bucket(number);
+        let (at, over) = self.seek(bucket, spread, number, query);
+        self.cut(bucket, over, at?);
+        at
     }
 
     /// Makes cells for all places below `to`, and threads the chains anew. A refusal changes nothing.

@@ -140,6 +140,24 @@ impl Hashed {
         }
     }
 
+    /// Takes out the place whose key the query asks for, and answers it: one way along the chain. It takes no memory.
+    #[inline(always)]
+    pub fn take<S: Spread>(&mut self, spread: &S, query: S::Query) -> Option<usize>
+        requires { AreNumbered (S.key_at spread.now) (S.number_of spread.now) self.old }
+        ensures found { IfSome result (Matches (S.key_at spread.now)
+            (λ k. S.same_key k query) self.old) }
+        ensures value { IfSome result (λ p. self.new ≡ slice_set self.old p None) }
+        ensures absent { IfNone result ((p : ℕ) →
+            ¬ Matches (S.key_at spread.now) (λ k. S.same_key k query) self.old p) }
+        ensures unchanged { IfNone result (self.new ≡ self.old) }
+    {
+        let number = spread.hash_query(query);
+        match &mut self.by_width {
+            ByWidth::Narrow(threads) => threads.take_numbered(spread, number, query),
+            ByWidth::Wide(threads) => threads.take_numbered(spread, number, query),
+        }
+    }
+
     /// Makes cells for all places below `to`, exactly, and hashes nothing, for a caller that hands its keys to each call. (An
     /// index of a side has none at hand.) It takes memory only where some are missing, and a refusal changes nothing.
     pub fn grow<S: Spread>(&mut self, _spread: &S, to: usize) -> Result<(), NoMemory>

