@@ -31,6 +31,7 @@ pub fn perform<L: Eq + Drop, R: Eq + Drop, K: Drop, B: Bijection<L, R>, F: Fn(&K
         (B.holding bimap.new) }
     ensures full { IsNoRoom (call, result) →
         (B.holding bimap.old).room ≤ length (B.holding bimap.old).pairs }
+    ensures lenders { B.lenders bimap.new ≡ B.lenders bimap.old }
 {
     match call {
         Call::Insert(left, right) => match bimap.insert(left, right) {
@@ -93,6 +94,7 @@ pub fn run<L: Eq + Drop, R: Eq + Drop, K: Drop, B: Bijection<L, R>, F: Fn(&K, &L
         (B.holding bimap.new)) }
     ensures handed_back { IfErr result (λ e. e.calls.items ≡ calls.items) }
     ensures unchanged { OnErr result (B.holding bimap.new ≡ B.holding bimap.old) }
+    ensures lenders { B.lenders bimap.new ≡ B.lenders bimap.old }
 {
     let Ok(mut replies) = Vec::with_capacity(alloc, calls.len()) else {
         return Err(RunRefused { calls });

@@ -41,6 +41,7 @@ pub fn undo_run<L: Eq + Drop, R: Eq + Drop, B: Bijection<L, R>>(
         LeadsWithin L.eq R.eq (B.holding bimap.old).room first entries.items
         (B.holding bimap.old).pairs →
         IsOk result × ((B.holding bimap.new).room ≡ (B.holding bimap.old).room) }
+    ensures lenders { B.lenders bimap.new ≡ B.lenders bimap.old }
 {
     while let Some((left, answer)) = entries.pop() {
         match bimap.undo_insert(&left, answer) {

@@ -1,5 +1,6 @@
 //! The interface that all bimaps share.
-ghost use Rattle.std.specs.Prelude.{◌≡◌, ◌≤◌, ◌↔◌, [], length, Contains, IfOk, IsTrue, not};
+ghost use Rattle.std.specs.Prelude.{◌≡◌, ◌≤◌, ◌↔◌, [], List, length, Contains, IfOk, IsTrue, not};
+ghost use Rattle.std.specs.Borrow.{GName};
 ghost use Rattle.bimap_base.specs.Capacity.{IsReservation};
 ghost use Rattle.bimap_base.specs.Fitting.{FitsLeft, FitsRight, Fits};
 ghost use Rattle.bimap_base.specs.Sets.{shares, IsApart, HasLeft, HasRight};
@@ -24,6 +25,10 @@ pub trait Bijection<L: Eq + Drop, R: Eq + Drop> {
 
     /// The pairs stand in the order in which they were put in.
     ghost appends: { Type 0 };
+
+    /// The ghost names of the references that the pairs are reached by, the outermost first: none where the bimap owns
+    /// its pairs.
+    ghost lenders: { Self → List GName };
 
     /// Returns the number of pairs.
     fn len(&self) -> usize
@@ -52,15 +57,20 @@ pub trait Bijection<L: Eq + Drop, R: Eq + Drop> {
         ensures answer { IsInsertionUnder L.eq R.eq (holding self.old) (left, right) policy result
             (holding self.new) }
         ensures turn { appends → IfOk result (λ answer. StandsInTurn (holding self.old).pairs
-            (left, right) answer (holding self.new).pairs) };
+            (left, right) answer (holding self.new).pairs) }
+        ensures lenders { lenders self.new ≡ lenders self.old };
 
     /// Removes the pair of a left and returns it, or `None` if the bimap doesn't contain the left.
     fn remove_by_left(&mut self, left: &L) -> Option<(L, R)>
-        ensures { IsRemovalByLeft L.eq (holding self.old) left.now result (holding self.new) };
+        ensures answer { IsRemovalByLeft L.eq (holding self.old) left.now result
+            (holding self.new) }
+        ensures lenders { lenders self.new ≡ lenders self.old };
 
     /// Removes the pair of a right and returns it, or `None` if the bimap doesn't contain the right.
     fn remove_by_right(&mut self, right: &R) -> Option<(L, R)>
-        ensures { IsRemovalByRight R.eq (holding self.old) right.now result (holding self.new) };
+        ensures answer { IsRemovalByRight R.eq (holding self.old) right.now result
+            (holding self.new) }
+        ensures lenders { lenders self.new ≡ lenders self.old };
 
     /// Calls the closure once on each pair, in no set order.
     ///
@@ -75,19 +85,22 @@ pub trait Bijection<L: Eq + Drop, R: Eq + Drop> {
     /// `retain` asks by ascending left.
     fn retain<F: FnMut(&L, &R) -> bool>(&mut self, f: F)
         requires may { MayTest F.FnMut f (holding self.old).pairs }
-        ensures { IsRetention F.FnMut (holding self.old) f (holding self.new) };
+        ensures retained { IsRetention F.FnMut (holding self.old) f (holding self.new) }
+        ensures lenders { lenders self.new ≡ lenders self.old };
 
     /// Removes all pairs and keeps the capacity.
     fn clear(&mut self)
         ensures pairs { (holding self.new).pairs ≡ [] }
-        ensures room { (holding self.new).room ≡ (holding self.old).room };
+        ensures room { (holding self.new).room ≡ (holding self.old).room }
+        ensures lenders { lenders self.new ≡ lenders self.old };
 
     /// Grows the capacity to exactly the length plus `more`, unless it is that or more.
     ///
     ///     // after this, two insertions can't be refused
     ///     seats.reserve(2)?;
     fn reserve(&mut self, more: usize) -> Result<(), NoMemory>
-        ensures { IsReservation (holding self.old) more result (holding self.new) };
+        ensures answer { IsReservation (holding self.old) more result (holding self.new) }
+        ensures lenders { lenders self.new ≡ lenders self.old };
 
     /// Undoes an insertion: removes the pair of a left and returns it, and puts the pairs of the answer back. It may be
     /// called where `can_undo_insert` returns true, and only `Both` needs a free place.
@@ -98,8 +111,9 @@ pub trait Bijection<L: Eq + Drop, R: Eq + Drop> {
     ) -> Result<(L, R), UndoStopped<L, R>>
         requires undoable { IsUndoable L.eq R.eq (Contains (holding self.old).pairs)
             left.now answer }
-        ensures { IsUndoing L.eq R.eq (holding self.old) left.now answer result
-            (holding self.new) };
+        ensures answer { IsUndoing L.eq R.eq (holding self.old) left.now answer result
+            (holding self.new) }
+        ensures lenders { lenders self.new ≡ lenders self.old };
 
     /// Returns whether the bimap contains no pairs.
     final fn is_empty(&self) -> bool
@@ -124,7 +138,9 @@ pub trait Bijection<L: Eq + Drop, R: Eq + Drop> {
 
     /// Inserts a pair and returns the pairs that it overwrote. It needs a free place only where it overwrites none.
     final fn insert(&mut self, left: L, right: R) -> Result<Overwritten<L, R>, NoRoom<L, R>>
-        ensures { IsInsertion L.eq R.eq (holding self.old) (left, right) result (holding self.new) }
+        ensures answer { IsInsertion L.eq R.eq (holding self.old) (left, right) result
+            (holding self.new) }
+        ensures lenders { lenders self.new ≡ lenders self.old }
     {
         let policy = Policy {
             left: OnHeld::Overwrite,
@@ -139,8 +155,9 @@ pub trait Bijection<L: Eq + Drop, R: Eq + Drop> {
 
     /// Inserts a pair if the bimap contains neither of its values.
     final fn insert_no_overwrite(&mut self, left: L, right: R) -> Result<(), NotInserted<L, R>>
-        ensures { IsInsertionWithoutOverwriting L.eq R.eq (holding self.old) (left, right) result
-            (holding self.new) }
+        ensures answer { IsInsertionWithoutOverwriting L.eq R.eq (holding self.old) (left, right)
+            result (holding self.new) }
+        ensures lenders { lenders self.new ≡ lenders self.old }
     {
         let policy = Policy {
             left: OnHeld::Refuse,

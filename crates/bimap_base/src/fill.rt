@@ -27,6 +27,7 @@ pub fn extend<L: Eq + Drop, R: Eq + Drop, B: Bijection<L, R>, I: IntoIterator<It
         (B.holding bimap.new)) }
     ensures turn { B.appends → OnOk result (FollowInTurn (I.into_iter_gives items)
         I.IntoIter.next_gives (B.holding bimap.old).pairs (B.holding bimap.new).pairs) }
+    ensures lenders { B.lenders bimap.new ≡ B.lenders bimap.old }
 {
     let policy = Policy {
         left: OnHeld::Overwrite,
@@ -67,6 +68,7 @@ pub fn extend_with<L: Eq + Drop, R: Eq + Drop, B: Bijection<L, R>, I: IntoIterat
         (B.holding bimap.new)) }
     ensures turn { B.appends → OnOk result (FollowInTurn (I.into_iter_gives items)
         I.IntoIter.next_gives (B.holding bimap.old).pairs (B.holding bimap.new).pairs) }
+    ensures lenders { B.lenders bimap.new ≡ B.lenders bimap.old }
 {
     let mut taken = 0usize;
     for (left, right) in items {
@@ -100,6 +102,7 @@ pub fn from_iter<
         (Contains []) taken e) }
     ensures turn { B.appends → IfOk result (λ bimap. FollowInTurn (I.into_iter_gives items)
         I.IntoIter.next_gives [] (B.holding bimap).pairs) }
+    ensures lenders { IfOk result (λ bimap. B.lenders bimap ≡ B.lenders empty) }
 {
     let mut bimap = empty;
     match extend(&mut bimap, items) {
@@ -130,6 +133,7 @@ pub fn from_iter_with<
         ((B.holding empty).room ≤ length taken) taken policy e) }
     ensures turn { B.appends → IfOk result (λ bimap. FollowInTurn (I.into_iter_gives items)
         I.IntoIter.next_gives [] (B.holding bimap).pairs) }
+    ensures lenders { IfOk result (λ bimap. B.lenders bimap ≡ B.lenders empty) }
 {
     let mut made = empty;
     match extend_with(&mut made, items, policy) {

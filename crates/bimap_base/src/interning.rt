@@ -1,5 +1,5 @@
 //! The partner of a value, put in if there is none, in any bimap. It doesn't know how a bimap keeps its pairs.
-ghost use Rattle.std.specs.Prelude.{Contains};
+ghost use Rattle.std.specs.Prelude.{◌≡◌, Contains};
 ghost use Rattle.bimap_base.specs.Sets.{LacksLeft};
 ghost use Rattle.bimap_base.specs.Holding.{IsInterning};
 ghost use Rattle.bimap_base.specs.InterningByRight.{IsInterningByRight};
@@ -31,8 +31,9 @@ pub trait Interning<L: Eq + Drop, R: Copy + Eq + Drop>: Bijection<L, R> {
     ///     // the number of a name: the one that it has, or else the next
     ///     let number = numbers.get_by_left_or_insert("ann", next)?;
     fn get_by_left_or_insert(&mut self, left: L, right: R) -> Result<R, NotInserted<L, R>>
-        ensures { IsInterning L.eq R.eq (Self.holding self.old) (left, right) result
+        ensures answer { IsInterning L.eq R.eq (Self.holding self.old) (left, right) result
             (Self.holding self.new) }
+        ensures lenders { Self.lenders self.new ≡ Self.lenders self.old }
     {
         interned!(self, get_by_left, left => right, right; left, right)
     }
@@ -53,9 +54,10 @@ pub fn get_by_left_or_insert_with<
     F: FnOnce() -> R + Drop,
 >(bimap: &mut B, left: L, make: F) -> Result<R, NotInserted<L, R>>
     requires may { LacksLeft L.eq (Contains (B.holding bimap.old).pairs) left → F.pre make }
-    ensures { (right : R) × IsInterning L.eq R.eq (B.holding bimap.old) (left, right) result
+    ensures answer { (right : R) × IsInterning L.eq R.eq (B.holding bimap.old) (left, right) result
         (B.holding bimap.new)
         × (LacksLeft L.eq (Contains (B.holding bimap.old).pairs) left → F.post make right) }
+    ensures lenders { B.lenders bimap.new ≡ B.lenders bimap.old }
 {
     interned!(bimap, get_by_left, left => right, make(); left, right)
 }
@@ -71,8 +73,9 @@ pub fn get_by_right_or_insert<L: Copy + Eq + Drop, R: Eq + Drop, B: Bijection<L,
     left: L,
     right: R,
 ) -> Result<L, NotInserted<L, R>>
-    ensures { IsInterningByRight L.eq R.eq (B.holding bimap.old) (left, right) result
+    ensures answer { IsInterningByRight L.eq R.eq (B.holding bimap.old) (left, right) result
         (B.holding bimap.new) }
+    ensures lenders { B.lenders bimap.new ≡ B.lenders bimap.old }
 {
     interned!(bimap, get_by_right, right => left, left; left, right)
 }

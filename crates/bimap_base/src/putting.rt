@@ -1,5 +1,5 @@
 //! A pair that may be contained already, in any bimap. It doesn't know how a bimap keeps its pairs.
-ghost use Rattle.std.specs.Prelude.{◌↔◌, IsTrue, Contains};
+ghost use Rattle.std.specs.Prelude.{◌≡◌, ◌↔◌, IsTrue, Contains};
 ghost use Rattle.bimap_base.specs.Put.{IsPutting};
 ghost use Rattle.bimap_base.specs.Same.{HasEqual};
 
@@ -40,8 +40,9 @@ pub fn put<L: Eq + Drop, R: Eq + Drop, B: Bijection<L, R>>(
     right: R,
     policy: Policy,
 ) -> Result<Overwritten<L, R>, NotInsertedWith<L, R>>
-    ensures { IsPutting L.eq R.eq (B.holding bimap.old) (left, right) policy result
+    ensures answer { IsPutting L.eq R.eq (B.holding bimap.old) (left, right) policy result
         (B.holding bimap.new) }
+    ensures lenders { B.lenders bimap.new ≡ B.lenders bimap.old }
 {
     if contains_pair(bimap, &left, &right) {
         let overwriting = Policy {

@@ -1,4 +1,5 @@
 //! One value of a pair replaced, in any bimap. It doesn't know how a bimap keeps its pairs.
+ghost use Rattle.std.specs.Prelude.{◌≡◌};
 ghost use Rattle.bimap_base.specs.Exchange.{IsReplacementOfLeft, IsReplacementOfRight};
 
 use crate::bijection::Bijection;
@@ -35,8 +36,9 @@ pub fn replace_left<L: Eq + Drop, R: Eq + Drop, B: Bijection<L, R>>(
     from: &L,
     to: L,
 ) -> Result<L, NotReplaced<L>>
-    ensures { IsReplacementOfLeft L.eq (B.holding bimap.old) from.now to result
+    ensures answer { IsReplacementOfLeft L.eq (B.holding bimap.old) from.now to result
         (B.holding bimap.new) }
+    ensures lenders { B.lenders bimap.new ≡ B.lenders bimap.old }
 {
     replaced!(bimap, from => to; contains_left, remove_by_left; left, right => left, to, right)
 }
@@ -50,8 +52,9 @@ pub fn replace_right<L: Eq + Drop, R: Eq + Drop, B: Bijection<L, R>>(
     from: &R,
     to: R,
 ) -> Result<R, NotReplaced<R>>
-    ensures { IsReplacementOfRight R.eq (B.holding bimap.old) from.now to result
+    ensures answer { IsReplacementOfRight R.eq (B.holding bimap.old) from.now to result
         (B.holding bimap.new) }
+    ensures lenders { B.lenders bimap.new ≡ B.lenders bimap.old }
 {
     replaced!(bimap, from => to; contains_right, remove_by_right; left, right => right, left, to)
 }

@@ -1,4 +1,5 @@
 //! Two pairs that swap their rights, in any bimap. It doesn't know how a bimap keeps its pairs.
+ghost use Rattle.std.specs.Prelude.{◌≡◌};
 ghost use Rattle.bimap_base.specs.Exchange.{IsSwap};
 
 use crate::bijection::Bijection;
@@ -17,7 +18,9 @@ pub fn swap_partners<L: Eq + Drop, R: Eq + Drop, B: Bijection<L, R>>(
     left: &L,
     other: &L,
 ) -> Result<(), NotSwapped>
-    ensures { IsSwap L.eq (B.holding bimap.old) left.now other.now result (B.holding bimap.new) }
+    ensures answer { IsSwap L.eq (B.holding bimap.old) left.now other.now result
+        (B.holding bimap.new) }
+    ensures lenders { B.lenders bimap.new ≡ B.lenders bimap.old }
 {
     if !bimap.contains_left(left) {
         return Err(NotSwapped::FirstMissing);

@@ -17,6 +17,7 @@ fn make_place<L: Eq + Drop, R: Eq + Drop, B: Bijection<L, R>>(bimap: &mut B) -> 
     ensures room { IsRoomAfter (B.holding bimap.old) ⊥ (B.holding bimap.new) }
     ensures full { OnErr result (IsFull (B.holding bimap.old)) }
     ensures err { OnErr result (B.holding bimap.new ≡ B.holding bimap.old) }
+    ensures lenders { B.lenders bimap.new ≡ B.lenders bimap.old }
 {
     let len = bimap.len();
     if len < bimap.capacity() {
@@ -29,8 +30,9 @@ fn make_place<L: Eq + Drop, R: Eq + Drop, B: Bijection<L, R>>(bimap: &mut B) -> 
 fn take<L: Eq + Drop, R: Eq + Drop, B: Bijection<L, R>>(bimap: &mut B, left: &R) -> (R, L)
     requires held { HasLeft R.eq (Contains (inverse_holding (B.holding bimap.old)).pairs)
         left.now }
-    ensures { IsRemovalByLeft R.eq (inverse_holding (B.holding bimap.old)) left.now (Some result)
-        (inverse_holding (B.holding bimap.new)) }
+    ensures answer { IsRemovalByLeft R.eq (inverse_holding (B.holding bimap.old)) left.now
+        (Some result) (inverse_holding (B.holding bimap.new)) }
+    ensures lenders { B.lenders bimap.new ≡ B.lenders bimap.old }
 {
     match turn_pair(bimap.remove_by_right(left)) {
         Some(pair) => pair,
@@ -43,8 +45,9 @@ fn put_back<L: Eq + Drop, R: Eq + Drop, B: Bijection<L, R>>(bimap: &mut B, left:
     requires free { length (B.holding bimap.old).pairs < (B.holding bimap.old).room }
     requires alone { NoneShares R.eq L.eq (Contains (inverse_holding (B.holding bimap.old)).pairs)
         (left, right) }
-    ensures { IsAdded (inverse_holding (B.holding bimap.old)) (left, right)
+    ensures added { IsAdded (inverse_holding (B.holding bimap.old)) (left, right)
         (inverse_holding (B.holding bimap.new)) }
+    ensures lenders { B.lenders bimap.new ≡ B.lenders bimap.old }
 {
     match bimap.insert(right, left) {
         Ok(_) => {}
@@ -60,8 +63,9 @@ pub(crate) fn undo<L: Eq + Drop, R: Eq + Drop, B: Bijection<L, R>>(
 ) -> Result<(R, L), UndoStopped<R, L>>
     requires undoable { IsUndoable R.eq L.eq
         (Contains (inverse_holding (B.holding bimap.old)).pairs) left.now answer }
-    ensures { IsUndoing R.eq L.eq (inverse_holding (B.holding bimap.old)) left.now answer result
-        (inverse_holding (B.holding bimap.new)) }
+    ensures answer { IsUndoing R.eq L.eq (inverse_holding (B.holding bimap.old)) left.now answer
+        result (inverse_holding (B.holding bimap.new)) }
+    ensures lenders { B.lenders bimap.new ≡ B.lenders bimap.old }
 {
     match answer {
         Overwritten::Neither => Ok(take(bimap, left)),

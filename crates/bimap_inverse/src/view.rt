@@ -1,5 +1,5 @@
 //! The view. It knows a bimap by its calls alone.
-ghost use Rattle.std.specs.Prelude.{◌≡◌, Contains};
+ghost use Rattle.std.specs.Prelude.{◌≡◌, ◌∷◌, Contains};
 ghost use Rattle.bimap_base.specs.Holding.{IsUndoing};
 ghost use Rattle.bimap_base.specs.Undoing.{IsUndoable};
 ghost use Rattle.bimap_base.proofs.Inverse.{apart_inverse, fits_inverse};
@@ -9,44 +9,42 @@ use crate::turned::{turn_answer, turn_pair};
 use crate::undo::undo;
 use bimap_base::{Bijection, NoMemory, NotInsertedWith, Overwritten, Policy, UndoStopped};
 
-/// A bimap seen with its sides exchanged: its lefts are the rights of the one within, and each call is one of that.
+/// A borrowed bimap seen with its sides exchanged: its lefts are the rights of the one that it borrows, and each call is
+/// one of that, so that the changes stay in the bimap.
 ///
 /// A call costs what the bimap's own of the other side does, but for these: where both values of a pair are contained and
 /// kept, `insert_with` makes a search more, and `undo_insert` makes a removal and an insertion for each pair.
 ///
-///     let mut rooms = Inverse::new(seats);
+///     let mut rooms = Inverse::new(&mut seats);
 ///     rooms.get_by_left(&3); // Some(&'a')
-///     let seats = rooms.into_inner();
+///     rooms.remove_by_left(&3); // Some((3, 'a'))
+///     seats.get_by_left(&'a'); // None
 #[derive(Drop)]
-pub struct Inverse<B> {
-    bimap: B,
+pub struct Inverse<'a, B> {
+    bimap: &'a mut B,
 }
 
-impl<B> Inverse<B> {
+impl<'a, B> Inverse<'a, B> {
     /// Returns the bimap seen so. It moves no pair and takes no memory.
-    pub fn new(bimap: B) -> Self
-        ensures { result.bimap ≡ bimap }
+    pub fn new(bimap: &'a mut B) -> Inverse<'a, B>
+        ensures same { result.bimap.now ≡ bimap.old }
+        ensures same_reference { result.bimap.ghost_name ≡ bimap.entry.ghost_name }
     {
         Inverse { bimap }
     }
-
-    /// Returns the bimap within.
-    pub fn into_inner(self) -> B
-        ensures { result ≡ self.bimap }
-    {
-        let Inverse { bimap } = self;
-        bimap
-    }
 }
 
-impl<L: Eq + Drop, R: Eq + Drop, B: Bijection<L, R>> Bijection<R, L> for Inverse<B> {
-    ghost holding = { λ i. inverse_holding (B.holding i.bimap) };
+impl<L: Eq + Drop, R: Eq + Drop, B: Bijection<L, R>> Bijection<R, L> for Inverse<'_, B> {
+    ghost holding = { λ i. inverse_holding (B.holding i.bimap.now) };
 
     ghost appends = { ⊥ };
 
-    ghost apart = { λ i. apart_inverse L.eq R.eq (B.holding i.bimap).pairs (B.apart i.bimap) };
+    ghost lenders = { λ i. i.bimap.ghost_name ∷ B.lenders i.bimap.now };
 
-    ghost fits = { λ i. fits_inverse (B.holding i.bimap) (B.fits i.bimap) };
+    ghost apart = { λ i. apart_inverse L.eq R.eq (B.holding i.bimap.now).pairs
+        (B.apart i.bimap.now) };
+
+    ghost fits = { λ i. fits_inverse (B.holding i.bimap.now) (B.fits i.bimap.now) };
 
     fn len(&self) -> usize {
         self.bimap.len()
@@ -129,10 +127,12 @@ impl<L: Eq + Drop, R: Eq + Drop, B: Bijection<L, R>> Bijection<R, L> for Inverse
         answer: Overwritten<R, L>,
     ) -> Result<(R, L), UndoStopped<R, L>>
         requires undoable { IsUndoable R.eq L.eq
-            (Contains (inverse_holding (B.holding self.old.bimap)).pairs) left.now answer }
-        ensures { IsUndoing R.eq L.eq (inverse_holding (B.holding self.old.bimap)) left.now answer
-            result (inverse_holding (B.holding self.new.bimap)) }
+            (Contains (inverse_holding (B.holding self.old.bimap.now)).pairs) left.now answer }
+        ensures answer { IsUndoing R.eq L.eq (inverse_holding (B.holding self.old.bimap.now))
+            left.now answer result (inverse_holding (B.holding self.new.bimap.now)) }
+        ensures lenders { (self.new.bimap.ghost_name ∷ B.lenders self.new.bimap.now)
+            ≡ (self.old.bimap.ghost_name ∷ B.lenders self.old.bimap.now) }
     {
-        undo(&mut self.bimap, left, answer)
+        undo(self.bimap, left, answer)
     }
 }

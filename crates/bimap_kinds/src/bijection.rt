@@ -1,5 +1,5 @@
 //! Every bimap as a bijection, by calls of its own.
-ghost use Rattle.std.specs.Prelude.{Contains};
+ghost use Rattle.std.specs.Prelude.{[], Contains};
 ghost use Rattle.bimap_base.specs.Holding.{IsUndoing};
 ghost use Rattle.bimap_base.specs.Undoing.{IsUndoable};
 ghost use Rattle.bimap_kinds.specs.Held.{holding};
@@ -15,6 +15,8 @@ impl<L: Eq + Drop, R: Eq + Drop, I: Index<L>, J: Index<R>> Bijection<L, R>
     ghost holding = { holding };
 
     ghost appends = { I.appends };
+
+    ghost lenders = { λ b. [] };
 
     ghost apart = { λ b. b.apart };
 

@@ -37,6 +37,8 @@ impl<L: Eq + Drop, R: Eq + Drop> Bijection<L, R> for Plain<L, R> {
 
     ghost appends = { ⊥ };
 
+    ghost lenders = { λ s. [] };
+
     fn len(&self) -> usize {
         self.pairs.len()
     }

@@ -8,7 +8,6 @@ use bimap_calls::CopyKind;
 use bimap_undo::Undoable;
 use std::alloc::{AllocError, Global};
 use std::fmt::Debug;
-use std::mem;
 
 /// The bimap, another one beside it, and one with a record.
 #[derive(Drop)]
@@ -77,13 +76,12 @@ impl<B: CopyKind<Word, Word> + ShellKind> Session<B> {
         request: &mut Request<'_>,
         said: &mut String,
     ) -> Result<bool, AllocError> {
-        let empty = B::empty(self.alloc);
-        let mut view = Inverse::new(mem::replace(&mut self.bimap, empty));
-        let has = look::call(&view, request, said)?
-            || put::call(&mut view, request, said)?
-            || runs::call(self.alloc, &mut view, request, said)?;
-        self.bimap = view.into_inner();
-        Ok(has)
+        let mut view = Inverse::new(&mut self.bimap);
+        Ok(
+            look::call(&view, request, said)?
+                || put::call(&mut view, request, said)?
+                || runs::call(self.alloc, &mut view, request, said)?,
+        )
     }
 
     fn of_pairs(

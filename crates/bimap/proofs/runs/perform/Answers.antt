@@ -18,15 +18,15 @@ retain-requires g c = record {
 }
 
 pub returns-in-Ok-clause-step : goal.returns-in-Ok-clause-step
-returns-in-Ok-clause-step g c = rw c.in-Insert.is (put_touches g.L.PartialEq.eq g.R.PartialEq.eq _ _ _ c.in-Ok.ensures.put)
+returns-in-Ok-clause-step g c = rw c.in-Insert.is (put_touches g.L.PartialEq.eq g.R.PartialEq.eq _ _ _ c.in-Ok.ensures.answer.put)
 
 pub returns-in-Ok-insert_no_overwrite-clause-step :
     goal.returns-in-Ok-insert_no_overwrite-clause-step
-returns-in-Ok-insert_no_overwrite-clause-step g c = rw c.in-InsertNoOverwrite.is (put_touches g.L.PartialEq.eq g.R.PartialEq.eq _ _ _ c.in-Ok-insert_no_overwrite.ensures.put)
+returns-in-Ok-insert_no_overwrite-clause-step g c = rw c.in-InsertNoOverwrite.is (put_touches g.L.PartialEq.eq g.R.PartialEq.eq _ _ _ c.in-Ok-insert_no_overwrite.ensures.answer.put)
 
 pub returns-in-Ok-clause-room : goal.returns-in-Ok-clause-room
 returns-in-Ok-clause-room g c =
-    let e = c.in-Ok.ensures in
+    let e = c.in-Ok.ensures.answer in
     let pair : g.row.L.Denot × g.row.R.Denot = (c.in-Insert.left, c.in-Insert.right) in
     rw c.in-Insert.is (room_after g.L.PartialEq.eq g.R.PartialEq.eq (Puts {K = g.row.K.Denot}) (g.B.Bijection.holding c.args.bimap.now) (g.B.Bijection.holding c.insert.new.self) pair (Insert pair.0 pair.1, Inserted c.in-Ok.answer) (overwrites c.in-Ok.answer) refl (g.met.B.Bijection.fits c.args.bimap.now)
     (answer_overwrites g.L.PartialEq.eq g.R.PartialEq.eq (Contains (g.B.Bijection.holding c.args.bimap.now).pairs) pair c.in-Ok.answer e.answer) e.room)
@@ -34,7 +34,7 @@ returns-in-Ok-clause-room g c =
 pub returns-in-Ok-insert_no_overwrite-clause-room :
     goal.returns-in-Ok-insert_no_overwrite-clause-room
 returns-in-Ok-insert_no_overwrite-clause-room g c =
-    let e = c.in-Ok-insert_no_overwrite.ensures in
+    let e = c.in-Ok-insert_no_overwrite.ensures.answer in
     let pair : g.row.L.Denot × g.row.R.Denot = (c.in-InsertNoOverwrite.left, c.in-InsertNoOverwrite.right) in
     rw c.in-InsertNoOverwrite.is (room_after g.L.PartialEq.eq g.R.PartialEq.eq (Puts {K = g.row.K.Denot}) (g.B.Bijection.holding c.args.bimap.now) (g.B.Bijection.holding c.insert_no_overwrite.new.self) pair (InsertNoOverwrite pair.0 pair.1, Put) false refl (g.met.B.Bijection.fits c.args.bimap.now) e.none_held e.room)
 
@@ -50,7 +50,7 @@ returns-in-Retain-clause-step g c =
     rw c.in-Retain.is (step_retain g.L.PartialEq.eq g.R.PartialEq.eq (Answers g.F.Fn c.args.test.now) _ _ c.in-Retain.key
     (IsKept-by _ (λ s. (s.0.now ≡ c.args.test.now) × (s.1.now ≡ c.in-Retain.key)) (λ s a b t i e. search rules)
     (Answers g.F.Fn c.args.test.now c.in-Retain.key) (λ s l r b t i e. answers_as g.F.Fn c.args.test.now s.0.now c.in-Retain.key s.1 l r b i.0 i.1 (search rules))
-    _ _ _ (refl, refl) c.retain.ensures.kept
+    _ _ _ (refl, refl) c.retain.ensures.retained.kept
     (λ p m t f. true≢false ((c.requires.may c.in-Retain.key p c.in-Retain.is m).one_answer true false t f))))
 
 pub returns-in-Ok-insert_with-clause-step : goal.returns-in-Ok-insert_with-clause-step

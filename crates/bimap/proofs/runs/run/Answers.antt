@@ -13,6 +13,7 @@ loop-call-init g c = record {
   long = search rules;
   capacity = search rules;
   same_test = refl;
+  lenders = refl;
   history = IsHistory_none g.L.PartialEq.eq g.R.PartialEq.eq (Answers g.F.Fn c.args.test) (g.B.Bijection.holding c.args.bimap.now);
 }
 
@@ -32,6 +33,7 @@ loop-call-preserved g c =
       long = rw c.push_reserved.ensures.items (omega (arith, length-append c.loop-call.replies.items (c.perform-reply.result ∷ []), length-append c.loop-call.yielded (c.in-Some.call ∷ []), c.loop-call.invariant.long));
       capacity = search rules;
       same_test = c.loop-call.invariant.same_test;
+      lenders = e.lenders ∙ c.loop-call.invariant.lenders;
       history =
           rw (c.push_reserved.ensures.items, zip_push c.loop-call.yielded c.loop-call.replies.items c.in-Some.call c.perform-reply.result c.loop-call.invariant.long)
           (IsHistory_append g.L.PartialEq.eq g.R.PartialEq.eq (Answers g.F.Fn c.args.test) (g.B.Bijection.holding c.args.bimap.now) (g.B.Bijection.holding c.loop-call.bimap) (g.B.Bijection.holding c.perform-reply.new.bimap) (zip c.loop-call.yielded c.loop-call.replies.items) ((c.in-Some.call, c.perform-reply.result) ∷ [])

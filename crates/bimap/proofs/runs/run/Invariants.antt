@@ -13,5 +13,6 @@ invariant-loop-call g l = record {
   long : length l.replies.items ≡ length l.yielded;
   capacity : vec_capacity l.replies ≡ vec_len l.fn.calls;
   same_test : l.test ≡ l.fn.test;
+  lenders : g.B.Bijection.lenders l.bimap ≡ g.B.Bijection.lenders l.fn.bimap;
   history : IsHistory g.L.PartialEq.eq g.R.PartialEq.eq (Answers g.F.Fn l.fn.test) (g.B.Bijection.holding l.fn.bimap) (zip l.yielded l.replies.items) (g.B.Bijection.holding l.bimap);
 }

@@ -24,7 +24,7 @@ spare g c first h both =
     omega (arith, s, c.loop-left.invariant.room.not_lower)
 
 pub loop-left-init : goal.loop-left-init
-loop-left-init g c = record { undone = []; beginning = sym (append-nil c.args.entries.items); led = λ first h. h; no_longer = omega arith; room = record { not_lower = omega arith; at_most = omega arith; had_places = λ _. refl }; fits = λ first h. (h, refl) }
+loop-left-init g c = record { lenders = refl; undone = []; beginning = sym (append-nil c.args.entries.items); led = λ first h. h; no_longer = omega arith; room = record { not_lower = omega arith; at_most = omega arith; had_places = λ _. refl }; fits = λ first h. (h, refl) }
 
 pub undo_insert-requires : goal.undo_insert-requires
 undo_insert-requires g c = record {
@@ -35,7 +35,7 @@ undo_insert-requires g c = record {
 
 pub returns-in-Err-clause-stopped : goal.returns-in-Err-clause-stopped
 returns-in-Err-clause-stopped g c =
-    let e = c.in-Err.ensures in
+    let e = c.in-Err.ensures.answer in
     let same : c.loop-left.entries.items ≡ c.push_reserved.new.self.items =
     c.in-Some.ensures.items ∙ ap (λ (a : Overwritten g.row.L.Denot g.row.R.Denot). c.pop.new.self.items ++ (c.in-Some.left, a) ∷ []) (sym e.handed_back) ∙ sym c.push_reserved.ensures.items in
     record {
@@ -49,29 +49,30 @@ returns-in-Err-clause-stopped g c =
     }
 
 pub returns-in-Err-clause-room : goal.returns-in-Err-clause-room
-returns-in-Err-clause-room g c = subst (IsRoomAfterItems (g.B.Bijection.holding c.args.bimap.now) c.args.entries.items) (sym c.in-Err.ensures.unchanged) c.loop-left.invariant.room
+returns-in-Err-clause-room g c = subst (IsRoomAfterItems (g.B.Bijection.holding c.args.bimap.now) c.args.entries.items) (sym c.in-Err.ensures.answer.unchanged) c.loop-left.invariant.room
 
 pub returns-in-Err-clause-fits : goal.returns-in-Err-clause-fits
 returns-in-Err-clause-fits g c = λ first h.
-    let s = spare g (goal.at.returns-in-Err-clause-fits g c).In-Some first h c.in-Err.ensures.both in
-    absurd (omega (arith, s, c.in-Err.ensures.full))
+    let s = spare g (goal.at.returns-in-Err-clause-fits g c).In-Some first h c.in-Err.ensures.answer.both in
+    absurd (omega (arith, s, c.in-Err.ensures.answer.full))
 
 pub loop-left-preserved : goal.loop-left-preserved
 loop-left-preserved g c =
     let now = (goal.at.loop-left-preserved g c).In-Some in
-    let e = c.undo_insert.ensures in
+    let e = c.undo_insert.ensures.answer in
     let one_less = ap length c.in-Some.ensures.items ∙ length_push c.pop.new.self.items (c.in-Some.left, c.in-Some.answer) in
     record {
+      lenders = c.in-Ok.ensures.lenders ∙ c.loop-left.invariant.lenders;
       undone = (c.in-Some.left, c.in-Some.answer) ∷ c.loop-left.invariant.undone;
       beginning = c.loop-left.invariant.beginning ∙ ap (λ es. es ++ c.loop-left.invariant.undone) c.in-Some.ensures.items ∙ append_assoc c.pop.new.self.items ((c.in-Some.left, c.in-Some.answer) ∷ []) c.loop-left.invariant.undone;
       led = λ first h.
           leads_pop g.L.PartialEq.eq g.R.PartialEq.eq g.met.L.Eq.laws g.met.R.Eq.laws c.pop.new.self.items c.in-Some.left c.in-Some.answer (g.B.Bijection.holding c.loop-left.bimap).pairs first (g.B.Bijection.holding c.undo_insert.new.self).pairs
-          (led g now first h) c.in-Ok.ensures.undone;
-      no_longer = omega (arith, c.loop-left.invariant.no_longer, one_less, c.in-Ok.ensures.count, two_at_most c.in-Some.answer);
+          (led g now first h) c.in-Ok.ensures.answer.undone;
+      no_longer = omega (arith, c.loop-left.invariant.no_longer, one_less, c.in-Ok.ensures.answer.count, two_at_most c.in-Some.answer);
       room = room_more _ (g.B.Bijection.holding c.loop-left.bimap) _ c.args.entries.items c.args.entries.items (omega arith) (omega (arith, c.loop-left.invariant.no_longer, one_less)) c.loop-left.invariant.room e.room;
       fits = λ first h. (
         leads_within_pop g.L.PartialEq.eq g.R.PartialEq.eq g.met.L.Eq.laws g.met.R.Eq.laws c.pop.new.self.items c.in-Some.left c.in-Some.answer (g.B.Bijection.holding c.loop-left.bimap).pairs first (g.B.Bijection.holding c.args.bimap.now).room (g.B.Bijection.holding c.undo_insert.new.self).pairs
-            (led_within g now first h) c.in-Ok.ensures.undone,
+            (led_within g now first h) c.in-Ok.ensures.answer.undone,
         elim (both_or_not c.in-Some.answer) [ inl b ↦ e.room.had_place (spare g now first h b) | inr n ↦ e.room.in_place n ] ∙ (c.loop-left.invariant.fits first h).1,
       );
     }

@@ -6,6 +6,7 @@ use Rattle.bimap.proofs.undone.undo_run.Given as goal
 
 abbrev pub invariant-loop-left : goal.invariant-loop-left
 invariant-loop-left g l = record {
+  lenders : g.B.Bijection.lenders l.bimap ≡ g.B.Bijection.lenders l.fn.bimap;
   undone : List (g.row.L.Denot × Overwritten g.row.L.Denot g.row.R.Denot);
   beginning : l.fn.entries.items ≡ l.entries.items ++ undone;
   led : (first : List (g.row.L.Denot × g.row.R.Denot)) → Leads g.L.PartialEq.eq g.R.PartialEq.eq first l.fn.entries.items (g.B.Bijection.holding l.fn.bimap).pairs → Leads g.L.PartialEq.eq g.R.PartialEq.eq first l.entries.items (g.B.Bijection.holding l.bimap).pairs;

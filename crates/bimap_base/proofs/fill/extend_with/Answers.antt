@@ -1,4 +1,4 @@
-use Rattle.std.proofs.Common.{append-nil, ◌≡◌, refl, sym, subst, arith, Contains, rules}
+use Rattle.std.proofs.Common.{append-nil, ◌≡◌, ◌∙◌, refl, sym, subst, arith, Contains, rules}
 use Rattle.std.proofs.lemmas.List.{length_push}
 use Rattle.bimap_base.specs.Holding.{IsFull}
 use Rattle.bimap_base.proofs.Extending.{ArePutIn, put_in_none, put_in_more, put_in_full, refusal_along}
@@ -12,6 +12,7 @@ loop-left-init g c =
       callable = ready.0;
       ends = ready.1;
       taken = refl;
+      lenders = refl;
       in_turn = λ appends all. sym (append-nil _);
       put_in = put_in_none g.L.PartialEq.eq g.R.PartialEq.eq (g.B.Bijection.holding c.args.bimap.now) c.args.policy;
     }
@@ -26,6 +27,7 @@ loop-left-preserved g c =
       callable = p.0;
       ends = p.1;
       taken = omega (arith, more, c.saturating_add-taken.ensures, i.taken);
+      lenders = c.in-Ok.ensures.lenders ∙ i.lenders;
       in_turn = λ appends. in_turn_more _ c.loop-left.yielded _ (c.in-Some.left, c.in-Some.right) c.in-Ok.answer _ i.put_in.no_longer (i.in_turn appends) e.count (c.in-Ok.ensures.turn appends);
       put_in = put_in_more g.L.PartialEq.eq g.R.PartialEq.eq (g.B.Bijection.holding c.args.bimap.now) c.loop-left.yielded c.args.policy (g.B.Bijection.holding c.loop-left.bimap) (c.in-Some.left, c.in-Some.right) (g.B.Bijection.holding c.insert_with.new.self)
           g.met.L.Eq.laws g.met.R.Eq.laws (g.met.B.Bijection.apart c.loop-left.bimap) (g.met.B.Bijection.apart c.insert_with.new.self) i.put_in e.allowed e.put e.room;

@@ -9,5 +9,6 @@ invariant-loop-left g l = record {
   ends : (goal.iterator-loop-left g).is_finite l.left-iterator;
   taken : l.taken ≡ min (length l.yielded) (2 ^ 64 - 1);
   put_in : ArePutIn g.L.PartialEq.eq g.R.PartialEq.eq (g.B.Bijection.holding l.initial.bimap) l.yielded l.fn.policy (g.B.Bijection.holding l.bimap);
+  lenders : g.B.Bijection.lenders l.bimap ≡ g.B.Bijection.lenders l.fn.bimap;
   in_turn : g.B.Bijection.appends → ComeInTurn (g.B.Bijection.holding l.initial.bimap).pairs l.yielded (g.B.Bijection.holding l.bimap).pairs;
 }

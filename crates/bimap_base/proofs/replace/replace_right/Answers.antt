@@ -6,12 +6,12 @@ use Rattle.bimap_base.proofs.replace.replace_right.Goals.{else-ne-via-then-ne+el
 use Rattle.bimap_base.proofs.replace.replace_right.Goals as goal
 
 pub unreachable-requires : goal.unreachable-requires
-unreachable-requires g c = omega (arith, c.in-Some.ensures.count, g.met.B.Bijection.fits c.args.bimap.now, c.in-Err.ensures.full, c.remove_by_right.ensures.room)
+unreachable-requires g c = omega (arith, c.in-Some.ensures.answer.count, g.met.B.Bijection.fits c.args.bimap.now, c.in-Err.ensures.answer.full, c.remove_by_right.ensures.answer.room)
 
-pub returns : goal.returns
-returns g c =
-    replaced (λ p. p.1) (λ p. p.0) (λ r l. (l, r)) g.R.PartialEq.eq g.L.PartialEq.eq g.R.PartialEq.eq g.met.L.Eq.laws g.met.R.Eq.laws g.met.R.Eq.laws (removing_right g.L.PartialEq.eq g.R.PartialEq.eq g.met.L.Eq.laws g.met.R.Eq.laws) (none_shares_right g.L.PartialEq.eq g.R.PartialEq.eq g.met.L.Eq.laws g.met.R.Eq.laws) _ _ _ (g.met.B.Bijection.apart c.args.bimap.now) (g.met.B.Bijection.fits c.args.bimap.now) _ c.args.from.now c.args.to (c.in-Some.left, c.in-Some.right) refl (rw c.in-Some.is at c.remove_by_right.ensures.removed) c.remove_by_right.ensures.without (rw c.in-Some.is at c.remove_by_right.ensures.count) c.remove_by_right.ensures.room
-    (elim c.else-ne.branch [ else-ne-via-then-ne+else-contains_right w ↦ inl (lacking (Contains (g.B.Bijection.holding c.args.bimap.now).pairs) (λ (p : g.row.L.Denot × g.row.R.Denot). g.R.PartialEq.eq p.1 c.args.to) w.if-contains_right.ensures) | else-ne-via-else-ne w ↦ inr w.if-ne.ensures ]) (rw c.in-Ok.is at c.insert.ensures)
+pub returns-clause-answer : goal.returns-clause-answer
+returns-clause-answer g c =
+    replaced (λ p. p.1) (λ p. p.0) (λ r l. (l, r)) g.R.PartialEq.eq g.L.PartialEq.eq g.R.PartialEq.eq g.met.L.Eq.laws g.met.R.Eq.laws g.met.R.Eq.laws (removing_right g.L.PartialEq.eq g.R.PartialEq.eq g.met.L.Eq.laws g.met.R.Eq.laws) (none_shares_right g.L.PartialEq.eq g.R.PartialEq.eq g.met.L.Eq.laws g.met.R.Eq.laws) _ _ _ (g.met.B.Bijection.apart c.args.bimap.now) (g.met.B.Bijection.fits c.args.bimap.now) _ c.args.from.now c.args.to (c.in-Some.left, c.in-Some.right) refl (rw c.in-Some.is at c.remove_by_right.ensures.answer.removed) c.remove_by_right.ensures.answer.without (rw c.in-Some.is at c.remove_by_right.ensures.answer.count) c.remove_by_right.ensures.answer.room
+    (elim c.else-ne.branch [ else-ne-via-then-ne+else-contains_right w ↦ inl (lacking (Contains (g.B.Bijection.holding c.args.bimap.now).pairs) (λ (p : g.row.L.Denot × g.row.R.Denot). g.R.PartialEq.eq p.1 c.args.to) w.if-contains_right.ensures) | else-ne-via-else-ne w ↦ inr w.if-ne.ensures ]) (rw c.in-Ok.is at c.insert.ensures.answer)
 
-pub returns-then-not-contains_right : goal.returns-then-not-contains_right
-returns-then-not-contains_right g c = missing (λ p. p.1) (λ p. p.0) (λ r l. (l, r)) g.R.PartialEq.eq _ c.args.from.now c.args.to (lacking (Contains (g.B.Bijection.holding c.args.bimap.now).pairs) (λ (p : g.row.L.Denot × g.row.R.Denot). g.R.PartialEq.eq p.1 c.args.from.now) c.if-not-contains_right.ensures)
+pub returns-then-not-contains_right-clause-answer : goal.returns-then-not-contains_right-clause-answer
+returns-then-not-contains_right-clause-answer g c = missing (λ p. p.1) (λ p. p.0) (λ r l. (l, r)) g.R.PartialEq.eq _ c.args.from.now c.args.to (lacking (Contains (g.B.Bijection.holding c.args.bimap.now).pairs) (λ (p : g.row.L.Denot × g.row.R.Denot). g.R.PartialEq.eq p.1 c.args.from.now) c.if-not-contains_right.ensures)

@@ -7,5 +7,5 @@ retain-requires g c = record {
   may = may_test_inverse g.F.FnMut _ (λ s. s.0) (λ s l r a t h. search rules) (λ s l r h. search rules) _ _ c.requires.may;
 }
 
-pub returns : goal.returns
-returns g c = retention_inverse g.F.FnMut _ (λ s. s.0) (λ s l r a t h. search rules) _ _ _ c.retain.ensures
+pub returns-clause-retained : goal.returns-clause-retained
+returns-clause-retained g c = retention_inverse g.F.FnMut _ (λ s. s.0) (λ s l r a t h. search rules) _ _ _ c.retain.ensures.retained

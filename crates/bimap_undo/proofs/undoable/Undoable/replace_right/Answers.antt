@@ -10,11 +10,11 @@ pub invariant_of-self : goal.invariant_of-self
 invariant_of-self g c = rw c.reserve.ensures.items c.self.invariant
 
 pub invariant_of-self-in-Err-replace_right : goal.invariant_of-self-in-Err-replace_right
-invariant_of-self-in-Err-replace_right g c = rw (c.reserve.ensures.items, c.in-Err.ensures.unchanged) c.self.invariant
+invariant_of-self-in-Err-replace_right g c = rw (c.reserve.ensures.items, c.in-Err.ensures.answer.unchanged) c.self.invariant
 
 change : (g : _) (c : goal.After-push_reserved g) → IsChange g.L.PartialEq.eq g.R.PartialEq.eq (g.B.Bijection.holding c.self.inside.bimap).pairs (RightReplaced c.in-Ok.copy c.in-Ok-replace_right.old) (g.B.Bijection.holding c.replace_right.new.bimap).pairs
 change g c =
-    let replaced = c.in-Ok-replace_right.ensures.replaced in
+    let replaced = c.in-Ok-replace_right.ensures.answer.replaced in
     let found : Some c.in-Some.left.now ≡ Some replaced.other = rw c.in-Some.is at (found_by_right g.L.PartialEq.eq g.R.PartialEq.eq g.met.L.Eq.laws g.met.R.Eq.laws (g.B.Bijection.holding c.self.inside.bimap) c.args.from.now c.in-Ok-replace_right.old replaced.other c.get_by_right.result (g.met.B.Bijection.apart c.self.inside.bimap) replaced.exchanged.member replaced.by_part c.get_by_right.ensures) in
     let one : c.in-Some.left.now ≡ replaced.other = cc in
     record {
@@ -24,10 +24,10 @@ change g c =
     }
 
 pub invariant_of-self-in-Ok-replace_right : goal.invariant_of-self-in-Ok-replace_right
-invariant_of-self-in-Ok-replace_right g c = marks_recorded g.L.PartialEq.eq g.R.PartialEq.eq (λ p. p.1) (λ r l. (l, r)) g.R.PartialEq.eq (λ left old. RightReplaced left old) (g.B.Bijection.holding c.self.inside.bimap) (g.B.Bijection.holding c.replace_right.new.bimap) c.self.inside.changes.items c.push_reserved.new.self.items c.args.from.now c.args.to c.in-Ok.copy c.in-Ok-replace_right.old (g.met.B.Bijection.apart c.replace_right.new.bimap) c.in-Ok-replace_right.ensures.replaced (change g c) c.replace_right.ensures.count c.replace_right.ensures.room c.reserve.new.self.items c.push_reserved.ensures.items c.reserve.ensures.items c.self.invariant (g.met.B.Bijection.fits c.replace_right.new.bimap)
+invariant_of-self-in-Ok-replace_right g c = marks_recorded g.L.PartialEq.eq g.R.PartialEq.eq (λ p. p.1) (λ r l. (l, r)) g.R.PartialEq.eq (λ left old. RightReplaced left old) (g.B.Bijection.holding c.self.inside.bimap) (g.B.Bijection.holding c.replace_right.new.bimap) c.self.inside.changes.items c.push_reserved.new.self.items c.args.from.now c.args.to c.in-Ok.copy c.in-Ok-replace_right.old (g.met.B.Bijection.apart c.replace_right.new.bimap) c.in-Ok-replace_right.ensures.answer.replaced (change g c) c.replace_right.ensures.answer.count c.replace_right.ensures.answer.room c.reserve.new.self.items c.push_reserved.ensures.items c.reserve.ensures.items c.self.invariant (g.met.B.Bijection.fits c.replace_right.new.bimap)
 
 pub returns-in-Ok-replace_right : goal.returns-in-Ok-replace_right
-returns-in-Ok-replace_right g c = rw (← c.self.view_is) (recorded g.L.PartialEq.eq g.R.PartialEq.eq (λ p. p.1) (λ r l. (l, r)) g.R.PartialEq.eq (λ left old. RightReplaced left old) (g.B.Bijection.holding c.self.inside.bimap) (g.B.Bijection.holding c.replace_right.new.bimap) c.self.inside.changes.items c.push_reserved.new.self.items c.args.from.now c.args.to c.in-Ok.copy c.in-Ok-replace_right.old (g.met.B.Bijection.apart c.replace_right.new.bimap) c.in-Ok-replace_right.ensures.replaced (change g c) c.replace_right.ensures.count c.replace_right.ensures.room c.reserve.new.self.items c.push_reserved.ensures.items c.reserve.ensures.items)
+returns-in-Ok-replace_right g c = rw (← c.self.view_is) (recorded g.L.PartialEq.eq g.R.PartialEq.eq (λ p. p.1) (λ r l. (l, r)) g.R.PartialEq.eq (λ left old. RightReplaced left old) (g.B.Bijection.holding c.self.inside.bimap) (g.B.Bijection.holding c.replace_right.new.bimap) c.self.inside.changes.items c.push_reserved.new.self.items c.args.from.now c.args.to c.in-Ok.copy c.in-Ok-replace_right.old (g.met.B.Bijection.apart c.replace_right.new.bimap) c.in-Ok-replace_right.ensures.answer.replaced (change g c) c.replace_right.ensures.answer.count c.replace_right.ensures.answer.room c.reserve.new.self.items c.push_reserved.ensures.items c.reserve.ensures.items)
 
 pub returns-in-Err : goal.returns-in-Err
-returns-in-Err g c = rw (← c.self.view_is) (refused g.L.PartialEq.eq g.R.PartialEq.eq (λ p. p.1) (λ r l. (l, r)) g.R.PartialEq.eq (λ left old. RightReplaced left old) (g.B.Bijection.holding c.self.inside.bimap) (g.B.Bijection.holding c.replace_right.new.bimap) c.self.inside.changes.items c.reserve.new.self.items c.args.from.now c.args.to (Refused c.in-Err.why) c.in-Err.ensures.refused c.in-Err.ensures.unchanged c.reserve.ensures.items)
+returns-in-Err g c = rw (← c.self.view_is) (refused g.L.PartialEq.eq g.R.PartialEq.eq (λ p. p.1) (λ r l. (l, r)) g.R.PartialEq.eq (λ left old. RightReplaced left old) (g.B.Bijection.holding c.self.inside.bimap) (g.B.Bijection.holding c.replace_right.new.bimap) c.self.inside.changes.items c.reserve.new.self.items c.args.from.now c.args.to (Refused c.in-Err.why) c.in-Err.ensures.answer.refused c.in-Err.ensures.answer.unchanged c.reserve.ensures.items)
