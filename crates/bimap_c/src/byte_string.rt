@@ -39,6 +39,9 @@ impl JsonKey for ByteString {
     }
 
     fn from_key(alloc: Global, text: &str) -> Result<ByteString, ReadFault> {
-        ByteString::copy_of(alloc, text.as_bytes()).ok_or(ReadFault::Memory)
+        match ByteString::copy_of(alloc, text.as_bytes()) {
+            Some(key) => Ok(key),
+            None => Err(ReadFault::Memory),
+        }
     }
 }
