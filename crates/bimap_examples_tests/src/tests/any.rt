@@ -180,11 +180,6 @@ fn numbers_and_replaces<B: Interning<&'static str, u32> + Drop>(rt: &impl Abort,
     assert!(rt; old == "ann" && users.get_by_right(&31) == Some(&"anna"));
 }
 
-#[test]
-fn interns_and_replaces(rt: HostRuntime) {
-    numbers_and_replaces(&rt, BiBTreeMap::<&'static str, u32>::new(rt.alloc()));
-}
-
 fn interns<B: Bijection<&'static str, u32> + Drop>(rt: &impl Abort, bimap: B) {
     let mut numbers = bimap;
     assert!(rt; get_by_left_or_insert_with(&mut numbers, "ann", || 12) == Ok(12));
@@ -192,11 +187,6 @@ fn interns<B: Bijection<&'static str, u32> + Drop>(rt: &impl Abort, bimap: B) {
     let mut seats = numbers;
     assert!(rt; get_by_right_or_insert(&mut seats, "bob", 12) == Ok("ann"));
     assert!(rt; get_by_right_or_insert(&mut seats, "bob", 7) == Ok("bob"));
-}
-
-#[test]
-fn interns_on_both_sides(rt: HostRuntime) {
-    interns(&rt, BiBTreeMap::<&'static str, u32>::new(rt.alloc()));
 }
 
 fn puts<B: Bijection<&'static str, u32> + Drop>(rt: &impl Abort, bimap: B) {
@@ -212,11 +202,6 @@ fn puts<B: Bijection<&'static str, u32> + Drop>(rt: &impl Abort, bimap: B) {
     assert!(rt; put(&mut seats, "bob", 12, once) == Err(NotInsertedWith::RightHeld("bob", 12)));
 }
 
-#[test]
-fn puts_a_pair_again(rt: HostRuntime) {
-    puts(&rt, BiBTreeMap::<&'static str, u32>::new(rt.alloc()));
-}
-
 fn swaps<B: Bijection<&'static str, u32> + Drop>(rt: &impl Abort, bimap: B) {
     let mut seats = bimap;
     assert!(rt; seats.insert("ann", 12) == Ok(Overwritten::Neither));
@@ -227,9 +212,32 @@ fn swaps<B: Bijection<&'static str, u32> + Drop>(rt: &impl Abort, bimap: B) {
     assert!(rt; seats.get_by_right(&12) == Some(&"bob"));
 }
 
+// What any bimap of texts answers, an empty one for each.
+fn answers_of_texts<B: Interning<&'static str, u32> + Drop>(
+    rt: &impl Abort,
+    numbers: B,
+    users: B,
+    seats: B,
+    others: B,
+) {
+    numbers_and_replaces(rt, numbers);
+    interns(rt, users);
+    puts(rt, seats);
+    swaps(rt, others);
+}
+
+type Texts = BiBTreeMap<&'static str, u32>;
+
 #[test]
-fn swaps_partners(rt: HostRuntime) {
-    swaps(&rt, BiBTreeMap::<&'static str, u32>::new(rt.alloc()));
+fn over_any_bimap_of_texts(rt: HostRuntime) {
+    let alloc = rt.alloc();
+    answers_of_texts(
+        &rt,
+        Texts::new(alloc),
+        Texts::new(alloc),
+        Texts::new(alloc),
+        Texts::new(alloc),
+    );
 }
 
 fn made(alloc: Global) -> Result<Seats, ItemRefused<char, u32>> {
