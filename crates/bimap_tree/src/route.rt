@@ -34,9 +34,7 @@ impl Route {
             depth: 0,
         }
     }
-}
 
-impl Route {
     // Whether the way most likely goes to the left all along. It looks at a few steps without a branch, and what it answers
     // decides where a search begins, and nothing of what it finds.
     pub(crate) fn goes_left(&self) -> bool {
