@@ -175,7 +175,8 @@ pub extern "C" fn jetukoma_btree_bytes_u64_get_by_right_unchecked(
 ) -> u32
     ensures answer { Reads btree_bytes_u64 handle.old.slot.value result
         (λ kept. (found : Option (Bor ByteString)) × IsFoundByRight nat_eq kept.held right found
-        × AreBytesOut (option_map (λ left. left.now.bytes.items) found) result buf.old buf.new len.new) }
+        × AreBytesOut (option_map (λ left. left.now.bytes.items) found) result buf.old buf.new
+        len.new) }
     ensures unchanged { handle.new.slot.value ≡ handle.old.slot.value }
     ensures buf { IsWritten result buf.old buf.new }
     ensures len { IsLengthWritten result len.old len.new }

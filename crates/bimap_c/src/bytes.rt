@@ -67,8 +67,8 @@ pub(crate) fn copy_out(bytes: &[u8], buf: &mut [u8], len: &mut usize) -> u32
 
 /// Copies the bytes out, if there are some.
 pub(crate) fn tell_bytes(found: Option<&ByteString>, buf: &mut [u8], len: &mut usize) -> u32
-    ensures out { AreBytesOut (option_map (λ v. v.now.bytes.items) found.entry) result buf.old buf.new
-        len.new }
+    ensures out { AreBytesOut (option_map (λ v. v.now.bytes.items) found.entry) result buf.old
+        buf.new len.new }
     ensures buf { IsWritten result buf.old buf.new }
     ensures len { IsLengthWritten result len.old len.new }
 {
