@@ -1,10 +1,10 @@
 //! Names with their codes, each once. It names the facade alone, and has no proof of its own.
-ghost use Rattle.std.specs.Prelude.{◌≡◌, ◌≤◌, [], length, List, Contains, IfOk, IfErr, OnOk, OnErr};
+ghost use Rattle.std.specs.Prelude.{◌≡◌, [], Contains, IfOk, IfErr, OnOk, OnErr};
 ghost use Rattle.std.specs.Iterator.{IsFiniteIterable};
 ghost use Rattle.bimap.specs.Answer.{IsRefusal};
 ghost use Rattle.bimap.specs.BTree.{holding};
-ghost use Rattle.bimap.specs.Extension.{IsExtensionUnder, IsExtensionStoppedUnder, IsRefusedNextUnder};
-ghost use Rattle.bimap.specs.Holding.{IsFull, IsFoundByLeft, IsFoundByRight};
+ghost use Rattle.bimap.specs.Extension.{IsExtensionUnder, IsExtensionStoppedUnder};
+ghost use Rattle.bimap.specs.Holding.{Holding, IsFull, IsFoundByLeft, IsFoundByRight};
 ghost use Rattle.bimap.specs.JsonDocument.{ReadsTextUnder};
 ghost use Rattle.bimap.specs.JsonObjects.{IsObjectOf, IsEntryOf, EachReadsBack};
 ghost use Rattle.bimap.specs.Sets.{IsWithPut, LacksLeft, LacksRight};
@@ -51,10 +51,9 @@ pub fn collect_codes<L: Ord + Drop, R: Eq + Hash + Drop, I: IntoIterator<Item = 
     ensures table { IfOk result (λ codes. IsExtensionUnder L.eq R.eq
         (I.into_iter_gives items) I.IntoIter.next_gives (holding empty)
         (record { left = OnHeld.Refuse; right = OnHeld.Refuse }) (holding codes)) }
-    ensures refused { IfErr result (λ e. (taken : List (L × R))
-        × IsRefusedNextUnder L.eq R.eq (I.into_iter_gives items) I.IntoIter.next_gives (Contains [])
-        ((holding empty).room ≤ length taken) taken
-        (record { left = OnHeld.Refuse; right = OnHeld.Refuse }) e) }
+    ensures refused { IfErr result (λ e. (last : Holding L R) × IsExtensionStoppedUnder L.eq R.eq
+        (I.into_iter_gives items) I.IntoIter.next_gives (holding empty)
+        (record { left = OnHeld.Refuse; right = OnHeld.Refuse }) e last) }
 {
     from_iter_with(empty, items, ONCE)
 }

@@ -1,13 +1,11 @@
 //! Why names and their codes were not taken, in words. It knows no lines.
 use bimap::value::JsonFault;
 use bimap::{ItemRefused, NotInsertedWith};
-use std::{fmt, io};
+use std::fmt;
 
 /// Why names and their codes were not taken. Entries and items are counted from 0.
 #[derive(Debug, Drop)]
 pub enum Fault {
-    /// A file could not be read.
-    Unread(io::Error),
     /// A text is no table in JSON.
     NotTable(JsonFault),
     /// A word that stands for a code is no number from 0 to 4294967295.
@@ -56,7 +54,6 @@ fn write_item<W: fmt::Write>(
 impl fmt::Display for Fault {
     fn fmt<W: fmt::Write>(&self, f: &mut fmt::Formatter<W>) -> fmt::Result {
         match self {
-            Fault::Unread(error) => write!(f, "{error}"),
             Fault::NotTable(fault) => write_entry(f, *fault),
             Fault::NotCode => write!(f, "a code is no number from 0 to 4294967295"),
             Fault::NoCode => write!(f, "the last name has no code"),

@@ -1,14 +1,14 @@
 //! What a line asks of the table, and the reply to it.
 use crate::codes::{assign, assign_all, code_of, name_of, written};
 use crate::fault::Fault;
-use crate::table::{Codes, gives_table, parse_items, table_of};
+use crate::table::{Codes, gives_table, items_after, parse_items, table_of};
 use bimap::{NoMemory, NotInserted};
-use bimap_lines::wanted;
+use bimap_lines::{number, wanted, words};
 use std::alloc::{AllocError, Global};
 use std::io;
 
-// The requests, and what each asks. Words stand between single spaces.
-const REQUESTS: &str = "code NAME - which code?
+/// The requests, and what each asks.
+pub const REQUESTS: &str = "code NAME - which code?
 name CODE - which name?
 assign NAME CODE - if neither is taken
 assign-all NAME CODE NAME CODE .. - each in turn, until one is refused
@@ -67,17 +67,16 @@ fn told_name(alloc: Global, codes: &Codes, code: u32) -> Result<String, AllocErr
 // The reply to a line that gives no table. All words of `assign-all` are read before a name gets its code, and the reply says
 // last how many names have codes. Of a line that asks nothing it says what was wanted.
 fn reply_to(alloc: Global, codes: &mut Codes, line: &str) -> Result<String, AllocError> {
-    if let Some(text) = line.strip_prefix("assign-all ") {
+    if let Some(text) = items_after(line, "assign-all") {
         return all_assigned(alloc, codes, text);
     }
-    let mut words = line.split(' ');
+    let mut words = words(line);
     let (verb, first) = (words.next(), words.next());
-    let number = first.map(|word| word.parse::<u32>());
-    let second = words.next().map(|word| word.parse::<u32>());
-    match (verb, first, number, second, words.next()) {
+    let (code, second) = (first.map(number), words.next().map(number));
+    match (verb, first, code, second, words.next()) {
         (Some("code"), Some(name), _, None, None) => told_code(alloc, codes, name),
-        (Some("name"), _, Some(Ok(code)), None, None) => told_name(alloc, codes, code),
-        (Some("assign"), Some(name), _, Some(Ok(code)), None) => {
+        (Some("name"), _, Some(Some(code)), None, None) => told_name(alloc, codes, code),
+        (Some("assign"), Some(name), _, Some(Some(code)), None) => {
             let name = String::from_str(alloc, name)?;
             String::from_str(alloc, assigned(codes, name, code))
         }

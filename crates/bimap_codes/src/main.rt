@@ -9,59 +9,67 @@ mod fault;
 mod line;
 mod table;
 
-use bimap_lines::{NO_TEXT, replace_file, text_of};
-use line::{answer, shown};
+use bimap_lines::{Asked, Keeper, NO_TEXT, file_argument, serve_file, status_of, text_of};
+use fault::Fault;
+use line::{REQUESTS, answer, shown};
+use std::alloc::{AllocError, Global};
+use std::io;
 use std::process::ExitCode;
-use std::rt::Files;
-use std::{env, io};
-use table::{Codes, read_table};
+use table::{Codes, table_of};
 
-// Answers all lines, and tells by the status whether each table was read.
-fn serve(rt: &(impl Input + Print + AllocGlobal), codes: &mut Codes) -> io::Result<ExitCode> {
-    let mut status = ExitCode::SUCCESS;
-    for line in rt.lines(rt.alloc()) {
-        match text_of(line)? {
-            Some(line) => {
-                if !answer(rt, codes, line.as_str())? {
-                    status = ExitCode::from(2);
+// The program over a file.
+enum CodeTable {}
+
+impl Keeper for CodeTable {
+    type Kept = Codes;
+
+    type Fault = Fault;
+
+    fn empty(alloc: Global) -> Codes {
+        Codes::new(alloc)
+    }
+
+    fn read(alloc: Global, text: &str) -> Result<Codes, Fault> {
+        table_of(alloc, text)
+    }
+
+    // The status tells whether each table was read.
+    fn serve(rt: &HostRuntime, codes: &mut Codes) -> io::Result<ExitCode> {
+        let mut status = ExitCode::SUCCESS;
+        for line in rt.lines(rt.alloc()) {
+            match text_of(line)? {
+                Some(line) => {
+                    if !answer(rt, codes, line.as_str())? {
+                        status = ExitCode::from(2);
+                    }
                 }
+                None => println!(rt; "{NO_TEXT}")?,
             }
-            None => println!(rt; "{NO_TEXT}")?,
         }
+        Ok(status)
     }
+
+    fn text(alloc: Global, codes: &Codes) -> Result<String, AllocError> {
+        format!(in alloc; "{}\n", shown(alloc, codes)?)
+    }
+}
+
+// Answers all lines on a table that begins empty, and is printed last.
+fn serve_empty(rt: &HostRuntime) -> io::Result<ExitCode> {
+    let mut codes = CodeTable::empty(rt.alloc());
+    let status = CodeTable::serve(rt, &mut codes)?;
+    print!(rt; "{}", CodeTable::text(rt.alloc(), &codes)?)?;
     Ok(status)
 }
 
-// The same on a table that begins empty, and is printed last.
-fn serve_empty(rt: &(impl Input + Print + AllocGlobal)) -> io::Result<ExitCode> {
-    let mut codes = Codes::new(rt.alloc());
-    let status = serve(rt, &mut codes)?;
-    println!(rt; "{}", shown(rt.alloc(), &codes)?)?;
-    Ok(status)
-}
-
-// The same on the table of a file, which goes back there.
-fn serve_file<R: Files + Input + Print + Eprint + AllocGlobal>(
-    rt: &R,
-    path: &str,
-) -> io::Result<ExitCode> {
-    match read_table(rt, path) {
-        Ok(mut codes) => {
-            let status = serve(rt, &mut codes)?;
-            let text = format!(in rt.alloc(); "{}\n", shown(rt.alloc(), &codes)?)?;
-            replace_file(rt, path, text.as_str())?;
-            Ok(status)
-        }
-        Err(fault) => {
-            eprintln!(rt; "{path}: {fault}")?;
-            Ok(ExitCode::from(2))
-        }
+fn run(rt: &HostRuntime) -> io::Result<ExitCode> {
+    match file_argument(rt, "bimap_codes [FILE]", REQUESTS)? {
+        Asked::Lines => serve_empty(rt),
+        Asked::File(path) => serve_file::<CodeTable>(rt, path.as_str()),
+        Asked::Ended(status) => Ok(status),
     }
 }
 
-fn main(rt: HostRuntime) -> io::Result<ExitCode> {
-    match env::args(&rt)?.nth(1) {
-        Some(path) => serve_file(&rt, path.as_str()),
-        None => serve_empty(&rt),
-    }
+fn main(rt: HostRuntime) -> ExitCode {
+    status_of(&rt, run(&rt))
 }

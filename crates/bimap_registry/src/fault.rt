@@ -1,35 +1,29 @@
 //! Why members were not registered, in words. It knows no lines.
 use bimap::{ItemRefused, NotInsertedWith};
 use std::alloc::AllocError;
-use std::{fmt, io};
+use std::fmt;
 
 /// Why members were not registered. They are counted from 0.
 #[derive(Debug, Drop)]
 pub enum Fault {
-    /// Their file could not be read, or there was no memory.
-    Unread(io::Error),
+    /// There was no memory.
+    Memory,
     /// Other words stand there than ids and names in turn.
     NotMembers,
     /// One of them was refused.
     Refused(ItemRefused<u32, String>),
 }
 
-impl From<io::Error> for Fault {
-    fn from(error: io::Error) -> Fault {
-        Fault::Unread(error)
-    }
-}
-
 impl From<AllocError> for Fault {
-    fn from(error: AllocError) -> Fault {
-        Fault::Unread(error.into())
+    fn from(_error: AllocError) -> Fault {
+        Fault::Memory
     }
 }
 
 impl fmt::Display for Fault {
     fn fmt<W: fmt::Write>(&self, f: &mut fmt::Formatter<W>) -> fmt::Result {
         match self {
-            Fault::Unread(error) => write!(f, "{error}"),
+            Fault::Memory => write!(f, "no memory"),
             Fault::NotMembers => write!(f, "wanted: ID NAME ID NAME .."),
             Fault::Refused(refused) => write_refused(f, refused),
         }

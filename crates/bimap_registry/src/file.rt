@@ -3,15 +3,12 @@ use crate::fault::Fault;
 use crate::line::parse_members;
 use crate::registry::{Registry, members, register_all};
 use std::alloc::{AllocError, Global};
-use std::fs;
-use std::rt::Files;
 
-/// The registry of a file.
-pub fn read_registry<R: Files + AllocGlobal>(rt: &R, path: &str) -> Result<Registry, Fault> {
-    let text = fs::read_to_string(rt, path)?;
-    let listed = parse_members(rt.alloc(), text.as_str())?.ok_or(Fault::NotMembers)?;
-    let mut registry = Registry::new(rt.alloc());
-    match register_all(rt.alloc(), &mut registry, listed) {
+/// The registry that the text of a file lists.
+pub fn registry_of(alloc: Global, text: &str) -> Result<Registry, Fault> {
+    let listed = parse_members(alloc, text)?.ok_or(Fault::NotMembers)?;
+    let mut registry = Registry::new(alloc);
+    match register_all(alloc, &mut registry, listed) {
         Ok(()) => Ok(registry),
         Err(refused) => Err(Fault::Refused(refused)),
     }

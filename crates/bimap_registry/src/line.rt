@@ -1,7 +1,8 @@
 //! What a line asks for, and the members that a text lists. It knows no registry.
+use bimap_lines::{after_first, number, words};
 use std::alloc::{AllocError, Global};
 
-/// The requests, and what each asks. Words stand between spaces.
+/// The requests, and what each asks.
 pub const REQUESTS: &str = "register ID NAME - if neither is taken
 rename NAME to NAME - the id of the first has the second
 renumber ID to ID - the name of the first has the second
@@ -38,17 +39,17 @@ pub enum Request<'a> {
     Help,
 }
 
-/// The ids and names that stand in turn in a text, between blanks. `None` where other words do. It takes memory for them.
+/// The ids and names that stand in turn in a text. `None` where other words do. It takes memory for them.
 pub fn parse_members(alloc: Global, text: &str) -> Result<Option<Vec<(u32, String)>>, AllocError> {
     let mut members = Vec::new(alloc);
     let mut id = None;
-    for word in text.split_whitespace() {
-        match (id, word.parse::<u32>()) {
-            (None, Ok(number)) => id = Some(number),
-            (None, Err(_)) => return Ok(None),
-            (Some(number), _) => {
+    for word in words(text) {
+        match (id, number(word)) {
+            (None, Some(first)) => id = Some(first),
+            (None, None) => return Ok(None),
+            (Some(first), _) => {
                 members
-                    .push((number, String::from_str(alloc, word)?))
+                    .push((first, String::from_str(alloc, word)?))
                     .map_err(AllocError::from)?;
                 id = None;
             }
@@ -57,20 +58,20 @@ pub fn parse_members(alloc: Global, text: &str) -> Result<Option<Vec<(u32, Strin
     Ok(id.is_none().then_some(members))
 }
 
-/// What a line of words between spaces asks for. It takes no memory.
+/// What a line asks for. It takes no memory.
 pub fn parse_line(line: &str) -> Option<Request<'_>> {
-    let mut words = line.split_whitespace();
+    let mut words = words(line);
     let request = words.next()?;
     let (first, second, third) = (words.next(), words.next(), words.next());
     let ended = words.next().is_none();
     match (request, first, second, third) {
-        ("batch", _, _, _) => Some(Request::Batch(line.trim_start().strip_prefix("batch")?)),
-        ("register", Some(id), Some(name), None) => Some(Request::Register(id.parse().ok()?, name)),
+        ("batch", _, _, _) => Some(Request::Batch(after_first(line, "batch")?)),
+        ("register", Some(id), Some(name), None) => Some(Request::Register(number(id)?, name)),
         ("rename", Some(from), Some("to"), Some(to)) if ended => Some(Request::Rename(from, to)),
         ("renumber", Some(from), Some("to"), Some(to)) if ended => {
-            Some(Request::Renumber(from.parse().ok()?, to.parse().ok()?))
+            Some(Request::Renumber(number(from)?, number(to)?))
         }
-        ("who", Some(id), None, None) => Some(Request::Who(id.parse().ok()?)),
+        ("who", Some(id), None, None) => Some(Request::Who(number(id)?)),
         ("id", Some(name), None, None) => Some(Request::Id(name)),
         ("list", None, None, None) => Some(Request::List),
         ("room", None, None, None) => Some(Request::Room),

@@ -10,48 +10,60 @@ mod line;
 mod registry;
 
 use answer::answer;
-use bimap_lines::{NO_TEXT, replace_file, text_of};
-use file::{listed, read_registry};
+use bimap_lines::{Asked, Keeper, NO_TEXT, file_argument, serve_file, status_of, text_of};
+use fault::Fault;
+use file::{listed, registry_of};
+use line::REQUESTS;
 use registry::Registry;
+use std::alloc::{AllocError, Global};
+use std::io;
 use std::process::ExitCode;
-use std::rt::Files;
-use std::{env, io};
 
-// Answers all lines.
-fn serve(rt: &(impl Input + Print + AllocGlobal), registry: &mut Registry) -> io::Result<ExitCode> {
-    for line in rt.lines(rt.alloc()) {
-        match text_of(line)? {
-            Some(line) => answer(rt, registry, line.as_str())?,
-            None => println!(rt; "{NO_TEXT}")?,
-        }
+// The program over a file.
+enum Members {}
+
+impl Keeper for Members {
+    type Kept = Registry;
+
+    type Fault = Fault;
+
+    fn empty(alloc: Global) -> Registry {
+        Registry::new(alloc)
     }
-    Ok(ExitCode::SUCCESS)
+
+    fn read(alloc: Global, text: &str) -> Result<Registry, Fault> {
+        registry_of(alloc, text)
+    }
+
+    fn serve(rt: &HostRuntime, registry: &mut Registry) -> io::Result<ExitCode> {
+        for line in rt.lines(rt.alloc()) {
+            match text_of(line)? {
+                Some(line) => answer(rt, registry, line.as_str())?,
+                None => println!(rt; "{NO_TEXT}")?,
+            }
+        }
+        Ok(ExitCode::SUCCESS)
+    }
+
+    fn text(alloc: Global, registry: &Registry) -> Result<String, AllocError> {
+        listed(alloc, registry)
+    }
 }
 
-// The same with the registry of a file, to which it goes back.
-fn serve_file<R: Files + Input + Print + Eprint + AllocGlobal>(
-    rt: &R,
-    path: &str,
-) -> io::Result<ExitCode> {
-    match read_registry(rt, path) {
-        Ok(mut registry) => {
-            let status = serve(rt, &mut registry)?;
-            replace_file(rt, path, listed(rt.alloc(), &registry)?.as_str())?;
-            Ok(status)
-        }
-        Err(fault) => {
-            eprintln!(rt; "{path}: {fault}")?;
-            Ok(ExitCode::from(2))
-        }
+// Answers all lines on a registry that begins empty.
+fn serve_empty(rt: &HostRuntime) -> io::Result<ExitCode> {
+    let mut registry = Registry::new(rt.alloc());
+    Members::serve(rt, &mut registry)
+}
+
+fn run(rt: &HostRuntime) -> io::Result<ExitCode> {
+    match file_argument(rt, "bimap_registry [FILE]", REQUESTS)? {
+        Asked::Lines => serve_empty(rt),
+        Asked::File(path) => serve_file::<Members>(rt, path.as_str()),
+        Asked::Ended(status) => Ok(status),
     }
 }
 
-fn main(rt: HostRuntime) -> io::Result<ExitCode> {
-    match env::args(&rt)?.nth(1) {
-        Some(path) => serve_file(&rt, path.as_str()),
-        None => {
-            let mut registry = Registry::new(rt.alloc());
-            serve(&rt, &mut registry)
-        }
-    }
+fn main(rt: HostRuntime) -> ExitCode {
+    status_of(&rt, run(&rt))
 }

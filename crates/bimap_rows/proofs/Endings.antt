@@ -22,7 +22,7 @@ wrote_more Say input o p q pairs end more all s a e =
     record { history = s.history; leads = s.leads; says = s.says; wrote = subst (Appends o q) (append_assoc (told s.history) end more ∙ ap (λ l. told s.history ++ l) e) (Appends-trans o p q (told s.history ++ end) more s.wrote a) }
 
 -- all lines were served, and what is held was written
-pub ends_clean : (result : Ending) (input left o p q r : Option (List ℕ)) (pairs : List (ℕ × ℕ)) → AscendsByLeft pairs → IsServed SaysInAll input o p pairs [] → IsReadOut input left → Appends p q (tail pairs) → IsFlushed Clean result q r → Ends result input left o r
-ends_clean result input left o p q r pairs up s end a (inl e) = subst (λ k. Ends k input left o r) (sym e) tt
-ends_clean result input left o p q r pairs up s end a (inr h) =
+pub ends_clean : (result : Ending) (input left o p q r : Option (List ℕ)) (buffer : List ℕ) (pairs : List (ℕ × ℕ)) → AscendsByLeft pairs → IsServed SaysInAll input o p pairs [] → IsReadOut input left → Appends p q (tail pairs) → IsFlushed Clean result q r buffer → Ends result input left o r
+ends_clean result input left o p q r buffer pairs up s end a (inl e) = subst (λ k. Ends k input left o r) (sym e) tt
+ends_clean result input left o p q r buffer pairs up s end a (inr h) =
     subst (λ k. Ends k input left o r) (sym h.0) (pairs, up, wrote_more SaysInAll input o q r pairs (tail pairs) [] (tail pairs) (wrote_more SaysInAll input o p q pairs [] (tail pairs) (tail pairs) s a refl) h.1 (append-nil (tail pairs)), end)

@@ -32,6 +32,6 @@ StopsAtLine line number (BadLine n) before after = (n ≡ number) × IsBad line 
 StopsAtLine line number NoMemory before after = Appends before after []
 StopsAtLine line number ending before after = ⊥
 
--- the flush failed, or the ending stands and nothing more was written
-abbrev pub IsFlushed : Ending → Ending → Option (List ℕ) → Option (List ℕ) → Type 0
-IsFlushed ending result before after = (result ≡ OutputFailed) ⊎ ((result ≡ ending) × Appends before after [])
+-- the flush failed, or the ending stands, nothing more was written, and no byte waits in the buffer
+abbrev pub IsFlushed : Ending → Ending → Option (List ℕ) → Option (List ℕ) → List ℕ → Type 0
+IsFlushed ending result before after buffer = (result ≡ OutputFailed) ⊎ ((result ≡ ending) × Appends before after [] × (buffer ≡ []))

@@ -12,8 +12,9 @@ mod serve;
 #[cfg(test)]
 mod tests;
 
+use bimap_lines::no_argument;
 use serve::{Ending, serve};
-use std::io::{self, BufReader, BufWriter};
+use std::io::{self, BufReader, BufWriter, ErrorKind};
 use std::process::ExitCode;
 
 // The lines that say a call. A left is a character, a right a number from 0 to 4294967295.
@@ -45,8 +46,13 @@ fn status(ending: Ending) -> u8
 }
 
 fn main(rt: HostRuntime) -> ExitCode {
-    // The blocks for reading and writing want memory, and nothing else fails there.
-    let ending = run(&rt).unwrap_or(Ending::NoMemory);
+    let ending = match no_argument(&rt, "bimap_rows", REQUESTS) {
+        Ok(Some(status)) => return status,
+        // The blocks for reading and writing want memory, and nothing else fails there.
+        Ok(None) => run(&rt).unwrap_or(Ending::NoMemory),
+        Err(error) if error.kind() == ErrorKind::OutOfMemory => Ending::NoMemory,
+        Err(_) => Ending::OutputFailed,
+    };
     // Where standard error fails too, the status still tells.
     let _ = match ending {
         Ending::Clean => Ok(()),

@@ -1,5 +1,6 @@
 //! The program's work over any reader and writer: each line is performed, and its reply is written.
 ghost use Rattle.std.specs.Prelude.{◌≡◌, ◌≢◌, ◌⊎◌, [], OnOk, IfErr};
+ghost use Rattle.std.specs.Io.Buffered.{writer_contents, writer_buffer};
 ghost use Rattle.std.specs.IoError.{error_kind};
 ghost use Rattle.std.specs.Io.KnownBytes.{Appends};
 ghost use Rattle.bimap_rows.specs.Lines.{SaysInAll};
@@ -12,7 +13,7 @@ use crate::line::{Line, parse_line};
 use crate::reply::write_reply;
 use bimap::{Bijection, Reply, perform};
 use std::alloc::Global;
-use std::io::{BufRead, Error, ErrorKind, Write};
+use std::io::{BufRead, BufWriter, Error, ErrorKind, Write};
 
 /// How the work ended.
 #[derive(Clone, Copy, Debug, Eq, PartialEq)]
@@ -91,8 +92,9 @@ fn serve_lines<B: Bijection<char, u32>, I: BufRead, W: Write>(
 }
 
 // Flushes the output before the work ends.
-fn finish<W: Write>(output: &mut W, ending: Ending) -> Ending
-    ensures { IsFlushed ending result (W.contents output.old) (W.contents output.new) }
+fn finish<W: Write + Drop>(output: &mut BufWriter<W>, ending: Ending) -> Ending
+    ensures { IsFlushed ending result (writer_contents W.contents output.old)
+        (writer_contents W.contents output.new) (writer_buffer output.new) }
 {
     output.flush().map_or(Ending::OutputFailed, |()| ending)
 }
@@ -101,10 +103,15 @@ fn finish<W: Write>(output: &mut W, ending: Ending) -> Ending
 ///
 /// It ends at the first line that says no call, and wherever reading, writing or memory fails: the replies of the
 /// lines before have been written then, and what is held has not. It flushes the output before it ends, unless the
-/// output has failed. Each line takes memory for its own bytes, and what its call takes.
-pub fn serve<I: BufRead, W: Write>(alloc: Global, input: &mut I, output: &mut W) -> Ending
-    ensures { Ends result (I.remaining input.old) (I.remaining input.new) (W.contents output.old)
-        (W.contents output.new) }
+/// output has failed: so no byte waits in the buffer. Each line takes memory for its own bytes, and what its call takes.
+pub fn serve<I: BufRead, W: Write + Drop>(
+    alloc: Global,
+    input: &mut I,
+    output: &mut BufWriter<W>,
+) -> Ending
+    ensures ends { Ends result (I.remaining input.old) (I.remaining input.new)
+        (writer_contents W.contents output.old) (writer_contents W.contents output.new) }
+    ensures flushed { result ≢ Ending.OutputFailed → writer_buffer output.new ≡ [] }
 {
     let mut held = Held::new(alloc);
     match serve_lines(alloc, &mut held, input, output) {

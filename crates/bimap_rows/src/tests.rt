@@ -2,7 +2,7 @@
 use crate::serve::{Ending, serve};
 use bimap_famine::Famine;
 use std::alloc::{AllocError, Global};
-use std::io::{self, BufReader, Error, ErrorKind, Read, Write};
+use std::io::{self, BufReader, BufWriter, Error, ErrorKind, Read, Write};
 use std::test::Fail;
 
 /// Gives its chunks, one a read, and then fails. An empty one is the end of the input.
@@ -60,18 +60,27 @@ fn each_ending_flushes_once(rt: HostRuntime) -> Result<(), Fail> {
     for (chunks, written, ending) in ENDINGS {
         for (fails, want) in [(false, ending), (true, Ending::OutputFailed)] {
             let mut input = BufReader::new(rt.alloc(), Chunks { chunks, at: 0 })?;
-            let mut output = Output {
+            let output = Output {
                 bytes: Vec::new(rt.alloc()),
                 flushes: 0,
                 fails,
             };
+            let mut output = BufWriter::new(rt.alloc(), output)?;
             let ending = serve(rt.alloc(), &mut input, &mut output);
             assert_eq!(rt; ending, want, "{written}");
+            let output = output.get_ref();
             assert_eq!(rt; output.bytes.as_slice(), written.as_bytes());
             assert_eq!(rt; output.flushes, 1, "{written}");
         }
     }
     Ok(())
+}
+
+// How the lines are served, with no buffer before the output.
+fn serve_lines(alloc: Global, lines: &[u8], output: &mut Vec<u8>) -> io::Result<Ending> {
+    let mut input = lines;
+    let mut output = BufWriter::with_capacity(alloc, 0, output)?;
+    Ok(serve(alloc, &mut input, &mut output))
 }
 
 // How much was written when memory was refused for the last time. `None` where it never was, or where an ending, or lines
@@ -82,11 +91,10 @@ fn last_refusal(alloc: Global, lines: &[u8], all: &[u8]) -> Result<Option<usize>
     let mut refused = None;
     for _ in 0..200 {
         output.clear();
-        let mut input = lines;
-        let ending = serve(alloc, &mut input, &mut output);
+        let ending = serve_lines(alloc, lines, &mut output);
         match (ending, output.as_slice()) {
-            (Ending::Clean, whole) => return Ok(refused.filter(|_| whole == all)),
-            (Ending::NoMemory, [] | [.., b'\n']) if all.starts_with(output.as_slice()) => {}
+            (Ok(Ending::Clean), whole) => return Ok(refused.filter(|_| whole == all)),
+            (Ok(Ending::NoMemory), [] | [.., b'\n']) if all.starts_with(output.as_slice()) => {}
             _ => return Ok(None),
         }
         refused = Some(output.len());

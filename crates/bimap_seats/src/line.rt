@@ -3,12 +3,12 @@ ghost use Rattle.std.specs.Prelude.{◌≤◌};
 
 use crate::seats::{first_taken, guest_on, last_taken, leave, move_to, row, seat_of, take};
 use bimap::{BiHashBTreeMap, NoRoom, NotInsertedWith, Overwritten};
-use bimap_lines::{NO_TEXT, text_of, wanted};
+use bimap_lines::{NO_TEXT, number, text_of, wanted, words};
 use std::alloc::{AllocError, Global};
 use std::io;
 
-// The requests, and what each asks. Words stand between spaces.
-const REQUESTS: &str = "take GUEST SEAT - whoever has it loses it
+/// The requests, and what each asks.
+pub const REQUESTS: &str = "take GUEST SEAT - whoever has it loses it
 move GUEST SEAT - if nobody has it
 leave GUEST - gives up the seat
 seat GUEST - which seat?
@@ -98,17 +98,16 @@ fn end(alloc: Global, taken: Option<(&String, &u32)>) -> Result<String, AllocErr
 
 // The reply to a line of text.
 fn reply_to(alloc: Global, seats: &mut Seats, line: &str) -> Result<String, AllocError> {
-    let mut words = line.split_whitespace();
+    let mut words = words(line);
     let (verb, first) = (words.next(), words.next());
-    let number = first.map(|word| word.parse::<u32>());
-    let second = words.next().map(|word| word.parse::<u32>());
-    match (verb, first, number, second, words.next()) {
-        (Some("take"), Some(guest), _, Some(Ok(seat)), None) => taken(alloc, seats, guest, seat),
-        (Some("move"), Some(guest), _, Some(Ok(seat)), None) => moved(alloc, seats, guest, seat),
-        (Some("row"), _, Some(Ok(first)), Some(Ok(end)), None) if first <= end => {
+    let (seat, second) = (first.map(number), words.next().map(number));
+    match (verb, first, seat, second, words.next()) {
+        (Some("take"), Some(guest), _, Some(Some(seat)), None) => taken(alloc, seats, guest, seat),
+        (Some("move"), Some(guest), _, Some(Some(seat)), None) => moved(alloc, seats, guest, seat),
+        (Some("row"), _, Some(Some(first)), Some(Some(end)), None) if first <= end => {
             sitters(alloc, seats, first, end)
         }
-        (Some("guest"), _, Some(Ok(seat)), None, None) => sitter(alloc, seats, seat),
+        (Some("guest"), _, Some(Some(seat)), None, None) => sitter(alloc, seats, seat),
         (Some("first"), None, _, None, None) => end(alloc, first_taken(seats)),
         (Some("last"), None, _, None, None) => end(alloc, last_taken(seats)),
         (Some("leave"), Some(guest), _, None, None) => gone(alloc, seats, guest),

@@ -4,10 +4,13 @@
 mod line;
 mod seats;
 
-use line::{Seats, reply};
+use bimap_lines::{no_argument, status_of};
+use line::{REQUESTS, Seats, reply};
 use std::io;
+use std::process::ExitCode;
 
-fn main(rt: HostRuntime) -> io::Result<()> {
+// Answers all lines, and prints last how many seats are taken.
+fn serve(rt: &HostRuntime) -> io::Result<ExitCode> {
     let alloc = rt.alloc();
     let mut seats: Seats = Seats::new(alloc);
     for line in rt.lines(alloc) {
@@ -15,5 +18,16 @@ fn main(rt: HostRuntime) -> io::Result<()> {
         println!(rt; "{told}")?;
     }
     println!(rt; "{} seated", seats.len())?;
-    Ok(())
+    Ok(ExitCode::SUCCESS)
+}
+
+fn run(rt: &HostRuntime) -> io::Result<ExitCode> {
+    match no_argument(rt, "bimap_seats", REQUESTS)? {
+        Some(status) => Ok(status),
+        None => serve(rt),
+    }
+}
+
+fn main(rt: HostRuntime) -> ExitCode {
+    status_of(&rt, run(&rt))
 }

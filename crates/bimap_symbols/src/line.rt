@@ -1,6 +1,7 @@
 //! What a line asks for. It knows no symbol table.
+use bimap_lines::{number, words};
 
-/// The requests, and what each asks. Words stand between spaces.
+/// The requests, and what each asks.
 pub const REQUESTS: &str = "open - a scope begins
 close - the innermost scope ends
 define NAME NUMBER - hides what either means, until the scope ends
@@ -28,20 +29,18 @@ pub enum Request<'a> {
     Help,
 }
 
-/// What a line of words between spaces asks for. It takes no memory.
+/// What a line asks for. It takes no memory.
 pub fn parse_line(line: &str) -> Option<Request<'_>> {
-    let mut words = line.split_whitespace();
+    let mut words = words(line);
     let request = words.next().unwrap_or("");
     let (first, second, third) = (words.next(), words.next(), words.next());
     match (request, first, second, third) {
         ("open", None, None, None) => Some(Request::Open),
         ("close", None, None, None) => Some(Request::Close),
-        ("define", Some(name), Some(number), None) => {
-            Some(Request::Define(name, number.parse().ok()?))
-        }
+        ("define", Some(name), Some(word), None) => Some(Request::Define(name, number(word)?)),
         ("intern", Some(name), None, None) => Some(Request::Intern(name)),
         ("number", Some(name), None, None) => Some(Request::Number(name)),
-        ("name", Some(number), None, None) => Some(Request::Name(number.parse().ok()?)),
+        ("name", Some(word), None, None) => Some(Request::Name(number(word)?)),
         ("help", None, None, None) => Some(Request::Help),
         _ => None,
     }

@@ -6,17 +6,31 @@ mod line;
 mod symbols;
 
 use answer::answer;
-use bimap_lines::{NO_TEXT, text_of};
+use bimap_lines::{NO_TEXT, no_argument, status_of, text_of};
+use line::REQUESTS;
 use std::io;
+use std::process::ExitCode;
 use symbols::Symbols;
 
-fn main(rt: HostRuntime) -> io::Result<()> {
+// Answers all lines.
+fn serve(rt: &HostRuntime) -> io::Result<ExitCode> {
     let mut symbols = Symbols::new(rt.alloc());
     for line in rt.lines(rt.alloc()) {
         match text_of(line)? {
-            Some(line) => answer(&rt, &mut symbols, line.as_str())?,
+            Some(line) => answer(rt, &mut symbols, line.as_str())?,
             None => println!(rt; "{NO_TEXT}")?,
         }
     }
-    Ok(())
+    Ok(ExitCode::SUCCESS)
+}
+
+fn run(rt: &HostRuntime) -> io::Result<ExitCode> {
+    match no_argument(rt, "bimap_symbols", REQUESTS)? {
+        Some(status) => Ok(status),
+        None => serve(rt),
+    }
+}
+
+fn main(rt: HostRuntime) -> ExitCode {
+    status_of(&rt, run(&rt))
 }

@@ -1,5 +1,5 @@
 //! A symbol table with scopes, over a bimap that goes back to marks. It knows no lines.
-ghost use Rattle.std.specs.Prelude.{◌≡◌, ◌⊎◌, ◌<◌, ◌++◌, ◌∷◌, [], length, true, Contains, IfOk, OnOk, OnErr, nat_eq, string_eq};
+ghost use Rattle.std.specs.Prelude.{◌≡◌, ◌⊎◌, ◌<◌, ◌++◌, ◌∷◌, [], length, true, Contains, IfOk, IsOk, OnOk, OnErr, nat_eq, string_eq};
 ghost use Rattle.std.specs.Bool.{OnTrue, OnFalse};
 ghost use Rattle.std.specs.Str.{bytes_eq};
 ghost use Rattle.std.specs.String.{string_bytes};
@@ -66,14 +66,14 @@ impl Symbols {
 
     /// The number of a name: the one that it has, or else one above all in use. No symbol loses its meaning.
     ///
-    /// Costs one search for a known name, which takes no memory; else an insertion too, which takes memory for the pair and
-    /// its record. An `Err` drops the name, and changes nothing.
+    /// Costs one search for a known name, which takes no memory and is never refused; else an insertion too, which takes
+    /// memory for the pair and its record. An `Err` drops the name, and changes nothing.
     pub fn intern(&mut self, name: String) -> Result<u32, NotInterned>
         ensures known { IfOk result (λ number. HasLeft string_eq
             (Contains self.old.table.held.pairs) name →
             (l : _) × Contains self.old.table.held.pairs (l, number) × (string_eq l name ≡ true)) }
-        ensures kept { HasLeft string_eq (Contains self.old.table.held.pairs) name →
-            self.new ≡ self.old }
+        ensures never_refused { HasLeft string_eq (Contains self.old.table.held.pairs) name →
+            IsOk result × (self.new ≡ self.old) }
         ensures fresh { IfOk result (λ number. LacksLeft string_eq
             (Contains self.old.table.held.pairs) name →
             LacksRight nat_eq (Contains self.old.table.held.pairs) number) }
