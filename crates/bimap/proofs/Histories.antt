@@ -13,10 +13,10 @@ use Rattle.bimap.specs.declared.call.Call.TheVariants.{Insert, InsertNoOverwrite
 use Rattle.bimap.specs.declared.call.Reply.{Reply}
 use Rattle.bimap.specs.declared.call.Reply.TheVariants.{Inserted, NoRoom, Put, Occupied, LeftHeld, RightHeld, Removed, Holds, Done}
 use Rattle.bimap.specs.Test.{IsHandedIn}
-use Rattle.bimap.specs.Growth.{IsOutOfRoom, Outgrows}
+use Rattle.bimap_base.specs.Growth.{IsOutOfRoom, Outgrows}
 use Rattle.bimap.specs.History.{Entry, Puts, Touches, IsNoRoom, IsSurvivor, IsRight, IsLegal, NeedsRoom, IsHistory, IsStanding, IsWholeHistory}
 use Rattle.bimap.specs.Step.{MayRetain, IsStep, IsRoomAfterCall}
-use Rattle.bimap.proofs.Growing.{out_of_room_along, outgrows_first, outgrows_second, room_push}
+use Rattle.bimap_base.proofs.Growing.{out_of_room_along, outgrows_first, outgrows_second, room_push}
 
 module _ {L R : Type 0} (same_left : L → L → Bool) (same_right : R → R → Bool) (S T : L × R → Type 0) (to : (p : L × R) → S p → T p) (from : (p : L × R) → T p → S p) where
   -- a reply that is right for a set is right for one with the same members

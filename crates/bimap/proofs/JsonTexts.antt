@@ -1,14 +1,19 @@
 -- What the texts of characters, strings and truths read as.
-use Rattle.std.proofs.Common.{◌≡◌, ℕ, ◌&&◌, [], ◌∷◌, Bool, true, false, nat_eq, Some, refl, sym, ap, ◌∙◌, get_or, append-nil, arith, String, string_bytes, Global}
+use Rattle.std.proofs.Common.{◌≡◌, ℕ, ◌<◌, ◌^◌, ◌&&◌, List, [], ◌∷◌, Bool, true, false, nat_eq, Some, Result, Ok, Err, refl, sym, ap, ◌∙◌, length, get_or, append-nil, arith, String, string_bytes, Global}
 use Rattle.std.specs.Bool.{beq}
 use Rattle.std.specs.Char.{encode_utf8, IsScalar}
-use Rattle.std.specs.Str.{chars}
+use Rattle.std.specs.Str.{IsUtf8, chars}
+use Rattle.std.specs.Global.{Vec}
 use Rattle.std.proofs.lemmas.Str.{chars-encodes}
 use borrow.Author.Tests.{eq-eqb}
+use denote.RawPtr.{null_ptr}
 use Rattle.std.specs.Cmp.Lexicographic.{bytes_decides}
 use Rattle.std.specs.String.{string_eq}
-use Rattle.serde_json.specs.Data.{boolean, string}
-use Rattle.bimap.specs.JsonReading.{ReadsBack}
+use Rattle.serde_json.specs.Data.{Data, boolean, string}
+use Rattle.serde_json.specs.Find.{as_str}
+use Rattle.bimap.specs.JsonReading.{Reads, ReadsBack, ReadsSomething}
+use Rattle.bimap.specs.declared.value.sides.ReadFault.{ReadFault}
+use Rattle.bimap.specs.declared.value.sides.ReadFault.TheVariants.{Bad, Memory}
 use Rattle.bimap.specs.JsonTexts.{IsCharText, IsStringText, IsCharValue, IsStringValue, bool_text, IsBoolText, IsBoolValue}
 
 pub some_inj : {A : Type 0} (x y : A) → Some x ≡ Some y → x ≡ y
@@ -31,6 +36,20 @@ back_string s = record { as_value = s; reads = refl; only = λ k e. (bytes_decid
 
 pub back_string_json : (s : String Global) → ReadsBack string_eq (IsStringValue (string (string_bytes s))) s
 back_string_json s = record { as_value = s; reads = refl; only = λ k e. (bytes_decides (string_bytes k) (string_bytes s)).1 (sym (some_inj _ _ e)) }
+
+-- a list of these bytes, in no memory
+abbrev pub bytes_of : Global → (bytes : List ℕ) → length bytes < 2 ^ 63 → Vec ℕ
+bytes_of alloc bytes short = record { ptr = null_ptr; len = length bytes; cap = length bytes; alloc = alloc; items = bytes; ok = (refl, omega arith); small = short }
+
+-- a text is that of some string
+pub reads_string : (alloc : Global) (text : List ℕ) → length text < 2 ^ 63 → IsUtf8 text → ReadsSomething (IsStringText text)
+reads_string alloc text short utf8 = (record { bytes = bytes_of alloc text short; ok = ∣ utf8 ∣₁ }, refl)
+
+-- what is read of the text of a JSON text is read of the value
+pub read_text_of : (value : Data) (text : List ℕ) (r : Result (String Global) ReadFault) → Some text ≡ as_str value → Reads (IsStringText text) r → Reads (IsStringValue value) r
+read_text_of value text (Ok s) is read = sym is ∙ ap Some (sym read)
+read_text_of value text (Err Bad) is none = λ s t. none s (sym (some_inj text (string_bytes s) (is ∙ t)))
+read_text_of value text (Err Memory) is some = (some.0, sym is ∙ ap Some (sym some.1))
 
 same_truth : (b w : Bool) → bool_text b ≡ bool_text w → beq w b ≡ true
 same_truth true true e = refl

@@ -2,12 +2,12 @@ pub use Rattle.bimap_base.proofs.Members
 pub use Rattle.bimap_base.proofs.Extending
 pub use Rattle.bimap_base.proofs.Survivors
 pub mod Ends
-pub mod Growing
 pub mod Histories
 pub mod LookUps
 pub mod Tested
 pub mod Trails
 pub mod JsonTexts
+pub mod JsonDocument
 pub mod JsonNumbers
 pub mod JsonEntries
 pub mod JsonWriting

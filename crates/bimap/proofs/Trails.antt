@@ -1,15 +1,17 @@
 -- A trail whose last insertion is taken back.
-use Rattle.std.proofs.Common.{◌≡◌, ◌⊎◌, inl, inr, ℕ, suc, ◌+◌, ◌≤◌, Bool, List, [], ◌∷◌, ◌++◌, length, refl, arith}
+use Rattle.std.proofs.Common.{◌≡◌, ◌⊎◌, inl, inr, ℕ, suc, ◌+◌, ◌<◌, ◌≤◌, Bool, List, [], ◌∷◌, ◌++◌, length, refl, ◌∙◌, arith}
 use Rattle.std.specs.Prelude.{Contains}
 use Rattle.std.specs.Cmp.{IsEquivalence}
+use Rattle.std.proofs.lemmas.Bool.{cases_lt}
 use Rattle.bimap_base.specs.Sets.{IsApart, IsSameSet, IsWithPut}
 use Rattle.bimap_base.specs.Answer.{IsAnswer, IsBoth, named_count}
+use Rattle.bimap_base.specs.Holding.{Holding, IsRoomAfter}
 use Rattle.bimap_base.specs.Undoing.{IsUndoable, IsUndone, IsInserting, IsTrail}
 use Rattle.bimap_base.specs.declared.overwritten.Overwritten.{Overwritten}
 use Rattle.bimap_base.specs.declared.overwritten.Overwritten.TheVariants.{Neither, Left, Right, Pair, Both}
 use Rattle.bimap_base.proofs.SetsAlike.{IsAnswer-same, turned}
 use Rattle.bimap_base.proofs.Undoing.{inserting_undoable, undone_same, inserting_shorter}
-use Rattle.bimap.specs.Trail.{IsWithin, Leads, LeadsWithin}
+use Rattle.bimap.specs.Trail.{IsWithin, Leads, LeadsWithin, IsRoomAfterUndoing}
 
 module _ {L R : Type 0} (same_left : L → L → Bool) (same_right : R → R → Bool) (lefts : IsEquivalence same_left) (rights : IsEquivalence same_right) where
   inserting_along : (A B C : List (L × R)) (left : L) (answer : Overwritten L R) → IsInserting same_left same_right A left answer B → IsSameSet (Contains B) (Contains C) → IsInserting same_left same_right A left answer C
@@ -139,3 +141,16 @@ two_at_most Neither = omega arith
 two_at_most (Left l r) = omega arith
 two_at_most (Right l r) = omega arith
 two_at_most (Pair l r) = omega arith
+
+-- the room, one undoing on, where no more are held than these entries wanted
+pub room_undone : {L R : Type 0} (old held new : Holding L R) (entries : List (L × Overwritten L R)) {InPlace : Type 0} → length held.pairs < length old.pairs + length entries → IsRoomAfterUndoing old entries held → IsRoomAfter held InPlace new → IsRoomAfterUndoing old entries new
+room_undone old held new entries short so_far room = record {
+  not_lower = omega (arith, so_far.not_lower, room.not_lower);
+  at_most = elim (cases_lt (length held.pairs) held.room) [
+    | inl free ↦ omega (arith, room.had_place free, so_far.at_most)
+    | inr full ↦ omega (arith, room.at_most, full, short)
+  ];
+  had_places = λ fits.
+      let was = so_far.had_places fits in
+      room.had_place (omega (arith, fits, short, was)) ∙ was;
+}

@@ -9,7 +9,7 @@ use Rattle.bimap.specs.declared.call.Call.{Call}
 use Rattle.bimap.specs.declared.call.Call.TheVariants.{Insert, InsertNoOverwrite, InsertWith, RemoveByLeft, RemoveByRight, ContainsLeft, ContainsRight, Retain, Clear}
 use Rattle.bimap.specs.declared.call.Reply.{Reply}
 use Rattle.bimap.specs.declared.call.Reply.TheVariants.{Inserted, NoRoom, Put, Occupied, LeftHeld, RightHeld, Removed, Holds, Done}
-use Rattle.bimap.specs.Growth.{IsOutOfRoom, Outgrows}
+use Rattle.bimap_base.specs.Growth.{IsOutOfRoom, Outgrows}
 
 -- a call with its reply
 abbrev pub Entry : (L R K : Type 0) → Type 0

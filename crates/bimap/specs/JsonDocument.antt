@@ -1,5 +1,5 @@
 -- The bimap of a JSON text.
-use Rattle.std.specs.Prelude.{◌≡◌, ◌⊎◌, ⊤, ℕ, Bool, List, Some, None, Result, IsSomeAnd, IsErrAnd}
+use Rattle.std.specs.Prelude.{◌≡◌, ◌⊎◌, ℕ, ◌<◌, Bool, List, length, Some, None, Result, IsSomeAnd, IsErrAnd}
 use Rattle.serde_json.specs.Data.{Data}
 use Rattle.serde_json.specs.Read.{read as read_text}
 use Rattle.json.specs.Json.{document}
@@ -15,12 +15,13 @@ use Rattle.bimap.specs.declared.value.object.JsonFault.TheVariants.{NotJson, Nam
 abbrev pub IsNamedOnce : List ℕ → Type 0
 IsNamedOnce text = IsSomeAnd (document text) HasUniqueKeys
 
--- what is wrong with a text itself: it is no JSON, by the grammar or for a number or a depth that is not read; or an object
--- in it has a name twice, and the policy keeps lefts. Of want of memory nothing is said
+-- what is wrong with a text itself, the first of these: it is no JSON by the grammar; an object in it has a name twice, and
+-- the policy keeps lefts; a number or a depth in it is not read. Any text but the empty one may run out of memory, since
+-- memory is taken before anything is known of it
 abbrev pub IsTextFault : List ℕ → Policy → JsonFault → Type 0
-IsTextFault text policy NotJson = (document text ≡ None) ⊎ (read_text text ≡ None)
+IsTextFault text policy NotJson = (document text ≡ None) ⊎ ((policy.left ≡ Refuse → IsNamedOnce text) × (read_text text ≡ None))
 IsTextFault text policy NameTwice = (policy.left ≡ Refuse) × IsSomeAnd (document text) (λ json. ¬ HasUniqueKeys json)
-IsTextFault text policy Memory = ⊤
+IsTextFault text policy Memory = 0 < length text
 IsTextFault text policy _ = ⊥
 
 -- the text is this JSON value, and where the policy keeps lefts no object in it has a name twice

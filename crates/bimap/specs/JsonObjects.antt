@@ -12,8 +12,8 @@ use Rattle.bimap_base.specs.Extension.{AreAllowed}
 use Rattle.bimap_base.specs.Holding.{Holding}
 use Rattle.bimap_base.specs.declared.policy.Policy.{Policy}
 use Rattle.bimap_base.specs.declared.refusal.NotInsertedWith.TheVariants.{LeftHeld as LeftKept, RightHeld as RightKept}
-use Rattle.bimap.specs.Growth.{Outgrows}
-use Rattle.bimap.specs.JsonReading.{ReadsNothing, ReadsBack}
+use Rattle.bimap_base.specs.Growth.{Outgrows}
+use Rattle.bimap.specs.JsonReading.{ReadsSomething, ReadsNothing, ReadsBack}
 use Rattle.bimap.specs.declared.value.object.JsonFault.{JsonFault}
 use Rattle.bimap.specs.declared.value.object.JsonFault.TheVariants.{NotAnObject, BadKey, BadValue, LeftHeld, RightHeld, Memory}
 
@@ -88,6 +88,12 @@ module _ {L R : Type 0} (reads_key : List ℕ → L → Type 0) (reads : Data �
     pub read : EachReadsAs before pairs
     pub stops : P entry
 
+  -- if the bimap has a pair for each entry of the object, each entry reads as the pair at its position
+  pub record FollowEntries (value : Data) (new : List (L × R)) : Type 0 where
+    pub entries : List Entry
+    pub has : HasEntries value entries
+    pub in_turn : length new ≡ length entries → EachReadsAs entries new
+
   module _ (same_left : L → L → Bool) (same_right : R → R → Bool) where
     -- all entries of the object read as pairs, and exactly the survivors of these are held. The room is never below so many
     -- places, and it is that unless the pairs outgrow it
@@ -102,13 +108,13 @@ module _ {L R : Type 0} (reads_key : List ℕ → L → Type 0) (reads : Data �
           ⊎ Outgrows same_left same_right PutsItself (Survives PutsItself (TouchesSharing same_left same_right) (Contains [])) pairs places new.room
 
     -- what the reading into a bimap of no pairs and so many places answers. The first faulty entry is named, and of it the
-    -- key first
+    -- key first. A reading runs out of memory only at an entry whose key is a left
     abbrev pub ReadsObject : {B : Type 0} → (B → Holding L R) → ℕ → Data → Result B JsonFault → Type 0
     ReadsObject holding places value (Ok b) = IsReadInto value places (holding b)
     ReadsObject holding places value (Err NotAnObject) = as_object value ≡ None
     ReadsObject holding places value (Err (BadKey at)) = StopsAt value at (λ e. ReadsNothing (reads_key e.0))
-    ReadsObject holding places value (Err (BadValue at)) = StopsAt value at (λ e. ((l : L) × reads_key e.0 l) × ReadsNothing (reads e.1))
-    ReadsObject holding places value (Err Memory) = (at : ℕ) × StopsAt value at (λ e. Unit {0})
+    ReadsObject holding places value (Err (BadValue at)) = StopsAt value at (λ e. ReadsSomething (reads_key e.0) × ReadsNothing (reads e.1))
+    ReadsObject holding places value (Err Memory) = (at : ℕ) × StopsAt value at (λ e. ReadsSomething (reads_key e.0))
     ReadsObject holding places value (Err _) = ⊥
 
     -- and the policy let each of them in
@@ -129,17 +135,18 @@ module _ {L R : Type 0} (reads_key : List ℕ → L → Type 0) (reads : Data �
       pub stops : P (Survives PutsItself (TouchesSharing same_left same_right) (Contains []) pairs) entry
 
     -- what the reading into such a bimap under a policy answers. The first faulty entry is named: its key is asked first,
-    -- then its value, then whether the policy lets the pair in
+    -- then its value, then whether the policy lets the pair in. A reading runs out of memory only at an entry whose key is a
+    -- left
     abbrev pub ReadsObjectUnder : {B : Type 0} → (B → Holding L R) → ℕ → Data → Policy → Result B JsonFault → Type 0
     ReadsObjectUnder holding places value policy (Ok b) = IsReadIntoUnder value places policy (holding b)
     ReadsObjectUnder holding places value policy (Err NotAnObject) = as_object value ≡ None
     ReadsObjectUnder holding places value policy (Err (BadKey at)) = StopsUnder value policy at (λ S e. ReadsNothing (reads_key e.0))
-    ReadsObjectUnder holding places value policy (Err (BadValue at)) = StopsUnder value policy at (λ S e. ((l : L) × reads_key e.0 l) × ReadsNothing (reads e.1))
+    ReadsObjectUnder holding places value policy (Err (BadValue at)) = StopsUnder value policy at (λ S e. ReadsSomething (reads_key e.0) × ReadsNothing (reads e.1))
     ReadsObjectUnder holding places value policy (Err (LeftHeld at)) =
         StopsUnder value policy at (λ S e. (p : L × R) × ReadsAs e p × IsRefusalUnder same_left same_right S ⊥ p policy (LeftKept p.0 p.1))
     ReadsObjectUnder holding places value policy (Err (RightHeld at)) =
         StopsUnder value policy at (λ S e. (p : L × R) × ReadsAs e p × IsRefusalUnder same_left same_right S ⊥ p policy (RightKept p.0 p.1))
-    ReadsObjectUnder holding places value policy (Err Memory) = (at : ℕ) × StopsUnder value policy at (λ S e. Unit {0})
+    ReadsObjectUnder holding places value policy (Err Memory) = (at : ℕ) × StopsUnder value policy at (λ S e. ReadsSomething (reads_key e.0))
     ReadsObjectUnder holding places value policy (Err _) = ⊥
 
 -- what references to the sides show

@@ -5,7 +5,7 @@ use Rattle.std.specs.List.{AllZip}
 use Rattle.serde_json.specs.Data.{Data, array, item, no_items}
 use Rattle.serde_json.specs.Find.{as_array}
 use Rattle.serde_json.specs.View.{items_of}
-use Rattle.bimap.specs.JsonReading.{ReadsNothing}
+use Rattle.bimap.specs.JsonReading.{ReadsSomething, ReadsNothing}
 use Rattle.bimap.specs.declared.value.pairs.PairsFault.{PairsFault}
 use Rattle.bimap.specs.declared.value.pairs.PairsFault.TheVariants.{NotAnArray, NotAPair, BadLeft, BadRight, Memory}
 
@@ -16,6 +16,10 @@ two first second = array (item first (item second no_items))
 -- the value is one
 abbrev pub IsTwo : Data → Type 0
 IsTwo value = (first second : Data) × (value ≡ two first second)
+
+-- the value is one, and its two have P
+abbrev pub IsTwoOf : (Data → Data → Type 0) → Data → Type 0
+IsTwoOf P value = (first second : Data) × (value ≡ two first second) × P first second
 
 module _ {L R : Type 0} (reads_left : Data → L → Type 0) (reads : Data → R → Type 0) where
   -- the value is an array of two, which read as the sides of the pair
@@ -37,12 +41,12 @@ module _ {L R : Type 0} (reads_left : Data → L → Type 0) (reads : Data → R
     pub read : AllZip ReadsAsPair before pairs
     pub stops : P next
 
-  -- the pairs of an array's items, in order, or what is wrong with the first that reads as none: its left is asked first
+  -- the pairs of an array's items, in order, or what is wrong with the first item that reads as none: its left is asked first.
+  -- A reading runs out of memory only at an array of two whose first is a left
   abbrev pub ReadsPairs : Data → Result (Vec (L × R)) PairsFault → Type 0
   ReadsPairs value (Ok pairs) = (items : List Data) × (as_array value ≡ Some (items_of items)) × AllZip ReadsAsPair items pairs.items
   ReadsPairs value (Err NotAnArray) = as_array value ≡ None
   ReadsPairs value (Err (NotAPair at)) = StopsAtItem value at (λ d. ¬ IsTwo d)
-  ReadsPairs value (Err (BadLeft at)) = StopsAtItem value at (λ d. (first second : Data) × (d ≡ two first second) × ReadsNothing (reads_left first))
-  ReadsPairs value (Err (BadRight at)) =
-      StopsAtItem value at (λ d. (first second : Data) × (d ≡ two first second) × ((l : L) × reads_left first l) × ReadsNothing (reads second))
-  ReadsPairs value (Err Memory) = Unit {0}
+  ReadsPairs value (Err (BadLeft at)) = StopsAtItem value at (IsTwoOf (λ first second. ReadsNothing (reads_left first)))
+  ReadsPairs value (Err (BadRight at)) = StopsAtItem value at (IsTwoOf (λ first second. ReadsSomething (reads_left first) × ReadsNothing (reads second)))
+  ReadsPairs value (Err Memory) = (at : ℕ) × StopsAtItem value at (IsTwoOf (λ first second. ReadsSomething (reads_left first)))

@@ -7,11 +7,16 @@ use Rattle.bimap.specs.declared.value.sides.ReadFault.TheVariants.{Bad, Memory}
 abbrev pub ReadsNothing : {T : Type 0} → (T → Type 0) → Type 0
 ReadsNothing {T} P = (v : T) → P v → ⊥
 
--- the answer is a value that it reads as, or `Bad` where there is none, or memory was wanting
+-- it reads as some value
+abbrev pub ReadsSomething : {T : Type 0} → (T → Type 0) → Type 0
+ReadsSomething {T} P = (v : T) × P v
+
+-- the answer is a value that it reads as, or `Bad` if there is none. Only the reading of what reads as some value runs out of
+-- memory
 abbrev pub Reads : {T : Type 0} → (T → Type 0) → Result T ReadFault → Type 0
 Reads P (Ok v) = P v
 Reads P (Err Bad) = ReadsNothing P
-Reads P (Err Memory) = Unit {0}
+Reads P (Err Memory) = ReadsSomething P
 
 -- the answer is a value that it reads as, or `None` where there is none
 abbrev pub ReadsSome : {T : Type 0} → (T → Type 0) → Option T → Type 0

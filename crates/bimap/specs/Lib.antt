@@ -13,6 +13,7 @@ pub use Rattle.bimap_base.specs.Exchange
 pub use Rattle.bimap_base.specs.Put
 pub use Rattle.bimap_base.specs.Inverse
 pub use Rattle.bimap_inverse.specs.Turned
+pub use Rattle.bimap_base.specs.Growth
 pub use Rattle.bimap_base.specs.Extension
 pub use Rattle.bimap_base.specs.Turns
 pub use Rattle.bimap_tree.specs.Ranges
@@ -22,7 +23,6 @@ pub mod BTree
 pub mod Hash
 pub mod InsertionOrder
 pub mod Test
-pub mod Growth
 pub mod History
 pub mod Step
 pub mod Trail

@@ -1,5 +1,5 @@
 -- A list of insertions, each a left and an answer, that is undone from its end.
-use Rattle.std.specs.Prelude.{◌≡◌, ℕ, ◌≤◌, Bool, List, [], ◌∷◌, ◌++◌, length}
+use Rattle.std.specs.Prelude.{◌≡◌, ℕ, ◌+◌, ◌*◌, ◌≤◌, max, Bool, List, [], ◌∷◌, ◌++◌, length}
 use Rattle.bimap_base.specs.Sets.{IsApart}
 use Rattle.bimap_base.specs.Answer.{IsBoth}
 use Rattle.bimap_base.specs.Holding.{Holding, IsFull}
@@ -13,6 +13,13 @@ pub record EndsInBoth {L R : Type 0} (entries : List (L × Overwritten L R)) : T
   pub answer : Overwritten L R
   pub last : entries ≡ before ++ (left, answer) ∷ []
   pub both : IsBoth answer
+
+-- what the undoing of so many entries leaves as the room: it never falls, and stays where there was a place for each pair of
+-- old and each entry. Where it grew, it is at most four, or twice the places for these
+pub record IsRoomAfterUndoing {L R : Type 0} (old : Holding L R) (entries : List (L × Overwritten L R)) (new : Holding L R) : Type 0 where
+  pub not_lower : old.room ≤ new.room
+  pub at_most : new.room ≤ max old.room (max 4 (2 * (length old.pairs + length entries)))
+  pub had_places : length old.pairs + length entries ≤ old.room → new.room ≡ old.room
 
 module _ {L R : Type 0} (same_left : L → L → Bool) (same_right : R → R → Bool) where
   -- none of the sets of the trail, but perhaps the last, has more than so many pairs

@@ -1,8 +1,7 @@
 //! A list of insertions, undone from its end on any bimap. It doesn't know how a bimap keeps its pairs.
 ghost use Rattle.std.specs.Prelude.{◌≡◌, List, Contains, IsOk, OnOk, IfErr};
 ghost use Rattle.bimap_base.specs.Sets.{IsSameSet};
-ghost use Rattle.bimap_base.specs.Extension.{IsRoomAfterItems};
-ghost use Rattle.bimap.specs.Trail.{Leads, LeadsWithin, IsStopped};
+ghost use Rattle.bimap.specs.Trail.{Leads, LeadsWithin, IsStopped, IsRoomAfterUndoing};
 
 use bimap_base::{Bijection, Overwritten};
 use thiserror::Error;
@@ -34,7 +33,7 @@ pub fn undo_run<L: Eq + Drop, R: Eq + Drop, B: Bijection<L, R>>(
         IsSameSet (Contains first) (Contains (B.holding bimap.new).pairs)) }
     ensures stopped { IfErr result (λ e. IsStopped L.eq R.eq
         (B.holding bimap.old) entries.items e.rest.items (B.holding bimap.new)) }
-    ensures room { IsRoomAfterItems (B.holding bimap.old) entries.items (B.holding bimap.new) }
+    ensures room { IsRoomAfterUndoing (B.holding bimap.old) entries.items (B.holding bimap.new) }
 
     // Where no set on the way back needs another place, all is undone in the places that are there.
     ensures fits { (first : List (L × R)) →

@@ -9,6 +9,7 @@ pub mod Extending
 pub mod Fits
 pub mod FreeList
 pub mod FreeRuns
+pub mod Growing
 pub mod HoldingsAlike
 pub mod Interned
 pub mod Inverse

@@ -4,7 +4,7 @@ use Rattle.std.proofs.lemmas.List.{append_assoc, length_push}
 use Rattle.bimap_base.specs.Answer.{named_count}
 use Rattle.bimap_base.specs.declared.overwritten.Overwritten.{Overwritten}
 use Rattle.bimap_base.specs.declared.overwritten.Overwritten.TheVariants.{Neither, Left, Right, Pair, Both}
-use Rattle.bimap_base.specs.Turns.{StandsInTurn}
+use Rattle.bimap_base.specs.Turns.{StandsInTurn, ComeInTurn}
 
 module _ {L R : Type 0} where
   -- where nothing was overwritten, the pair comes last
@@ -15,9 +15,12 @@ module _ {L R : Type 0} where
   stands_last old pair (Pair l r) new none stands = absurd (omega (arith, none))
   stands_last old pair (Both p q) new none stands = absurd (omega (arith, none))
 
-  -- these items came last, in order, if there is a pair more for each
-  abbrev pub ComeInTurn : List (L × R) → List (L × R) → List (L × R) → Type 0
-  ComeInTurn old items new = length new ≡ length old + length items → new ≡ old ++ items
+  -- two pairs that overwrote nothing come last, in order
+  pub two_last : (old : List (L × R)) (first second : L × R) (answer other : Overwritten L R) (once new : List (L × R)) → named_count answer + named_count other ≡ 0 → StandsInTurn old first answer once → StandsInTurn once second other new → new ≡ old ++ first ∷ second ∷ []
+  two_last old first second answer other once new none one two =
+      stands_last once second other new (omega (arith, none)) two
+      ∙ ap (λ ps. ps ++ second ∷ []) (stands_last old first answer once (omega (arith, none)) one)
+      ∙ append_assoc old (first ∷ []) (second ∷ [])
 
   -- one item on
   pub in_turn_more : (old items held : List (L × R)) (item : L × R) (answer : Overwritten L R) (new : List (L × R)) → length held ≤ length old + length items → ComeInTurn old items held → length new + named_count answer ≡ length held + 1 → StandsInTurn held item answer new → ComeInTurn old (items ++ item ∷ []) new

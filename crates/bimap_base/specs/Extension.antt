@@ -1,20 +1,14 @@
 -- What a bimap takes of an iterator. `gives it`: the iterator that was asked may be it. `next`: what its calls give and leave.
-use Rattle.std.specs.Prelude.{◌≡◌, ℕ, ◌+◌, ◌-◌, ◌*◌, ◌^◌, ◌≤◌, Bool, Option, Some, List, ◌∷◌, ◌++◌, length, min, max, Contains}
+use Rattle.std.specs.Prelude.{◌≡◌, ◌⊎◌, ℕ, ◌+◌, ◌-◌, ◌^◌, ◌≤◌, Bool, Option, Some, List, ◌∷◌, ◌++◌, length, min, Contains}
 use Rattle.std.specs.Iterator.{Drains, YieldsThen}
 use Rattle.bimap_base.specs.Sets.{NoneShares}
 use Rattle.bimap_base.specs.Answer.{IsAllowed, IsRefusalUnder}
 use Rattle.bimap_base.specs.Survivors.{Survives, PutsItself, TouchesSharing, AreSurvivors}
+use Rattle.bimap_base.specs.Growth.{Outgrows}
 use Rattle.bimap_base.specs.Holding.{Holding, IsFull}
 use Rattle.bimap_base.specs.declared.policy.Policy.{Policy}
 use Rattle.bimap_base.specs.declared.refusal.ExtendStopped.{ExtendStopped}
 use Rattle.bimap_base.specs.declared.refusal.ItemRefused.{ItemRefused}
-
--- so many items leave the room: it never falls, and stays where there was a place for each item. Where it grew, it is at
--- most four, or twice the places for the pairs of old and these items
-pub record IsRoomAfterItems {L R T : Type 0} (old : Holding L R) (items : List T) (new : Holding L R) : Type 0 where
-  pub not_lower : old.room ≤ new.room
-  pub at_most : new.room ≤ max old.room (max 4 (2 * (length old.pairs + length items)))
-  pub had_places : length old.pairs + length items ≤ old.room → new.room ≡ old.room
 
 -- no place is free, and there was none beyond those for the pairs of old and these items
 pub record IsOutOfPlaces {L R : Type 0} (old : Holding L R) (items : List (L × R)) (new : Holding L R) : Type 0 where
@@ -22,6 +16,14 @@ pub record IsOutOfPlaces {L R : Type 0} (old : Holding L R) (items : List (L × 
   pub used : old.room ≤ length old.pairs + length items
 
 module _ {L R : Type 0} (same_left : L → L → Bool) (same_right : R → R → Bool) where
+  -- what these items leave as the room: it never falls. It stays where there was a place for each item, and where the items
+  -- do not outgrow it
+  pub record IsRoomAfterItems (old : Holding L R) (items : List (L × R)) (new : Holding L R) : Type 0 where
+    pub not_lower : old.room ≤ new.room
+    pub had_places : length old.pairs + length items ≤ old.room → new.room ≡ old.room
+    pub outgrown : (new.room ≡ old.room)
+        ⊎ Outgrows same_left same_right PutsItself (Survives PutsItself (TouchesSharing same_left same_right) (Contains old.pairs)) items old.room new.room
+
   -- the policy let each item in: of what it keeps, none of the survivors of the items before had a value
   abbrev pub AreAllowed : (L × R → Type 0) → List (L × R) → Policy → Type 0
   AreAllowed S items policy =
@@ -35,7 +37,7 @@ module _ {It L R : Type 0} (same_left : L → L → Bool) (same_right : R → R 
     pub given : gives iterator
     pub all : Drains next iterator items
     pub survivors : AreSurvivors same_left same_right (Contains old.pairs) items (Contains new.pairs)
-    pub room : IsRoomAfterItems old items new
+    pub room : IsRoomAfterItems same_left same_right old items new
 
   -- and the policy let each of them in
   pub record IsExtensionUnder (old : Holding L R) (policy : Policy) (new : Holding L R) : Type 0 where
@@ -68,11 +70,11 @@ module _ {It L R : Type 0} (same_left : L → L → Bool) (same_right : R → R 
     pub refused : IsRefusedNext (Contains old.pairs) items stopped
     pub survivors : AreSurvivors same_left same_right (Contains old.pairs) items (Contains new.pairs)
     pub out_of_places : IsOutOfPlaces old items new
-    pub room : IsRoomAfterItems old items new
+    pub room : IsRoomAfterItems same_left same_right old items new
 
   -- the same under a policy, which may have refused it where places are free
   pub record IsExtensionStoppedUnder (old : Holding L R) (policy : Policy) (stopped : ItemRefused L R) (new : Holding L R) : Type 0 where
     pub items : List (L × R)
     pub refused : IsRefusedNextUnder (Contains old.pairs) (IsOutOfPlaces old items new) items policy stopped
     pub survivors : AreSurvivors same_left same_right (Contains old.pairs) items (Contains new.pairs)
-    pub room : IsRoomAfterItems old items new
+    pub room : IsRoomAfterItems same_left same_right old items new

@@ -13,6 +13,7 @@ pub mod Copies
 pub mod Exchange
 pub mod Put
 pub mod Inverse
+pub mod Growth
 pub mod Extension
 pub mod Turns
 pub mod Digits

@@ -1,12 +1,12 @@
 //! The interface that all bimaps share.
-ghost use Rattle.std.specs.Prelude.{◌≡◌, ◌≤◌, ◌↔◌, [], List, length, Contains, IfOk, IsTrue, not};
+ghost use Rattle.std.specs.Prelude.{◌≡◌, ◌≤◌, ◌↔◌, ◌++◌, ◌∷◌, [], List, length, Contains, IfOk, OnOk, MatchOption, IsTrue, not};
 ghost use Rattle.std.specs.Borrow.{GName};
 ghost use Rattle.bimap_base.specs.Capacity.{IsReservation};
 ghost use Rattle.bimap_base.specs.Fitting.{FitsLeft, FitsRight, Fits};
 ghost use Rattle.bimap_base.specs.Sets.{shares, IsApart, HasLeft, HasRight};
 ghost use Rattle.bimap_base.specs.Holding.{Holding, IsFoundByLeft, IsFoundByRight, IsInsertion, IsInsertionWithoutOverwriting, IsInsertionUnder, IsRemovalByLeft, IsRemovalByRight, IsRetention, IsUndoing};
 ghost use Rattle.bimap_base.specs.Kept.{MayTest};
-ghost use Rattle.bimap_base.specs.Turns.{StandsInTurn};
+ghost use Rattle.bimap_base.specs.Turns.{IsTakenOut, StandsInTurn, StandsUndone};
 ghost use Rattle.bimap_base.specs.Undoing.{IsUndoable};
 ghost use Rattle.bimap_base.specs.Visited.{MayVisit, IsVisited};
 
@@ -64,12 +64,18 @@ pub trait Bijection<L: Eq + Drop, R: Eq + Drop> {
     fn remove_by_left(&mut self, left: &L) -> Option<(L, R)>
         ensures answer { IsRemovalByLeft L.eq (holding self.old) left.now result
             (holding self.new) }
+        ensures turn { appends → MatchOption result
+            ((holding self.new).pairs ≡ (holding self.old).pairs)
+            (λ pair. IsTakenOut (holding self.old).pairs pair (holding self.new).pairs) }
         ensures lenders { lenders self.new ≡ lenders self.old };
 
     /// Removes the pair of a right and returns it, or `None` if the bimap doesn't contain the right.
     fn remove_by_right(&mut self, right: &R) -> Option<(L, R)>
         ensures answer { IsRemovalByRight R.eq (holding self.old) right.now result
             (holding self.new) }
+        ensures turn { appends → MatchOption result
+            ((holding self.new).pairs ≡ (holding self.old).pairs)
+            (λ pair. IsTakenOut (holding self.old).pairs pair (holding self.new).pairs) }
         ensures lenders { lenders self.new ≡ lenders self.old };
 
     /// Calls the closure once on each pair, in no set order.
@@ -104,6 +110,9 @@ pub trait Bijection<L: Eq + Drop, R: Eq + Drop> {
 
     /// Undoes an insertion: removes the pair of a left and returns it, and puts the pairs of the answer back. It may be
     /// called where `can_undo_insert` returns true, and only `Both` needs a free place.
+    ///
+    /// In insertion order a pair that is put back keeps the position of the removed one if their lefts are equal. Any
+    /// other goes to the end.
     fn undo_insert(
         &mut self,
         left: &L,
@@ -113,6 +122,8 @@ pub trait Bijection<L: Eq + Drop, R: Eq + Drop> {
             left.now answer }
         ensures answer { IsUndoing L.eq R.eq (holding self.old) left.now answer result
             (holding self.new) }
+        ensures turn { appends → IfOk result (λ pair. StandsUndone L.eq (holding self.old).pairs
+            pair answer (holding self.new).pairs) }
         ensures lenders { lenders self.new ≡ lenders self.old };
 
     /// Returns whether the bimap contains no pairs.
@@ -140,6 +151,8 @@ pub trait Bijection<L: Eq + Drop, R: Eq + Drop> {
     final fn insert(&mut self, left: L, right: R) -> Result<Overwritten<L, R>, NoRoom<L, R>>
         ensures answer { IsInsertion L.eq R.eq (holding self.old) (left, right) result
             (holding self.new) }
+        ensures turn { appends → IfOk result (λ answer. StandsInTurn (holding self.old).pairs
+            (left, right) answer (holding self.new).pairs) }
         ensures lenders { lenders self.new ≡ lenders self.old }
     {
         let policy = Policy {
@@ -157,6 +170,8 @@ pub trait Bijection<L: Eq + Drop, R: Eq + Drop> {
     final fn insert_no_overwrite(&mut self, left: L, right: R) -> Result<(), NotInserted<L, R>>
         ensures answer { IsInsertionWithoutOverwriting L.eq R.eq (holding self.old) (left, right)
             result (holding self.new) }
+        ensures turn { appends → OnOk result ((holding self.new).pairs
+            ≡ (holding self.old).pairs ++ (left, right) ∷ []) }
         ensures lenders { lenders self.new ≡ lenders self.old }
     {
         let policy = Policy {

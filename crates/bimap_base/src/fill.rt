@@ -1,8 +1,9 @@
 //! Many pairs inserted into any bimap. It doesn't know how a bimap keeps them.
-ghost use Rattle.std.specs.Prelude.{◌≡◌, ◌≤◌, [], length, List, Contains, OnOk, IfOk, IfErr};
+ghost use Rattle.std.specs.Prelude.{◌≡◌, [], OnOk, IfOk, IfErr};
 ghost use Rattle.std.specs.Iterator.{IsFiniteIterable};
-ghost use Rattle.bimap_base.specs.Extension.{IsExtension, IsExtensionStopped, IsExtensionUnder, IsExtensionStoppedUnder, IsRefusedNext, IsRefusedNextUnder};
-ghost use Rattle.bimap_base.specs.Turns.{FollowInTurn};
+ghost use Rattle.bimap_base.specs.Extension.{IsExtension, IsExtensionStopped, IsExtensionUnder, IsExtensionStoppedUnder};
+ghost use Rattle.bimap_base.specs.Holding.{Holding};
+ghost use Rattle.bimap_base.specs.Turns.{ComeInTurn, FollowInTurn};
 
 use crate::bijection::Bijection;
 use crate::policy::{OnHeld, Policy};
@@ -27,6 +28,10 @@ pub fn extend<L: Eq + Drop, R: Eq + Drop, B: Bijection<L, R>, I: IntoIterator<It
         (B.holding bimap.new)) }
     ensures turn { B.appends → OnOk result (FollowInTurn (I.into_iter_gives items)
         I.IntoIter.next_gives (B.holding bimap.old).pairs (B.holding bimap.new).pairs) }
+    ensures turn_stopped { B.appends → IfErr result (λ e. (stop : IsExtensionStopped L.eq R.eq
+        (I.into_iter_gives items) I.IntoIter.next_gives (B.holding bimap.old) e
+        (B.holding bimap.new)) × ComeInTurn (B.holding bimap.old).pairs stop.items
+        (B.holding bimap.new).pairs) }
     ensures lenders { B.lenders bimap.new ≡ B.lenders bimap.old }
 {
     let policy = Policy {
@@ -68,6 +73,10 @@ pub fn extend_with<L: Eq + Drop, R: Eq + Drop, B: Bijection<L, R>, I: IntoIterat
         (B.holding bimap.new)) }
     ensures turn { B.appends → OnOk result (FollowInTurn (I.into_iter_gives items)
         I.IntoIter.next_gives (B.holding bimap.old).pairs (B.holding bimap.new).pairs) }
+    ensures turn_stopped { B.appends → IfErr result (λ e. (stop : IsExtensionStoppedUnder L.eq
+        R.eq (I.into_iter_gives items) I.IntoIter.next_gives (B.holding bimap.old) policy e
+        (B.holding bimap.new)) × ComeInTurn (B.holding bimap.old).pairs stop.items
+        (B.holding bimap.new).pairs) }
     ensures lenders { B.lenders bimap.new ≡ B.lenders bimap.old }
 {
     let mut taken = 0usize;
@@ -97,9 +106,8 @@ pub fn from_iter<
         I.IntoIter.remaining items }
     ensures extended { IfOk result (λ bimap. IsExtension L.eq R.eq
         (I.into_iter_gives items) I.IntoIter.next_gives (B.holding empty) (B.holding bimap)) }
-    ensures stopped { IfErr result (λ e. (taken : List (L × R))
-        × IsRefusedNext L.eq R.eq (I.into_iter_gives items) I.IntoIter.next_gives
-        (Contains []) taken e) }
+    ensures stopped { IfErr result (λ e. (last : Holding L R) × IsExtensionStopped L.eq R.eq
+        (I.into_iter_gives items) I.IntoIter.next_gives (B.holding empty) e last) }
     ensures turn { B.appends → IfOk result (λ bimap. FollowInTurn (I.into_iter_gives items)
         I.IntoIter.next_gives [] (B.holding bimap).pairs) }
     ensures lenders { IfOk result (λ bimap. B.lenders bimap ≡ B.lenders empty) }
@@ -128,9 +136,8 @@ pub fn from_iter_with<
     ensures extended { IfOk result (λ bimap. IsExtensionUnder L.eq R.eq
         (I.into_iter_gives items) I.IntoIter.next_gives (B.holding empty) policy
         (B.holding bimap)) }
-    ensures stopped { IfErr result (λ e. (taken : List (L × R))
-        × IsRefusedNextUnder L.eq R.eq (I.into_iter_gives items) I.IntoIter.next_gives (Contains [])
-        ((B.holding empty).room ≤ length taken) taken policy e) }
+    ensures stopped { IfErr result (λ e. (last : Holding L R) × IsExtensionStoppedUnder L.eq R.eq
+        (I.into_iter_gives items) I.IntoIter.next_gives (B.holding empty) policy e last) }
     ensures turn { B.appends → IfOk result (λ bimap. FollowInTurn (I.into_iter_gives items)
         I.IntoIter.next_gives [] (B.holding bimap).pairs) }
     ensures lenders { IfOk result (λ bimap. B.lenders bimap ≡ B.lenders empty) }

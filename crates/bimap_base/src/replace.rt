@@ -1,6 +1,7 @@
 //! One value of a pair replaced, in any bimap. It doesn't know how a bimap keeps its pairs.
-ghost use Rattle.std.specs.Prelude.{◌≡◌};
+ghost use Rattle.std.specs.Prelude.{◌≡◌, IfOk};
 ghost use Rattle.bimap_base.specs.Exchange.{IsReplacementOfLeft, IsReplacementOfRight};
+ghost use Rattle.bimap_base.specs.Turns.{ComesLastWith};
 
 use crate::bijection::Bijection;
 use crate::refusal::NotReplaced;
@@ -27,7 +28,8 @@ macro_rules! replaced {
 /// Replaces the left of a pair and returns the old one, also where the new one equals it.
 ///
 /// It costs two look-ups, a removal and an insertion, and is never out of memory; the capacity stays. An `Err` hands
-/// the new left back: the bimap doesn't contain the old one, or another pair has the new one.
+/// the new left back: the bimap doesn't contain the old one, or another pair has the new one. In insertion order the pair
+/// goes to the end.
 ///
 ///     // a user gets another name, and keeps the number
 ///     let old = replace_left(&mut users, &"ann", "anna")?;
@@ -38,6 +40,8 @@ pub fn replace_left<L: Eq + Drop, R: Eq + Drop, B: Bijection<L, R>>(
 ) -> Result<L, NotReplaced<L>>
     ensures answer { IsReplacementOfLeft L.eq (B.holding bimap.old) from.now to result
         (B.holding bimap.new) }
+    ensures turn { B.appends → IfOk result (λ taken. ComesLastWith (λ (l : L) (r : R). (l, r))
+        (B.holding bimap.old).pairs taken to (B.holding bimap.new).pairs) }
     ensures lenders { B.lenders bimap.new ≡ B.lenders bimap.old }
 {
     replaced!(bimap, from => to; contains_left, remove_by_left; left, right => left, to, right)
@@ -54,6 +58,8 @@ pub fn replace_right<L: Eq + Drop, R: Eq + Drop, B: Bijection<L, R>>(
 ) -> Result<R, NotReplaced<R>>
     ensures answer { IsReplacementOfRight R.eq (B.holding bimap.old) from.now to result
         (B.holding bimap.new) }
+    ensures turn { B.appends → IfOk result (λ taken. ComesLastWith (λ (r : R) (l : L). (l, r))
+        (B.holding bimap.old).pairs taken to (B.holding bimap.new).pairs) }
     ensures lenders { B.lenders bimap.new ≡ B.lenders bimap.old }
 {
     replaced!(bimap, from => to; contains_right, remove_by_right; left, right => right, left, to)

@@ -1,6 +1,7 @@
 //! Two pairs that swap their rights, in any bimap. It doesn't know how a bimap keeps its pairs.
-ghost use Rattle.std.specs.Prelude.{◌≡◌};
+ghost use Rattle.std.specs.Prelude.{◌≡◌, false, OnOk};
 ghost use Rattle.bimap_base.specs.Exchange.{IsSwap};
+ghost use Rattle.bimap_base.specs.Turns.{ComeLastSwapped};
 
 use crate::bijection::Bijection;
 use crate::refusal::NotSwapped;
@@ -8,7 +9,7 @@ use crate::refusal::NotSwapped;
 /// Gives each of two lefts the right of the other. Of two equal lefts nothing changes.
 ///
 /// It costs two look-ups, two removals and two insertions, and is never out of memory; the capacity stays. An `Err`
-/// says which left the bimap doesn't contain.
+/// says which left the bimap doesn't contain. In insertion order both pairs go to the end, the pair of `other` first.
 ///
 ///     // ann and bob change seats, and zoe has none
 ///     swap_partners(&mut seats, &"ann", &"bob"); // Ok(())
@@ -20,6 +21,9 @@ pub fn swap_partners<L: Eq + Drop, R: Eq + Drop, B: Bijection<L, R>>(
 ) -> Result<(), NotSwapped>
     ensures answer { IsSwap L.eq (B.holding bimap.old) left.now other.now result
         (B.holding bimap.new) }
+    ensures turn { B.appends → L.eq left.now other.now ≡ false → OnOk result
+        (ComeLastSwapped L.eq (B.holding bimap.old).pairs left.now other.now
+        (B.holding bimap.new).pairs) }
     ensures lenders { B.lenders bimap.new ≡ B.lenders bimap.old }
 {
     if !bimap.contains_left(left) {

@@ -1,6 +1,6 @@
 -- The pairs of a walk where one place is written, and the places are linked in turn.
-use Rattle.std.proofs.Common.{◌≡◌, ◌≢◌, ◌↔◌, ℕ, zero, suc, ◌+◌, ◌<◌, Bool, List, [], ◌∷◌, ◌++◌, length, Option, Some, None, is_some, IsSome, refl, sym, ap, subst, ◌∙◌, inl, inr, add-one, arith, true≢false, Contains}
-use Rattle.std.specs.Prelude.{slice_get, slice_set}
+use Rattle.std.proofs.Common.{◌≡◌, ◌≢◌, ◌↔◌, ℕ, zero, suc, ◌+◌, ◌<◌, Bool, List, [], ◌∷◌, ◌++◌, length, true, false, Option, Some, None, is_some, IsSome, refl, sym, ap, subst, ◌∙◌, ◌⊎◌, inl, inr, add-one, arith, true≢false, Contains}
+use Rattle.std.specs.Prelude.{slice_get, slice_set, IfSome, IsSomeAnd, MatchOption}
 use Rattle.std.specs.List.{AllPairs}
 use Rattle.std.specs.Option.{option_map}
 use Rattle.std.proofs.lemmas.List.{get_or-set_other, get_or-set_same}
@@ -8,9 +8,11 @@ use Rattle.std.proofs.lemmas.Option.{get_or_from_slice_get, slice_get_within}
 use Rattle.std.proofs.lemmas.List.Elements.{Contains-append_right, Contains-append_cases, filter_map-append}
 use Rattle.bimap_base.specs.PairsAt.{pairs_at}
 use Rattle.bimap_base.specs.Places.{pairs_in}
-use Rattle.bimap_base.specs.Slots.{pair_at}
+use Rattle.bimap_base.specs.Slots.{pair_at, left_at}
 use Rattle.bimap_base.proofs.Members.{AllPairs-head, AllPairs-tail, cases_in, head_in, more_in, none_in}
-use Rattle.bimap_base.specs.Turns.{ComesLast, IsReplaced, IsTakenOut}
+use Rattle.bimap_base.specs.Turns.{ComesLast, IsReplaced, IsTakenOut, StandsFor, StandsUndone}
+use Rattle.bimap_base.specs.declared.overwritten.Overwritten.{Overwritten}
+use Rattle.bimap_base.specs.declared.overwritten.Overwritten.TheVariants.{Left, Right, Pair}
 use Rattle.bimap_base.proofs.Walk.{IsWalk, walk_of}
 use Rattle.bimap_core.proofs.Places.{live_within}
 use Rattle.bimap_index.specs.ByHash.{ListsByHash, places_from}
@@ -186,3 +188,23 @@ pairs_kept {P} old new places places' kept same = ap (pairs_at new) same ∙ eac
         by : (o : Option P) → pair_at old p ≡ o → pairs_at new ps ≡ pairs_at old ps → pairs_at new (p ∷ ps) ≡ pairs_at old (p ∷ ps)
         by None e rest = rw (kept p, e) rest
         by (Some x) e rest = rw (kept p, e) (ap (λ xs. x ∷ xs) rest)
+
+-- a place has a spot for its new left just where that is unequal: there it comes last, and else it stands where it stood
+pub renewed : {L R Spot Shown : Type 0} (same : L → L → Bool) (slots : List (Option (L × R))) (place : ℕ) (pair : L × R) → pair_at slots place ≡ Some pair → (left : L) (is_for : Spot → Type 0) (spot : Option Spot) (shown : Option Shown) → is_some shown ≡ is_some spot
+    → MatchOption spot (IsSomeAnd (left_at slots place) (λ k. same k left ≡ true)) is_for → IfSome spot (λ _. IsSomeAnd (left_at slots place) (λ k. same k left ≡ false))
+    → (Stands Comes : Type 0) → MatchOption shown Stands (λ _. Comes) → (same pair.0 left ≡ true → Stands) × (same pair.0 left ≡ false → Comes)
+renewed same slots place pair is left is_for None None e equal new Stands Comes h =
+    let t = subst (λ o. IsSomeAnd (option_map (λ p. p.0) o) (λ k. same k left ≡ true)) is equal in
+    (λ _. h, λ f. absurd (true≢false (sym t ∙ f)))
+renewed same slots place pair is left is_for (Some s) (Some b) e equal new Stands Comes h =
+    let f = subst (λ o. IsSomeAnd (option_map (λ p. p.0) o) (λ k. same k left ≡ false)) is new in
+    (λ t. absurd (true≢false (sym t ∙ f)), λ _. h)
+renewed same slots place pair is left is_for None (Some b) e equal new Stands Comes h = absurd (true≢false e)
+renewed same slots place pair is left is_for (Some s) None e equal new Stands Comes h = absurd (true≢false (sym e))
+
+module _ {L R : Type 0} (same : L → L → Bool) (old new : List (L × R)) (taken : L × R) where
+  -- of an answer of one pair it stands for the one that is taken out
+  pub stands_one : (answer : Overwritten L R) (l : L) (r : R) → (answer ≡ Left l r) ⊎ ((answer ≡ Right l r) ⊎ (answer ≡ Pair l r)) → StandsFor same old taken (l, r) new → StandsUndone same old taken answer new
+  stands_one answer l r (inl e) stands = rw e stands
+  stands_one answer l r (inr (inl e)) stands = rw e stands
+  stands_one answer l r (inr (inr e)) stands = rw e stands

@@ -1,12 +1,12 @@
 //! One index beside a place whose pair is written over. It is changed only where the key is new.
-ghost use Rattle.std.specs.Prelude.{◌≡◌, ◌<◌, ◌≤◌, ◌+◌, ◌*◌, ◌++◌, ◌∷◌, [], ℕ, Option, IsSome, IsSomeAnd, MatchBool, MatchOption, is_some, true, length, if◌then◌else◌};
+ghost use Rattle.std.specs.Prelude.{◌≡◌, ◌<◌, ◌≤◌, ◌+◌, ◌*◌, ◌++◌, ◌∷◌, [], ℕ, Option, IsSome, IsSomeAnd, IfSome, MatchBool, MatchOption, is_some, true, false, length, if◌then◌else◌};
 ghost use Rattle.bimap_index.specs.Listed.{IsWithout, MayLink};
 ghost use Rattle.bimap_base.specs.Turns.{IsTakenOut};
 
 use bimap_base::{Meter, Side};
 use bimap_index::Index;
 
-// A spot of the key where it is new at a place. Where it is known to be equal, it isn't.
+// A spot of the key where it is new at a place: where it isn't equal to the key that the place has.
 pub(crate) fn renew<K: Eq, I: Index<K>, S: Side<K>, M: Meter>(
     index: &I,
     side: S,
@@ -19,6 +19,8 @@ pub(crate) fn renew<K: Eq, I: Index<K>, S: Side<K>, M: Meter>(
     ensures is_for { MatchOption result
         (IsSomeAnd (S.key_at side place) (λ k. K.eq k key.now ≡ true))
         (I.is_for index.now key.now) }
+    ensures is_new { IfSome result (λ _. IsSomeAnd (S.key_at side place)
+        (λ k. K.eq k key.now ≡ false)) }
     ensures comparisons { M.comparisons meter.new ≤ M.comparisons meter.old
         + I.effort (length (I.places index.now)) }
     ensures touches { M.touches meter.new ≡ M.touches meter.old }

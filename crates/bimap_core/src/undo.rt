@@ -1,8 +1,10 @@
 //! Taking insertions back. It does not ask whether that may be done.
-ghost use Rattle.std.specs.Prelude.{◌≡◌, ◌<◌, ◌≤◌, ◌+◌, ◌*◌, ℕ, length, Some, None, OnErr, Contains, slice_set};
+ghost use Rattle.std.specs.Prelude.{◌≡◌, ◌<◌, ◌≤◌, ◌+◌, ◌*◌, ◌++◌, ◌∷◌, [], ℕ, length, Some, None, IfOk, OnErr, Contains, slice_set};
 ghost use Rattle.bimap_base.specs.Holding.{IsUndoing};
+ghost use Rattle.bimap_base.specs.PairsAt.{pairs_at};
 ghost use Rattle.bimap_base.specs.Places.{IsFoundAt};
 ghost use Rattle.bimap_base.specs.Slots.{pair_at, IsLive, pair_count};
+ghost use Rattle.bimap_base.specs.Turns.{StandsFor, StandsUndone};
 ghost use Rattle.bimap_base.specs.Undoing.{IsUndoable};
 
 use crate::slot_update::renew;
@@ -27,6 +29,9 @@ impl<L: Eq, R: Eq, I: Index<L>, J: Index<R>> Table<L, R, I, J> {
             left.now answer }
         ensures answer { IsUndoing L.eq R.eq (holding_of self.old.pairs) left.now answer result
             (holding_of self.new.pairs) }
+        ensures turn { I.appends → IfOk result (λ pair. StandsUndone L.eq
+            (pairs_at self.old.pairs (I.places self.old.left)) pair answer
+            (pairs_at self.new.pairs (I.places self.new.left))) }
         ensures slots { OnErr result (self.new.pairs ≡ self.old.pairs) }
         ensures places { OnErr result (I.places self.new.left ≡ I.places self.old.left) }
     {
@@ -62,13 +67,16 @@ impl<L: Eq, R: Eq, I: Index<L>, J: Index<R>> Table<L, R, I, J> {
         self.left.find(LeftSide::new(&self.pairs), left, meter)
     }
 
-    // Puts a pair in the place of another, whatever its values. An index whose key is known to be equal is not relinked.
+    // Puts a pair in the place of another, whatever its values. An index whose key is equal is not relinked.
     fn replace<M: Meter>(&mut self, place: usize, left: L, right: R, meter: &mut M) -> (L, R)
         requires live { IsLive self.old.pairs place }
         requires alone { IsAloneAt L.eq R.eq self.old.pairs place (left, right) }
         ensures was { pair_at self.old.pairs place ≡ Some result }
         ensures pairs { self.new.pairs ≡ slice_set self.old.pairs place (Some (left, right)) }
         ensures count { pair_count self.new.pairs ≡ pair_count self.old.pairs }
+        ensures turn { I.appends → StandsFor L.eq
+            (pairs_at self.old.pairs (I.places self.old.left)) result (left, right)
+            (pairs_at self.new.pairs (I.places self.new.left)) }
         ensures comparisons { M.comparisons meter.new ≤ M.comparisons meter.old
             + 3 * I.effort (length (I.places self.old.left))
             + 3 * J.effort (length (J.places self.old.right)) }
@@ -92,6 +100,8 @@ impl<L: Eq, R: Eq, I: Index<L>, J: Index<R>> Table<L, R, I, J> {
         ensures there { result < length self.old.pairs }
         ensures was_free { pair_at self.old.pairs result ≡ None }
         ensures pairs { self.new.pairs ≡ slice_set self.old.pairs result (Some (left, right)) }
+        ensures turn { I.appends → pairs_at self.new.pairs (I.places self.new.left)
+            ≡ pairs_at self.old.pairs (I.places self.old.left) ++ (left, right) ∷ [] }
         ensures comparisons { M.comparisons meter.new ≤ M.comparisons meter.old
             + I.effort (length (I.places self.old.left))
             + J.effort (length (J.places self.old.right)) }

@@ -2,7 +2,7 @@
 use Rattle.std.proofs.Common.{get_or, ◌≡◌, ℕ, zero, suc, ◌+◌, ◌*◌, ◌^◌, ◌<◌, ◌≤◌, Bool, true, false, List, length, Option, Some, None, is_some, IsSome, refl, sym, ap, subst, ◌∙◌, inl, inr, arith, true≢false, Contains}
 use Rattle.std.specs.Prelude.{IfSome, IfNone, IsSomeAnd}
 use Rattle.std.specs.declared.cmp.Ordering.{Ordering}
-use Rattle.std.specs.declared.cmp.Ordering.TheVariants.{Equal}
+use Rattle.std.specs.declared.cmp.Ordering.TheVariants.{Less, Equal, Greater}
 use Rattle.std.specs.Cmp.{IsTotalOrder, Equal-is}
 use Rattle.std.specs.Ordering.{is_eq, eq_by_cmp}
 use Rattle.std.proofs.lemmas.Bool.{cases_eq}
@@ -30,6 +30,12 @@ effort_fewer n m fewer = effort_least n m (omega (arith, fewer))
 
 listed_there : (places : List ℕ) (i : ℕ) → i < length places → Contains places (get_or places i 0)
 listed_there places i inside = (i, inside, get_or_default places i (get_or places i 0) 0 inside)
+
+-- what isn't equal is less or greater
+pub not_equal : (o : Ordering) → (o ≡ Equal → ⊥) → false ≡ is_eq o
+not_equal Less never = refl
+not_equal Equal never = absurd (never refl)
+not_equal Greater never = refl
 
 not_true : (b : Bool) → (b ≡ true → ⊥) → b ≡ false
 not_true true never = absurd (never refl)
@@ -78,6 +84,11 @@ module _ {K : Type 0} (order : K → K → Ordering) (same : K → K → Bool) (
   -- one place whose key compares as equal
   pub known_by_order : (places : List ℕ) (f : ℕ → Option K) (key : K) (place : ℕ) → ListsByOrder order places f → IsSome (f place) → standing order (f place) (Some key) ≡ Equal → IsFoundBy f same key (Some place)
   known_by_order places f key place listing live e = found_by_order order order (follows_itself total) same (λ q x. agrees x q) places f key (Some place) listing (listing.lists place live, e) tt
+
+  -- a key is the same just where it compares as equal
+  pub same_by_order : (o : Option K) (key : K) (answer : Bool) → answer ≡ is_eq (standing order o (Some key)) → IfSome o (λ k. answer ≡ same k key)
+  same_by_order None key answer e = tt
+  same_by_order (Some k) key answer e = e ∙ sym (agrees k key)
 
   -- a search compares at least once where a place is listed
   pub effort_some : (places : List ℕ) (f : ℕ → Option K) (place : ℕ) → ListsByOrder order places f → IsSome (f place) → 1 ≤ most_height (length places)

@@ -113,11 +113,12 @@ pub trait Index<K: Eq> {
             + ahead self.now search }
         ensures touches { M.touches meter.new ≤ M.touches meter.old + ahead self.now search };
 
-    /// Whether the key of a place is known to be equal without a search. It may answer false where it is equal.
+    /// Whether the key of a place is equal. It searches nothing.
     fn is_known<S: Side<K>, M: Meter>(&self, side: S, place: usize, key: &K, meter: &mut M) -> bool
         requires listing { is_listing self.now (S.key_at side) }
         requires live { IsSome (S.key_at side place) }
         ensures found { result ≡ true → IsFoundBy (S.key_at side) K.eq key.now (Some place) }
+        ensures equal { IfSome (S.key_at side place) (λ k. result ≡ K.eq k key.now) }
         ensures comparisons { M.comparisons meter.new ≤ M.comparisons meter.old
             + effort (length (places self.now)) }
         ensures touches { M.touches meter.new ≡ M.touches meter.old };

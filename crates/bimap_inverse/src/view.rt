@@ -1,6 +1,7 @@
 //! The view. It knows a bimap by its calls alone.
-ghost use Rattle.std.specs.Prelude.{◌≡◌, ◌∷◌, Contains};
+ghost use Rattle.std.specs.Prelude.{◌≡◌, ◌∷◌, Contains, IfOk};
 ghost use Rattle.bimap_base.specs.Holding.{IsUndoing};
+ghost use Rattle.bimap_base.specs.Turns.{StandsUndone};
 ghost use Rattle.bimap_base.specs.Undoing.{IsUndoable};
 ghost use Rattle.bimap_base.proofs.Inverse.{apart_inverse, fits_inverse};
 ghost use Rattle.bimap_inverse.specs.Turned.{inverse_holding};
@@ -130,6 +131,9 @@ impl<L: Eq + Drop, R: Eq + Drop, B: Bijection<L, R>> Bijection<R, L> for Inverse
             (Contains (inverse_holding (B.holding self.old.bimap.now)).pairs) left.now answer }
         ensures answer { IsUndoing R.eq L.eq (inverse_holding (B.holding self.old.bimap.now))
             left.now answer result (inverse_holding (B.holding self.new.bimap.now)) }
+        ensures turn { ⊥ → IfOk result (λ pair. StandsUndone R.eq
+            (inverse_holding (B.holding self.old.bimap.now)).pairs pair answer
+            (inverse_holding (B.holding self.new.bimap.now)).pairs) }
         ensures lenders { (self.new.bimap.ghost_name ∷ B.lenders self.new.bimap.now)
             ≡ (self.old.bimap.ghost_name ∷ B.lenders self.old.bimap.now) }
     {

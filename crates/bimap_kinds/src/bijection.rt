@@ -1,6 +1,7 @@
 //! Every bimap as a bijection, by calls of its own.
-ghost use Rattle.std.specs.Prelude.{[], Contains};
+ghost use Rattle.std.specs.Prelude.{[], Contains, IfOk};
 ghost use Rattle.bimap_base.specs.Holding.{IsUndoing};
+ghost use Rattle.bimap_base.specs.Turns.{StandsUndone};
 ghost use Rattle.bimap_base.specs.Undoing.{IsUndoable};
 ghost use Rattle.bimap_kinds.specs.Held.{holding};
 
@@ -78,7 +79,10 @@ impl<L: Eq + Drop, R: Eq + Drop, I: Index<L>, J: Index<R>> Bijection<L, R>
     ) -> Result<(L, R), UndoStopped<L, R>>
         requires undoable { IsUndoable L.eq R.eq (Contains (holding self.old).pairs)
             left.now answer }
-        ensures { IsUndoing L.eq R.eq (holding self.old) left.now answer result (holding self.new) }
+        ensures answer { IsUndoing L.eq R.eq (holding self.old) left.now answer result
+            (holding self.new) }
+        ensures turn { I.appends → IfOk result (λ pair. StandsUndone L.eq (holding self.old).pairs
+            pair answer (holding self.new).pairs) }
     {
         BijectiveMap::undo_insert(self, left, answer)
     }

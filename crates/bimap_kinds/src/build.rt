@@ -1,8 +1,9 @@
 //! Many pairs inserted at once. It doesn't know how one is.
-ghost use Rattle.std.specs.Prelude.{List, Contains, [], OnOk, IfOk, IfErr};
+ghost use Rattle.std.specs.Prelude.{[], OnOk, IfOk, IfErr};
 ghost use Rattle.std.specs.Iterator.{IsFiniteIterable};
-ghost use Rattle.bimap_base.specs.Extension.{IsExtension, IsExtensionStopped, IsRefusedNext};
-ghost use Rattle.bimap_base.specs.Turns.{FollowInTurn};
+ghost use Rattle.bimap_base.specs.Extension.{IsExtension, IsExtensionStopped};
+ghost use Rattle.bimap_base.specs.Holding.{Holding};
+ghost use Rattle.bimap_base.specs.Turns.{ComeInTurn, FollowInTurn};
 
 use crate::map::BijectiveMap;
 use bimap_base::ExtendStopped;
@@ -32,6 +33,10 @@ impl<L: Eq + Drop, R: Eq + Drop, I: Index<L>, J: Index<R>> BijectiveMap<L, R, I,
             (holding self.new)) }
         ensures turn { I.appends → OnOk result (FollowInTurn (A.into_iter_gives items)
             A.IntoIter.next_gives (holding self.old).pairs (holding self.new).pairs) }
+        ensures turn_stopped { I.appends → IfErr result (λ e. (stop : IsExtensionStopped L.eq R.eq
+            (A.into_iter_gives items) A.IntoIter.next_gives (holding self.old) e
+            (holding self.new)) × ComeInTurn (holding self.old).pairs stop.items
+            (holding self.new).pairs) }
     {
         bimap_base::extend(self, items)
     }
@@ -57,9 +62,9 @@ impl<L: Eq + Drop, R: Eq + Drop, I: EmptyIndex<L> + Drop, J: EmptyIndex<R> + Dro
         ensures extended { IfOk result (λ bimap. IsExtension L.eq R.eq
             (A.into_iter_gives items) A.IntoIter.next_gives (record { pairs = []; room = 0 })
             (holding bimap)) }
-        ensures stopped { IfErr result (λ e. (taken : List (L × R))
-            × IsRefusedNext L.eq R.eq (A.into_iter_gives items) A.IntoIter.next_gives
-            (Contains []) taken e) }
+        ensures stopped { IfErr result (λ e. (last : Holding L R) × IsExtensionStopped L.eq R.eq
+            (A.into_iter_gives items) A.IntoIter.next_gives (record { pairs = []; room = 0 })
+            e last) }
         ensures turn { I.appends → IfOk result (λ bimap. FollowInTurn (A.into_iter_gives items)
             A.IntoIter.next_gives [] (holding bimap).pairs) }
     {

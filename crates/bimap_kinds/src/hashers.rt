@@ -1,7 +1,8 @@
 //! Bimaps of two hashed sides with builders handed in.
-ghost use Rattle.std.specs.Prelude.{◌≡◌, List, Contains, [], IfOk, IfErr, IsOk};
+ghost use Rattle.std.specs.Prelude.{◌≡◌, [], IfOk, IfErr, IsOk};
 ghost use Rattle.std.specs.Iterator.{IsFiniteIterable};
-ghost use Rattle.bimap_base.specs.Extension.{IsExtension, IsRefusedNext};
+ghost use Rattle.bimap_base.specs.Extension.{IsExtension, IsExtensionStopped};
+ghost use Rattle.bimap_base.specs.Holding.{Holding};
 
 use crate::map::{BiHashMap, BijectiveMap};
 use bimap_base::{ExtendStopped, NoMemory};
@@ -72,9 +73,9 @@ impl<L: Eq + Hash, R: Eq + Hash, LS: BuildHasher, RS: BuildHasher> BiHashMap<L, 
         ensures extended { IfOk result (λ bimap. IsExtension L.eq R.eq
             (A.into_iter_gives items) A.IntoIter.next_gives (record { pairs = []; room = 0 })
             (holding bimap)) }
-        ensures stopped { IfErr result (λ e. (taken : List (L × R))
-            × IsRefusedNext L.eq R.eq (A.into_iter_gives items) A.IntoIter.next_gives
-            (Contains []) taken e) }
+        ensures stopped { IfErr result (λ e. (last : Holding L R) × IsExtensionStopped L.eq R.eq
+            (A.into_iter_gives items) A.IntoIter.next_gives (record { pairs = []; room = 0 })
+            e last) }
     {
         let empty = BiHashMap::with_hashers(alloc, left_builder, right_builder);
         bimap_base::from_iter(empty, items)

@@ -1,6 +1,7 @@
 //! Insertions undone, and whether one may be.
-ghost use Rattle.std.specs.Prelude.{◌↔◌, Contains, IsTrue};
+ghost use Rattle.std.specs.Prelude.{◌↔◌, Contains, IfOk, IsTrue};
 ghost use Rattle.bimap_base.specs.Holding.{IsUndoing};
+ghost use Rattle.bimap_base.specs.Turns.{StandsUndone};
 ghost use Rattle.bimap_base.specs.Undoing.{IsUndoable};
 
 use crate::map::BijectiveMap;
@@ -13,7 +14,8 @@ impl<L: Eq + Drop, R: Eq + Drop, I: Index<L>, J: Index<R>> BijectiveMap<L, R, I,
     /// Undoes an insertion: removes the pair of a left and returns it, and puts the pairs of the answer back.
     ///
     /// It may be called where [`can_undo_insert`](Self::can_undo_insert) returns true, and costs an insertion. It takes
-    /// memory only to put `Both` back where no place is free.
+    /// memory only to put `Both` back where no place is free. In insertion order a pair that is put back keeps the
+    /// position of the removed one if their lefts are equal. Any other goes to the end.
     ///
     ///     seats.undo_insert(&'c', Overwritten::Neither); // Ok(('c', 2))
     pub fn undo_insert(
@@ -23,7 +25,10 @@ impl<L: Eq + Drop, R: Eq + Drop, I: Index<L>, J: Index<R>> BijectiveMap<L, R, I,
     ) -> Result<(L, R), UndoStopped<L, R>>
         requires undoable { IsUndoable L.eq R.eq (Contains (holding self.old).pairs)
             left.now answer }
-        ensures { IsUndoing L.eq R.eq (holding self.old) left.now answer result (holding self.new) }
+        ensures answer { IsUndoing L.eq R.eq (holding self.old) left.now answer result
+            (holding self.new) }
+        ensures turn { I.appends → IfOk result (λ pair. StandsUndone L.eq (holding self.old).pairs
+            pair answer (holding self.new).pairs) }
     {
         self.table.undo_insert(left, answer, &mut Count::new())
     }

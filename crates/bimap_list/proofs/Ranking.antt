@@ -14,7 +14,7 @@ use Rattle.std.proofs.lemmas.Map.Keys.{IsDistinct-IsPermutation}
 use Rattle.std.proofs.lemmas.Map.Made.{AllPairs-from_IsDistinct, IsDistinct-from_AllPairs}
 use Rattle.bimap_base.proofs.Members.{AllPairs-head, AllPairs-tail, cases_in, head_in, more_in, none_in}
 use Rattle.bimap_list.specs.Ranks.{AreRanks}
-use Rattle.bimap_list.proofs.Ring.{contains_at}
+use Rattle.bimap_list.proofs.Links.{contains_at}
 
 -- the first so many were read, and the one after them is the next
 pub record IsRead (all : List ℕ) (n : ℕ) (read : List ℕ) (next : Option ℕ) : Type 0 where
@@ -72,7 +72,7 @@ of_place sorted (p ∷ ps) (r ∷ rs) zip rank c =
       | inr d ↦ let w = of_place sorted ps rs zip.1 rank d in (w.0, more_in p ps w.0 w.1, w.2)
     ]
 
-earlier : (places : List ℕ) (n place : ℕ) → slice_get places n ≡ Some place → AllPairs (λ a b. a ≢ b) places → Contains (take n places) place → ⊥
+pub earlier : (places : List ℕ) (n place : ℕ) → slice_get places n ≡ Some place → AllPairs (λ a b. a ≢ b) places → Contains (take n places) place → ⊥
 earlier [] n place is distinct c = cc
 earlier (p ∷ ps) zero place is distinct c = none_in place c
 earlier (p ∷ ps) (suc n) place is distinct c =

@@ -1,2 +1,3 @@
 pub mod Ring
 pub mod Ranks
+pub mod ByWidth

@@ -3,7 +3,9 @@
 //! Each call takes constant time, but for `grow` and `ranks`, which alone ask for memory.
 #![tactic(auto)]
 
+mod cell_number;
 mod linked_list;
 mod ranks;
+mod ring;
 
 pub use linked_list::LinkedList;

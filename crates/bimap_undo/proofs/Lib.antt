@@ -4,3 +4,4 @@ pub mod Removing
 pub mod Replaced
 pub mod Items
 pub mod Vecs
+pub mod Performing

@@ -44,4 +44,4 @@ module _ {It L R : Type 0} (same_left : L → L → Bool) (same_right : R → R 
     pub held : IsSameSet (Contains old.held.pairs) (Contains new.held.pairs)
     pub recorded : length new.entries ≡ length old.entries
     pub kept : KeepsMarks same_left same_right old (length old.entries) new
-    pub room : IsRoomAfterItems old.held items new.held
+    pub room : IsRoomAfterItems same_left same_right old.held items new.held

@@ -11,6 +11,6 @@ mod undoable;
 
 pub use copy_left::CopyLeft;
 pub use entry::Entry;
-pub use operations::{Operation, there_and_back};
+pub use operations::{Operation, Outcome, there_and_back};
 pub use refusal::NotRecorded;
 pub use undoable::Undoable;

@@ -143,13 +143,14 @@ impl<B: Bijection<L, R> + Drop, L: CopyLeft + Drop, R: Eq + Drop> Undoable<B, L,
             (I.into_iter_gives items) I.IntoIter.next_gives self.old policy e self.new) }
     {
         let mark = self.mark();
+        // Of what a bimap contains, no two pairs share a value, and each has a place.
+        let _before = self.held();
         let mut taken = 0usize;
         for (left, right) in items {
             if let Err(why) = self.insert_with(left, right, policy) {
                 self.back_to(mark);
                 return Err(ItemRefused { taken, why });
             }
-            // Of what a bimap holds, no two pairs share a value.
             let _held = self.held();
             taken = taken.saturating_add(1);
         }

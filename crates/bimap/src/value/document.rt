@@ -1,7 +1,10 @@
 //! Any bimap from the text of a JSON object. It doesn't know how an entry is read.
-ghost use Rattle.std.specs.Prelude.{◌≡◌, [], IfErr, OnOk};
+ghost use Rattle.std.specs.Prelude.{◌≡◌, [], Some, IfOk, IfErr, OnOk};
+ghost use Rattle.serde_json.specs.Data.{Data};
 ghost use Rattle.bimap_base.specs.declared.policy.OnHeld.TheVariants.{Refuse};
+ghost use Rattle.serde_json.specs.Read.{read as read_text};
 ghost use Rattle.bimap.specs.JsonDocument.{IsNamedOnce, IsTextFault, ReadsTextUnder};
+ghost use Rattle.bimap.specs.JsonObjects.{FollowEntries};
 
 use crate::value::object::{JsonFault, read_into_with};
 use crate::value::sides::{JsonKey, JsonValue};
@@ -32,6 +35,10 @@ fn check_names(alloc: Global, text: &str, policy: Policy) -> Result<(), JsonFaul
 /// value. Of members with one name the last alone is an entry; where the policy keeps lefts such a name is a fault, in
 /// any object of the text.
 ///
+/// The text's faults are looked for in this order: its grammar (`NotJson`), names that stand twice (`NameTwice`), then
+/// numbers out of range and too many levels (`NotJson`). So `{"a":1e999}` gives `NotJson`, and `{"b":1e999,"b":1}` gives
+/// `NameTwice` if the policy keeps lefts. After that come the faults of the value.
+///
 /// Takes memory for all values of the text, and before that, where the policy keeps lefts, once more for comparing
 /// names. An `Err` drops the bimap.
 ///
@@ -45,8 +52,10 @@ pub fn read_text_with<L: JsonKey + Drop, R: JsonValue + Drop, B: Bijection<L, R>
     policy: Policy,
 ) -> Result<B, JsonFault>
     requires empty { (B.holding empty).pairs ≡ [] }
-    ensures { ReadsTextUnder L.reads_key R.reads L.eq R.eq B.holding (B.holding empty).room
+    ensures read { ReadsTextUnder L.reads_key R.reads L.eq R.eq B.holding (B.holding empty).room
         text.now policy result }
+    ensures turn { B.appends → IfOk result (λ bimap. (v : Data) × (read_text text.now ≡ Some v)
+        × FollowEntries L.reads_key R.reads v (B.holding bimap).pairs) }
 {
     check_names(alloc, text, policy)?;
     match Value::from_str(alloc, text) {

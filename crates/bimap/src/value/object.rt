@@ -4,7 +4,7 @@ ghost use Rattle.std.specs.Iterator.{Drains, IsFiniteIterable};
 ghost use denote.Ref.{Bor};
 ghost use Rattle.serde_json.specs.View.{view};
 ghost use Rattle.bimap_base.specs.Same.{IsSame};
-ghost use Rattle.bimap.specs.JsonObjects.{IsObjectOf, IsEntryOf, IsLastEntryOf, EachReadsBack, ReadsObject, ReadsObjectUnder, shown_pairs};
+ghost use Rattle.bimap.specs.JsonObjects.{IsObjectOf, IsEntryOf, IsLastEntryOf, EachReadsBack, FollowEntries, ReadsObject, ReadsObjectUnder, shown_pairs};
 
 use crate::value::sides::{JsonKey, JsonValue, ReadFault};
 use bimap_base::{Bijection, NoMemory, NotInsertedWith, OnHeld, Policy};
@@ -38,7 +38,7 @@ pub enum JsonFault {
     /// It contains the right, and the policy keeps it.
     #[error("entry {0}: the right is already contained")]
     RightHeld(usize),
-    /// Out of memory, before any fault was met.
+    /// Out of memory, before any fault was met: at an entry whose key reads as a left, or while a text was read.
     #[error("out of memory")]
     Memory,
 }
@@ -58,14 +58,16 @@ pub trait JsonObject<L: JsonKey + Drop, R: JsonValue + Drop>: Bijection<L, R> + 
             L.eq R.eq (Self.holding self.now).pairs) };
 
     /// Creates the bimap of an object's entries, inserted in ascending byte order of their keys. A later one overwrites
-    /// those that it shares a value with.
+    /// those that it shares a value with. A `BiInsertionOrderMap` keeps that order.
     ///
     ///     // of {"A": 1, "B": 2, "C": 1}
     ///     let seats: BiBTreeMap<char, u32> = BiBTreeMap::from_value(alloc, &value)?;
     ///     // ('B', 2) and ('C', 1)
     fn from_value(alloc: Global, value: &Value) -> Result<Self, JsonFault>
-        ensures { ReadsObject L.reads_key R.reads L.eq R.eq Self.holding 0
-            (view value.now) result };
+        ensures read { ReadsObject L.reads_key R.reads L.eq R.eq Self.holding 0
+            (view value.now) result }
+        ensures turn { Self.appends → IfOk result (λ bimap. FollowEntries L.reads_key R.reads
+            (view value.now) (Self.holding bimap).pairs) };
 }
 
 /// Returns the object of the pairs that an iterator gives. Of pairs with one key text it has the last.
@@ -100,8 +102,10 @@ pub fn read_into<L: JsonKey + Drop, R: JsonValue + Drop, B: Bijection<L, R> + Dr
     value: &Value,
 ) -> Result<B, JsonFault>
     requires empty { (B.holding empty).pairs ≡ [] }
-    ensures { ReadsObject L.reads_key R.reads L.eq R.eq B.holding (B.holding empty).room
+    ensures read { ReadsObject L.reads_key R.reads L.eq R.eq B.holding (B.holding empty).room
         (view value.now) result }
+    ensures turn { B.appends → IfOk result (λ bimap. FollowEntries L.reads_key R.reads
+        (view value.now) (B.holding bimap).pairs) }
 {
     let policy = Policy {
         left: OnHeld::Overwrite,
@@ -124,8 +128,10 @@ pub fn read_into_with<L: JsonKey + Drop, R: JsonValue + Drop, B: Bijection<L, R>
     policy: Policy,
 ) -> Result<B, JsonFault>
     requires empty { (B.holding empty).pairs ≡ [] }
-    ensures { ReadsObjectUnder L.reads_key R.reads L.eq R.eq B.holding (B.holding empty).room
+    ensures read { ReadsObjectUnder L.reads_key R.reads L.eq R.eq B.holding (B.holding empty).room
         (view value.now) policy result }
+    ensures turn { B.appends → IfOk result (λ bimap. FollowEntries L.reads_key R.reads
+        (view value.now) (B.holding bimap).pairs) }
 {
     let Some(map) = value.as_object() else {
         return Err(JsonFault::NotAnObject);

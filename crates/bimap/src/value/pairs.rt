@@ -28,7 +28,7 @@ pub enum PairsFault {
     /// The first reads as a left, and the second as no right.
     #[error("item {0}: the second is no right")]
     BadRight(usize),
-    /// Out of memory, before any fault was met.
+    /// Out of memory, before any fault was met: at an array of two whose first reads as a left.
     #[error("out of memory")]
     Memory,
 }

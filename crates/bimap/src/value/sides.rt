@@ -15,7 +15,7 @@ pub enum ReadFault {
     /// The text or JSON value reads as nothing.
     #[error("no value of this type")]
     Bad,
-    /// Out of memory.
+    /// Out of memory. The text or JSON value reads as a value.
     #[error("out of memory")]
     Memory,
 }
@@ -68,7 +68,8 @@ pub trait JsonKey: Eq + Sized {
         ensures reads_back { OnOk result (ReadsBack Self.eq
             (reads_key (writes_key self.now)) self.now) };
 
-    /// Returns the value that a key text reads as, or `Bad` exactly where it reads as none.
+    /// Returns the value that a key text reads as, or `Bad` exactly where it reads as none. It runs out of memory only for
+    /// a text that reads as some value.
     fn from_key(alloc: Global, text: &str) -> Result<Self, ReadFault>
         ensures { Reads (reads_key text.now) result };
 }
@@ -86,7 +87,8 @@ pub trait JsonValue: Eq + Sized {
         ensures json { IfOk result (λ v. view v ≡ writes self.now) }
         ensures reads_back { OnOk result (ReadsBack Self.eq (reads (writes self.now)) self.now) };
 
-    /// Returns the value that a JSON value reads as, or `Bad` exactly where it reads as none.
+    /// Returns the value that a JSON value reads as, or `Bad` exactly where it reads as none. It runs out of memory only
+    /// for a JSON value that reads as some value.
     fn from_json(alloc: Global, value: &Value) -> Result<Self, ReadFault>
         ensures { Reads (reads (view value.now)) result };
 }

@@ -2,11 +2,9 @@ use Rattle.std.proofs.Common.{◌≡◌, ◌<◌, inl, inr, ◌++◌, ◌∷◌,
 use Rattle.std.proofs.lemmas.List.{append-nil, length_push}
 use Rattle.bimap_base.specs.Answer.{IsBoth}
 use Rattle.bimap_base.specs.Holding.{IsFull}
-use Rattle.bimap_base.specs.Extension.{IsRoomAfterItems}
 use Rattle.bimap_base.specs.declared.overwritten.Overwritten.{Overwritten}
-use Rattle.bimap_base.proofs.Room.{room_more}
-use Rattle.bimap.specs.Trail.{Leads, LeadsWithin}
-use Rattle.bimap.proofs.Trails.{leads_undoable, leads_pop, leads_within_pop, leads_within_spare, empty_from_length, both_or_not, two_at_most}
+use Rattle.bimap.specs.Trail.{Leads, LeadsWithin, IsRoomAfterUndoing}
+use Rattle.bimap.proofs.Trails.{room_undone, leads_undoable, leads_pop, leads_within_pop, leads_within_spare, empty_from_length, both_or_not, two_at_most}
 use Rattle.bimap.proofs.undone.undo_run.Goals as goal
 use Rattle.bimap.proofs.undone.undo_run.Goals.{In-Some}
 
@@ -49,7 +47,7 @@ returns-in-Err-clause-stopped g c =
     }
 
 pub returns-in-Err-clause-room : goal.returns-in-Err-clause-room
-returns-in-Err-clause-room g c = subst (IsRoomAfterItems (g.B.Bijection.holding c.args.bimap.now) c.args.entries.items) (sym c.in-Err.ensures.answer.unchanged) c.loop-left.invariant.room
+returns-in-Err-clause-room g c = subst (IsRoomAfterUndoing (g.B.Bijection.holding c.args.bimap.now) c.args.entries.items) (sym c.in-Err.ensures.answer.unchanged) c.loop-left.invariant.room
 
 pub returns-in-Err-clause-fits : goal.returns-in-Err-clause-fits
 returns-in-Err-clause-fits g c = λ first h.
@@ -69,7 +67,7 @@ loop-left-preserved g c =
           leads_pop g.L.PartialEq.eq g.R.PartialEq.eq g.met.L.Eq.laws g.met.R.Eq.laws c.pop.new.self.items c.in-Some.left c.in-Some.answer (g.B.Bijection.holding c.loop-left.bimap).pairs first (g.B.Bijection.holding c.undo_insert.new.self).pairs
           (led g now first h) c.in-Ok.ensures.answer.undone;
       no_longer = omega (arith, c.loop-left.invariant.no_longer, one_less, c.in-Ok.ensures.answer.count, two_at_most c.in-Some.answer);
-      room = room_more _ (g.B.Bijection.holding c.loop-left.bimap) _ c.args.entries.items c.args.entries.items (omega arith) (omega (arith, c.loop-left.invariant.no_longer, one_less)) c.loop-left.invariant.room e.room;
+      room = room_undone _ (g.B.Bijection.holding c.loop-left.bimap) _ c.args.entries.items (omega (arith, c.loop-left.invariant.no_longer, one_less)) c.loop-left.invariant.room e.room;
       fits = λ first h. (
         leads_within_pop g.L.PartialEq.eq g.R.PartialEq.eq g.met.L.Eq.laws g.met.R.Eq.laws c.pop.new.self.items c.in-Some.left c.in-Some.answer (g.B.Bijection.holding c.loop-left.bimap).pairs first (g.B.Bijection.holding c.args.bimap.now).room (g.B.Bijection.holding c.undo_insert.new.self).pairs
             (led_within g now first h) c.in-Ok.ensures.answer.undone,

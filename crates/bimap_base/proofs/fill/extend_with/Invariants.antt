@@ -1,6 +1,6 @@
 use Rattle.std.proofs.Common.{◌≡◌, ◌^◌, ◌-◌, length, min}
 use Rattle.bimap_base.proofs.Extending.{ArePutIn}
-use Rattle.bimap_base.proofs.Turns.{ComeInTurn}
+use Rattle.bimap_base.specs.Turns.{ComeInTurn}
 use Rattle.bimap_base.proofs.fill.extend_with.Given as goal
 
 abbrev pub invariant-loop-left : goal.invariant-loop-left

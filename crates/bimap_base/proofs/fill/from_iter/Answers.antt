@@ -1,12 +1,9 @@
-use Rattle.std.proofs.Common.{subst, Contains, rules}
-use Rattle.bimap_base.specs.Extension.{IsRefusedNext}
+use Rattle.std.proofs.Common.{subst, rules}
 use Rattle.bimap_base.specs.Turns.{FollowInTurn}
 use Rattle.bimap_base.proofs.fill.from_iter.Goals as goal
 
 pub returns-in-Err-clause-stopped : goal.returns-in-Err-clause-stopped
-returns-in-Err-clause-stopped g c =
-    let e = c.in-Err.ensures.stopped in
-    (e.items, subst (λ held. IsRefusedNext g.L.PartialEq.eq g.R.PartialEq.eq (g.I.IntoIterator.into_iter_gives c.args.items) g.I.IntoIter.Iterator.next_gives (Contains held) e.items c.in-Err.stopped) c.requires.empty e.refused)
+returns-in-Err-clause-stopped g c = (_, c.in-Err.ensures.stopped)
 
 pub returns-in-Ok-clause-extended : goal.returns-in-Ok-clause-extended
 returns-in-Ok-clause-extended g c = search rules

@@ -3,6 +3,7 @@ use Rattle.bimap_base.proofs.Counts.{none_named}
 use Rattle.bimap_base.proofs.Members.{lacking}
 use Rattle.bimap_base.proofs.Removals.{removing_left}
 use Rattle.bimap_base.proofs.Swapping.{swapped_with_itself, first_fits, second_fits, swapped}
+use Rattle.bimap_base.proofs.Turns.{two_last}
 use Rattle.bimap_base.proofs.swap.swap_partners.Goals as goal
 
 pub returns-then-not-contains_left-clause-answer : goal.returns-then-not-contains_left-clause-answer
@@ -64,4 +65,25 @@ returns-clause-answer g c =
       equal = λ e. absurd (true≢false (sym e ∙ sym c.eq.ensures ∙ c.if-eq.false));
       count = omega (arith, named, named_too, one.count, two.count, shorter, shortest);
       room = two.room.had_place (omega (arith, g.met.B.Bijection.fits c.args.bimap.now, shorter, shortest, named, one.count, room_one)) ∙ room_one;
+    }
+
+pub returns-clause-turn : goal.returns-clause-turn
+returns-clause-turn g c appends differ =
+    let p = c.in-Some.first in
+    let q = c.in-Some-remove_by_left.second in
+    let shorter = rw c.in-Some.is at c.remove_by_left.ensures.answer.count in
+    let shortest = rw c.in-Some-remove_by_left.is at c.remove_by_left-2.ensures.answer.count in
+    let one = rw c.in-Ok-Ok.is-0 at c.insert.ensures.answer.count in
+    let two = rw c.in-Ok-Ok.is-1 at c.insert-2.ensures.answer.count in
+    let answer = returns-clause-answer g c in
+    record {
+      first = p;
+      second = q;
+      by_left = (rw c.in-Some.is at c.remove_by_left.ensures.answer.removed).1;
+      by_other = (rw c.in-Some-remove_by_left.is at c.remove_by_left-2.ensures.answer.removed).1;
+      less = (g.B.Bijection.holding c.remove_by_left.new.self).pairs;
+      rest = (g.B.Bijection.holding c.remove_by_left-2.new.self).pairs;
+      first_out = rw c.in-Some.is at c.remove_by_left.ensures.turn appends;
+      second_out = rw c.in-Some-remove_by_left.is at c.remove_by_left-2.ensures.turn appends;
+      last = two_last _ (q.0, p.1) (p.0, q.1) c.in-Ok-Ok.field-0-0 c.in-Ok-Ok.field-0-1 _ _ (omega (arith, answer.count, shorter, shortest, one, two)) (rw c.in-Ok-Ok.is-0 at c.insert.ensures.turn appends) (rw c.in-Ok-Ok.is-1 at c.insert-2.ensures.turn appends);
     }

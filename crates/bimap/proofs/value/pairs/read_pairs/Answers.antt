@@ -1,11 +1,11 @@
-use Rattle.std.proofs.Common.{◌≡◌, List, Some, Err, ap, sym, subst, ◌∙◌, length, map, take, arith, suc, ◌+◌, ◌∷◌, ◌++◌, []}
+use Rattle.std.proofs.Common.{◌≡◌, ℕ, Some, Err, ap, sym, subst, ◌∙◌, map, take, arith, suc, ◌+◌, ◌∷◌, ◌++◌, []}
 use Rattle.std.proofs.lemmas.List.{take_all}
 use Rattle.std.specs.List.{AllZip}
 use Rattle.serde_json.specs.Data.{Data}
 use Rattle.serde_json.specs.Find.{as_array}
-use Rattle.serde_json.specs.View.{view, items_of, items_view}
-use Rattle.bimap.specs.JsonPairs.{IsTwo, ReadsAsPair, StopsAtItem, two}
-use Rattle.bimap.specs.JsonReading.{Reads, ReadsNothing}
+use Rattle.serde_json.specs.View.{view, items_view}
+use Rattle.bimap.specs.JsonPairs.{IsTwo, IsTwoOf, ReadsAsPair, StopsAtItem}
+use Rattle.bimap.specs.JsonReading.{Reads, ReadsNothing, ReadsSomething}
 use Rattle.bimap.proofs.JsonPairs.{read_more, stops_here}
 use Rattle.bimap.proofs.value.pairs.read_pairs.Goals.{In-Some-as_two}
 use Rattle.bimap.proofs.value.pairs.read_pairs.Goals as goal
@@ -27,13 +27,26 @@ returns-in_default-as_two g c =
 
 pub returns-in-Err-Bad : goal.returns-in-Err-Bad
 returns-in-Err-Bad g c =
-    stops g (goal.at.returns-in-Err-Bad g c).In-Some-as_two (λ d. (first second : Data) × (d ≡ two first second) × ReadsNothing (g.L.JsonValue.reads first))
+    stops g (goal.at.returns-in-Err-Bad g c).In-Some-as_two (IsTwoOf (λ first second. ReadsNothing (g.L.JsonValue.reads first)))
     (view c.in-Some-as_two.first.now, view c.in-Some-as_two.second.now, c.in-Some-as_two.ensures.is_two, subst (λ e. Reads (g.L.JsonValue.reads (view c.in-Some-as_two.first.now)) (Err e)) c.in-Err-Bad.field-0-is c.in-Err-Bad.ensures)
 
 pub returns-in-Err-Bad-from_json : goal.returns-in-Err-Bad-from_json
 returns-in-Err-Bad-from_json g c =
-    stops g (goal.at.returns-in-Err-Bad-from_json g c).In-Some-as_two (λ d. (first second : Data) × (d ≡ two first second) × ((l : g.row.L.Denot) × g.L.JsonValue.reads first l) × ReadsNothing (g.R.JsonValue.reads second))
-    (view c.in-Some-as_two.first.now, view c.in-Some-as_two.second.now, c.in-Some-as_two.ensures.is_two, (c.in-Ok.left, c.in-Ok.ensures), subst (λ e. Reads (g.R.JsonValue.reads (view c.in-Some-as_two.second.now)) (Err e)) c.in-Err-Bad-from_json.field-0-is c.in-Err-Bad-from_json.ensures)
+    stops g (goal.at.returns-in-Err-Bad-from_json g c).In-Some-as_two (IsTwoOf (λ first second. ReadsSomething (g.L.JsonValue.reads first) × ReadsNothing (g.R.JsonValue.reads second)))
+    (view c.in-Some-as_two.first.now, view c.in-Some-as_two.second.now, c.in-Some-as_two.ensures.is_two, ((c.in-Ok.left, c.in-Ok.ensures), subst (λ e. Reads (g.R.JsonValue.reads (view c.in-Some-as_two.second.now)) (Err e)) c.in-Err-Bad-from_json.field-0-is c.in-Err-Bad-from_json.ensures))
+
+-- the item is two whose first is a left, and memory was wanting
+no_memory : (g : _) (c : In-Some-as_two g) → ReadsSomething (g.L.JsonValue.reads (view c.in-Some-as_two.first.now)) → (at : ℕ) × StopsAtItem g.L.JsonValue.reads g.R.JsonValue.reads (view c.args.value.now) at (IsTwoOf (λ first second. ReadsSomething (g.L.JsonValue.reads first)))
+no_memory g c left = (c.len-at.result, stops g c (IsTwoOf (λ first second. ReadsSomething (g.L.JsonValue.reads first))) (view c.in-Some-as_two.first.now, view c.in-Some-as_two.second.now, c.in-Some-as_two.ensures.is_two, left))
+
+pub returns-in-Err-Memory : goal.returns-in-Err-Memory
+returns-in-Err-Memory g c = no_memory g (goal.at.returns-in-Err-Memory g c).In-Some-as_two (subst (λ e. Reads (g.L.JsonValue.reads (view c.in-Some-as_two.first.now)) (Err e)) c.in-Err-Memory.field-0-is c.in-Err-Memory.ensures)
+
+pub returns-in-Err-Memory-from_json : goal.returns-in-Err-Memory-from_json
+returns-in-Err-Memory-from_json g c = no_memory g (goal.at.returns-in-Err-Memory-from_json g c).In-Some-as_two (c.in-Ok.left, c.in-Ok.ensures)
+
+pub returns-in_default-push : goal.returns-in_default-push
+returns-in_default-push g c = no_memory g (goal.at.returns-in_default-push g c).In-Some-as_two (c.in-Ok.left, c.in-Ok.ensures)
 
 pub loop-item-preserved : goal.loop-item-preserved
 loop-item-preserved g c =

@@ -1,11 +1,11 @@
-use Rattle.bimap_list.proofs.Ring.{below_cells, fits_cells, ring_of}
+use Rattle.std.proofs.Common.{ℕ, ◌<◌, ap, subst, sym, ◌∙◌}
+use Rattle.std.specs.List.{Contains}
+use Rattle.bimap_list.specs.ByWidth.{ring_in}
+use Rattle.bimap_list.specs.Ring.{Listing}
 use Rattle.bimap_list.proofs.linked_list.LinkedList.cells.Goals as goal
 
-pub returns-clause-below : goal.returns-clause-below
-returns-clause-below c p has = below_cells _ c.args.self.now c.self.invariant c.self.view_is p has
+pub returns-in-Narrow-clause-below : goal.returns-in-Narrow-clause-below
+returns-in-Narrow-clause-below c = subst (λ l. (p : ℕ) → Contains (Listing.places l) p → p < Listing.cells l) (ap ring_in (sym c.in-Narrow.is) ∙ c.self.view_is) c.cells.ensures.below
 
-pub returns-clause-fits : goal.returns-clause-fits
-returns-clause-fits c = fits_cells _ c.args.self.now c.self.invariant c.self.view_is
-
-pub returns-clause-distinct : goal.returns-clause-distinct
-returns-clause-distinct c = (ring_of _ c.args.self.now c.self.invariant c.self.view_is).distinct
+pub returns-in-Wide-clause-below : goal.returns-in-Wide-clause-below
+returns-in-Wide-clause-below c = subst (λ l. (p : ℕ) → Contains (Listing.places l) p → p < Listing.cells l) (ap ring_in (sym c.in-Wide.is) ∙ c.self.view_is) c.cells-in-Wide.ensures.below

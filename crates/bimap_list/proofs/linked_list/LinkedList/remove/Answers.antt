@@ -1,22 +1,13 @@
-use Rattle.std.proofs.Common.{arith}
-use Rattle.bimap_list.proofs.Ring.{after_within, before_within, cells_of, dropped, is_ring, place_in, ring_of, shown, taken_out}
+use Rattle.std.proofs.Common.{ap, subst, sym, ◌∙◌}
+use Rattle.bimap_base.specs.Keyed.{Drops}
+use Rattle.bimap_list.specs.ByWidth.{ring_in}
+use Rattle.bimap_list.specs.Ring.{Listing}
 use Rattle.bimap_list.proofs.linked_list.LinkedList.remove.Goals as goal
+use Rattle.bimap_list.proofs.linked_list.LinkedList.remove.Goals.{in-Narrow, in-Wide}
 
-pub join-requires-clause-from : goal.join-requires-clause-from
-join-requires-clause-from c = let at = place_in c.args.self.now.places c.args.place c.requires in before_within _ c.args.self.now c.self.invariant c.self.view_is c.index.result.now at.0 c.args.place at.1 c.index.ensures
-
-pub join-requires-clause-to : goal.join-requires-clause-to
-join-requires-clause-to c = let at = place_in c.args.self.now.places c.args.place c.requires in after_within _ c.args.self.now c.self.invariant c.self.view_is c.index.result.now at.0 c.args.place at.1 c.index.ensures
-
-pub invariant_of-self : goal.invariant_of-self
-invariant_of-self c = let at = place_in c.args.self.now.places c.args.place c.requires in is_ring _ _ (taken_out _ c.args.self.now c.self.invariant c.self.view_is c.index.result.now at.0 c.args.place at.1 c.index.ensures _ c.join.ensures.joined c.join.ensures.cells)
-
-pub returns : goal.returns
-returns c =
-    let at = place_in c.args.self.now.places c.args.place c.requires in
-    record {
-      places = λ k is. shown _ _ (taken_out _ c.args.self.now c.self.invariant c.self.view_is c.index.result.now k c.args.place is c.index.ensures _ c.join.ensures.joined c.join.ensures.cells);
-      drops = rw (shown _ _ (taken_out _ c.args.self.now c.self.invariant c.self.view_is c.index.result.now at.0 c.args.place at.1 c.index.ensures _ c.join.ensures.joined c.join.ensures.cells)) (dropped c.args.self.now.places at.0 c.args.place at.1 (ring_of _ c.args.self.now c.self.invariant c.self.view_is).distinct);
-      cells = omega (arith, c.join.ensures.cells, cells_of _ c.args.self.now c.self.invariant c.self.view_is);
-      distinct = (is_ring _ _ (taken_out _ c.args.self.now c.self.invariant c.self.view_is c.index.result.now at.0 c.args.place at.1 c.index.ensures _ c.join.ensures.joined c.join.ensures.cells)).distinct;
-    }
+pub returns-clause-drops : goal.returns-clause-drops
+returns-clause-drops c =
+    elim c.match-self.branch [
+      | in-Narrow w ↦ rw w.self-inside-is (subst (λ l. Drops (Listing.places l) c.args.place w.remove.new.self.places) (ap ring_in (sym w.in-Narrow.is) ∙ c.self.view_is) w.remove.ensures.drops)
+      | in-Wide w ↦ rw w.self-inside-is (subst (λ l. Drops (Listing.places l) c.args.place w.remove-in-Wide.new.self.places) (ap ring_in (sym w.in-Wide.is) ∙ c.self.view_is) w.remove-in-Wide.ensures.drops)
+    ]

@@ -1,8 +1,11 @@
-use Rattle.bimap_list.proofs.Ring.{is_ring, cut, shown}
+use Rattle.std.proofs.Common.{ℕ, ◌<◌, ap, subst, sym, ◌∙◌}
+use Rattle.std.specs.List.{Contains}
+use Rattle.bimap_list.specs.ByWidth.{ring_in}
+use Rattle.bimap_list.specs.Ring.{Listing}
 use Rattle.bimap_list.proofs.linked_list.LinkedList.shrink.Goals as goal
 
-pub invariant_of-self : goal.invariant_of-self
-invariant_of-self c = rw c.truncate.ensures.items (is_ring _ _ (cut _ c.args.self.now c.self.invariant c.self.view_is c.args.to c.requires.cells c.requires.below))
+pub shrink-requires-clause-below : goal.shrink-requires-clause-below
+shrink-requires-clause-below c = subst (λ l. (p : ℕ) → Contains (Listing.places l) p → p < c.args.to) (sym (ap ring_in (sym c.in-Narrow.is) ∙ c.self.view_is)) c.requires.below
 
-pub returns-clause-places : goal.returns-clause-places
-returns-clause-places c = rw c.truncate.ensures.items (shown _ _ (cut _ c.args.self.now c.self.invariant c.self.view_is c.args.to c.requires.cells c.requires.below))
+pub shrink-requires-in-Wide-clause-below : goal.shrink-requires-in-Wide-clause-below
+shrink-requires-in-Wide-clause-below c = subst (λ l. (p : ℕ) → Contains (Listing.places l) p → p < c.args.to) (sym (ap ring_in (sym c.in-Wide.is) ∙ c.self.view_is)) c.requires.below

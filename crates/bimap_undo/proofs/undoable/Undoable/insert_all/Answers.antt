@@ -1,4 +1,4 @@
-use Rattle.std.proofs.Common.{◌≡◌, ◌↔◌, ◌∙◌, Bool, ap, refl, sym, subst, arith, length, Contains, rules}
+use Rattle.std.proofs.Common.{◌≡◌, ◌↔◌, ◌≤◌, ◌∙◌, Bool, ap, inl, inr, refl, sym, subst, arith, length, Contains, rules}
 use Rattle.std.proofs.lemmas.List.{length_push}
 use Rattle.bimap.specs.Sets.{IsApart}
 use Rattle.bimap.specs.Types.{Policy, NotInsertedWith}
@@ -17,6 +17,7 @@ loop-left-init g c =
       ends = ready.1;
       taken = refl;
       apart = c.mark-mark.ensures.stands_for_what_is_held.apart;
+      fits = subst (λ held. length held.pairs ≤ held.room) c.held-before.ensures (g.met.B.Bijection.fits c.held-before.result.now);
       put_in = put_in_none g.L.PartialEq.eq g.R.PartialEq.eq c.args.self.now.held c.args.policy;
       recorded = omega arith;
       kept = keeps_all g.L.PartialEq.eq g.R.PartialEq.eq c.args.self.now (length c.args.self.now.entries);
@@ -34,8 +35,9 @@ loop-left-preserved g c =
       ends = p.1;
       taken = omega (arith, more, c.saturating_add-taken.ensures, i.taken);
       apart = apart;
-      put_in = put_in_more g.L.PartialEq.eq g.R.PartialEq.eq c.args.self.now.held c.loop-left.yielded c.args.policy c.loop-left.self.held (c.in-Some.left, c.in-Some.right) c.insert_with.new.self.held
-          g.met.L.Eq.laws g.met.R.Eq.laws i.apart apart i.put_in e.allowed e.put e.room;
+      put_in = put_in_more g.L.PartialEq.eq g.R.PartialEq.eq c.args.self.now.held c.loop-left.yielded c.args.policy c.loop-left.self.held (c.in-Some.left, c.in-Some.right) e.last.answer c.insert_with.new.self.held
+          g.met.L.Eq.laws g.met.R.Eq.laws i.apart apart i.fits i.put_in e.allowed e.last.is_answer e.put e.room;
+      fits = subst (λ held. length held.pairs ≤ held.room) c.held-held.ensures (g.met.B.Bijection.fits c.held-held.result.now);
       recorded = omega (arith, more, e.recorded, i.recorded);
       kept = keeps_through g.L.PartialEq.eq g.R.PartialEq.eq c.args.self.now c.loop-left.self c.insert_with.new.self (length c.args.self.now.entries) i.kept
           (keeps_below g.L.PartialEq.eq g.R.PartialEq.eq c.loop-left.self c.insert_with.new.self (length c.loop-left.self.entries) (length c.args.self.now.entries) (omega (arith, i.recorded)) e.kept);
@@ -78,8 +80,11 @@ returns-in-Err-clause-none g c =
       kept = keeps_through g.L.PartialEq.eq g.R.PartialEq.eq first c.insert_with.new.self c.back_to.new.self (length first.entries) kept (subst (λ m. KeepsMarks g.L.PartialEq.eq g.R.PartialEq.eq c.insert_with.new.self m c.back_to.new.self) mark back.gone_back.kept);
       room = record {
         not_lower = omega (arith, put_in.room.not_lower, back.room);
-        at_most = omega (arith, put_in.room.at_most, back.room);
         had_places = λ fits. back.room ∙ put_in.room.had_places fits;
+        outgrown = elim put_in.room.outgrown [
+          | inl stays ↦ inl (back.room ∙ stays)
+          | inr o ↦ inr (rw back.room o)
+        ];
       };
     }
 
