@@ -1,6 +1,6 @@
 /* Tries each call of jetukoma.h, on each type: every status, null pointers, lengths of 0 and beyond memory, flags that are
  * none, a table freed twice and used after it; calls by chance beside a model, so many of each type as the program is told, or
- * 100,000; and each request for memory refused in turn.
+ * 100,000; a JSON object of a tenth as many pairs; and each request for memory refused in turn.
  *
  *     cc -std=c11 -Wl,--wrap=malloc,--wrap=realloc,--wrap=free test.c libjetukoma.a -o test
  */

@@ -134,6 +134,24 @@ static void OUR(json)(void) {
     }
     CHECK(!CALL(free)(&t) && blocks == 0);
 }
+
+/* An object with a pair for every ten calls by chance, written and read back. */
+static void OUR(large_json)(void) {
+    OUR(table) t = {0}, back = {0};
+    size_t pairs = (size_t)calls / 10, room = pairs * 32 + 2, len = 0, n = 0;
+    uint8_t *text = malloc(room);
+    char name[24];
+    uint64_t right = 0;
+    CHECK(text && !CALL(new)(&t) && !CALL(new)(&back));
+    for (size_t at = 0; at < pairs && failed < 20; at++)
+        CHECK(!CALL(insert_no_overwrite)(&t, (uint8_t *)name, (size_t)sprintf(name, "name %zu", at), pairs - at));
+    CHECK(!CALL(to_json)(&t, text, room, &len) && len > pairs * 10 && !CALL(from_json)(&back, text, len));
+    CHECK(!CALL(len)(&back, &n) && n == pairs);
+    for (size_t at = 0; at < pairs && failed < 20; at++)
+        CHECK(!CALL(get_by_left)(&back, (uint8_t *)name, (size_t)sprintf(name, "name %zu", at), &right) && right == pairs - at);
+    free(text);
+    CHECK(!CALL(free)(&t) && !CALL(free)(&back) && blocks == 0);
+}
 #endif
 
 static void OUR(own)(OUR(table) *table, uint32_t status) {

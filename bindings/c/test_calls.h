@@ -180,6 +180,7 @@ static void OUR(tests)(void) {
     test(TEXT(KIND) " " TEXT(SIDES), "pairs kept by a walk", OUR(retain));
 #elif !RIGHT_IS_BYTES
     test(TEXT(KIND) " " TEXT(SIDES), "JSON", OUR(json));
+    test(TEXT(KIND) " " TEXT(SIDES), "a large JSON", OUR(large_json));
 #endif
 }
 #undef SIDES

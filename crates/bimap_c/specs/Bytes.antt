@@ -100,6 +100,7 @@ module _ {R : Type 0} where
     pub inserted : IsInsertionUnder same_bytes same_right old.held (key, right) policy result new.held
     pub told : status ≡ inserted_with result
     pub struck : IfOk result (λ answer. new.struck ≡ answer)
+    pub last_key : new.key ≡ old.key
     pub unchanged : OnErr result (new ≡ old)
 
   -- the same, or that there was none

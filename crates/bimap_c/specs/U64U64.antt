@@ -1,12 +1,12 @@
 -- What a call for C returns, writes and leaves where both sides are numbers: a record of the facade holds of some answer,
 -- and that is what the status and the out-parameters tell.
-use Rattle.std.specs.Prelude.{◌≡◌, ◌⊎◌, ℕ, ◌<◌, Option, option_map, Result, List, ◌++◌, length, take, drop, map, min, nat_eq, Contains, IfOk}
+use Rattle.std.specs.Prelude.{◌≡◌, ◌⊎◌, ℕ, Option, option_map, Result, List, ◌++◌, length, take, drop, map, min, nat_eq, IfOk}
 use Rattle.std.specs.Borrow.{Bor}
-use Rattle.std.specs.Iterator.{AlwaysYields}
+use Rattle.std.specs.Iterator.{AlwaysYields, YieldsFirst}
 use Rattle.std.specs.Map.Iter.{TakesFirst, TakesLast, deref, deref_pair}
-use Rattle.bimap.specs.Holding.{Holding, IsFull, IsFoundByLeft, IsFoundByRight, IsInsertion, IsInsertionUnder, IsInsertionWithoutOverwriting, IsRemovalByLeft, IsRemovalByRight}
-use Rattle.bimap.specs.Survivors.{AreSurvivors}
-use Rattle.bimap.specs.Types.{Overwritten, Neither, Left, Right, Pair, Both, NoRoom, NotInserted, NotInsertedWith, Policy}
+use Rattle.bimap.specs.Holding.{Holding, IsFoundByLeft, IsFoundByRight, IsInsertion, IsInsertionUnder, IsInsertionWithoutOverwriting, IsRemovalByLeft, IsRemovalByRight}
+use Rattle.bimap.specs.Extension.{IsExtension, IsExtensionStopped}
+use Rattle.bimap.specs.Types.{Overwritten, Neither, Left, Right, Pair, Both, ExtendStopped, NoRoom, NotInserted, NotInsertedWith, Policy}
 use Rattle.bimap_c.specs.Calls.{made, inserted, inserted_with, Tells, on_held, AreFlags}
 use Rattle.bimap_c.specs.declared.u64_u64.Overwritten.{Overwritten as Shown}
 use Rattle.bimap_c.specs.declared.u64_u64.Pair.{Pair as Row}
@@ -26,6 +26,14 @@ shown (Left l r) = record { kind = 1; first = row (l, r); second = row (0, 0) }
 shown (Right l r) = record { kind = 2; first = row (l, r); second = row (0, 0) }
 shown (Pair l r) = record { kind = 3; first = row (l, r); second = row (0, 0) }
 shown (Both p q) = record { kind = 4; first = row p; second = row q }
+
+-- the pairs that C gives as an iterator: at first all of them are left
+abbrev pub AreAllOf : List Row → List (ℕ × ℕ) → Type 0
+AreAllOf pairs left = left ≡ map pair pairs
+
+-- and each call of it gives the first of those that are left
+abbrev pub gives_first : List (ℕ × ℕ) → Option (ℕ × ℕ) → List (ℕ × ℕ) → Type 0
+gives_first = YieldsFirst (λ left. left)
 
 module _ (old : Holding ℕ ℕ) (status : ℕ) where
   -- of `get_by_left`
@@ -54,10 +62,12 @@ module _ (old : Holding ℕ ℕ) (status : ℕ) where
       pub flags : AreFlags left right → InsertsUnder p (record { left = on_held left; right = on_held right }) out
       pub others : (AreFlags left right → ⊥) → (status ≡ 3) × (new ≡ old)
 
-    -- of `insert_many`: so many pairs were inserted, in order, which is all, or as many as there was memory for
-    pub record InsertsMany (pairs : List Row) (taken : ℕ) : Type 0 where
-      pub survivors : AreSurvivors nat_eq nat_eq (Contains old.pairs) (take taken (map pair pairs)) (Contains new.pairs)
-      pub ends : ((status ≡ 0) × (taken ≡ length pairs)) ⊎ ((status ≡ 1) × (taken < length pairs) × IsFull new)
+    -- of `insert_many`: the facade's records over the pairs as an iterator. So many were inserted, which is all, or those
+    -- before one that was out of memory
+    abbrev pub InsertsMany : List Row → ℕ → Type 0
+    InsertsMany pairs taken =
+        ((status ≡ 0) × (taken ≡ length pairs) × IsExtension nat_eq nat_eq (AreAllOf pairs) gives_first old new)
+        ⊎ ((status ≡ 1) × (stopped : ExtendStopped ℕ ℕ) × (is : IsExtensionStopped nat_eq nat_eq (AreAllOf pairs) gives_first old stopped new) × (taken ≡ length is.items))
 
     -- of `remove_by_left`
     abbrev pub RemovesByLeft : ℕ → Row → Type 0

@@ -1,4 +1,4 @@
-//! Bimaps for C: a module for each kind and each types of sides, over the facade alone.
+//! Bimaps for C: a module for each kind and each types of sides, over the facade and `extend` of any bimap.
 //!
 //! An export takes references, so it may not be handed a null pointer. Tests of raw pointers would want a proof by hand
 //! in each export, so the header makes them: its function `jetukoma_..` tests, and calls `jetukoma_.._unchecked`.

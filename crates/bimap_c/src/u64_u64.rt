@@ -7,7 +7,8 @@ ghost use Rattle.bimap_c.specs.U64U64.{row, shown, IsFilledBy, GetsByLeft, GetsB
 
 use crate::calls::{policy, refused};
 use crate::status::{DONE, NO_MEMORY, NOT_FOUND, REFUSED};
-use bimap::{Bijection, NotInserted, OnHeld, Policy, extend_with};
+use bimap::{Bijection, NotInserted};
+use bimap_base::extend;
 
 /// A left and its right.
 #[repr(C)]
@@ -135,18 +136,14 @@ pub(crate) fn insert_many<B: Bijection<u64, u64>>(
 ) -> u32
     ensures { InsertsMany (B.holding map.old) result (B.holding map.new) pairs.now taken.new }
 {
-    let policy = Policy {
-        left: OnHeld::Overwrite,
-        right: OnHeld::Overwrite,
-    };
     let items = pairs.iter().map(|pair| (pair.left, pair.right));
-    match extend_with(map, items, policy) {
+    match extend(map, items) {
         Ok(()) => {
             *taken = pairs.len();
             DONE
         }
-        Err(refused) => {
-            *taken = refused.taken;
+        Err(stopped) => {
+            *taken = stopped.taken;
             NO_MEMORY
         }
     }

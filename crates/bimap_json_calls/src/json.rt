@@ -115,30 +115,36 @@ fn insertion_order<L: JsonKey + Hash + Drop, R: JsonValue + Hash + Drop>(
     )
 }
 
-// A text as it stands, or that of an object of so many members for `each N MEMBER`.
-fn text_of(alloc: Global, text: &str) -> Result<String, AllocError> {
-    let Some((count, member)) = repeated(text) else {
-        return String::from_str(alloc, text);
+// The text as it stands, or for `each N MEMBER` that of an object or an array of so many members.
+fn text_of(request: &JsonCall<'_>) -> Result<String, AllocError> {
+    let alloc = request.alloc;
+    let Some((count, member)) = repeated(request.text) else {
+        return String::from_str(alloc, request.text);
     };
-    let mut object = String::from_str(alloc, "{")?;
+    let (first, last) = if request.of_pairs {
+        ("[", "]")
+    } else {
+        ("{", "}")
+    };
+    let mut members = String::from_str(alloc, first)?;
     let mut between = "";
     for number in 0..count {
-        write!(object, "{between}{}", numbered(alloc, member, number)?)?;
+        write!(members, "{between}{}", numbered(alloc, member, number)?)?;
         between = ",";
     }
-    write!(object, "}}")?;
-    Ok(object)
+    write!(members, "{last}")?;
+    Ok(members)
 }
 
 fn of_kind<
     L: JsonKey + JsonValue + Debug + Ord + Hash + Drop,
     R: JsonValue + Debug + Ord + Hash + Drop,
 >(kind: usize, request: &JsonCall<'_>, said: &mut String) -> Result<bool, AllocError> {
-    if request.of_pairs {
-        return pairs_of_kind::<L, R>(kind, request, said);
-    }
-    let text = text_of(request.alloc, request.text)?;
+    let text = text_of(request)?;
     let text = text.as_str();
+    if request.of_pairs {
+        return pairs_of_kind::<L, R>(kind, text, request, said);
+    }
     match kind {
         0 => ordered::<L, R>(text, request, said),
         1 => hashed::<L, R>(text, request, said),

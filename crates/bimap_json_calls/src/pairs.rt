@@ -18,11 +18,12 @@ fn both_ways<
     J: WalkedIndex<R> + Drop,
 >(
     empty: BijectiveMap<L, R, I, J>,
+    text: &str,
     request: &JsonCall<'_>,
     said: &mut String,
 ) -> Result<(), AllocError> {
     let mut bimap = empty;
-    let Ok(value) = Value::from_str(request.alloc, request.text) else {
+    let Ok(value) = Value::from_str(request.alloc, text) else {
         return write!(said, "no JSON");
     };
     let pairs: Vec<(L, R)> = match read_pairs(request.alloc, &value) {
@@ -42,14 +43,14 @@ fn both_ways<
 pub fn pairs_of_kind<
     L: JsonValue + Debug + Ord + Hash + Drop,
     R: JsonValue + Debug + Ord + Hash + Drop,
->(kind: usize, request: &JsonCall<'_>, said: &mut String) -> Result<bool, AllocError> {
+>(kind: usize, text: &str, request: &JsonCall<'_>, said: &mut String) -> Result<bool, AllocError> {
     let alloc = request.alloc;
     match kind {
-        0 => both_ways(BiBTreeMap::<L, R>::new(alloc), request, said)?,
-        1 => both_ways(BiHashMap::<L, R>::new(alloc), request, said)?,
-        2 => both_ways(BiBTreeHashMap::<L, R>::new(alloc), request, said)?,
-        3 => both_ways(BiHashBTreeMap::<L, R>::new(alloc), request, said)?,
-        5 => both_ways(BiInsertionOrderMap::<L, R>::new(alloc), request, said)?,
+        0 => both_ways(BiBTreeMap::<L, R>::new(alloc), text, request, said)?,
+        1 => both_ways(BiHashMap::<L, R>::new(alloc), text, request, said)?,
+        2 => both_ways(BiBTreeHashMap::<L, R>::new(alloc), text, request, said)?,
+        3 => both_ways(BiHashBTreeMap::<L, R>::new(alloc), text, request, said)?,
+        5 => both_ways(BiInsertionOrderMap::<L, R>::new(alloc), text, request, said)?,
         _ => return Ok(false),
     }
     Ok(true)

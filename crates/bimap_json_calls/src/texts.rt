@@ -1,4 +1,5 @@
 //! Texts with numbers in them.
+use bimap_lines::unsigned;
 use std::alloc::{AllocError, Global};
 
 /// The text in which the digits of a number stand for each `#`.
@@ -9,6 +10,9 @@ pub fn numbered(alloc: Global, pattern: &str, number: usize) -> Result<String, A
 
 /// What `each N TEXT` says: how often the text is meant, each time with a number for each `#`.
 pub fn repeated(text: &str) -> Option<(usize, &str)> {
-    let (count, text) = text.trim_start().strip_prefix("each ")?.split_once(' ')?;
-    Some((count.parse().ok()?, text))
+    let (count, text) = text
+        .trim_ascii_start()
+        .strip_prefix("each ")?
+        .split_once(' ')?;
+    Some((unsigned(count)?.parse().ok()?, text))
 }

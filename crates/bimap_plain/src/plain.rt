@@ -1,7 +1,8 @@
 //! The bimap. It knows nothing but the vector and what scans and changes it.
-ghost use Rattle.std.specs.Prelude.{◌≡◌, ◌≤◌, [], length, Contains, vec_capacity};
+ghost use Rattle.std.specs.Prelude.{◌≡◌, ◌≤◌, [], length, Contains, IfOk, vec_capacity};
 ghost use Rattle.bimap_base.specs.Sets.{IsApart};
 ghost use Rattle.bimap_base.specs.Holding.{IsUndoing};
+ghost use Rattle.bimap_base.specs.Turns.{StandsUndone};
 ghost use Rattle.bimap_base.specs.Undoing.{IsUndoable};
 ghost use Rattle.bimap_plain.specs.Plain.{shown};
 
@@ -100,8 +101,11 @@ impl<L: Eq + Drop, R: Eq + Drop> Bijection<L, R> for Plain<L, R> {
         answer: Overwritten<L, R>,
     ) -> Result<(L, R), UndoStopped<L, R>>
         requires undoable { IsUndoable L.eq R.eq (Contains self.old.pairs.items) left.now answer }
-        ensures { IsUndoing L.eq R.eq (shown self.old.pairs.items (vec_capacity self.old.pairs))
-            left.now answer result (shown self.new.pairs.items (vec_capacity self.new.pairs)) }
+        ensures answer { IsUndoing L.eq R.eq
+            (shown self.old.pairs.items (vec_capacity self.old.pairs)) left.now answer result
+            (shown self.new.pairs.items (vec_capacity self.new.pairs)) }
+        ensures turn { ⊥ → IfOk result (λ pair. StandsUndone L.eq self.old.pairs.items pair answer
+            self.new.pairs.items) }
     {
         changes::undo(&mut self.pairs, left, answer)
     }

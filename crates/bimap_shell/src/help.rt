@@ -11,7 +11,7 @@ than 4,096 bytes is shown by its two ends, with its length.
 Values L and R are words of up to 16 bytes, with a note where one is wanted: ann, ann'2. Notes are printed,
 and nothing compares them. N is a number, POLICY two letters, left then right: o overwrites, r refuses.
 PAIRS: L R L R .., or `each N L R`: N pairs, each # in the words its number of seven digits. And so
-`run each N CALL`, and `json .. each N MEMBER` of an object.
+`run each N CALL`, and `json .. each N MEMBER` of an object, or of an array of pairs.
 ANSWER: Neither, Left L R, Right L R, Pair L R, Both L R L R
 STEPS: front back len copy rest   RANGE: .. b.. b..d b..=d ..d ..=d, and >b.. without its start
 

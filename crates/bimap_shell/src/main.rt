@@ -27,10 +27,14 @@ mod times;
 mod values;
 mod word;
 
+use bimap_lines::{no_argument, status_of};
+use help::HELP;
 use serve::Shell;
 use std::io;
+use std::process::ExitCode;
 
-fn main(rt: HostRuntime) -> io::Result<()> {
+// Answers all lines.
+fn answer_lines(rt: &HostRuntime) -> io::Result<ExitCode> {
     let alloc = rt.alloc();
     let mut shell = Shell::new(alloc)?;
     for line in rt.lines(alloc) {
@@ -41,5 +45,16 @@ fn main(rt: HostRuntime) -> io::Result<()> {
         let said = shell.answer(line.as_str())?;
         print!(rt; "{said}")?;
     }
-    Ok(())
+    Ok(ExitCode::SUCCESS)
+}
+
+fn run(rt: &HostRuntime) -> io::Result<ExitCode> {
+    match no_argument(rt, "bimap_shell", HELP)? {
+        Some(status) => Ok(status),
+        None => answer_lines(rt),
+    }
+}
+
+fn main(rt: HostRuntime) -> ExitCode {
+    status_of(&rt, run(&rt))
 }

@@ -2,8 +2,9 @@
 use crate::request::{Memory, On, Request};
 use crate::values::{answer, call, pair, pairs, policy, range, steps, value};
 use bimap_json_calls::{numbered, repeated};
+use bimap_lines::{unsigned, words as words_in};
 use std::alloc::{AllocError, Global};
-use std::str::SplitWhitespace;
+use std::str::SplitAsciiWhitespace;
 
 // The words that a call has after its name.
 #[derive(Clone, Copy)]
@@ -96,7 +97,11 @@ fn nothing_after(name: &str) -> bool {
 }
 
 // Reads one or two values, a number or a policy into the request.
-fn read_few(request: &mut Request<'_>, kind: Words, words: &mut SplitWhitespace<'_>) -> Option<()> {
+fn read_few(
+    request: &mut Request<'_>,
+    kind: Words,
+    words: &mut SplitAsciiWhitespace<'_>,
+) -> Option<()> {
     match kind {
         Words::Value => request.first = value(words)?,
         Words::Two => (request.first, request.second) = pair(words)?,
@@ -104,7 +109,7 @@ fn read_few(request: &mut Request<'_>, kind: Words, words: &mut SplitWhitespace<
             request.policy = policy(words.next()?)?;
             (request.first, request.second) = pair(words)?;
         }
-        Words::Number => request.number = words.next()?.parse().ok()?,
+        Words::Number => request.number = unsigned(words.next()?)?.parse().ok()?,
         Words::Undo => {
             request.first = value(words)?;
             request.answer = answer(words)?;
@@ -118,11 +123,11 @@ fn read_few(request: &mut Request<'_>, kind: Words, words: &mut SplitWhitespace<
 
 // Reads the calls of a run, which semicolons part. There may be none.
 fn read_calls(request: &mut Request<'_>, rest: &str) -> Result<Option<()>, AllocError> {
-    if rest.trim().is_empty() {
+    if words_in(rest).next().is_none() {
         return Ok(Some(()));
     }
     for text in rest.split(';') {
-        let mut words = text.split_whitespace();
+        let mut words = words_in(text);
         match call(&mut words) {
             Some(call) if words.next().is_none() => request.calls.push(call)?,
             _ => return Ok(None),
@@ -135,7 +140,7 @@ fn read_calls(request: &mut Request<'_>, rest: &str) -> Result<Option<()>, Alloc
 fn read_list(
     request: &mut Request<'_>,
     kind: Words,
-    words: &mut SplitWhitespace<'_>,
+    words: &mut SplitAsciiWhitespace<'_>,
 ) -> Result<Option<()>, AllocError> {
     let alloc = request.alloc;
     match kind {
@@ -153,20 +158,18 @@ fn read_list(
     Ok(Some(()))
 }
 
-// The text after the first words.
+// The text after the first words, without the blanks before it.
 fn after(text: &str, words: usize) -> &str {
-    let mut rest = text.trim_start();
+    let mut rest = text.trim_ascii_start();
     for _ in 0..words {
-        rest = match rest.split_once(' ') {
-            Some((_, rest)) => rest.trim_start(),
-            None => "",
-        };
+        let word = words_in(rest).next().unwrap_or("");
+        rest = rest.strip_prefix(word).unwrap_or("").trim_ascii_start();
     }
     rest
 }
 
 fn read_json<'a>(request: &mut Request<'a>, rest: &'a str) -> Option<()> {
-    let mut words = rest.split_whitespace();
+    let mut words = words_in(rest);
     request.types = (words.next()?, words.next()?);
     request.policy = policy(words.next()?)?;
     request.text = after(rest, 3);
@@ -196,7 +199,7 @@ fn read_text<'a>(
 }
 
 // What stands before a call, which the first word is.
-fn before<'a>(words: &mut SplitWhitespace<'a>) -> Option<(On, Memory, usize, &'a str)> {
+fn before<'a>(words: &mut SplitAsciiWhitespace<'a>) -> Option<(On, Memory, usize, &'a str)> {
     let (mut on, mut memory, mut count) = (On::Bimap, Memory::Plenty, 1usize);
     for _ in 0..4u32 {
         match words.next()? {
@@ -215,7 +218,7 @@ fn before<'a>(words: &mut SplitWhitespace<'a>) -> Option<(On, Memory, usize, &'a
 
 /// What a line asks for, if it is one of the language.
 pub fn parse(alloc: Global, line: &str) -> Result<Option<Request<'_>>, AllocError> {
-    let mut words = line.split_whitespace();
+    let mut words = words_in(line);
     let Some((on, memory, count, name)) = before(&mut words) else {
         return Ok(None);
     };

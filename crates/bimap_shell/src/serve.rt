@@ -3,6 +3,7 @@ use crate::help::HELP;
 use crate::kinds::{Kinds, NAMES};
 use crate::parse::parse;
 use crate::times::times;
+use bimap_lines::{after_first, unsigned, words};
 use std::alloc::{AllocError, Global};
 
 /// How much may be said while nothing can be allocated.
@@ -75,7 +76,7 @@ fn lines(alloc: Global, answers: &[(usize, String)]) -> Result<String, AllocErro
 // The numbers of the kinds that are named, or of all; `None` where a name is none.
 fn chosen_of(alloc: Global, names: &str) -> Result<Option<Vec<usize>>, AllocError> {
     let mut chosen = Vec::new(alloc);
-    for name in names.split_whitespace() {
+    for name in words(names) {
         match NAMES.iter().position(|known| *known == name) {
             Some(kind) => chosen.push(kind)?,
             None => return Ok(None),
@@ -120,8 +121,9 @@ impl Shell {
         line: &str,
         said: &mut String,
     ) -> Result<Option<bool>, AllocError> {
-        if let Some(rest) = line.strip_prefix("times ") {
-            let Some((turns, call)) = rest.trim_start().split_once(' ') else {
+        if let Some(rest) = after_first(line, "times") {
+            let turns = words(rest).next().unwrap_or("");
+            let (Some(turns), Some(call)) = (unsigned(turns), after_first(rest, turns)) else {
                 return Ok(None);
             };
             return match turns.parse() {
@@ -154,7 +156,7 @@ impl Shell {
 
     /// What is printed for a line.
     pub fn answer(&mut self, line: &str) -> Result<String, AllocError> {
-        let line = line.strip_prefix("> ").unwrap_or(line).trim();
+        let line = line.strip_prefix("> ").unwrap_or(line).trim_ascii();
         if line.is_empty() || line.starts_with('#') {
             return Ok(String::new(self.alloc));
         }

@@ -3,17 +3,18 @@ use crate::request::Step;
 use crate::word::Word;
 use bimap::{Call, OnHeld, Overwritten, Policy};
 use bimap_json_calls::numbered;
+use bimap_lines::unsigned;
 use std::alloc::{AllocError, Global};
 use std::ops::Bound;
-use std::str::SplitWhitespace;
+use std::str::SplitAsciiWhitespace;
 
 /// The next word as a value.
-pub fn value(words: &mut SplitWhitespace<'_>) -> Option<Word> {
+pub fn value(words: &mut SplitAsciiWhitespace<'_>) -> Option<Word> {
     Word::read(words.next()?)
 }
 
 /// The next two words as a pair.
-pub fn pair(words: &mut SplitWhitespace<'_>) -> Option<(Word, Word)> {
+pub fn pair(words: &mut SplitAsciiWhitespace<'_>) -> Option<(Word, Word)> {
     let left = value(words)?;
     let right = value(words)?;
     Some((left, right))
@@ -37,7 +38,7 @@ pub fn policy(word: &str) -> Option<Policy> {
 }
 
 /// An insertion's answer.
-pub fn answer(words: &mut SplitWhitespace<'_>) -> Option<Overwritten<Word, Word>> {
+pub fn answer(words: &mut SplitAsciiWhitespace<'_>) -> Option<Overwritten<Word, Word>> {
     match words.next()? {
         "Neither" => Some(Overwritten::Neither),
         "Left" => pair(words).map(|(left, right)| Overwritten::Left(left, right)),
@@ -62,7 +63,7 @@ fn step(word: &str) -> Option<Step> {
 /// The steps of a walk, or all of it where none are named.
 pub fn steps(
     alloc: Global,
-    words: &mut SplitWhitespace<'_>,
+    words: &mut SplitAsciiWhitespace<'_>,
 ) -> Result<Option<Vec<Step>>, AllocError> {
     let mut steps = Vec::new(alloc);
     for word in words {
@@ -81,9 +82,12 @@ pub fn steps(
 fn numbered_pairs(
     alloc: Global,
     count: &str,
-    words: &mut SplitWhitespace<'_>,
+    words: &mut SplitAsciiWhitespace<'_>,
 ) -> Result<Option<Vec<(Word, Word)>>, AllocError> {
-    let (Ok(count), Some(left), Some(right)) = (count.parse(), words.next(), words.next()) else {
+    let Some(Ok(count)) = unsigned(count).map(str::parse) else {
+        return Ok(None);
+    };
+    let (Some(left), Some(right)) = (words.next(), words.next()) else {
         return Ok(None);
     };
     let mut pairs = Vec::new(alloc);
@@ -104,7 +108,7 @@ fn numbered_pairs(
 fn listed_pairs(
     alloc: Global,
     first: Option<&str>,
-    words: &mut SplitWhitespace<'_>,
+    words: &mut SplitAsciiWhitespace<'_>,
 ) -> Result<Option<Vec<(Word, Word)>>, AllocError> {
     let mut pairs = Vec::new(alloc);
     let Some(first) = first else {
@@ -131,7 +135,7 @@ fn listed_pairs(
 /// All the words that are left, as pairs: each of two words, or `each N L R`, with a number for each `#`.
 pub fn pairs(
     alloc: Global,
-    words: &mut SplitWhitespace<'_>,
+    words: &mut SplitAsciiWhitespace<'_>,
 ) -> Result<Option<Vec<(Word, Word)>>, AllocError> {
     let first = words.next();
     if first == Some("each") {
@@ -168,7 +172,7 @@ pub fn range(word: &str) -> Option<(Bound<Word>, Bound<Word>)> {
 }
 
 /// One of the calls of a run.
-pub fn call(words: &mut SplitWhitespace<'_>) -> Option<Call<Word, Word, Word>> {
+pub fn call(words: &mut SplitAsciiWhitespace<'_>) -> Option<Call<Word, Word, Word>> {
     match words.next()? {
         "insert" => pair(words).map(|(left, right)| Call::Insert(left, right)),
         "insert_no_overwrite" => pair(words).map(|(left, right)| Call::InsertNoOverwrite(

@@ -1,6 +1,7 @@
 //! The values of the shell: words, each with a note that no comparison sees.
 use arrayvec::ArrayString;
 use bimap::NoMemory;
+use bimap_lines::number;
 use bimap_undo::CopyLeft;
 use std::alloc::Global;
 use std::fmt;
@@ -30,7 +31,7 @@ impl Word {
     /// The word that a text spells, with its note.
     pub fn read(text: &str) -> Option<Word> {
         match text.split_once('\'') {
-            Some((word, note)) => plain(word, note.parse().ok()?),
+            Some((word, note)) => plain(word, number(note)?),
             None => plain(text, 0),
         }
     }

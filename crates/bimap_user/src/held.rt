@@ -2,10 +2,11 @@
 ghost use Rattle.std.specs.Prelude.{◌≡◌, ◌+◌, length, Contains, IfErr, OnOk, OnErr};
 ghost use Rattle.bimap.specs.Answer.{IsRefusal};
 ghost use Rattle.bimap.specs.Holding.{IsFull};
+ghost use Rattle.bimap.specs.Sets.{IsWithPut, NoneShares};
 
 use bimap::{Bijection, NotInserted};
 
-/// Seats a new guest in a new seat.
+/// Seats a new guest in a new seat. All other guests keep theirs.
 ///
 /// Costs an insertion. It takes memory only where no place is free. An `Err` hands guest and seat back, and nothing has
 /// changed: one of them is in the ledger, or there was no memory.
@@ -16,6 +17,10 @@ pub fn seat_new<G: Eq + Drop, S: Eq + Drop, B: Bijection<G, S>>(
     seat: S,
 ) -> Result<(), NotInserted<G, S>>
     ensures seated { OnOk result (Contains (B.holding ledger.new).pairs (guest, seat)) }
+    ensures alone { OnOk result (NoneShares G.eq S.eq (Contains (B.holding ledger.old).pairs)
+        (guest, seat)) }
+    ensures others { OnOk result (IsWithPut G.eq S.eq (Contains (B.holding ledger.old).pairs)
+        (guest, seat) (Contains (B.holding ledger.new).pairs)) }
     ensures refused { IfErr result (IsRefusal G.eq S.eq (Contains (B.holding ledger.old).pairs)
         (IsFull (B.holding ledger.old)) (guest, seat)) }
     ensures unchanged { OnErr result (B.holding ledger.new ≡ B.holding ledger.old) }

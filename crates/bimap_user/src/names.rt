@@ -1,15 +1,16 @@
 //! What a caller knows of names that are numbered as they come.
-ghost use Rattle.std.specs.Prelude.{◌≡◌, true, Contains, IfSome, IfNone, IfOk, IfErr, OnOk, OnErr, nat_eq};
+ghost use Rattle.std.specs.Prelude.{◌≡◌, true, Contains, IfSome, IfNone, IfOk, IfErr, IsOk, OnOk, OnErr, nat_eq};
 ghost use Rattle.bimap.specs.Answer.{IsRefusal};
 ghost use Rattle.bimap.specs.Holding.{IsFull};
-ghost use Rattle.bimap.specs.Sets.{IsWithPut, LacksLeft, LacksRight};
+ghost use Rattle.bimap.specs.Sets.{IsWithPut, HasLeft, LacksLeft, LacksRight};
 
 use bimap::{Bijection, Interning, NotInserted};
 
 /// The number of a name: the one that it has, or else `fresh`. No name loses its number.
 ///
-/// Costs a search where the name has a number, and else an insertion. It takes memory only where it has none and no place
-/// is free. An `Err` hands both back, and nothing has changed: another name has `fresh`, or there was no memory.
+/// Costs a search where the name has a number, which is never refused, and else an insertion. It takes memory only where
+/// it has none and no place is free. An `Err` hands both back, and nothing has changed: another name has `fresh`, or there
+/// was no memory.
 #[tactic(auto, using(bimap::proofs::LookUps::put_is_held))]
 pub fn number_of<L: Eq + Drop, B: Interning<L, u32>>(
     names: &mut B,
@@ -18,6 +19,8 @@ pub fn number_of<L: Eq + Drop, B: Interning<L, u32>>(
 ) -> Result<u32, NotInserted<L, u32>>
     ensures has { IfOk result (λ number. (l : L) × Contains (B.holding names.new).pairs (l, number)
         × (L.eq l name ≡ true)) }
+    ensures never_refused { HasLeft L.eq (Contains (B.holding names.old).pairs) name →
+        IsOk result × (B.holding names.new ≡ B.holding names.old) }
     ensures put { LacksLeft L.eq (Contains (B.holding names.old).pairs) name →
         OnOk result (IsWithPut L.eq nat_eq (Contains (B.holding names.old).pairs) (name, fresh)
         (Contains (B.holding names.new).pairs)) }

@@ -60,37 +60,3 @@ fn taken_by_loop(
     }
     Ok(pairs)
 }
-
-// Whether these are the items, and there was memory.
-fn are<T: PartialEq + Drop>(list: Result<Vec<T>, AllocError>, items: &[T]) -> bool {
-    match list {
-        Ok(list) => list.as_slice() == items,
-        Err(_) => false,
-    }
-}
-
-const PAIRS: [(char, u32); 3] = [('a', 3), ('b', 1), ('c', 2)];
-
-fn filled(alloc: Global) -> BiBTreeMap<char, u32> {
-    let mut bimap = BiBTreeMap::new(alloc);
-    for (left, right) in PAIRS {
-        let _ = bimap.insert(left, right);
-    }
-    bimap
-}
-
-#[test]
-fn callers_know_what_they_walked(rt: HostRuntime) {
-    let map = filled(rt.alloc());
-    assert!(&rt; are(rights_by_loop(rt.alloc(), &map), &[3, 1, 2]));
-    assert!(&rt; are(rights_by_chain(rt.alloc(), &map), &[3, 1, 2]));
-    assert!(&rt; are(sorted_rights(rt.alloc(), &map), &[1, 2, 3]));
-    assert!(&rt; are(lefts_back(rt.alloc(), &map), &['c', 'b', 'a']));
-    assert!(&rt; are_equal(&map, &map));
-}
-
-#[test]
-fn callers_know_what_they_took(rt: HostRuntime) {
-    assert!(&rt; are(taken(rt.alloc(), filled(rt.alloc())), &PAIRS));
-    assert!(&rt; are(taken_by_loop(rt.alloc(), filled(rt.alloc())), &PAIRS));
-}

@@ -1,6 +1,6 @@
 //! Examples of insertions, removals and rooms. Each function is handed what the examples begin with.
 use super::{Seats, holds, ordered};
-use bimap::{BiHashMap, NotInserted, NotInsertedWith, OnHeld, Overwritten, Policy};
+use bimap::{NotInserted, NotInsertedWith, OnHeld, Overwritten, Policy};
 use std::alloc::Global;
 use std::process::Abort;
 
@@ -74,15 +74,6 @@ fn removes_and_undoes(rt: HostRuntime) {
     keeps_some(&rt, &mut ordered(&rt));
     moves_some(&rt, rt.alloc(), &mut ordered(&rt));
     moves_all(&rt, rt.alloc(), &mut ordered(&rt));
-}
-
-#[test]
-fn keeps_some_by_hash(rt: HostRuntime) {
-    let mut seats: BiHashMap<char, u32> = BiHashMap::from_iter(rt.alloc(), super::PAIRS)
-        .ok()
-        .expect(&rt, "no memory");
-    seats.retain(|_: &char, seat: &u32| *seat >= 2);
-    assert!(&rt; seats.len() == 2);
 }
 
 fn makes_and_takes_room(rt: &impl Abort, seats: &mut Seats) {

@@ -32,18 +32,6 @@ fn clear(seats: Seats, seat: u32) -> (Option<(u32, char)>, Seats)
 }
 
 #[test]
-fn inserts_from_the_other_side(rt: HostRuntime) {
-    let mut seats = ordered(&rt);
-    assert!(&rt; give(&mut seats, 3, 'd') == Ok(Overwritten::Left(3, 'a')));
-    assert!(&rt; holds(&seats, &[('b', 1), ('c', 2), ('d', 3)]));
-    assert!(&rt; give(&mut seats, 2, 'b') == Ok(Overwritten::Both((2, 'c'), (1, 'b'))));
-    assert!(&rt; holds(&seats, &[('b', 2), ('d', 3)]));
-    let (emptied, seats) = clear(seats, 3);
-    assert!(&rt; emptied == Some((3, 'd')));
-    assert!(&rt; seats.is_empty());
-}
-
-#[test]
 fn looks_from_the_other_side(rt: HostRuntime) {
     let mut seats = ordered(&rt);
     let mut rooms = Inverse::new(&mut seats);

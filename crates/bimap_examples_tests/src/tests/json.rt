@@ -103,19 +103,3 @@ fn pairs_keep_their_order(rt: HostRuntime) -> Result<(), Fail> {
     assert!(&rt; text.as_str() == r#"[["c",2],["a",3]]"#);
     Ok(())
 }
-
-#[test]
-fn pairs_are_named_where_they_do_not_read(rt: HostRuntime) -> Result<(), Fail> {
-    let alloc = rt.alloc();
-    for (text, fault) in [
-        ("{}", PairsFault::NotAnArray),
-        (r#"[["a", 1], ["b"]]"#, PairsFault::NotAPair(1)),
-        (r#"[["a", 1, 2]]"#, PairsFault::NotAPair(0)),
-        (r#"[["a", 1], ["bc", "d"]]"#, PairsFault::BadLeft(1)),
-        (r#"[["a", "b"], 7]"#, PairsFault::BadRight(0)),
-    ] {
-        let value = Value::from_str(alloc, text)?;
-        assert!(&rt; pairs_read(alloc, &value).err() == Some(fault));
-    }
-    Ok(())
-}

@@ -67,7 +67,6 @@ fn takes_the_ends_out(rt: HostRuntime) {
 fn compares(rt: &impl Abort, seats: &Seats, hashed: &BiHashMap<char, u32>) {
     assert!(rt; seats.is_subset_of(hashed));
     assert!(rt; seats.holds_same_pairs(hashed));
-    assert!(rt; seats.is_subset_of(seats));
 }
 
 #[test]

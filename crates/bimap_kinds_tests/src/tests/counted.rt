@@ -34,6 +34,11 @@ impl Ledger {
         }
     }
 
+    /// The allocator of the values.
+    pub fn alloc(&self) -> Global {
+        self.alloc
+    }
+
     /// Makes a value.
     pub fn value(&mut self, name: u32) -> Result<Counted, AllocError> {
         let drops = Rc::new(self.alloc, Cell::new(0u32))?;

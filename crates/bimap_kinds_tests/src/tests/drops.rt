@@ -1,7 +1,8 @@
 //! Each value that a bimap was given is dropped once, and not before it is let go.
 use super::counted::{Counted, Ledger};
-use bimap::{BiBTreeHashMap, BiHashBTreeMap, Bijection};
+use bimap::{BiBTreeHashMap, BiHashBTreeMap, Bijection, OnHeld, Policy, extend_with};
 use bimap_calls::{Kind, over_mixed_kinds};
+use bimap_undo::Undoable;
 use std::alloc::{AllocError, Global};
 use std::process::Abort;
 use std::test::Fail;
@@ -94,6 +95,41 @@ fn cleared<B: Kind<Counted, Counted>>(
     Ok(())
 }
 
+// Inserts a list of pairs of these names, whose lefts overwrite. What the list overwrites, or hands back, is dropped.
+fn put_list<B: Bijection<Counted, Counted>>(
+    bimap: &mut B,
+    ledger: &mut Ledger,
+    names: &[(u32, u32)],
+    right: OnHeld,
+) -> Result<(), AllocError> {
+    let mut items = Vec::new(ledger.alloc());
+    for (left, right) in names {
+        items.push(ledger.pair(*left, *right)?)?;
+    }
+    let policy = Policy {
+        left: OnHeld::Overwrite,
+        right,
+    };
+    drop(extend_with(bimap, items, policy));
+    Ok(())
+}
+
+// A list that overwrites two pairs, a pair by its left and one by its right, and a list that stops at its second pair.
+fn put_lists<B: Bijection<Counted, Counted>>(
+    rt: &impl Abort,
+    bimap: &mut B,
+    ledger: &mut Ledger,
+) -> Result<(), AllocError> {
+    let names = [(0, 0), (1, 1), (0, 1), (0, 2), (3, 2)];
+    put_list(bimap, ledger, &names, OnHeld::Overwrite)?;
+    assert_eq!(rt; (bimap.len(), ledger.dropped()), (1, Some(8)));
+    put_list(bimap, ledger, &[(4, 4), (5, 2), (6, 6)], OnHeld::Refuse)?;
+    assert_eq!(rt; (bimap.len(), ledger.dropped()), (2, Some(12)));
+    bimap.clear();
+    assert!(rt; ledger.is_balanced());
+    Ok(())
+}
+
 // Forty pairs, with free places in the midst.
 fn fill_with_gaps<B: Bijection<Counted, Counted>>(
     bimap: &mut B,
@@ -149,6 +185,8 @@ fn all<B: Kind<Counted, Counted>>(rt: &impl Abort, alloc: Global) -> Result<(), 
     let_go(rt, &mut bimap, &mut ledger)?;
     undone(rt, &mut bimap, &mut ledger)?;
     cleared(rt, &mut bimap, &mut ledger)?;
+    bimap.clear();
+    put_lists(rt, &mut bimap, &mut Ledger::new(alloc))?;
     drop(bimap);
     assert!(rt; ledger.is_balanced());
     Ok(())
@@ -167,6 +205,46 @@ fn given_up_at_both_ends(rt: &impl Abort, alloc: Global, steps: usize) -> Result
     assert_eq!(rt; ledger.dropped(), Some(steps.saturating_mul(4)));
     drop(walk);
     assert!(rt; ledger.is_balanced(), "{steps}");
+    Ok(())
+}
+
+// Records the insertion of a right, and that of another in its place.
+fn overwrites<B: Bijection<u32, Counted> + Drop>(
+    seats: &mut Undoable<B, u32, Counted>,
+    ledger: &mut Ledger,
+) -> Result<(), AllocError> {
+    for name in [10, 11] {
+        drop(seats.insert(1, ledger.value(name)?));
+    }
+    Ok(())
+}
+
+// A record owns what its changes took out, until it goes back, forgets, or is taken apart.
+fn recorded<B: Bijection<u32, Counted> + Drop>(
+    rt: &impl Abort,
+    alloc: Global,
+    empty: B,
+) -> Result<(), AllocError> {
+    let mut ledger = Ledger::new(alloc);
+    let mut seats = Undoable::new(alloc, empty);
+    overwrites(&mut seats, &mut ledger)?;
+    drop(seats.remove_by_left(&1));
+    assert_eq!(rt; (seats.mark(), ledger.dropped()), (3, Some(0)));
+    seats.back_to(0);
+    assert_eq!(rt; ledger.dropped(), Some(2));
+    overwrites(&mut seats, &mut ledger)?;
+    seats.forget();
+    assert_eq!(rt; ledger.dropped(), Some(3));
+    drop(seats.remove_by_left(&1));
+    drop(seats.into_inner());
+    assert!(rt; ledger.is_balanced());
+    Ok(())
+}
+
+#[test]
+fn each_recorded_value_is_dropped_once(rt: HostRuntime) -> Result<(), Fail> {
+    let empty: BiHashBTreeMap<u32, Counted> = BiHashBTreeMap::new(rt.alloc());
+    recorded(&rt, rt.alloc(), empty)?;
     Ok(())
 }
 

@@ -2,7 +2,7 @@
 use bimap::{Bijection, NoRoom};
 use bimap_famine::Famine;
 use bimap_plain::Plain;
-use bimap_undo::{CopyLeft, Undoable};
+use bimap_undo::Undoable;
 use std::alloc::Global;
 use std::process::Abort;
 use std::test::Fail;
@@ -101,16 +101,5 @@ fn goes_back_over_texts_and_a_plain_bimap(rt: HostRuntime) -> Result<(), Fail> {
     let goes_back = goes_back_by_each(&mut texts);
     drop(famine);
     assert!(rt; goes_back);
-    Ok(())
-}
-
-#[test]
-fn copies_lefts(rt: HostRuntime) -> Result<(), Fail> {
-    let alloc = rt.alloc();
-    let copy = String::from_str(alloc, "left")?.copy_left(alloc);
-    assert_eq!(rt; copy.ok().ok_or("no memory")?.as_str(), "left");
-    assert_eq!(rt; 'é'.copy_left(alloc), Ok('é'));
-    assert_eq!(rt; 4_000_000_000u32.copy_left(alloc), Ok(4_000_000_000));
-    assert_eq!(rt; i64::MIN.copy_left(alloc), Ok(i64::MIN));
     Ok(())
 }

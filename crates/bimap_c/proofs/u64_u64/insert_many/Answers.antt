@@ -1,47 +1,63 @@
-use Rattle.std.proofs.Common.{rules, ◌≡◌, ◌≢◌, ◌∙◌, ℕ, ◌<◌, Option, Some, None, List, inl, inr, refl, sym, ap, subst, map, take, length, nat_eq, Contains, arith}
-use Rattle.std.specs.Iterator.{Yields}
-use Rattle.std.proofs.lemmas.List.{map-id, length-map, take_all}
+use Rattle.std.proofs.Common.{rules, ◌≡◌, ◌∙◌, ◌<◌, ℕ, Option, Some, None, List, [], ◌∷◌, inl, inr, refl, sym, ap, subst, map, length, arith}
+use Rattle.std.specs.Iterator.{AlwaysYields, YieldsThen}
+use Rattle.std.proofs.lemmas.List.{length-map}
 use Rattle.std.proofs.lemmas.Iterator.{YieldsList, YieldsList-from_map, YieldsList-from_slice}
-use Rattle.std.proofs.lemmas.Iterator.Consumers.{YieldsList-so_far, YieldsList-turn, YieldsList-end}
-use Rattle.bimap_base.specs.Answer.{IsRefusalUnder}
-use Rattle.bimap_base.specs.Survivors.{AreSurvivors}
-use Rattle.bimap_base.specs.declared.policy.OnHeld.TheVariants.{Refuse}
-use Rattle.bimap_base.specs.declared.policy.Policy.{Policy}
-use Rattle.bimap_base.specs.declared.refusal.NotInsertedWith.{NotInsertedWith}
-use Rattle.bimap_base.specs.declared.refusal.NotInsertedWith.TheVariants.{LeftHeld, RightHeld, Memory}
-use Rattle.bimap_c.specs.U64U64.{pair}
+use Rattle.bimap_c.specs.U64U64.{pair, gives_first}
 use Rattle.bimap_c.proofs.u64_u64.insert_many.Goals as goal
 
-ended : {S X : Type 0} {steps : S → Option X → S → Type 0} (it t u : S) (items all : List X) → Yields steps it items t → steps t None u → YieldsList steps (λ p. p) it all → items ≡ all
-ended it t u items all y step chain = sym (map-id items) ∙ (YieldsList-end chain items t y None u (λ _. None) step).0
+abbrev ListYields : List (ℕ × ℕ) → List (ℕ × ℕ) → Option (ℕ × ℕ) → Type 0
+ListYields all items answer = (later : List (ℕ × ℕ)) × YieldsThen gives_first all items answer later
 
-goes_on : {S X : Type 0} {steps : S → Option X → S → Type 0} (it t u : S) (items all : List X) (x : X) → Yields steps it items t → steps t (Some x) u → YieldsList steps (λ p. p) it all → (length items < length all) × (items ≡ take (length items) all)
-goes_on it t u items all x y step chain = ((YieldsList-turn chain items t y (Some x) u x (λ _. Some x) step).0, sym (map-id items) ∙ YieldsList-so_far chain items t y)
+module _ {S : Type 0} (steps : S → Option (ℕ × ℕ) → S → Type 0) where
+  next : (s t : S) (left : List (ℕ × ℕ)) (answer : Option (ℕ × ℕ)) → AlwaysYields steps (λ p. p) s left → steps s answer t → (later : List (ℕ × ℕ)) × gives_first left answer later
+  next s t [] None gives step = ([], (refl, refl))
+  next s t [] (Some x) gives step = absurd (gives x t step)
+  next s t (p ∷ left) None gives step = absurd (gives.0 t step)
+  next s t (p ∷ left) (Some x) gives step = (left, ap (λ q. q ∷ left) (sym (gives.1 x t step).0))
 
-ran_out : (S : ℕ × ℕ → Type 0) (NoPlace : Type 0) (p : ℕ × ℕ) (policy : Policy) (why : NotInsertedWith ℕ ℕ) → policy.left ≢ Refuse → policy.right ≢ Refuse → IsRefusalUnder nat_eq nat_eq S NoPlace p policy why → NoPlace
-ran_out S NoPlace p policy (LeftHeld l r) left right w = absurd (left w.1)
-ran_out S NoPlace p policy (RightHeld l r) left right w = absurd (right w.2)
-ran_out S NoPlace p policy (Memory l r) left right w = w.2
+  steps_along : (s u : S) (all items : List (ℕ × ℕ)) (answer : Option (ℕ × ℕ)) → AlwaysYields steps (λ p. p) s all → YieldsThen steps s items answer u → ListYields all items answer
+  steps_along s u all [] answer gives calls =
+      let last = next s u all answer gives (subst (λ w. steps w answer u) (sym calls.1) calls.2) in
+      (last.0, (all, refl, last.1))
+  steps_along s u [] (x ∷ items) answer gives calls = absurd (gives x calls.1.0 calls.1.1)
+  steps_along s u (p ∷ all) (x ∷ items) answer gives calls =
+      let first = gives.1 x calls.1.0 calls.1.1 in
+      let others = steps_along calls.1.0 u all items answer first.1 (calls.0, calls.1.2, calls.2) in
+      (others.0, (others.1.0, (all, ap (λ q. q ∷ all) (sym first.0), others.1.1), others.1.2))
+
+-- what the calls of an iterator gave, a list of all that it gives would have given
+of_list : {S : Type 0} {steps : S → Option (ℕ × ℕ) → S → Type 0} (s u : S) (all items : List (ℕ × ℕ)) (answer : Option (ℕ × ℕ)) → YieldsThen steps s items answer u → YieldsList steps (λ p. p) s all → ListYields all items answer
+of_list {steps = steps} s u all items answer calls chain = steps_along steps s u all items answer chain.runs calls
+
+shorter : (all items later : List (ℕ × ℕ)) (x : ℕ × ℕ) → YieldsThen gives_first all items (Some x) later → length items < length all
+shorter all [] later x calls = omega (arith, ap length (calls.1 ∙ calls.2))
+shorter all (p ∷ items) later x calls = omega (arith, ap length calls.1.1, shorter calls.1.0 items later x (calls.0, calls.1.2, calls.2))
 
 pub returns-in-Ok : goal.returns-in-Ok
 returns-in-Ok g c =
     let rows = c.args.pairs.now in
-    let e = c.in-Ok.ensures.extended.extension in
-    let is = ended e.iterator e.all.1.0 e.all.0 e.items (map pair rows) e.all.1.1 e.all.1.2 (YieldsList-from_map _ pair (YieldsList-from_slice rows (cc)) (cc) (λ x r q k. search rules)) in
-    record {
-      survivors = subst (λ items. AreSurvivors nat_eq nat_eq (Contains (g.B.Bijection.holding c.args.map.now).pairs) items (Contains (g.B.Bijection.holding c.extend_with.new.bimap).pairs)) (is ∙ sym (take_all (length rows) (map pair rows) (omega (arith, length-map rows pair)))) e.survivors;
-      ends = inl (refl, refl);
-    }
+    let e = c.in-Ok.ensures.extended in
+    let all = of_list e.iterator e.all.0 (map pair rows) e.items None e.all.1 (YieldsList-from_map _ pair (YieldsList-from_slice rows (cc)) (cc) (λ x r q k. search rules)) in
+    inl (refl, refl, record { iterator = map pair rows; items = e.items; given = refl; all = all; survivors = e.survivors; room = e.room })
 
 pub returns-in-Err : goal.returns-in-Err
 returns-in-Err g c =
     let rows = c.args.pairs.now in
+    let stopped = c.in-Err.stopped in
     let e = c.in-Err.ensures.stopped in
     let n = e.refused.is_next in
-    let is = goes_on n.iterator n.next_item.0 n.rest e.items (map pair rows) _ n.next_item.1 n.next_item.2 (YieldsList-from_map _ pair (YieldsList-from_slice rows (cc)) (cc) (λ x r q k. search rules)) in
-    let lt : length e.items < length rows = omega (arith, is.0, length-map rows pair) in
-    let count : length e.items ≡ c.in-Err.refused.taken = omega (arith, n.counted, lt, c.iter.ensures.bound, c.iter.ensures.rest) in
-    record {
-      survivors = subst (λ items. AreSurvivors nat_eq nat_eq (Contains (g.B.Bijection.holding c.args.map.now).pairs) items (Contains (g.B.Bijection.holding c.extend_with.new.bimap).pairs)) (is.1 ∙ ap (λ k. take k (map pair rows)) count) e.survivors;
-      ends = inr (refl, subst (λ k. k < length rows) count lt, (ran_out _ _ _ _ _ (λ q. absurd (cc)) (λ q. absurd (cc)) e.refused.why).full);
-    }
+    let calls = of_list n.iterator n.rest (map pair rows) e.items (Some (stopped.left, stopped.right)) n.next_item (YieldsList-from_map _ pair (YieldsList-from_slice rows (cc)) (cc) (λ x r q k. search rules)) in
+    let within = shorter (map pair rows) e.items calls.0 (stopped.left, stopped.right) calls.1 in
+    let count : stopped.taken ≡ length e.items = omega (arith, n.counted, within, length-map rows pair, c.iter.ensures.bound, c.iter.ensures.rest) in
+    inr (
+      refl,
+      stopped,
+      record {
+        items = e.items;
+        refused = record { is_next = record { iterator = map pair rows; rest = calls.0; given = refl; next_item = calls.1; counted = n.counted }; strikes_none = e.refused.strikes_none };
+        survivors = e.survivors;
+        out_of_places = e.out_of_places;
+        room = e.room;
+      },
+      count,
+    )
