@@ -170,7 +170,7 @@ shell_words() {
 requests_of() {
     case "$1" in
     bimap_rows) printf %b "$(listed "$1")" ;;
-    bimap_shell) echo help | "$program" ;;
+    tool_shell) echo help | "$program" ;;
     *) awk -v name="\`$1\`" '/^## / { here = index($0, name) } /^(> |```)/ { on = here && $0 == "> help"; next } on' docs/PROGRAMS.md ;;
     esac
 }

@@ -1,4 +1,4 @@
-// Boost.Bimap beside this repository's: `boost PAIRS times KEYS KIND` makes the calls of `crates/bimap_bench` over it: the same keys,
+// Boost.Bimap beside this repository's: `boost PAIRS times KEYS KIND` makes the calls of `crates/tool_bench` over it: the same keys,
 // the same order, the same lines. `boost` alone prints its version.
 #include <boost/bimap.hpp>
 #include <boost/bimap/set_of.hpp>
@@ -12,7 +12,7 @@
 using boost::bimaps::set_of;
 using boost::bimaps::unordered_set_of;
 
-// The keys of a run, as in `crates/bimap_bench`.
+// The keys of a run, as in `crates/tool_bench`.
 struct Keys {
     uint64_t pairs, lefts = 0x9E3779B97F4A7C15, rights = 0xD1B54A32D192ED03, step = 0;
     Keys(uint64_t pairs, bool is_rising) : pairs(pairs) {

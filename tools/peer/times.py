@@ -1,4 +1,4 @@
-"""The calls of crates/bimap_bench from Python: `times.py PAIRS times KEYS KIND` makes them on a kind of the package jetukoma, or
+"""The calls of crates/tool_bench from Python: `times.py PAIRS times KEYS KIND` makes them on a kind of the package jetukoma, or
 on bidict's where that is named. All items go in at once, again so, and come out so; look-ups and removals are a call each."""
 import sys
 import time

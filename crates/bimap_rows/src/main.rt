@@ -12,7 +12,7 @@ mod serve;
 #[cfg(test)]
 mod tests;
 
-use bimap_lines::no_argument;
+use tool_lines::no_argument;
 use serve::{Ending, serve};
 use std::io::{self, BufReader, BufWriter, ErrorKind};
 use std::process::ExitCode;

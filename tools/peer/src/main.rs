@@ -1,5 +1,5 @@
-//! The Rust crate `bimap` beside this repository's. `peer PAIRS times KEYS KIND` makes the calls of `crates/bimap_bench` over it:
-//! the same keys, the same order, the same lines. `peer shell` answers the lines of standard input as `crates/bimap_shell` does.
+//! The Rust crate `bimap` beside this repository's. `peer PAIRS times KEYS KIND` makes the calls of `crates/tool_bench` over it:
+//! the same keys, the same order, the same lines. `peer shell` answers the lines of standard input as `crates/tool_shell` does.
 mod kind;
 mod made;
 mod shell;

@@ -1,9 +1,9 @@
-//! The calls of `crates/bimap_bench`, over a crate that is named `bimap`: the Rust crate, or the proved one from Rust, whose walks
+//! The calls of `crates/tool_bench`, over a crate that is named `bimap`: the Rust crate, or the proved one from Rust, whose walks
 //! have no way back.
 use bimap::{BiBTreeMap, BiHashMap, Overwritten};
 use std::time::Instant;
 
-/// The keys of a run, as in `crates/bimap_bench`.
+/// The keys of a run, as in `crates/tool_bench`.
 #[derive(Clone, Copy)]
 struct Keys {
     pairs: u64,

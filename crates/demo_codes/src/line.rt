@@ -1,0 +1,107 @@
+//! What a line asks of the table, and the reply to it.
+use crate::codes::{assign, assign_all, code_of, name_of, written};
+use crate::fault::Fault;
+use crate::table::{Codes, gives_table, items_after, parse_items, table_of};
+use bimap::{NoMemory, NotInserted};
+use tool_lines::{number, wanted, words};
+use std::alloc::{AllocError, Global};
+use std::io;
+
+/// The requests, and what each asks.
+pub const REQUESTS: &str = "code NAME - which code?
+name CODE - which name?
+assign NAME CODE - if neither is taken
+assign-all NAME CODE NAME CODE .. - each in turn, until one is refused
+show - the table
+table NAME CODE NAME CODE .. - another table
+{\"NAME\": CODE, ..} - another table
+help - lists these; a CODE is a number up to 4294967295";
+
+// Whether a name got a code, in words.
+fn assigned(codes: &mut Codes, name: String, code: u32) -> &'static str {
+    match assign(codes, name, code) {
+        Ok(()) => "assigned",
+        Err(NotInserted::Occupied(_, _)) => "taken",
+        Err(NotInserted::Memory(_, _)) => "no memory",
+    }
+}
+
+// Gives new names free codes, in order.
+fn take_items(alloc: Global, codes: &mut Codes, text: &str) -> Result<(), Fault> {
+    let items = parse_items(alloc, text)?;
+    assign_all(codes, items).map_err(Fault::Refused)
+}
+
+// Whether each of these names got its code, or else which did not.
+fn all_assigned(alloc: Global, codes: &mut Codes, text: &str) -> Result<String, AllocError> {
+    match take_items(alloc, codes, text) {
+        Ok(()) => format!(in alloc; "assigned, now {}", codes.len()),
+        Err(fault) => format!(in alloc; "{fault}, now {}", codes.len()),
+    }
+}
+
+/// The table as the text of a JSON object.
+pub fn shown(alloc: Global, codes: &Codes) -> Result<String, AllocError> {
+    match written(alloc, codes) {
+        Ok(object) => format!(in alloc; "{object}"),
+        Err(NoMemory) => Err(AllocError),
+    }
+}
+
+// The code of a name, in words.
+fn told_code(alloc: Global, codes: &Codes, name: &str) -> Result<String, AllocError> {
+    match code_of(codes, &String::from_str(alloc, name)?) {
+        Some(code) => format!(in alloc; "{code}"),
+        None => String::from_str(alloc, "no such name"),
+    }
+}
+
+// The name of a code, in words.
+fn told_name(alloc: Global, codes: &Codes, code: u32) -> Result<String, AllocError> {
+    match name_of(codes, &code) {
+        Some(name) => String::from_str(alloc, name.as_str()),
+        None => String::from_str(alloc, "no such code"),
+    }
+}
+
+// The reply to a line that gives no table. All words of `assign-all` are read before a name gets its code, and the reply says
+// last how many names have codes. Of a line that asks nothing it says what was wanted.
+fn reply_to(alloc: Global, codes: &mut Codes, line: &str) -> Result<String, AllocError> {
+    if let Some(text) = items_after(line, "assign-all") {
+        return all_assigned(alloc, codes, text);
+    }
+    let mut words = words(line);
+    let (verb, first) = (words.next(), words.next());
+    let (code, second) = (first.map(number), words.next().map(number));
+    match (verb, first, code, second, words.next()) {
+        (Some("code"), Some(name), _, None, None) => told_code(alloc, codes, name),
+        (Some("name"), _, Some(Some(code)), None, None) => told_name(alloc, codes, code),
+        (Some("assign"), Some(name), _, Some(Some(code)), None) => {
+            let name = String::from_str(alloc, name)?;
+            String::from_str(alloc, assigned(codes, name, code))
+        }
+        (Some("show"), None, _, None, None) => shown(alloc, codes),
+        (Some("help"), None, _, None, None) => String::from_str(alloc, REQUESTS),
+        _ => format!(in alloc; "bad line; wanted: {}", wanted(REQUESTS, line)),
+    }
+}
+
+/// Does what a line asks for, which is one of `REQUESTS`, and prints the reply. `false` where it was to give a table and gives
+/// none: then it prints what is wrong with it, and the table stays.
+pub fn answer(rt: &(impl Print + AllocGlobal), codes: &mut Codes, line: &str) -> io::Result<bool> {
+    if !gives_table(line) {
+        let reply = reply_to(rt.alloc(), codes, line)?;
+        println!(rt; "{reply}")?;
+        return Ok(true);
+    }
+    match table_of(rt.alloc(), line) {
+        Ok(table) => {
+            *codes = table;
+            Ok(true)
+        }
+        Err(fault) => {
+            println!(rt; "{fault}")?;
+            Ok(false)
+        }
+    }
+}

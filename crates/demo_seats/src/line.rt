@@ -1,0 +1,127 @@
+//! What a line asks of the ledger, and the reply to it.
+ghost use Rattle.std.specs.Prelude.{◌≤◌};
+
+use crate::seats::{first_taken, guest_on, last_taken, leave, move_to, row, seat_of, take};
+use bimap::{BiHashBTreeMap, NoRoom, NotInsertedWith, Overwritten};
+use tool_lines::{NO_TEXT, number, text_of, wanted, words};
+use std::alloc::{AllocError, Global};
+use std::io;
+
+/// The requests, and what each asks.
+pub const REQUESTS: &str = "take GUEST SEAT - whoever has it loses it
+move GUEST SEAT - if nobody has it
+leave GUEST - gives up the seat
+seat GUEST - which seat?
+guest SEAT - who has it?
+row FIRST END - who sits from FIRST to before END >= FIRST?
+first - who has the first seat taken?
+last - who has the last seat taken?
+help - lists these; SEAT, FIRST and END are numbers up to 4294967295";
+
+/// Guests by their names, each with the number of a seat.
+pub type Seats = BiHashBTreeMap<String, u32>;
+
+// Who lost a seat to a guest who has one now.
+fn seated(alloc: Global, lost: &Overwritten<String, u32>) -> Result<String, AllocError> {
+    match lost {
+        Overwritten::Neither => String::from_str(alloc, "seated"),
+        Overwritten::Pair(_, seat) => format!(in alloc; "stays on {seat}"),
+        Overwritten::Left(_, seat) => format!(in alloc; "seated, leaves {seat}"),
+        Overwritten::Right(guest, _) => format!(in alloc; "seated, {guest} has none"),
+        Overwritten::Both((_, seat), (guest, _)) => {
+            format!(in alloc; "seated, leaves {seat}, {guest} has none")
+        }
+    }
+}
+
+fn taken(alloc: Global, seats: &mut Seats, guest: &str, seat: u32) -> Result<String, AllocError> {
+    match take(seats, String::from_str(alloc, guest)?, seat) {
+        Ok(lost) => seated(alloc, &lost),
+        Err(NoRoom { .. }) => Err(AllocError),
+    }
+}
+
+fn moved(alloc: Global, seats: &mut Seats, guest: &str, seat: u32) -> Result<String, AllocError> {
+    match move_to(seats, String::from_str(alloc, guest)?, seat) {
+        Ok(lost) => seated(alloc, &lost),
+        Err(NotInsertedWith::Memory(_, _)) => Err(AllocError),
+        Err(NotInsertedWith::LeftHeld(guest, _)) => format!(in alloc; "{guest} stays"),
+        Err(NotInsertedWith::RightHeld(guest, seat)) => {
+            format!(in alloc; "{guest} stays, {seat} is taken")
+        }
+    }
+}
+
+fn gone(alloc: Global, seats: &mut Seats, guest: &str) -> Result<String, AllocError> {
+    match leave(seats, &String::from_str(alloc, guest)?) {
+        Some((_, seat)) => format!(in alloc; "leaves {seat}"),
+        None => String::from_str(alloc, "has none"),
+    }
+}
+
+fn place(alloc: Global, seats: &Seats, guest: &str) -> Result<String, AllocError> {
+    match seat_of(seats, &String::from_str(alloc, guest)?) {
+        Some(seat) => format!(in alloc; "{seat}"),
+        None => String::from_str(alloc, "has none"),
+    }
+}
+
+fn sitter(alloc: Global, seats: &Seats, seat: u32) -> Result<String, AllocError> {
+    match guest_on(seats, &seat) {
+        Some(guest) => String::from_str(alloc, guest.as_str()),
+        None => String::from_str(alloc, "nobody"),
+    }
+}
+
+// The guests on the seats of a row, each with the seat, by ascending seat.
+fn sitters(alloc: Global, seats: &Seats, first: u32, end: u32) -> Result<String, AllocError>
+    requires ordered { first ≤ end }
+{
+    let mut told = String::new(alloc);
+    for (guest, seat) in row(seats, first, end) {
+        let comma = if told.is_empty() { "" } else { ", " };
+        write!(told, "{comma}{guest} on {seat}")?;
+    }
+    match told.is_empty() {
+        true => String::from_str(alloc, "nobody"),
+        false => Ok(told),
+    }
+}
+
+// The guest and the seat at an end of the seats that are taken.
+fn end(alloc: Global, taken: Option<(&String, &u32)>) -> Result<String, AllocError> {
+    match taken {
+        Some((guest, seat)) => format!(in alloc; "{guest} on {seat}"),
+        None => String::from_str(alloc, "nobody"),
+    }
+}
+
+// The reply to a line of text.
+fn reply_to(alloc: Global, seats: &mut Seats, line: &str) -> Result<String, AllocError> {
+    let mut words = words(line);
+    let (verb, first) = (words.next(), words.next());
+    let (seat, second) = (first.map(number), words.next().map(number));
+    match (verb, first, seat, second, words.next()) {
+        (Some("take"), Some(guest), _, Some(Some(seat)), None) => taken(alloc, seats, guest, seat),
+        (Some("move"), Some(guest), _, Some(Some(seat)), None) => moved(alloc, seats, guest, seat),
+        (Some("row"), _, Some(Some(first)), Some(Some(end)), None) if first <= end => {
+            sitters(alloc, seats, first, end)
+        }
+        (Some("guest"), _, Some(Some(seat)), None, None) => sitter(alloc, seats, seat),
+        (Some("first"), None, _, None, None) => end(alloc, first_taken(seats)),
+        (Some("last"), None, _, None, None) => end(alloc, last_taken(seats)),
+        (Some("leave"), Some(guest), _, None, None) => gone(alloc, seats, guest),
+        (Some("seat"), Some(guest), _, None, None) => place(alloc, seats, guest),
+        (Some("help"), None, _, None, None) => String::from_str(alloc, REQUESTS),
+        _ => format!(in alloc; "bad line; wanted: {}", wanted(REQUESTS, line)),
+    }
+}
+
+/// The reply to a line, which asks what one of `REQUESTS` says. Of another line it says what was wanted, and changes nothing.
+pub fn reply(alloc: Global, seats: &mut Seats, line: io::Result<String>) -> io::Result<String> {
+    let told = match text_of(line)? {
+        Some(line) => reply_to(alloc, seats, line.as_str())?,
+        None => String::from_str(alloc, NO_TEXT)?,
+    };
+    Ok(told)
+}

@@ -1,0 +1,33 @@
+//! A ledger of guests and their seats. Each line of input asks something of it, and the reply says who lost a seat.
+#![tactic(auto)]
+
+mod line;
+mod seats;
+
+use tool_lines::{no_argument, status_of};
+use line::{REQUESTS, Seats, reply};
+use std::io;
+use std::process::ExitCode;
+
+// Answers all lines, and prints last how many seats are taken.
+fn serve(rt: &HostRuntime) -> io::Result<ExitCode> {
+    let alloc = rt.alloc();
+    let mut seats: Seats = Seats::new(alloc);
+    for line in rt.lines(alloc) {
+        let told = reply(alloc, &mut seats, line)?;
+        println!(rt; "{told}")?;
+    }
+    println!(rt; "{} seated", seats.len())?;
+    Ok(ExitCode::SUCCESS)
+}
+
+fn run(rt: &HostRuntime) -> io::Result<ExitCode> {
+    match no_argument(rt, "demo_seats", REQUESTS)? {
+        Some(status) => Ok(status),
+        None => serve(rt),
+    }
+}
+
+fn main(rt: HostRuntime) -> ExitCode {
+    status_of(&rt, run(&rt))
+}
