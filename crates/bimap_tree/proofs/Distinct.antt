@@ -8,7 +8,7 @@ use Rattle.std.proofs.lemmas.Map.Views.{Contains-from_any}
 use Rattle.std.proofs.lemmas.Bool.Decides.{eqb_tells, leb_tells}
 use Rattle.bimap_base.specs.Keyed.{Adds, Drops}
 use Rattle.bimap_tree.specs.Tree.{Tree, leaf, fork, reading, size, occurs, is_at, IsDistinctTree}
-use Rattle.bimap_tree.proofs.Shown.{is_at-same, is_at-other, by_side, size-reading}
+use Rattle.bimap_tree.proofs.Shown.{is_at-same, is_at-other, by_ordering, size-reading}
 
 -- how often a place stands in the list
 abbrev pub tally : ℕ → List ℕ → ℕ
@@ -122,7 +122,7 @@ all_both P Q R f (x ∷ xs) a b = (f x a.0 b.0, all_both P Q R f xs a.1 b.1)
 pub occurs_all : (P : ℕ → Type 0) (t : Tree) → AllByRecursion P (reading t) → (q : ℕ) → 0 < occurs q t → P q
 occurs_all P leaf h q n = absurd (omega arith)
 occurs_all P (fork l p r) h q n =
-    by_side q l p r n
+    by_ordering q l p r n
     (occurs_all P l (all_front P (reading l) (p ∷ reading r) h) q)
     (occurs_all P r (all_behind P (reading l) (p ∷ reading r) h).1 q)
     (λ e. rw e (all_behind P (reading l) (p ∷ reading r) h).0)

@@ -14,10 +14,10 @@ use Rattle.bimap_tree.proofs.Shown.{is_at-apart, get-elsewhere}
 -- the last step of the way
 above : (nodes : List Node) (way : Way) (depth : ℕ) (path : Path) (s : Tree) → CanReplace nodes way depth path s → 0 < depth → (step : ℕ × Bool) → step ≡ way.step_at (depth - 1) → (up : Path) × (sister : Tree) × (path ≡ below up step.1 step.0 sister)
 above nodes way depth top s h more step e = absurd (omega (arith, h.depth_is, more))
-above nodes way depth (below up side p sister) s h more step e =
+above nodes way depth (below up ordering p sister) s h more step e =
     let at : depth - 1 ≡ steps up = omega (arith, h.depth_is) in
     let whole = h.whole p (slice_get_within nodes p h.holds.0.0 h.holds.0.1) in
-    let same : (p, side) ≡ step = ap (λ q. (q, side)) (sym whole) ∙ sym h.follows.0 ∙ ap way.step_at (sym at) ∙ sym e in
+    let same : (p, ordering) ≡ step = ap (λ q. (q, ordering)) (sym whole) ∙ sym h.follows.0 ∙ ap way.step_at (sym at) ∙ sym e in
     (up, sister, ap (λ x. below up x.1 x.0 sister) same)
 
 -- where the way has no step

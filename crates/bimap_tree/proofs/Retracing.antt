@@ -56,8 +56,8 @@ Follows-up : (kept : ℕ → ℕ) (noted : ℕ → ℕ × Bool) (up : Path) (xs 
 Follows-up kept noted up [] h = h
 Follows-up kept noted up (x ∷ xs) h = (Follows-up kept noted (below up x.0 x.1 x.2) xs h).1
 
-noted_as : (kept : ℕ → ℕ) (old new : ℕ → ℕ × Bool) (depth at p : ℕ) (turn side : Bool) → p ≡ at → turn ≡ side → IsNoted old depth (kept at, turn) new → IsNoted old depth (kept p, side) new
-noted_as kept old new depth at p turn side e f n = record { here = n.here ∙ ap (λ b. (kept at, b)) f ∙ ap (λ q. (kept q, side)) (sym e); elsewhere = n.elsewhere }
+noted_as : (kept : ℕ → ℕ) (old new : ℕ → ℕ × Bool) (depth at p : ℕ) (turn ordering : Bool) → p ≡ at → turn ≡ ordering → IsNoted old depth (kept at, turn) new → IsNoted old depth (kept p, ordering) new
+noted_as kept old new depth at p turn ordering e f n = record { here = n.here ∙ ap (λ b. (kept at, b)) f ∙ ap (λ q. (kept q, ordering)) (sym e); elsewhere = n.elsewhere }
 
 near_told : (turn : Bool) (near far : Tree) (node : Node) → Some node ≡ Some (node_on turn near far) → near_of turn node ≡ root_of near
 near_told turn near far node e = let same : node ≡ node_on turn near far = cc in ap (λ n. near_of turn n) same ∙ near-node_on turn near far

@@ -126,11 +126,11 @@ module _ (nodes : List Node) (way : Way) (grew : Bool) (s u : Tree) where
 
   pub last_step : (depth : ℕ) (path : Path) → CanRise nodes way path grew s u → depth ≡ steps path → depth ≢ 0 → (at : ℕ) (turn : Bool) → (at, turn) ≡ way.step_at (depth - 1) → (up : Path) × (sister : Tree) × LastStep depth at turn path up sister
   last_step depth top c e n at turn step = absurd (n e)
-  last_step depth (below up side place sister) c e n at turn step =
+  last_step depth (below up ordering place sister) c e n at turn step =
       let above : depth - 1 ≡ steps up = omega (arith, e) in
       let whole = c.whole place (slice_get_within nodes place c.holds.0.0 c.holds.0.1) in
-      let same : (place, side) ≡ (at, turn) = ap (λ p. (p, side)) (sym whole) ∙ sym c.follows.0 ∙ ap way.step_at (sym above) ∙ sym step in
-      let is : below up side place sister ≡ below up turn at sister = ap (λ x. below up x.1 x.0 sister) same in
+      let same : (place, ordering) ≡ (at, turn) = ap (λ p. (p, ordering)) (sym whole) ∙ sym c.follows.0 ∙ ap way.step_at (sym above) ∙ sym step in
+      let is : below up ordering place sister ≡ below up turn at sister = ap (λ x. below up x.1 x.0 sister) same in
       (up, sister, record { is = is; above = above; here = subst (λ x. CanRise nodes way x grew s u) is c })
 
   module _ (up : Path) (turn : Bool) (at : ℕ) (sister : Tree) (c : CanRise nodes way (below up turn at sister) grew s u) where

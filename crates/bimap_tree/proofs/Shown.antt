@@ -104,8 +104,8 @@ size-reading leaf = refl
 size-reading (fork l p r) = rw length-append (omega (arith, size-reading l, size-reading r))
 
 -- a place of a tree stands in its left tree, in its right one or at its top
-pub by_side : {P : Type 0} (q : ℕ) (l : Tree) (p : ℕ) (r : Tree) → 0 < occurs q (fork l p r) → (0 < occurs q l → P) → (0 < occurs q r → P) → (q ≡ p → P) → P
-by_side q l p r n left right top =
+pub by_ordering : {P : Type 0} (q : ℕ) (l : Tree) (p : ℕ) (r : Tree) → 0 < occurs q (fork l p r) → (0 < occurs q l → P) → (0 < occurs q r → P) → (q ≡ p → P) → P
+by_ordering q l p r n left right top =
     elim (leb_tells 1 (occurs q l)) [
       | inl w ↦ left w.1
       | inr w ↦ elim (leb_tells 1 (occurs q r)) [
@@ -117,7 +117,7 @@ by_side q l p r n left right top =
 -- a place of a tree that the nodes show has a node
 pub in_tree : (ns : List Node) (t : Tree) (q : ℕ) → Shows ns t → 0 < occurs q t → q < length ns
 in_tree ns leaf q h n = absurd (omega arith)
-in_tree ns (fork l p r) q h n = by_side q l p r n (in_tree ns l q h.1) (in_tree ns r q h.2) (λ e. rw e (slice_get_within ns p (node_of l r) h.0))
+in_tree ns (fork l p r) q h n = by_ordering q l p r n (in_tree ns l q h.1) (in_tree ns r q h.2) (λ e. rw e (slice_get_within ns p (node_of l r) h.0))
 
 -- a place that the tree does not hold can be put beside it
 pub with_absent : (t : Tree) (place q : ℕ) → IsDistinctTree t → occurs place t ≡ 0 → occurs q t + is_at q place ≤ 1

@@ -72,12 +72,12 @@ pub fn step_in_tree<C: Cell, S: SearchKey, M: Meter>(
         return false;
     };
     let cell = cells.cell(at, meter);
-    let side = sought.side(at, meter);
-    if side.is_eq() {
+    let ordering = sought.ordering(at, meter);
+    if ordering.is_eq() {
         descent.is_found = true;
         return false;
     }
-    let turn = side.is_lt();
+    let turn = ordering.is_lt();
     route.note(descent.depth, at, turn);
     descent.depth += 1;
     descent.root = cell.child(turn);

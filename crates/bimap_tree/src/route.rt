@@ -109,11 +109,11 @@ pub fn route_in_tree<C: Cell, S: SearchKey, M: Meter>(
     let mut depth = depth;
     while let Some(at) = root {
         let cell = cells.cell(at, meter);
-        let side = sought.side(at, meter);
-        if side.is_eq() {
+        let ordering = sought.ordering(at, meter);
+        if ordering.is_eq() {
             break;
         }
-        let turn = side.is_lt();
+        let turn = ordering.is_lt();
         route.note(depth, at, turn);
         depth += 1;
         if is_far && turn {
@@ -153,7 +153,7 @@ pub fn route_from_first<C: Cell, S: SearchKey, M: Meter>(
 {
     if let (true, Some(at)) = (is_first, root) {
         let (first, depth) = first_in_tree(cells, at, 0, route, meter);
-        if sought.side(first, meter).is_eq() {
+        if sought.ordering(first, meter).is_eq() {
             route.depth = depth;
             return Some(first);
         }

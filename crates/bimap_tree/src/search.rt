@@ -32,11 +32,11 @@ pub fn find_in_tree<C: Cell, K: Keys, Q: Sought<K>, M: Meter>(
     let mut root = root;
     while let Some(at) = root {
         let cell = cells.cell(at, meter);
-        let side = query.compare(keys, at, meter);
-        if side.is_eq() {
+        let ordering = query.compare(keys, at, meter);
+        if ordering.is_eq() {
             return Some(at);
         }
-        let turn = side.is_lt();
+        let turn = ordering.is_lt();
         if is_far && turn {
             root = cell.child(true);
             if root.is_none() {
@@ -100,7 +100,7 @@ pub fn rank_in_tree<C: Cell, S: SearchKey, M: Meter>(
     let mut rank = 0;
     while let Some(at) = root {
         let node = cells.read(at, meter);
-        let is_below = sought.side(at, meter).is_lt();
+        let is_below = sought.ordering(at, meter).is_lt();
         if is_below {
             rank += measure(cells, node.left, meter).size + 1;
         }

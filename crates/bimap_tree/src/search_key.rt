@@ -14,9 +14,9 @@ pub trait SearchKey {
     ghost go: { Self → ℕ → Ordering };
 
     // How a place stands to what is sought.
-    fn side<M: Meter>(&self, place: usize, meter: &mut M) -> Ordering
+    fn ordering<M: Meter>(&self, place: usize, meter: &mut M) -> Ordering
         requires { live self.now place }
-        ensures side { result ≡ go self.now place }
+        ensures ordering { result ≡ go self.now place }
         ensures comparisons { M.comparisons meter.new ≡ M.comparisons meter.old + 1 }
         ensures touches { M.touches meter.new ≡ M.touches meter.old };
 
@@ -43,7 +43,7 @@ impl<K: Keys> SearchKey for ToKey<'_, K> {
 
     ghost go = { λ s p. standing K.order (K.key_at s.keys.now p) (Some s.key.now) };
 
-    fn side<M: Meter>(&self, place: usize, meter: &mut M) -> Ordering {
+    fn ordering<M: Meter>(&self, place: usize, meter: &mut M) -> Ordering {
         self.keys.compare(place, self.key, meter)
     }
 
@@ -64,7 +64,7 @@ impl<K: Keys, Q: Sought<K>> SearchKey for ToQuery<'_, K, Q> {
 
     ghost go = { λ s p. standing Q.order (K.key_at s.keys.now p) (Some s.query) };
 
-    fn side<M: Meter>(&self, place: usize, meter: &mut M) -> Ordering {
+    fn ordering<M: Meter>(&self, place: usize, meter: &mut M) -> Ordering {
         self.query.compare(self.keys, place, meter)
     }
 
@@ -84,7 +84,7 @@ impl<K: Keys> SearchKey for ToPlace<'_, K> {
 
     ghost go = { λ s p. standing K.order (K.key_at s.keys.now p) (K.key_at s.keys.now s.place) };
 
-    fn side<M: Meter>(&self, place: usize, meter: &mut M) -> Ordering {
+    fn ordering<M: Meter>(&self, place: usize, meter: &mut M) -> Ordering {
         self.keys.compare_places(place, self.place, meter)
     }
 
@@ -105,7 +105,7 @@ impl<K: Keys, Q: Sought<K>> SearchKey for AfterQuery<'_, K, Q> {
 
     ghost go = { λ s p. after_key (standing Q.order (K.key_at s.keys.now p) (Some s.query)) };
 
-    fn side<M: Meter>(&self, place: usize, meter: &mut M) -> Ordering {
+    fn ordering<M: Meter>(&self, place: usize, meter: &mut M) -> Ordering {
         match self.query.compare(self.keys, place, meter) {
             Ordering::Equal => Ordering::Less,
             other => other,

@@ -11,8 +11,8 @@ loop-root-init g c = record { goes = goes_top _ _ _ _ _ _; compared = costs_none
 pub cell-cell-requires : goal.cell-cell-requires
 cell-cell-requires g c = cell_within _ _ _ _ _ _ c.loop-root.invariant.touched _ c.in-Some.is _ c.requires.2.seek.tree
 
-pub side-side-requires : goal.side-side-requires
-side-side-requires g c = goes_live _ _ _ _ _ _ _ _ _ c.loop-root.invariant.goes _ c.in-Some.is _ c.cell-cell.ensures.node _ _ c.requires.2
+pub ordering-ordering-requires : goal.ordering-ordering-requires
+ordering-ordering-requires g c = goes_live _ _ _ _ _ _ _ _ _ c.loop-root.invariant.goes _ c.in-Some.is _ c.cell-cell.ensures.node _ _ c.requires.2
 
 pub note-requires : goal.note-requires
 note-requires g c = goes_deep _ _ _ _ _ _ _ _ _ c.loop-root.invariant.goes _ c.in-Some.is _ c.cell-cell.ensures.node _ _ c.requires.2
@@ -23,7 +23,7 @@ overflow_add-depth g c = omega (arith, goes_deep _ _ _ _ _ _ _ _ _ c.loop-root.i
 pub loop-root-preserved-then-turn : goal.loop-root-preserved-then-turn
 loop-root-preserved-then-turn g c =
     record {
-      goes = goes_right _ _ _ _ _ _ _ _ _ c.loop-root.invariant.goes _ c.in-Some.is _ c.cell-cell.ensures.node _ c.if-turn.true (is_less _ _ _ c.side-side.ensures.side c.is_lt-turn.ensures c.if-turn.true) _ c.child-root.ensures _ c.note.ensures.noted;
+      goes = goes_right _ _ _ _ _ _ _ _ _ c.loop-root.invariant.goes _ c.in-Some.is _ c.cell-cell.ensures.node _ c.if-turn.true (is_less _ _ _ c.ordering-ordering.ensures.ordering c.is_lt-turn.ensures c.if-turn.true) _ c.child-root.ensures _ c.note.ensures.noted;
       compared = costs_on _ _ _ _ _ _ c.loop-root.invariant.compared _ c.in-Some.is _ c.cell-cell.ensures.node true _ c.child-root.ensures _ (omega arith);
       touched = costs_on _ _ _ _ _ _ c.loop-root.invariant.touched _ c.in-Some.is _ c.cell-cell.ensures.node true _ c.child-root.ensures _ (omega arith);
     }
@@ -34,7 +34,7 @@ loop-root-smaller g c = falls _ _ _ _ _ _ c.loop-root.invariant.touched _ c.in-S
 pub loop-root-preserved : goal.loop-root-preserved
 loop-root-preserved g c =
     record {
-      goes = goes_down _ _ _ _ _ _ _ _ _ c.loop-root.invariant.goes _ c.in-Some.is _ c.cell-cell.ensures.node _ (wants _ _ _ _ c.side-side.ensures.side c.is_eq.ensures c.if-is_eq.false c.is_lt-turn.ensures) _ c.child-root-else-is_far.ensures _ c.note.ensures.noted;
+      goes = goes_down _ _ _ _ _ _ _ _ _ c.loop-root.invariant.goes _ c.in-Some.is _ c.cell-cell.ensures.node _ (wants _ _ _ _ c.ordering-ordering.ensures.ordering c.is_eq.ensures c.if-is_eq.false c.is_lt-turn.ensures) _ c.child-root-else-is_far.ensures _ c.note.ensures.noted;
       compared = costs_on _ _ _ _ _ _ c.loop-root.invariant.compared _ c.in-Some.is _ c.cell-cell.ensures.node _ _ c.child-root-else-is_far.ensures _ (omega arith);
       touched = costs_on _ _ _ _ _ _ c.loop-root.invariant.touched _ c.in-Some.is _ c.cell-cell.ensures.node _ _ c.child-root-else-is_far.ensures _ (omega arith);
     }
@@ -43,19 +43,19 @@ pub returns : goal.returns
 returns g c =
     elim c.match-root.branch [
       | in-Some+then-is_eq w ↦ record {
-        found = λ path s h. w.root-is ∙ goes_here _ _ _ _ _ _ _ _ _ c.loop-root.invariant.goes _ w.in-Some.is _ w.cell-cell.ensures.node (is_equal _ _ _ w.side-side.ensures.side w.is_eq.ensures w.if-is_eq.true) path s h;
+        found = λ path s h. w.root-is ∙ goes_here _ _ _ _ _ _ _ _ _ c.loop-root.invariant.goes _ w.in-Some.is _ w.cell-cell.ensures.node (is_equal _ _ _ w.ordering-ordering.ensures.ordering w.is_eq.ensures w.if-is_eq.true) path s h;
         follows = λ path s h. rw w.depth-is (goes_end _ _ _ _ _ _ _ _ _ c.loop-root.invariant.goes _ (w.root-is ∙ sym w.in-Some.is) _ (ap step_at w.route-is) path s h);
-        comparisons = λ t h. omega (arith, ap g.M.Meter.comparisons w.meter-is, costs_last _ _ _ _ _ _ c.loop-root.invariant.compared _ w.in-Some.is _ w.cell-cell.ensures.node true (g.M.Meter.comparisons w.side-side.new.meter) (omega arith) t h);
-        touches = λ t h. omega (arith, ap g.M.Meter.touches w.meter-is, costs_last _ _ _ _ _ _ c.loop-root.invariant.touched _ w.in-Some.is _ w.cell-cell.ensures.node true (g.M.Meter.touches w.side-side.new.meter) (omega arith) t h);
+        comparisons = λ t h. omega (arith, ap g.M.Meter.comparisons w.meter-is, costs_last _ _ _ _ _ _ c.loop-root.invariant.compared _ w.in-Some.is _ w.cell-cell.ensures.node true (g.M.Meter.comparisons w.ordering-ordering.new.meter) (omega arith) t h);
+        touches = λ t h. omega (arith, ap g.M.Meter.touches w.meter-is, costs_last _ _ _ _ _ _ c.loop-root.invariant.touched _ w.in-Some.is _ w.cell-cell.ensures.node true (g.M.Meter.touches w.ordering-ordering.new.meter) (omega arith) t h);
       }
       | in-Some+else-is_eq+then-is_far+then-turn+then-is_none w ↦
-          let on = goes_right _ _ _ _ _ _ _ _ _ c.loop-root.invariant.goes _ w.in-Some.is _ w.cell-cell.ensures.node _ w.if-turn.true (is_less _ _ _ w.side-side.ensures.side w.is_lt-turn.ensures w.if-turn.true) _ w.child-root.ensures w.note.new.self w.note.ensures.noted in
+          let on = goes_right _ _ _ _ _ _ _ _ _ c.loop-root.invariant.goes _ w.in-Some.is _ w.cell-cell.ensures.node _ w.if-turn.true (is_less _ _ _ w.ordering-ordering.ensures.ordering w.is_lt-turn.ensures w.if-turn.true) _ w.child-root.ensures w.note.new.self w.note.ensures.noted in
           let none = no_child _ _ w.is_none.ensures w.if-is_none.true in
           record {
             found = λ path s h. w.root-is ∙ none ∙ goes_none _ _ _ _ _ _ _ _ _ on none path s h;
             follows = λ path s h. rw w.depth-is (goes_end _ _ _ _ _ _ _ _ _ on _ w.root-is _ (ap step_at w.route-is) path s h);
-            comparisons = λ t h. omega (arith, ap g.M.Meter.comparisons w.meter-is, costs_last _ _ _ _ _ _ c.loop-root.invariant.compared _ w.in-Some.is _ w.cell-cell.ensures.node true (g.M.Meter.comparisons w.side-side.new.meter) (omega arith) t h);
-            touches = λ t h. omega (arith, ap g.M.Meter.touches w.meter-is, costs_last _ _ _ _ _ _ c.loop-root.invariant.touched _ w.in-Some.is _ w.cell-cell.ensures.node true (g.M.Meter.touches w.side-side.new.meter) (omega arith) t h);
+            comparisons = λ t h. omega (arith, ap g.M.Meter.comparisons w.meter-is, costs_last _ _ _ _ _ _ c.loop-root.invariant.compared _ w.in-Some.is _ w.cell-cell.ensures.node true (g.M.Meter.comparisons w.ordering-ordering.new.meter) (omega arith) t h);
+            touches = λ t h. omega (arith, ap g.M.Meter.touches w.meter-is, costs_last _ _ _ _ _ _ c.loop-root.invariant.touched _ w.in-Some.is _ w.cell-cell.ensures.node true (g.M.Meter.touches w.ordering-ordering.new.meter) (omega arith) t h);
           }
       | in_default w ↦ record {
         found = λ path s h. w.root-is ∙ w.in_default.is ∙ goes_none _ _ _ _ _ _ _ _ _ c.loop-root.invariant.goes w.in_default.is path s h;

@@ -9,8 +9,8 @@ loop-root-init g c = record { counts = counts_top _ _ _ _; compared = costs_none
 pub read-node-requires : goal.read-node-requires
 read-node-requires g c = cell_within _ _ _ _ _ _ c.loop-root.invariant.touched _ c.in-Some.is _ c.requires.1.tree
 
-pub side-requires : goal.side-requires
-side-requires g c = counts_live _ _ _ _ _ _ c.loop-root.invariant.counts _ c.in-Some.is _ c.read-node.ensures.node _ c.requires.1
+pub ordering-requires : goal.ordering-requires
+ordering-requires g c = counts_live _ _ _ _ _ _ c.loop-root.invariant.counts _ c.in-Some.is _ c.read-node.ensures.node _ c.requires.1
 
 pub measure-requires : goal.measure-requires
 measure-requires g c =
@@ -25,7 +25,7 @@ overflow_add-rank g c =
 pub overflow_add-rank-then-is_below : goal.overflow_add-rank-then-is_below
 overflow_add-rank-then-is_below g c =
     let (l, stands, fits, more) = counts_left _ _ _ _ _ _ c.loop-root.invariant.counts _ c.in-Some.is _ c.read-node.ensures.node _ c.requires.1 in
-    omega (arith, more (is_less _ _ _ c.side.ensures.side c.is_lt-is_below.ensures c.if-is_below.true), (c.measure.ensures.measured l stands).size_is)
+    omega (arith, more (is_less _ _ _ c.ordering.ensures.ordering c.is_lt-is_below.ensures c.if-is_below.true), (c.measure.ensures.measured l stands).size_is)
 
 pub loop-root-smaller : goal.loop-root-smaller
 loop-root-smaller g c = falls _ _ _ _ _ _ c.loop-root.invariant.touched _ c.in-Some.is _ c.read-node.ensures.node _ _ c.child-root.ensures _ c.requires.1.tree
@@ -34,12 +34,12 @@ pub loop-root-preserved : goal.loop-root-preserved
 loop-root-preserved g c =
     elim c.if-is_below.branch [
       | then-is_below w ↦ record {
-        counts = counts_below _ _ _ _ _ _ c.loop-root.invariant.counts _ c.in-Some.is _ c.read-node.ensures.node _ _ c.child-root.ensures _ w.if-is_below.true (is_less _ _ _ c.side.ensures.side c.is_lt-is_below.ensures w.if-is_below.true) w.measure.result.size (λ l h. (w.measure.ensures.measured l h).size_is) w.rank-is;
+        counts = counts_below _ _ _ _ _ _ c.loop-root.invariant.counts _ c.in-Some.is _ c.read-node.ensures.node _ _ c.child-root.ensures _ w.if-is_below.true (is_less _ _ _ c.ordering.ensures.ordering c.is_lt-is_below.ensures w.if-is_below.true) w.measure.result.size (λ l h. (w.measure.ensures.measured l h).size_is) w.rank-is;
         compared = costs_on _ _ _ _ _ _ c.loop-root.invariant.compared _ c.in-Some.is _ c.read-node.ensures.node _ _ c.child-root.ensures _ (omega (arith, ap g.M.Meter.comparisons w.meter-is));
         touched = costs_on _ _ _ _ _ _ c.loop-root.invariant.touched _ c.in-Some.is _ c.read-node.ensures.node _ _ c.child-root.ensures _ (omega (arith, ap g.M.Meter.touches w.meter-is));
       }
       | else-is_below w ↦ record {
-        counts = counts_above _ _ _ _ _ _ c.loop-root.invariant.counts _ c.in-Some.is _ c.read-node.ensures.node _ _ c.child-root.ensures _ w.if-is_below.false (is_not_less _ _ _ c.side.ensures.side c.is_lt-is_below.ensures w.if-is_below.false) w.rank-is;
+        counts = counts_above _ _ _ _ _ _ c.loop-root.invariant.counts _ c.in-Some.is _ c.read-node.ensures.node _ _ c.child-root.ensures _ w.if-is_below.false (is_not_less _ _ _ c.ordering.ensures.ordering c.is_lt-is_below.ensures w.if-is_below.false) w.rank-is;
         compared = costs_on _ _ _ _ _ _ c.loop-root.invariant.compared _ c.in-Some.is _ c.read-node.ensures.node _ _ c.child-root.ensures _ (omega (arith, ap g.M.Meter.comparisons w.meter-is));
         touched = costs_on _ _ _ _ _ _ c.loop-root.invariant.touched _ c.in-Some.is _ c.read-node.ensures.node _ _ c.child-root.ensures _ (omega (arith, ap g.M.Meter.touches w.meter-is));
       }
