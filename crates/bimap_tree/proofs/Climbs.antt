@@ -5,7 +5,7 @@ use Rattle.bimap_base.specs.declared.cells.Node.{Node}
 use Rattle.bimap_tree.specs.Tree.{Tree, height, root_of, branch}
 use Rattle.bimap_tree.specs.Link.{Measures, IsRebalanced}
 use Rattle.bimap_tree.specs.Path.{Path, below, steps, Moves, CanRise, CanRelink, IsRisen}
-use Rattle.bimap_tree.specs.Steps.{Way}
+use Rattle.bimap_tree.specs.Notes.{Notes}
 use Rattle.bimap_tree.specs.declared.link.Subtree.{Subtree}
 use Rattle.bimap_tree.proofs.Rises.{last_step, can_relink, can_rise, risen_on, at_top}
 
@@ -25,17 +25,17 @@ pub record Replaces (told : Subtree) (was : ℕ) (s u : Tree) : Type 0 where
   pub measured : Measures told u
   pub was_high : was ≡ height s
 
-module _ (ns : List Node) (way : Way) (grew : Bool) (start : ℕ) (has : Tree → Tree → Type 0) where
+module _ (ns : List Node) (notes : Notes) (grew : Bool) (start : ℕ) (has : Tree → Tree → Type 0) where
   -- where a path of so many steps ends, a tree rises of which so much is known
   pub record Start (path : Path) (s u : Tree) : Type 0 where
-    pub rise : CanRise ns way path grew s u
+    pub rise : CanRise ns notes path grew s u
     pub start_is : start ≡ steps path
     pub known : has s u
 
   -- and the way has come up from there to this depth
   pub record Climbs (now : List Node) (depth : ℕ) (next : Tree → Tree → Type 0) : Type 0 where
     pub deep : depth ≤ 91
-    pub alike : (path : Path) (s u : Tree) → Start path s u → (up : Path) × (x : Tree) × (t : Tree) × CanRise now way up grew x t × (depth ≡ steps up) × next x t × ((last : List Node) (root : Option ℕ) (v : Tree) → IsRisen now last up t root v → IsRisen ns last path u root v)
+    pub alike : (path : Path) (s u : Tree) → Start path s u → (up : Path) × (x : Tree) × (t : Tree) × CanRise now notes up grew x t × (depth ≡ steps up) × next x t × ((last : List Node) (root : Option ℕ) (v : Tree) → IsRisen now last up t root v → IsRisen ns last path u root v)
 
   pub climbs_none : start ≤ 91 → Climbs ns start has
   climbs_none few = record { deep = few; alike = λ path s u c. (path, s, u, c.rise, c.start_is, c.known, λ last root v r. r) }
@@ -45,31 +45,31 @@ module _ (ns : List Node) (way : Way) (grew : Bool) (start : ℕ) (has : Tree �
     pub climbs_end : depth ≡ 0 → (root : Option ℕ) → ((x t : Tree) → next x t → root_of t ≡ root) → (path : Path) (s u : Tree) → Start path s u → (v : Tree) × IsRisen ns now path u root v
     climbs_end none root at path s u c =
         let (up, x, t, r, e, n, f) = d.alike path s u c in
-        let (v, i) = at_top now way up grew x t depth root r e none (at x t n) in
+        let (v, i) = at_top now notes up grew x t depth root r e none (at x t n) in
         (v, f now root v i)
 
-    module _ (at : ℕ) (turn : Bool) (more : depth ≢ 0) (step : (at, turn) ≡ way.step_at (depth - 1)) where
+    module _ (at : ℕ) (turn : Bool) (more : depth ≢ 0) (step : (at, turn) ≡ notes.step_at (depth - 1)) where
       -- the step above it
       pub record Above (up : Path) (sister x t : Tree) : Type 0 where
-        pub here : CanRise now way (below up turn at sister) grew x t
+        pub here : CanRise now notes (below up turn at sister) grew x t
         pub known : next x t
 
       pub above : (path : Path) (s u : Tree) → Start path s u → (up : Path) × (sister : Tree) × (x : Tree) × (t : Tree) × Above up sister x t
       above path s u c =
           let (low, x, t, r, e, n, f) = d.alike path s u c in
-          let (up, sister, i) = last_step now way grew x t depth low r e more at turn step in
+          let (up, sister, i) = last_step now notes grew x t depth low r e more at turn step in
           (up, sister, x, t, record { here = i.here; known = n })
 
       pub relinks : (path : Path) (s u : Tree) → Start path s u → (node : Node) → slice_get now at ≡ Some node → (sister : Tree) × (x : Tree) × (t : Tree) × CanRelink now at turn grew node sister x t × next x t
       relinks path s u c node told =
           let (up, sister, x, t, a) = above path s u c in
-          (sister, x, t, can_relink now way grew x t up turn at sister a.here node told, a.known)
+          (sister, x, t, can_relink now notes grew x t up turn at sister a.here node told, a.known)
 
       pub relinked : (path : Path) (s u : Tree) → Start path s u → (node : Node) × (sister : Tree) × (x : Tree) × (t : Tree) × CanRelink now at turn grew node sister x t × next x t
       relinked path s u c =
           let (up, sister, x, t, a) = above path s u c in
           let told = a.here.holds.0 in
-          (told.0, sister, x, t, can_relink now way grew x t up turn at sister a.here told.0 told.1, a.known)
+          (told.0, sister, x, t, can_relink now notes grew x t up turn at sister a.here told.0 told.1, a.known)
 
       -- the next tree on the way up
       pub record Raised (new : List Node) (after : Tree → Tree → Type 0) (sister x t y : Tree) : Type 0 where
@@ -81,12 +81,12 @@ module _ (ns : List Node) (way : Way) (grew : Bool) (start : ℕ) (has : Tree �
       climbs_on node told new after raise = record {
         deep = omega arith;
         alike = λ path s u c. let (low, x, t, r, e, n, f) = d.alike path s u c in
-            let (up, sister, i) = last_step now way grew x t depth low r e more at turn step in
-            let (y, z) = raise sister x t (can_relink now way grew x t up turn at sister i.here node told) n in (
+            let (up, sister, i) = last_step now notes grew x t depth low r e more at turn step in
+            let (y, z) = raise sister x t (can_relink now notes grew x t up turn at sister i.here node told) n in (
               up,
               branch turn x at sister,
               y,
-              can_rise now way grew x t up turn at sister i.here new y z.tree z.moves,
+              can_rise now notes grew x t up turn at sister i.here new y z.tree z.moves,
               i.above,
               z.known,
               λ last root v w. f last root v (risen_on now new last low up turn at sister t y root v i.is z.tree w),

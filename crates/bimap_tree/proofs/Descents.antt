@@ -10,7 +10,7 @@ use Rattle.bimap_tree.specs.Tree.{Tree, Stands, reading, height, size, branch, n
 use Rattle.bimap_tree.specs.Index.{height_at}
 use Rattle.bimap_tree.specs.Order.{first_equal, count_below}
 use Rattle.bimap_tree.specs.Path.{Path, below, plug, wanted, Follows}
-use Rattle.bimap_tree.specs.Steps.{Way, IsNoted, packed, step_at}
+use Rattle.bimap_tree.specs.Notes.{Notes, IsNoted, packed, step_at}
 use Rattle.bimap_tree.specs.Remove.{CanDescend, IsFirst}
 use Rattle.bimap_tree.specs.Route.{CanFollow, IsFollowed}
 use Rattle.bimap_tree.specs.declared.route.Route.{Route}
@@ -269,22 +269,22 @@ module _ (ns : List Node) (live : ℕ → Type 0) (go : ℕ → Ordering) (top :
       goes_right turn right less next e then noted = goes_down turn (less ∙ ap wanted (sym right)) next (e ∙ ap (λ x. near_of x node) (sym right)) then noted
 
 -- ---- the way to a tree's first place
-module _ (ns : List Node) (top start : ℕ) (old : Way) where
+module _ (ns : List Node) (top start : ℕ) (old : Notes) where
   -- what the way from here on notes is noted of the way from the top
-  pub record Descends (at depth : ℕ) (now : Way) : Type 0 where
-    pub alike : (s : Tree) → CanDescend ns top start s → (e : Tree) × CanDescend ns at depth e × ((last : Way) (first low : ℕ) → (lefts : List (ℕ × Tree)) × (rest : Tree) × IsFirst now last depth e first low lefts rest → (lefts : List (ℕ × Tree)) × (rest : Tree) × IsFirst old last start s first low lefts rest)
+  pub record Descends (at depth : ℕ) (now : Notes) : Type 0 where
+    pub alike : (s : Tree) → CanDescend ns top start s → (e : Tree) × CanDescend ns at depth e × ((last : Notes) (first low : ℕ) → (lefts : List (ℕ × Tree)) × (rest : Tree) × IsFirst now last depth e first low lefts rest → (lefts : List (ℕ × Tree)) × (rest : Tree) × IsFirst old last start s first low lefts rest)
 
   pub descends_top : Descends top start old
   descends_top = record { alike = λ s h. (s, h, λ last first low i. i) }
 
-  module _ (at depth : ℕ) (now : Way) (d : Descends at depth now) (node : Node) (told : slice_get ns at ≡ Some node) where
+  module _ (at depth : ℕ) (now : Notes) (d : Descends at depth now) (node : Node) (told : slice_get ns at ≡ Some node) where
     pub descends_deep : (s : Tree) → CanDescend ns top start s → depth < 91
     descends_deep s h = let (e, k, f) = d.alike s h in let (l, r, i) = descent ns at depth node e k told in i.here
 
     pub descends_end : node.left ≡ None → (s : Tree) → CanDescend ns top start s → (lefts : List (ℕ × Tree)) × (rest : Tree) × IsFirst old now start s at depth lefts rest
     descends_end none s h = let (e, k, f) = d.alike s h in f now at depth (first_here ns at depth node e k told none now)
 
-    pub descends_on : (left : ℕ) → node.left ≡ Some left → (next : Way) → IsNoted now.step_at depth (now.kept at, false) next.step_at → next.kept ≡ now.kept → Descends left (depth + 1) next
+    pub descends_on : (left : ℕ) → node.left ≡ Some left → (next : Notes) → IsNoted now.step_at depth (now.kept at, false) next.step_at → next.kept ≡ now.kept → Descends left (depth + 1) next
     descends_on left is next noted same = record {
       alike = λ s h. let (e, k, f) = d.alike s h in
           let (l, r, i) = descent ns at depth node e k told in (

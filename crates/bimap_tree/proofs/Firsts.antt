@@ -9,7 +9,7 @@ use Rattle.bimap_tree.specs.Order.{AllStand, IsSplit, first_equal}
 use Rattle.bimap_tree.specs.Path.{Path, top, below, Follows, Wants}
 use Rattle.bimap_tree.specs.Remove.{hang, onward, CanDescend, IsFirst}
 use Rattle.bimap_tree.specs.Route.{CanFollow, IsFollowed}
-use Rattle.bimap_tree.specs.Steps.{packed, step_at, way_of}
+use Rattle.bimap_tree.specs.Notes.{packed, step_at, notes_of}
 use Rattle.bimap_tree.specs.declared.route.Route.{Route}
 use Rattle.bimap_tree.proofs.Distinct.{all_front, all_behind}
 use Rattle.bimap_tree.proofs.Heights.{below_bound}
@@ -36,7 +36,7 @@ module _ (ns : List Node) (root : Option ℕ) (live : ℕ → Type 0) (go : ℕ 
   pub follow_anew : (new : Route) → CanFollow ns root live go new 0 top t
   follow_anew new = record { seek = h.seek; follows = tt; depth_is = refl; wants = tt; deep = h.deep }
 
-  module _ (mid : Route) (first low : ℕ) (lefts : List (ℕ × Tree)) (rest : Tree) (i : IsFirst (way_of old) (way_of mid) 0 t first low lefts rest) where
+  module _ (mid : Route) (first low : ℕ) (lefts : List (ℕ × Tree)) (rest : Tree) (i : IsFirst (notes_of old) (notes_of mid) 0 t first low lefts rest) where
     read : reading t ≡ first ∷ reading (hang lefts rest)
     read = ap reading i.whole ∙ reading-hang lefts first rest
 
@@ -47,8 +47,8 @@ module _ (ns : List Node) (root : Option ℕ) (live : ℕ → Type 0) (go : ℕ 
       pub first_found : Some first ≡ first_equal go (reading t)
       first_found = sym (ap (λ x. first_equal go x) read ∙ rw same refl)
 
-      pub first_way : (new : Route) → step_at new ≡ step_at mid → new.depth ≡ low → IsFollowed go new new.depth (Some first) t (onward top lefts) (fork leaf first rest)
-      first_way new steps_are depth =
+      pub first_notes : (new : Route) → step_at new ≡ step_at mid → new.depth ≡ low → IsFollowed go new new.depth (Some first) t (onward top lefts) (fork leaf first rest)
+      first_notes new steps_are depth =
           let split : IsSplit go (first ∷ reading (hang lefts rest)) = subst (λ x. IsSplit go x) read h.seek.in_order in
           let above = split_above go [] (reading (hang lefts rest)) first split (λ e. let x : Equal ≡ Less = sym same ∙ e in cc) in
           record {

@@ -6,7 +6,7 @@ use Rattle.bimap_tree.specs.Tree.{Tree, height, branch}
 use Rattle.bimap_tree.specs.Path.{Path, below, wanted}
 use Rattle.bimap_tree.specs.Route.{CanFollow}
 use Rattle.bimap_tree.specs.Search.{CanSeek}
-use Rattle.bimap_tree.specs.Steps.{IsNoted, packed, step_at}
+use Rattle.bimap_tree.specs.Notes.{IsNoted, packed, step_at}
 use Rattle.bimap_tree.specs.declared.route.Route.{Route}
 use Rattle.bimap_tree.proofs.Branch.{height-branch}
 use Rattle.bimap_tree.proofs.Paths.{Follows-noted}

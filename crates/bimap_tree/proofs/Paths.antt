@@ -8,7 +8,7 @@ use Rattle.bimap_base.specs.declared.cells.Node.{Node}
 use Rattle.bimap_base.specs.NodesInCells.{linked}
 use Rattle.bimap_tree.specs.Tree.{Tree, fork, reading, height, size, occurs, is_at, root_of, IsBalanced, Shows, branch, node_on}
 use Rattle.bimap_tree.specs.Order.{AllStand, IsSplit}
-use Rattle.bimap_tree.specs.Steps.{IsNoted}
+use Rattle.bimap_tree.specs.Notes.{IsNoted}
 use Rattle.bimap_tree.specs.Path.{Path, top, below, plug, steps, front, back, occurs_on, size_on, Follows, Wants, Tells, Holds}
 use Rattle.bimap_tree.proofs.Branch.{root-branch, near-node_on, height-branch, size-branch, occurs-branch, far-node_on, height-node_on, size-node_on, parts, level, IsBalanced-branch}
 use Rattle.bimap_tree.proofs.Distinct.{all_append}

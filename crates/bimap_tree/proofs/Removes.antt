@@ -7,7 +7,7 @@ use Rattle.bimap_base.specs.Digits.{most_height}
 use Rattle.bimap_tree.specs.Tree.{Tree, leaf, fork, reading, height, size, occurs, is_at, node_of, IsBalanced, Shows, Stands}
 use Rattle.bimap_tree.specs.Path.{Path, top, below, plug, steps, front, back, occurs_on, size_on, Follows, Tells, Holds, Moves, KeepsWhole, CanRise, IsRisen}
 use Rattle.bimap_tree.specs.Remove.{hang, onward, FollowsOn, CanDescend, IsFirst, CanReplace, IsReplaced, CanTake, IsTaken}
-use Rattle.bimap_tree.specs.Steps.{Way, IsNoted}
+use Rattle.bimap_tree.specs.Notes.{Notes, IsNoted}
 use Rattle.bimap_tree.proofs.Paths.{occurs-plug, size-plug, reading-plug, steps_within, balanced_inside, tells, holds_of, Holds-frame, IsBalanced-alike, Follows-frame, Follows-noted}
 use Rattle.bimap_tree.proofs.Heights.{low}
 use Rattle.bimap_tree.proofs.Rooms.{room_for}
@@ -32,8 +32,8 @@ module _ (nodes : List Node) (at depth : ℕ) (node : Node) (s : Tree) (h : CanD
       (l, r, record { is = o.is; left_stands = o.left_stands; here = omega (arith, h.deep, ap height o.is); deeper = omega (arith, h.deep, ap height o.is) })
 
   -- it is this place, which has no left child
-  pub first_here : node.left ≡ None → (way : Way) → (lefts : List (ℕ × Tree)) × (rest : Tree) × IsFirst way way depth s at depth lefts rest
-  first_here none way =
+  pub first_here : node.left ≡ None → (notes : Notes) → (lefts : List (ℕ × Tree)) × (rest : Tree) × IsFirst notes notes depth s at depth lefts rest
+  first_here none notes =
       let (l, r, d) = descent in
       let no = no_root l (d.left_stands.root_is ∙ none) in (
         [],
@@ -48,7 +48,7 @@ module _ (nodes : List Node) (at depth : ℕ) (node : Node) (s : Tree) (h : CanD
       )
 
   -- it is the first place of the left tree
-  pub first_left : (old mid new : Way) (l r : Tree) → Descent l r → IsNoted old.step_at depth (old.kept at, false) mid.step_at → mid.kept ≡ old.kept → (first low : ℕ) → (lefts : List (ℕ × Tree)) × (rest : Tree) × IsFirst mid new (depth + 1) l first low lefts rest → (lefts : List (ℕ × Tree)) × (rest : Tree) × IsFirst old new depth s first low lefts rest
+  pub first_left : (old mid new : Notes) (l r : Tree) → Descent l r → IsNoted old.step_at depth (old.kept at, false) mid.step_at → mid.kept ≡ old.kept → (first low : ℕ) → (lefts : List (ℕ × Tree)) × (rest : Tree) × IsFirst mid new (depth + 1) l first low lefts rest → (lefts : List (ℕ × Tree)) × (rest : Tree) × IsFirst old new depth s first low lefts rest
   first_left old mid new l r d noted same first low (lefts, rest, i) =
       let next : depth + 1 ≡ suc depth = omega arith in (
         (at, r) ∷ lefts,
@@ -116,7 +116,7 @@ one_less : (s t : Tree) → size s ≡ size t + 1 → height s ≡ height t + 1 
 one_less s t few low = record { sizes = omega arith; not_lower = omega arith; not_higher = omega arith }
 
 -- ---- the place at the path's end
-module _ (nodes : List Node) (way : Way) (path : Path) (l : Tree) (at : ℕ) (r : Tree) (h : CanTake nodes way path l at r) where
+module _ (nodes : List Node) (notes : Notes) (path : Path) (l : Tree) (at : ℕ) (r : Tree) (h : CanTake nodes notes path l at r) where
   shown_here : Shows nodes (fork l at r)
   shown_here = (holds_of nodes path (fork l at r) h.shown).1
 
@@ -136,7 +136,7 @@ module _ (nodes : List Node) (way : Way) (path : Path) (l : Tree) (at : ℕ) (r 
   pub depth_within : steps path + height (fork l at r) ≤ 91
   depth_within = omega (arith, steps_within path (fork l at r), h.deep)
 
-  pub depth_few : way.depth ≤ 91
+  pub depth_few : notes.depth ≤ 91
   depth_few = omega (arith, h.depth_is, depth_within)
 
   once : (q : ℕ) → occurs_on q path + occurs q (fork l at r) ≤ 1
@@ -149,7 +149,7 @@ module _ (nodes : List Node) (way : Way) (path : Path) (l : Tree) (at : ℕ) (r 
   balanced_here = balanced_inside path (fork l at r) h.balanced
 
   -- a tree that is all there is below the place rises in its position
-  rises : (t : Tree) → KeepsWhole nodes way → Shows nodes t → IsBalanced t → ((q : ℕ) → occurs q t ≤ occurs q (fork l at r)) → Moves false (fork l at r) t → CanRise nodes way path false (fork l at r) t
+  rises : (t : Tree) → KeepsWhole nodes notes → Shows nodes t → IsBalanced t → ((q : ℕ) → occurs q t ≤ occurs q (fork l at r)) → Moves false (fork l at r) t → CanRise nodes notes path false (fork l at r) t
   rises t whole shown balanced few moves = record {
     follows = h.follows;
     whole = whole;
@@ -176,12 +176,12 @@ module _ (nodes : List Node) (way : Way) (path : Path) (l : Tree) (at : ℕ) (r 
 
   -- there is no left tree, and it is the right one, or the other way round
   module _ (node : Node) (e : slice_get nodes at ≡ Some node) where
-    pub rises_right : KeepsWhole nodes way → node.left ≡ None → CanRise nodes way path false (fork l at r) r
+    pub rises_right : KeepsWhole nodes notes → node.left ≡ None → CanRise nodes notes path false (fork l at r) r
     rises_right whole none =
         let no = no_root l ((left_tree node e).root_is ∙ none) in
         rises r whole shown_here.2 balanced_here.3 (λ q. omega arith) (one_less (fork l at r) r (omega (arith, ap size no)) (omega (arith, ap height no)))
 
-    pub rises_left : KeepsWhole nodes way → node.right ≡ None → CanRise nodes way path false (fork l at r) l
+    pub rises_left : KeepsWhole nodes notes → node.right ≡ None → CanRise nodes notes path false (fork l at r) l
     rises_left whole none =
         let no = no_root r ((right_tree node e).root_is ∙ none) in
         rises l whole shown_here.1 balanced_here.2 (λ q. omega arith) (one_less (fork l at r) l (omega (arith, ap size no)) (omega (arith, ap height no)))
@@ -195,7 +195,7 @@ module _ (nodes : List Node) (way : Way) (path : Path) (l : Tree) (at : ℕ) (r 
         taken l (sym (ap (λ x. reading l ++ reading x) no ∙ append-nil (reading l))) (λ q. omega (arith, ap (λ x. occurs q x) no))
 
   -- the way to the right tree's first place
-  pub can_descend : (node : Node) → slice_get nodes at ≡ Some node → (right : ℕ) → node.right ≡ Some right → (depth : ℕ) → depth ≡ way.depth → CanDescend nodes right (depth + 1) r
+  pub can_descend : (node : Node) → slice_get nodes at ≡ Some node → (right : ℕ) → node.right ≡ Some right → (depth : ℕ) → depth ≡ notes.depth → CanDescend nodes right (depth + 1) r
   can_descend node e right some depth is = record {
     tree = Stands-at nodes node.right (Some right) r some (right_tree node e);
     deep = omega (arith, is, h.depth_is, depth_within);
@@ -209,7 +209,7 @@ module _ (nodes : List Node) (way : Way) (path : Path) (l : Tree) (at : ℕ) (r 
       (omega (arith, ap (λ n. n.height) told, low (fork l at r) balanced_here (length nodes) room), omega (arith, ap (λ n. n.size) told, room))
 
   -- how deep the first place of the right tree is
-  pub low_within : (old mid : Way) (depth first low : ℕ) (lefts : List (ℕ × Tree)) (rest : Tree) → depth ≡ way.depth → IsFirst old mid (depth + 1) r first low lefts rest → (low + 1 ≤ height (plug path (fork l at r))) × (steps path + height r + 1 ≤ height (plug path (fork l at r)))
+  pub low_within : (old mid : Notes) (depth first low : ℕ) (lefts : List (ℕ × Tree)) (rest : Tree) → depth ≡ notes.depth → IsFirst old mid (depth + 1) r first low lefts rest → (low + 1 ≤ height (plug path (fork l at r))) × (steps path + height r + 1 ≤ height (plug path (fork l at r)))
   low_within old mid depth first low lefts rest is i =
       let a = steps_within path (fork l at r) in
       let b = height-hang lefts (fork leaf first rest) in
@@ -217,16 +217,16 @@ module _ (nodes : List Node) (way : Way) (path : Path) (l : Tree) (at : ℕ) (r 
       (omega (arith, i.low_is, is, h.depth_is), omega arith)
 
 -- the same, said of an equal tree
-pub taking : (nodes : List Node) (way : Way) (path : Path) (l : Tree) (at : ℕ) (r x : Tree) → CanTake nodes way path l at r → r ≡ x → CanTake nodes way path l at x
-taking nodes way path l at r x h e = subst (λ y. CanTake nodes way path l at y) e h
+pub taking : (nodes : List Node) (notes : Notes) (path : Path) (l : Tree) (at : ℕ) (r x : Tree) → CanTake nodes notes path l at r → r ≡ x → CanTake nodes notes path l at x
+taking nodes notes path l at r x h e = subst (λ y. CanTake nodes notes path l at y) e h
 
 pub taken_of : (old new : List Node) (path : Path) (l r x : Tree) (root : Option ℕ) → r ≡ x → (v : Tree) × IsTaken old new path l x root v → (v : Tree) × IsTaken old new path l r root v
 taken_of old new path l r x root e h = subst (λ y. (v : Tree) × IsTaken old new path l y root v) (sym e) h
 
 -- ---- the first place of the right tree takes its position
-module _ (nodes : List Node) (way : Way) (path : Path) (l : Tree) (at first : ℕ) (lefts : List (ℕ × Tree)) (rest : Tree) (h : CanTake nodes way path l at (hang lefts (fork leaf first rest))) where
+module _ (nodes : List Node) (notes : Notes) (path : Path) (l : Tree) (at first : ℕ) (lefts : List (ℕ × Tree)) (rest : Tree) (h : CanTake nodes notes path l at (hang lefts (fork leaf first rest))) where
   whole_shown : Shows nodes (fork l at (hang lefts (fork leaf first rest)))
-  whole_shown = shown_here nodes way path l at (hang lefts (fork leaf first rest)) h
+  whole_shown = shown_here nodes notes path l at (hang lefts (fork leaf first rest)) h
 
   first_shown : Shows nodes (fork leaf first rest)
   first_shown = Shows-hang nodes lefts (fork leaf first rest) whole_shown.2
@@ -245,7 +245,7 @@ module _ (nodes : List Node) (way : Way) (path : Path) (l : Tree) (at first : �
 
   -- how often a place stands in all of them
   each_once : (q : ℕ) → occurs_on q path + occurs q l + is_at q at + occurs q (hang lefts leaf) + is_at q first + occurs q rest ≤ 1
-  each_once q = omega (arith, once nodes way path l at (hang lefts (fork leaf first rest)) h q, occurs-hang q lefts (fork leaf first rest))
+  each_once q = omega (arith, once nodes notes path l at (hang lefts (fork leaf first rest)) h q, occurs-hang q lefts (fork leaf first rest))
 
   -- the whole, with the first place at the position of the one that is taken out, and so below it
   as_whole : (t : Tree) → plug (onward (below path true first l) lefts) t ≡ plug path (fork l first (hang lefts t))
@@ -259,12 +259,12 @@ module _ (nodes : List Node) (way : Way) (path : Path) (l : Tree) (at first : �
     pub written_length : length mid ≡ length nodes
     written_length = ap length e ∙ length-set nodes first node
 
-    pub can_replace : (now : Way) (depth : ℕ) → Follows now.kept now.step_at path → now.kept ≡ way.kept → KeepsWhole nodes way → depth ≡ steps path → CanReplace mid now depth path (fork l at (hang lefts (fork leaf first rest)))
+    pub can_replace : (now : Notes) (depth : ℕ) → Follows now.kept now.step_at path → now.kept ≡ notes.kept → KeepsWhole nodes notes → depth ≡ steps path → CanReplace mid now depth path (fork l at (hang lefts (fork leaf first rest)))
     can_replace now depth follows same whole is = record {
       follows = follows;
       whole = λ p few. ap (λ k. k p) same ∙ whole p (omega (arith, few, written_length));
       depth_is = is;
-      deep = omega (arith, is, depth_within nodes way path l at (hang lefts (fork leaf first rest)) h);
+      deep = omega (arith, is, depth_within nodes notes path l at (hang lefts (fork leaf first rest)) h);
       holds = Holds-frame nodes mid path (fork l at (hang lefts (fork leaf first rest))) (λ q o. written_elsewhere q (let d = each_once q in omega arith)) (holds_of nodes path (fork l at (hang lefts (fork leaf first rest))) h.shown).0;
       distinct = λ q. let d = each_once q in omega arith;
     }
@@ -288,16 +288,16 @@ module _ (nodes : List Node) (way : Way) (path : Path) (l : Tree) (at first : �
     holds_on : Holds new (onward (below path true first l) lefts) (fork leaf first rest)
     holds_on =
         let step : Holds new (below path true first l) (hang lefts (fork leaf first rest)) = (
-          (node, m.first_is, subst (λ n. Tells true n (hang lefts (fork leaf first rest)) l) (sym (node_told nodes way path l at (hang lefts (fork leaf first rest)) h node told)) (tells true (hang lefts (fork leaf first rest)) l)),
+          (node, m.first_is, subst (λ n. Tells true n (hang lefts (fork leaf first rest)) l) (sym (node_told nodes notes path l at (hang lefts (fork leaf first rest)) h node told)) (tells true (hang lefts (fork leaf first rest)) l)),
           Shows-frame nodes new l (λ q o. let d = each_once q in m.same_elsewhere q (omega arith) (omega arith)) whole_shown.1,
           m.holds,
         ) in
         Holds-onward nodes new (below path true first l) lefts (fork leaf first rest) (λ q o. let d = each_once q in m.same_elsewhere q (omega arith) (omega arith)) step whole_shown.2
 
     -- the first place is taken out of its tree
-    pub rises_first : KeepsWhole nodes way → (last : Way) → last.kept ≡ way.kept → Follows last.kept last.step_at (onward (below path true first l) lefts) → CanRise new last (onward (below path true first l) lefts) false (fork leaf first rest) rest
+    pub rises_first : KeepsWhole nodes notes → (last : Notes) → last.kept ≡ notes.kept → Follows last.kept last.step_at (onward (below path true first l) lefts) → CanRise new last (onward (below path true first l) lefts) false (fork leaf first rest) rest
     rises_first whole last same follows =
-        let bal = balanced_here nodes way path l at (hang lefts (fork leaf first rest)) h in
+        let bal = balanced_here nodes notes path l at (hang lefts (fork leaf first rest)) h in
         record {
           follows = follows;
           whole = λ p few. ap (λ k. k p) same ∙ whole p (omega (arith, few, m.same_length));
@@ -306,7 +306,7 @@ module _ (nodes : List Node) (way : Way) (path : Path) (l : Tree) (at first : �
           distinct = λ q. omega (arith, each_once q, occurs-plug q (onward (below path true first l) lefts) rest, ap (λ x. occurs q x) (as_whole rest), occurs-plug q path (fork l first (hang lefts rest)), occurs-hang q lefts rest);
           steady = subst (λ x. IsBalanced x) (sym (as_whole (fork leaf first rest))) (IsBalanced-alike path (fork l at (hang lefts (fork leaf first rest))) (fork l first (hang lefts (fork leaf first rest))) refl bal h.balanced);
           balanced = (balanced_inside (onward top lefts) (fork leaf first rest) (subst (λ x. IsBalanced x) (sym (plug-onward top lefts (fork leaf first rest))) bal.3)).3;
-          fits = omega (arith, fit nodes way path l at (hang lefts (fork leaf first rest)) h, size-plug (onward (below path true first l) lefts) (fork leaf first rest), ap size (as_whole (fork leaf first rest)), size-plug path (fork l first (hang lefts (fork leaf first rest))));
+          fits = omega (arith, fit nodes notes path l at (hang lefts (fork leaf first rest)) h, size-plug (onward (below path true first l) lefts) (fork leaf first rest), ap size (as_whole (fork leaf first rest)), size-plug path (fork l first (hang lefts (fork leaf first rest))));
           moves = one_less (fork leaf first rest) rest (omega arith) (omega arith);
         }
 
@@ -328,12 +328,12 @@ module _ (nodes : List Node) (way : Way) (path : Path) (l : Tree) (at first : �
     )
 
 -- the way that was noted to the first place still goes along the path
-pub path_followed : (path : Path) (old mid : Way) (depth first low : ℕ) (s : Tree) (lefts : List (ℕ × Tree)) (rest : Tree) → Follows old.kept old.step_at path → depth ≡ steps path → IsFirst old mid (depth + 1) s first low lefts rest → Follows mid.kept mid.step_at path
+pub path_followed : (path : Path) (old mid : Notes) (depth first low : ℕ) (s : Tree) (lefts : List (ℕ × Tree)) (rest : Tree) → Follows old.kept old.step_at path → depth ≡ steps path → IsFirst old mid (depth + 1) s first low lefts rest → Follows mid.kept mid.step_at path
 path_followed path old mid depth first low s lefts rest follows is i =
     Follows-frame mid.kept old.step_at mid.step_at path (λ j few. i.same_above j (omega (arith, is, few))) (subst (λ k. Follows k old.step_at path) (sym i.kept_is) follows)
 
 -- the way that was noted to the first place
-pub first_followed : (path : Path) (l : Tree) (old mid last : Way) (depth first low : ℕ) (s : Tree) (lefts : List (ℕ × Tree)) (rest : Tree) → Follows old.kept old.step_at path → depth ≡ steps path → IsFirst old mid (depth + 1) s first low lefts rest → IsNoted mid.step_at depth (mid.kept first, true) last.step_at → last.kept ≡ mid.kept → Follows last.kept last.step_at (onward (below path true first l) lefts) × (low ≡ steps (onward (below path true first l) lefts))
+pub first_followed : (path : Path) (l : Tree) (old mid last : Notes) (depth first low : ℕ) (s : Tree) (lefts : List (ℕ × Tree)) (rest : Tree) → Follows old.kept old.step_at path → depth ≡ steps path → IsFirst old mid (depth + 1) s first low lefts rest → IsNoted mid.step_at depth (mid.kept first, true) last.step_at → last.kept ≡ mid.kept → Follows last.kept last.step_at (onward (below path true first l) lefts) × (low ≡ steps (onward (below path true first l) lefts))
 first_followed path l old mid last depth first low s lefts rest follows is i noted same =
     let kept = path_followed path old mid depth first low s lefts rest follows is i in
     let here = Follows-noted mid.kept mid.step_at last.step_at path true first l depth is noted kept in

@@ -7,18 +7,18 @@ use Rattle.bimap_tree.specs.Tree.{Tree, leaf, fork, Stands, branch, node_on, roo
 use Rattle.bimap_tree.specs.Path.{Path, top, below, plug, steps, Follows, KeepsWhole, CanPut}
 use Rattle.bimap_tree.specs.Remove.{CanTake}
 use Rattle.bimap_tree.specs.Retraced.{CanRetrace, IsRetraced}
-use Rattle.bimap_tree.specs.Steps.{Way, IsNoted, way_of, long_way_of}
+use Rattle.bimap_tree.specs.Notes.{Notes, IsNoted, notes_of, long_notes_of}
 use Rattle.bimap_tree.specs.declared.route.Route.{Route}
-use Rattle.bimap_tree.specs.declared.way.LongRoute.{LongRoute}
+use Rattle.bimap_tree.specs.declared.notes.LongRoute.{LongRoute}
 use Rattle.bimap_tree.proofs.Branch.{root-branch, near-node_on, parts}
 use Rattle.bimap_tree.proofs.Paths.{Follows-noted, steps_within}
 use Rattle.bimap_tree.proofs.Shown.{root_within}
 
 -- ---- which places are kept whole
-pub keeps_few : (nodes : List Node) (route : Route) → length nodes ≤ 2 ^ 31 → KeepsWhole nodes (way_of route)
+pub keeps_few : (nodes : List Node) (route : Route) → length nodes ≤ 2 ^ 31 → KeepsWhole nodes (notes_of route)
 keeps_few nodes route few p low = mod-eq_of_lt (omega (arith, few, low))
 
-pub keeps_all : (nodes : List Node) (route : LongRoute) → KeepsWhole nodes (long_way_of route)
+pub keeps_all : (nodes : List Node) (route : LongRoute) → KeepsWhole nodes (long_notes_of route)
 keeps_all nodes route p low = refl
 
 -- ---- the steps still to go, each a turn at a place away from a sister
@@ -62,17 +62,17 @@ noted_as kept old new depth at p turn ordering e f n = record { here = n.here �
 near_told : (turn : Bool) (near far : Tree) (node : Node) → Some node ≡ Some (node_on turn near far) → near_of turn node ≡ root_of near
 near_told turn near far node e = let same : node ≡ node_on turn near far = cc in ap (λ n. near_of turn n) same ∙ near-node_on turn near far
 
-module _ (nodes : List Node) (top_root : Option ℕ) (way : Way) where
+module _ (nodes : List Node) (top_root : Option ℕ) (notes : Notes) where
   -- the way has come to here, and its steps are noted once more
-  pub record Comes (root : Option ℕ) (now : Way) (path : Path) (s : Tree) (up : Path) (xs : Rest) : Type 0 where
+  pub record Comes (root : Option ℕ) (now : Notes) (path : Path) (s : Tree) (up : Path) (xs : Rest) : Type 0 where
     pub is : path ≡ onward up xs
     pub tree : Stands nodes root (hang xs s)
     pub follows : Follows now.kept now.step_at up
 
-  pub record Retraces (root : Option ℕ) (now : Way) (depth : ℕ) : Type 0 where
-    pub alike : (path : Path) (s : Tree) → CanRetrace nodes top_root way path s → (up : Path) × (xs : Rest) × Comes root now path s up xs × (depth ≡ steps up)
+  pub record Retraces (root : Option ℕ) (now : Notes) (depth : ℕ) : Type 0 where
+    pub alike : (path : Path) (s : Tree) → CanRetrace nodes top_root notes path s → (up : Path) × (xs : Rest) × Comes root now path s up xs × (depth ≡ steps up)
 
-  pub retraces_none : (now : Way) → Retraces top_root now 0
+  pub retraces_none : (now : Notes) → Retraces top_root now 0
   retraces_none now = record {
     alike = λ path s h. let (xs, e) = all_of path in
         (top, xs, record { is = e; tree = subst (λ t. Stands nodes top_root t) (ap (λ y. plug y s) e ∙ plug-onward top xs s) h.tree; follows = tt }, refl);
@@ -87,39 +87,39 @@ module _ (nodes : List Node) (top_root : Option ℕ) (way : Way) where
   at_end up [] e = refl
   at_end up (x ∷ xs) e = absurd (omega (arith, e))
 
-  module _ (root : Option ℕ) (now : Way) (depth : ℕ) (r : Retraces root now depth) where
-    pub retraces_end : now.depth ≡ way.depth → way.depth ≤ depth → (path : Path) (s : Tree) → CanRetrace nodes top_root way path s → IsRetraced now path
+  module _ (root : Option ℕ) (now : Notes) (depth : ℕ) (r : Retraces root now depth) where
+    pub retraces_end : now.depth ≡ notes.depth → notes.depth ≤ depth → (path : Path) (s : Tree) → CanRetrace nodes top_root notes path s → IsRetraced now path
     retraces_end same all path s h =
         let (up, xs, c, e) = r.alike path s h in
         let n : steps path ≡ steps up + length xs = ap steps c.is ∙ steps-onward up xs in
         let is : path ≡ up = c.is ∙ at_end up xs (omega (arith, n, e, h.depth_is, all)) in
         record { follows = subst (λ y. Follows now.kept now.step_at y) (sym is) c.follows; depth_is = same ∙ h.depth_is }
 
-    module _ (more : depth < way.depth) where
-      pub next : (path : Path) (s : Tree) → CanRetrace nodes top_root way path s → (up : Path) × (x : Bool × ℕ × Tree) × (xs : Rest) × Comes root now path s up (x ∷ xs) × (depth ≡ steps up)
+    module _ (more : depth < notes.depth) where
+      pub next : (path : Path) (s : Tree) → CanRetrace nodes top_root notes path s → (up : Path) × (x : Bool × ℕ × Tree) × (xs : Rest) × Comes root now path s up (x ∷ xs) × (depth ≡ steps up)
       next path s h =
           let (up, xs, c, e) = r.alike path s h in
           let n : steps path ≡ steps up + length xs = ap steps c.is ∙ steps-onward up xs in
           let (x, ys, is) = one_more xs (omega (arith, n, e, h.depth_is, more)) in
           (up, x, ys, subst (λ zs. Comes root now path s up zs) is c, e)
 
-      pub retraces_place : (path : Path) (s : Tree) → CanRetrace nodes top_root way path s → root ≡ None → ⊥
+      pub retraces_place : (path : Path) (s : Tree) → CanRetrace nodes top_root notes path s → root ≡ None → ⊥
       retraces_place path s h none =
           let (up, x, xs, c, e) = next path s h in
           let no : Some x.1 ≡ None = sym (root-branch x.0 (hang xs s) x.1 x.2) ∙ c.tree.root_is ∙ none in
           absurd (cc)
 
       module _ (at : ℕ) (is : root ≡ Some at) where
-        pub retraces_within : (path : Path) (s : Tree) → CanRetrace nodes top_root way path s → at < length nodes
+        pub retraces_within : (path : Path) (s : Tree) → CanRetrace nodes top_root notes path s → at < length nodes
         retraces_within path s h =
             let (up, x, xs, c, e) = next path s h in
             root_within nodes at (hang (x ∷ xs) s) record { root_is = c.tree.root_is ∙ is; shown = c.tree.shown }
 
-        pub retraces_on : (node : Node) → slice_get nodes at ≡ Some node → (step : ℕ × Bool) → step ≡ way.step_at depth → (below_it : Option ℕ) → below_it ≡ near_of step.1 node → (then : Way) → IsNoted now.step_at depth (now.kept at, step.1) then.step_at → then.kept ≡ now.kept → Retraces below_it then (depth + 1)
+        pub retraces_on : (node : Node) → slice_get nodes at ≡ Some node → (step : ℕ × Bool) → step ≡ notes.step_at depth → (below_it : Option ℕ) → below_it ≡ near_of step.1 node → (then : Notes) → IsNoted now.step_at depth (now.kept at, step.1) then.step_at → then.kept ≡ now.kept → Retraces below_it then (depth + 1)
         retraces_on node told step stepped below_it near then noted kept = record {
           alike = λ path s h. let (up, x, xs, c, e) = next path s h in
-              let on : Follows way.kept way.step_at (onward (below up x.0 x.1 x.2) xs) = subst (λ y. Follows way.kept way.step_at y) c.is h.follows in
-              let here : step ≡ (way.kept x.1, x.0) = stepped ∙ ap way.step_at e ∙ (Follows-up way.kept way.step_at (below up x.0 x.1 x.2) xs on).0 in
+              let on : Follows notes.kept notes.step_at (onward (below up x.0 x.1 x.2) xs) = subst (λ y. Follows notes.kept notes.step_at y) c.is h.follows in
+              let here : step ≡ (notes.kept x.1, x.0) = stepped ∙ ap notes.step_at e ∙ (Follows-up notes.kept notes.step_at (below up x.0 x.1 x.2) xs on).0 in
               let turned : step.1 ≡ x.0 = ap (λ y. y.1) here in
               let some : Some x.1 ≡ Some at = sym (root-branch x.0 (hang xs s) x.1 x.2) ∙ c.tree.root_is ∙ is in
               let placed : x.1 ≡ at = cc in
@@ -137,16 +137,16 @@ module _ (nodes : List Node) (top_root : Option ℕ) (way : Way) where
         }
 
 -- ---- what may be done at the end of a route may be at the end of that way
-module _ (nodes : List Node) (root : Option ℕ) (way : Way) (path : Path) where
-  pub retrace_put : (place : ℕ) → CanPut nodes way path place → root_of (plug path leaf) ≡ root → CanRetrace nodes root way path leaf
+module _ (nodes : List Node) (root : Option ℕ) (notes : Notes) (path : Path) where
+  pub retrace_put : (place : ℕ) → CanPut nodes notes path place → root_of (plug path leaf) ≡ root → CanRetrace nodes root notes path leaf
   retrace_put place h is = record { tree = record { root_is = is; shown = h.shown }; follows = h.follows; depth_is = h.depth_is; deep = h.deep }
 
-  pub retrace_take : (l : Tree) (at : ℕ) (r : Tree) → CanTake nodes way path l at r → root_of (plug path (fork l at r)) ≡ root → CanRetrace nodes root way path (fork l at r)
+  pub retrace_take : (l : Tree) (at : ℕ) (r : Tree) → CanTake nodes notes path l at r → root_of (plug path (fork l at r)) ≡ root → CanRetrace nodes root notes path (fork l at r)
   retrace_take l at r h is = record { tree = record { root_is = is; shown = h.shown }; follows = h.follows; depth_is = h.depth_is; deep = omega (arith, h.depth_is, steps_within path (fork l at r), h.deep) }
 
-module _ (nodes : List Node) (way long : Way) (path : Path) (i : IsRetraced long path) where
-  pub put_retraced : (place : ℕ) → CanPut nodes way path place → CanPut nodes long path place
+module _ (nodes : List Node) (notes long : Notes) (path : Path) (i : IsRetraced long path) where
+  pub put_retraced : (place : ℕ) → CanPut nodes notes path place → CanPut nodes long path place
   put_retraced place h = record { follows = i.follows; depth_is = i.depth_is; deep = omega (arith, i.depth_is, h.depth_is, h.deep); shown = h.shown; distinct = h.distinct; balanced = h.balanced; has_cell = h.has_cell; fits = h.fits }
 
-  pub take_retraced : (l : Tree) (at : ℕ) (r : Tree) → CanTake nodes way path l at r → CanTake nodes long path l at r
+  pub take_retraced : (l : Tree) (at : ℕ) (r : Tree) → CanTake nodes notes path l at r → CanTake nodes long path l at r
   take_retraced l at r h = record { follows = i.follows; depth_is = i.depth_is; shown = h.shown; distinct = h.distinct; balanced = h.balanced; deep = h.deep; fits = h.fits }

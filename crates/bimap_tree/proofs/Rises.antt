@@ -8,15 +8,15 @@ use Rattle.bimap_base.specs.NodesInCells.{IsThere, CanCount, counted, recounted}
 use Rattle.bimap_tree.specs.Tree.{Tree, leaf, fork, reading, height, size, root_of, Stands, branch, node_on, near_of, far_of}
 use Rattle.bimap_tree.specs.Link.{CanRebalance, IsRebalanced}
 use Rattle.bimap_tree.specs.Path.{Path, top, below, steps, front, back, Tells, one_if, Moves, KeepsWhole, CanRise, CanRelink, CanPut, IsRisen}
-use Rattle.bimap_tree.specs.Steps.{Way}
+use Rattle.bimap_tree.specs.Notes.{Notes}
 use Rattle.bimap_tree.proofs.Branch.{height-branch, size-branch, height-node_on, size-node_on, near-node_on, far-node_on, node_is, level, Shows-linked}
 use Rattle.bimap_tree.proofs.Paths.{balanced_inside, Holds-frame, holds_of}
 use Rattle.bimap_tree.proofs.Rotate.{can_link, no_rotation}
 use Rattle.bimap_tree.proofs.Shown.{is_at-same, is_at-apart, get-elsewhere, size-reading, there}
 
-pub one_way : (grew : Bool) → one_if grew + one_if (not grew) ≡ 1
-one_way true = refl
-one_way false = refl
+pub one_notes : (grew : Bool) → one_if grew + one_if (not grew) ≡ 1
+one_notes true = refl
+one_notes false = refl
 
 -- what a node that was counted anew tells
 pub near-recounted : (turn : Bool) (child : Option ℕ) (grew : Bool) (n : Node) → near_of turn (recounted turn child grew n) ≡ child
@@ -47,14 +47,14 @@ module _ (nodes : List Node) (at : ℕ) (turn grew : Bool) (node : Node) (sister
   pub can_rebalance : CanRebalance nodes at u sister
   can_rebalance =
       let lv = level turn s at sister h.steady in
-      let one = one_way grew in
+      let one = one_notes grew in
       can_link nodes at u sister h.has_cell h.shown h.sister_shown h.distinct h.balanced lv.far_balanced (omega arith) (omega arith) (omega arith)
 
   -- the whole has moved as the child has, if at all
   pub moved : (new : List Node) (t : Tree) → IsRebalanced nodes new turn at u sister t → Moves grew (branch turn s at sister) t
   moved new t b =
       let lv = level turn s at sister h.steady in
-      let one = one_way grew in
+      let one = one_notes grew in
       let hs = height-branch turn s at sister in
       let zs = size-branch turn s at sister in
       let zu = size-branch turn u at sister in
@@ -89,7 +89,7 @@ module _ (nodes : List Node) (at : ℕ) (turn grew : Bool) (node : Node) (sister
       (near-recounted turn child grew node ∙ sym root ∙ sym (near-node_on turn u sister))
       (far-recounted turn child grew node ∙ h.told.far_is ∙ sym (far-node_on turn u sister))
       (omega (arith, tall, h.told.height_is, even, height-node_on turn u sister))
-      (omega (arith, size-recounted turn child grew node can_count.less, one_way grew, size-node_on turn u sister)) in
+      (omega (arith, size-recounted turn child grew node can_count.less, one_notes grew, size-node_on turn u sister)) in
       record {
         linked = no_rotation nodes new turn at u sister can_rebalance l1 l2 (e ∙ ap (λ x. slice_set nodes at x) is);
         as_high = height-branch turn u at sister ∙ ap (λ x. x + 1) even ∙ sym (height-branch turn s at sister);
@@ -113,27 +113,27 @@ module _ (nodes : List Node) (at : ℕ) (turn grew : Bool) (node : Node) (sister
   -- the node's count can be told
   pub counts : (node.size + one_if grew < 2 ^ 64) × (one_if (not grew) ≤ node.size)
   counts =
-      let one = one_way grew in
+      let one = one_notes grew in
       (omega arith, omega arith)
 
 -- ---- a step of the path
-module _ (nodes : List Node) (way : Way) (grew : Bool) (s u : Tree) where
+module _ (nodes : List Node) (notes : Notes) (grew : Bool) (s u : Tree) where
   -- the path's last step
   pub record LastStep (depth at : ℕ) (turn : Bool) (path up : Path) (sister : Tree) : Type 0 where
     pub is : path ≡ below up turn at sister
     pub above : depth - 1 ≡ steps up
-    pub here : CanRise nodes way (below up turn at sister) grew s u
+    pub here : CanRise nodes notes (below up turn at sister) grew s u
 
-  pub last_step : (depth : ℕ) (path : Path) → CanRise nodes way path grew s u → depth ≡ steps path → depth ≢ 0 → (at : ℕ) (turn : Bool) → (at, turn) ≡ way.step_at (depth - 1) → (up : Path) × (sister : Tree) × LastStep depth at turn path up sister
+  pub last_step : (depth : ℕ) (path : Path) → CanRise nodes notes path grew s u → depth ≡ steps path → depth ≢ 0 → (at : ℕ) (turn : Bool) → (at, turn) ≡ notes.step_at (depth - 1) → (up : Path) × (sister : Tree) × LastStep depth at turn path up sister
   last_step depth top c e n at turn step = absurd (n e)
   last_step depth (below up ordering place sister) c e n at turn step =
       let above : depth - 1 ≡ steps up = omega (arith, e) in
       let whole = c.whole place (slice_get_within nodes place c.holds.0.0 c.holds.0.1) in
-      let same : (place, ordering) ≡ (at, turn) = ap (λ p. (p, ordering)) (sym whole) ∙ sym c.follows.0 ∙ ap way.step_at (sym above) ∙ sym step in
+      let same : (place, ordering) ≡ (at, turn) = ap (λ p. (p, ordering)) (sym whole) ∙ sym c.follows.0 ∙ ap notes.step_at (sym above) ∙ sym step in
       let is : below up ordering place sister ≡ below up turn at sister = ap (λ x. below up x.1 x.0 sister) same in
-      (up, sister, record { is = is; above = above; here = subst (λ x. CanRise nodes way x grew s u) is c })
+      (up, sister, record { is = is; above = above; here = subst (λ x. CanRise nodes notes x grew s u) is c })
 
-  module _ (up : Path) (turn : Bool) (at : ℕ) (sister : Tree) (c : CanRise nodes way (below up turn at sister) grew s u) where
+  module _ (up : Path) (turn : Bool) (at : ℕ) (sister : Tree) (c : CanRise nodes notes (below up turn at sister) grew s u) where
     pub within : at < length nodes
     within = slice_get_within nodes at c.holds.0.0 c.holds.0.1
 
@@ -154,7 +154,7 @@ module _ (nodes : List Node) (way : Way) (grew : Bool) (s u : Tree) where
           moves = c.moves;
         }
 
-    pub can_rise : (new : List Node) (t : Tree) → IsRebalanced nodes new turn at u sister t → Moves grew (branch turn s at sister) t → CanRise new way up grew (branch turn s at sister) t
+    pub can_rise : (new : List Node) (t : Tree) → IsRebalanced nodes new turn at u sister t → Moves grew (branch turn s at sister) t → CanRise new notes up grew (branch turn s at sister) t
     can_rise new t b m = record {
       follows = c.follows.1;
       whole = λ p few. c.whole p (omega (arith, few, b.same_length));
@@ -184,8 +184,8 @@ risen_on nodes new last path up turn at sister u t root v is b r =
     subst (λ x. IsRisen nodes last x u root v) (sym is) done
 
 -- the way up is at its end
-pub at_top : (nodes : List Node) (way : Way) (path : Path) (grew : Bool) (s u : Tree) (depth : ℕ) (root : Option ℕ) → CanRise nodes way path grew s u → depth ≡ steps path → depth ≡ 0 → root_of u ≡ root → (v : Tree) × IsRisen nodes nodes path u root v
-at_top nodes way top grew s u depth root c e n r = (
+pub at_top : (nodes : List Node) (notes : Notes) (path : Path) (grew : Bool) (s u : Tree) (depth : ℕ) (root : Option ℕ) → CanRise nodes notes path grew s u → depth ≡ steps path → depth ≡ 0 → root_of u ≡ root → (v : Tree) × IsRisen nodes nodes path u root v
+at_top nodes notes top grew s u depth root c e n r = (
   u,
   record {
     tree = record { root_is = r; shown = c.shown };
@@ -195,11 +195,11 @@ at_top nodes way top grew s u depth root c e n r = (
     same_length = refl;
   },
 )
-at_top nodes way (below up turn p sister) grew s u depth root c e n r = absurd (omega (arith, e, n))
+at_top nodes notes (below up turn p sister) grew s u depth root c e n r = absurd (omega (arith, e, n))
 
 -- ---- a place alone at a path's end
-module _ (nodes : List Node) (way : Way) (path : Path) (place : ℕ) (h : CanPut nodes way path place) (new : List Node) (e : new ≡ slice_set nodes place (node_on false leaf leaf)) where
-  pub can_put : KeepsWhole nodes way → CanRise new way path true leaf (fork leaf place leaf)
+module _ (nodes : List Node) (notes : Notes) (path : Path) (place : ℕ) (h : CanPut nodes notes path place) (new : List Node) (e : new ≡ slice_set nodes place (node_on false leaf leaf)) where
+  pub can_put : KeepsWhole nodes notes → CanRise new notes path true leaf (fork leaf place leaf)
   can_put whole =
       let (holds, none) = holds_of nodes path leaf h.shown in
       let z = is_at-same place in

@@ -16,7 +16,7 @@ use Rattle.bimap_tree.specs.Path.{Path, top, plug, front, back, Wants, CanPut, I
 use Rattle.bimap_tree.specs.Remove.{CanTake, IsTaken}
 use Rattle.bimap_tree.specs.Route.{IsRoute, CanFollow, IsFollowed}
 use Rattle.bimap_tree.specs.Search.{CanSeek}
-use Rattle.bimap_tree.specs.Steps.{way_of}
+use Rattle.bimap_tree.specs.Notes.{notes_of}
 use Rattle.bimap_tree.specs.declared.route.Route.{Route}
 use Rattle.bimap_tree.proofs.Ascending.{live_all, split, split_after, only_one, own_key, ascends_with, ascends_without}
 use Rattle.bimap_tree.proofs.Distinct.{absent_reading, adds, drops, contains_occurs, occurs_all}
@@ -172,7 +172,7 @@ module _ (ns : List Node) (root : Option ℕ) (len : ℕ) (v : Index) (w : IsWho
       room : size (plug r.path leaf) + 1 ≤ length ns
       room = size_room ns (plug r.path leaf) place at_fields.tree.shown within (λ q. with_absent (plug r.path leaf) place q at_fields.distinct none)
 
-      pub can_put : CanPut ns (way_of route) r.path place
+      pub can_put : CanPut ns (notes_of route) r.path place
       can_put = record {
         follows = r.follows;
         depth_is = r.depth_is;
@@ -242,7 +242,7 @@ module _ (ns : List Node) (root : Option ℕ) (len : ℕ) (v : Index) (w : IsWho
     pub take_root : root_of (plug low (fork end.0 found end.1)) ≡ root
     take_root = ap root_of is_whole ∙ w.index.tree.root_is
 
-    pub can_take : CanTake ns (way_of route) low end.0 found end.1
+    pub can_take : CanTake ns (notes_of route) low end.0 found end.1
     can_take = record {
       follows = f.follows;
       depth_is = f.depth_is;

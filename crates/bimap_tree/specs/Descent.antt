@@ -6,7 +6,7 @@ use Rattle.bimap_base.specs.declared.cells.Node.{Node}
 use Rattle.bimap_tree.specs.Tree.{Tree, root_of}
 use Rattle.bimap_tree.specs.Index.{Index, IsBalancedIndex, height_at}
 use Rattle.bimap_tree.specs.Path.{Path, plug, steps, Follows, Wants}
-use Rattle.bimap_tree.specs.Steps.{packed, step_at}
+use Rattle.bimap_tree.specs.Notes.{packed, step_at}
 use Rattle.bimap_tree.specs.declared.descent.Descent.{Descent}
 use Rattle.bimap_tree.specs.declared.route.Route.{Route}
 

@@ -5,7 +5,7 @@ pub mod Order
 pub mod Search
 pub mod Link
 pub mod RankedSubtree
-pub mod Steps
+pub mod Notes
 pub mod Path
 pub mod Route
 pub mod Retraced

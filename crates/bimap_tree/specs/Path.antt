@@ -3,7 +3,7 @@ use Rattle.std.specs.Prelude.{◌≡◌, ℕ, suc, ◌+◌, ◌≤◌, ◌<◌, 
 use Rattle.std.specs.declared.cmp.Ordering.{Ordering}
 use Rattle.std.specs.declared.cmp.Ordering.TheVariants.{Less, Greater}
 use Rattle.bimap_base.specs.declared.cells.Node.{Node}
-use Rattle.bimap_tree.specs.Steps.{Way}
+use Rattle.bimap_tree.specs.Notes.{Notes}
 use Rattle.bimap_tree.specs.Tree.{Tree, leaf, reading, height, size, occurs, is_at, root_of, IsBalanced, Shows, Stands, branch, near_of, far_of}
 
 -- no step, or a path, and below it a turn at a place, to its right if the turn is true, away from the sister tree
@@ -81,13 +81,13 @@ pub record Moves (grew : Bool) (s u : Tree) : Type 0 where
   pub not_higher : height u ≤ height s + one_if grew
 
 -- the way keeps the places of these nodes whole
-abbrev pub KeepsWhole : List Node → Way → Type 0
-KeepsWhole nodes way = (p : ℕ) → p < length nodes → way.kept p ≡ p
+abbrev pub KeepsWhole : List Node → Notes → Type 0
+KeepsWhole nodes notes = (p : ℕ) → p < length nodes → notes.kept p ≡ p
 
 -- at the path's end the tree u stands in place of s, of which the places above do not know yet
-pub record CanRise (nodes : List Node) (way : Way) (path : Path) (grew : Bool) (s u : Tree) : Type 0 where
-  pub follows : Follows way.kept way.step_at path
-  pub whole : KeepsWhole nodes way
+pub record CanRise (nodes : List Node) (notes : Notes) (path : Path) (grew : Bool) (s u : Tree) : Type 0 where
+  pub follows : Follows notes.kept notes.step_at path
+  pub whole : KeepsWhole nodes notes
   pub holds : Holds nodes path s
   pub shown : Shows nodes u
   pub distinct : (q : ℕ) → occurs_on q path + occurs q u ≤ 1
@@ -118,10 +118,10 @@ pub record IsRisen (old new : List Node) (path : Path) (u : Tree) (root : Option
   pub same_length : length new ≡ length old
 
 -- a place may be put at the path's end, where no place is
-pub record CanPut (nodes : List Node) (way : Way) (path : Path) (place : ℕ) : Type 0 where
-  pub follows : Follows way.kept way.step_at path
-  pub depth_is : way.depth ≡ steps path
-  pub deep : way.depth ≤ 91
+pub record CanPut (nodes : List Node) (notes : Notes) (path : Path) (place : ℕ) : Type 0 where
+  pub follows : Follows notes.kept notes.step_at path
+  pub depth_is : notes.depth ≡ steps path
+  pub deep : notes.depth ≤ 91
   pub shown : Shows nodes (plug path leaf)
   pub distinct : (q : ℕ) → occurs_on q path + is_at q place ≤ 1
   pub balanced : IsBalanced (plug path leaf)

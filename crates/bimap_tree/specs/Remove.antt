@@ -3,7 +3,7 @@ use Rattle.std.specs.Prelude.{◌≡◌, ℕ, suc, ◌+◌, ◌≤◌, ◌<◌, 
 use Rattle.bimap_base.specs.declared.cells.Node.{Node}
 use Rattle.bimap_tree.specs.Tree.{Tree, leaf, fork, reading, height, size, occurs, IsBalanced, IsDistinctTree, Shows, Stands}
 use Rattle.bimap_tree.specs.Path.{Path, below, plug, steps, front, back, occurs_on, Follows, KeepsWhole, Holds}
-use Rattle.bimap_tree.specs.Steps.{Way}
+use Rattle.bimap_tree.specs.Notes.{Notes}
 
 -- the way to a tree's first place: a tree at the end of turns to the left, each away from a place and its right tree
 abbrev pub hang : List (ℕ × Tree) → Tree → Tree
@@ -26,7 +26,7 @@ pub record CanDescend (nodes : List Node) (at depth : ℕ) (s : Tree) : Type 0 w
   pub deep : depth + height s ≤ 91
 
 -- the way from this depth on to the tree's first place, which has a tree at its right alone, was noted
-pub record IsFirst (old new : Way) (depth : ℕ) (s : Tree) (first low : ℕ) (lefts : List (ℕ × Tree)) (rest : Tree) : Type 0 where
+pub record IsFirst (old new : Notes) (depth : ℕ) (s : Tree) (first low : ℕ) (lefts : List (ℕ × Tree)) (rest : Tree) : Type 0 where
   pub whole : s ≡ hang lefts (fork leaf first rest)
   pub low_is : low ≡ depth + length lefts
   pub kept_is : new.kept ≡ old.kept
@@ -34,9 +34,9 @@ pub record IsFirst (old new : Way) (depth : ℕ) (s : Tree) (first low : ℕ) (l
   pub same_above : (i : ℕ) → i < depth → new.step_at i ≡ old.step_at i
 
 -- a tree as high and as large may take the place of s at the end of a way of so many steps
-pub record CanReplace (nodes : List Node) (way : Way) (depth : ℕ) (path : Path) (s : Tree) : Type 0 where
-  pub follows : Follows way.kept way.step_at path
-  pub whole : KeepsWhole nodes way
+pub record CanReplace (nodes : List Node) (notes : Notes) (depth : ℕ) (path : Path) (s : Tree) : Type 0 where
+  pub follows : Follows notes.kept notes.step_at path
+  pub whole : KeepsWhole nodes notes
   pub depth_is : depth ≡ steps path
   pub deep : depth ≤ 91
   pub holds : Holds nodes path s
@@ -48,9 +48,9 @@ pub record IsReplaced (old new : List Node) (path : Path) (t : Tree) : Type 0 wh
   pub same_elsewhere : (q : ℕ) → occurs_on q path ≡ 0 → slice_get new q ≡ slice_get old q
 
 -- the place at the route's end may be taken out
-pub record CanTake (nodes : List Node) (way : Way) (path : Path) (l : Tree) (at : ℕ) (r : Tree) : Type 0 where
-  pub follows : Follows way.kept way.step_at path
-  pub depth_is : way.depth ≡ steps path
+pub record CanTake (nodes : List Node) (notes : Notes) (path : Path) (l : Tree) (at : ℕ) (r : Tree) : Type 0 where
+  pub follows : Follows notes.kept notes.step_at path
+  pub depth_is : notes.depth ≡ steps path
   pub shown : Shows nodes (plug path (fork l at r))
   pub distinct : IsDistinctTree (plug path (fork l at r))
   pub balanced : IsBalanced (plug path (fork l at r))

@@ -6,7 +6,7 @@ use Rattle.bimap_tree.specs.Tree.{Tree, leaf, height, root_of}
 use Rattle.bimap_tree.specs.Index.{Index, IsBalancedIndex}
 use Rattle.bimap_tree.specs.Path.{Path, plug, steps, Follows, Wants}
 use Rattle.bimap_tree.specs.Search.{CanSeek}
-use Rattle.bimap_tree.specs.Steps.{packed, step_at}
+use Rattle.bimap_tree.specs.Notes.{packed, step_at}
 use Rattle.bimap_tree.specs.declared.route.Route.{Route}
 
 -- the route leads down the index's tree, as places that stand so to a key want, to where no place is

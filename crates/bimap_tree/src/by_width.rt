@@ -6,7 +6,7 @@ ghost use Rattle.bimap_tree.specs.Order.{count_below, first_equal};
 ghost use Rattle.bimap_tree.specs.Path.{CanPut, IsRisen, Path, plug, top};
 ghost use Rattle.bimap_base.specs.Digits.{most_height};
 ghost use Rattle.bimap_tree.specs.Route.{CanFollow, IsFollowed};
-ghost use Rattle.bimap_tree.specs.Steps.{way_of};
+ghost use Rattle.bimap_tree.specs.Notes.{notes_of};
 ghost use Rattle.bimap_tree.specs.Filled.{IsRow};
 ghost use Rattle.bimap_tree.specs.Remove.{CanTake, IsTaken};
 ghost use Rattle.bimap_base.specs.NodesInCells.{nodes_in};
@@ -155,9 +155,9 @@ pub fn put_at<M: Meter>(
     place: usize,
     meter: &mut M,
 ) -> Option<usize>
-    requires { (path : Path) × CanPut (nodes_in cells.old) (way_of route.now) path place
+    requires { (path : Path) × CanPut (nodes_in cells.old) (notes_of route.now) path place
         × (root_of (plug path leaf) ≡ root) }
-    ensures tree { (path : Path) → CanPut (nodes_in cells.old) (way_of route.now) path place →
+    ensures tree { (path : Path) → CanPut (nodes_in cells.old) (notes_of route.now) path place →
         root_of (plug path leaf) ≡ root → (v : Tree)
         × IsRisen (nodes_in cells.old) (nodes_in cells.new) path (fork leaf place leaf) result v }
     ensures comparisons { M.comparisons meter.new ≡ M.comparisons meter.old }
@@ -178,15 +178,15 @@ pub fn take_at<M: Meter>(
     meter: &mut M,
 ) -> Option<usize>
     requires { (path : Path) × (l : Tree) × (r : Tree)
-        × CanTake (nodes_in cells.old) (way_of route.old) path l at r
+        × CanTake (nodes_in cells.old) (notes_of route.old) path l at r
         × (root_of (plug path (fork l at r)) ≡ root) }
     ensures tree { (path : Path) (l r : Tree) →
-        CanTake (nodes_in cells.old) (way_of route.old) path l at r →
+        CanTake (nodes_in cells.old) (notes_of route.old) path l at r →
         root_of (plug path (fork l at r)) ≡ root → (v : Tree)
         × IsTaken (nodes_in cells.old) (nodes_in cells.new) path l r result v }
     ensures comparisons { M.comparisons meter.new ≡ M.comparisons meter.old }
     ensures touches { (path : Path) (l r : Tree) →
-        CanTake (nodes_in cells.old) (way_of route.old) path l at r →
+        CanTake (nodes_in cells.old) (notes_of route.old) path l at r →
         root_of (plug path (fork l at r)) ≡ root →
         M.touches meter.new ≤ M.touches meter.old + 13 * height (plug path (fork l at r)) + 4 }
 {

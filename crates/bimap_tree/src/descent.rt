@@ -9,7 +9,7 @@ ghost use Rattle.bimap_tree.specs.Tree.{Tree, reading};
 
 use crate::route::{Route, route_in_tree, turns_by_branch};
 use crate::search_key::SearchKey;
-use crate::way::Steps;
+use crate::notes::Steps;
 use bimap_base::{Cell, Meter, Nodes};
 
 /// A search that is under way: it has come down to a place, or to where there is none.

@@ -13,7 +13,7 @@ mod search;
 mod search_key;
 mod span;
 mod walk;
-mod way;
+mod notes;
 
 pub use batch::Batch;
 pub use descent::Descent;

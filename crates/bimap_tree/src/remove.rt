@@ -3,12 +3,12 @@ ghost use Rattle.std.specs.Prelude.{◌≡◌, ℕ, ◌+◌, ◌*◌, ◌<◌, �
 ghost use Rattle.bimap_tree.specs.Tree.{Tree, fork, height, root_of, size};
 ghost use Rattle.bimap_tree.specs.Path.{Path, plug, KeepsWhole};
 ghost use Rattle.bimap_tree.specs.Remove.{CanDescend, IsFirst, CanReplace, IsReplaced, CanTake, IsTaken};
-ghost use Rattle.bimap_tree.specs.Steps.{way_of};
+ghost use Rattle.bimap_tree.specs.Notes.{notes_of};
 
 use crate::link::measure;
 use crate::rise::rise;
 use crate::route::Route;
-use crate::way::{Steps, fits, retraced};
+use crate::notes::{Steps, fits, retraced};
 use bimap_base::{Cell, Meter, Nodes};
 
 // Notes the way down to a tree's first place, and answers that place and its depth.
@@ -16,13 +16,13 @@ pub fn first_in_tree<C: Cell, W: Steps, M: Meter>(
     cells: &Nodes<C>,
     at: usize,
     depth: usize,
-    way: &mut W,
+    notes: &mut W,
     meter: &mut M,
 ) -> (usize, usize)
     requires { (s : Tree) × CanDescend cells.now at depth s }
     ensures first { (s : Tree) → CanDescend cells.now at depth s →
         (lefts : List (ℕ × Tree)) × (rest : Tree)
-        × IsFirst (W.way way.old) (W.way way.new) depth s result.0 result.1 lefts rest }
+        × IsFirst (W.notes notes.old) (W.notes notes.new) depth s result.0 result.1 lefts rest }
     ensures comparisons { M.comparisons meter.new ≡ M.comparisons meter.old }
     ensures touches { (s : Tree) → CanDescend cells.now at depth s →
         M.touches meter.new ≤ M.touches meter.old + height s }
@@ -30,7 +30,7 @@ pub fn first_in_tree<C: Cell, W: Steps, M: Meter>(
     let mut at = at;
     let mut depth = depth;
     while let Some(left) = cells.read(at, meter).left {
-        way.note(depth, at, false);
+        notes.note(depth, at, false);
         at = left;
         depth += 1;
     }
@@ -40,16 +40,16 @@ pub fn first_in_tree<C: Cell, W: Steps, M: Meter>(
 // Makes a place the child of the one above it on a way, if there is one.
 fn replace_child<C: Cell, W: Steps, M: Meter>(
     cells: &mut Nodes<C>,
-    way: &W,
+    notes: &W,
     depth: usize,
     place: usize,
     meter: &mut M,
 )
     requires replace { (path : Path) × (s : Tree)
-        × CanReplace cells.old (W.way way.now) depth path s }
+        × CanReplace cells.old (W.notes notes.now) depth path s }
     requires place { place < length cells.old }
     ensures replaced { (path : Path) (s t : Tree) →
-        CanReplace cells.old (W.way way.now) depth path s →
+        CanReplace cells.old (W.notes notes.now) depth path s →
         root_of t ≡ Some place → height t ≡ height s → size t ≡ size s →
         IsReplaced cells.old cells.new path t }
     ensures length { length cells.new ≡ length cells.old }
@@ -57,7 +57,7 @@ fn replace_child<C: Cell, W: Steps, M: Meter>(
     ensures touches { M.touches meter.new ≤ M.touches meter.old + 1 }
 {
     if depth > 0 {
-        let (above, turn) = way.step(depth - 1);
+        let (above, turn) = notes.step(depth - 1);
         cells.relink(above, turn, Some(place), meter);
     }
 }
@@ -66,37 +66,37 @@ fn replace_child<C: Cell, W: Steps, M: Meter>(
 #[inline(always)]
 fn take_along<C: Cell, W: Steps, M: Meter>(
     cells: &mut Nodes<C>,
-    way: &mut W,
+    notes: &mut W,
     at: usize,
     meter: &mut M,
 ) -> Option<usize>
     requires take { (path : Path) × (l : Tree) × (r : Tree)
-        × CanTake cells.old (W.way way.old) path l at r }
-    requires whole { KeepsWhole cells.old (W.way way.old) }
-    ensures tree { (path : Path) (l r : Tree) → CanTake cells.old (W.way way.old) path l at r →
+        × CanTake cells.old (W.notes notes.old) path l at r }
+    requires whole { KeepsWhole cells.old (W.notes notes.old) }
+    ensures tree { (path : Path) (l r : Tree) → CanTake cells.old (W.notes notes.old) path l at r →
         (v : Tree) × IsTaken cells.old cells.new path l r result v }
     ensures comparisons { M.comparisons meter.new ≡ M.comparisons meter.old }
     ensures touches { (path : Path) (l r : Tree) →
-        CanTake cells.old (W.way way.old) path l at r →
+        CanTake cells.old (W.notes notes.old) path l at r →
         M.touches meter.new ≤ M.touches meter.old + 12 * height (plug path (fork l at r)) + 4 }
 {
     let node = cells.read(at, meter);
-    let depth = way.depth();
+    let depth = notes.depth();
     if node.left.is_none() {
         let child = measure(cells, node.right, meter);
-        return rise(cells, way, depth, child, node.height, false, meter);
+        return rise(cells, notes, depth, child, node.height, false, meter);
     }
     let Some(right) = node.right else {
         let child = measure(cells, node.left, meter);
-        return rise(cells, way, depth, child, node.height, false, meter);
+        return rise(cells, notes, depth, child, node.height, false, meter);
     };
-    let (first, low) = first_in_tree(cells, right, depth + 1, way, meter);
+    let (first, low) = first_in_tree(cells, right, depth + 1, notes, meter);
     let last = cells.read(first, meter);
     let rest = measure(cells, last.right, meter);
     cells.write(first, node, meter);
-    replace_child(cells, way, depth, first, meter);
-    way.note(depth, first, true);
-    rise(cells, way, low, rest, last.height, false, meter)
+    replace_child(cells, notes, depth, first, meter);
+    notes.note(depth, first, true);
+    rise(cells, notes, low, rest, last.height, false, meter)
 }
 
 // The same at the end of a route whose steps don't tell the places whole, as a call of its own.
@@ -109,20 +109,20 @@ fn take_retraced<C: Cell, M: Meter>(
     meter: &mut M,
 ) -> Option<usize>
     requires { (path : Path) × (l : Tree) × (r : Tree)
-        × CanTake cells.old (way_of route.now) path l at r
+        × CanTake cells.old (notes_of route.now) path l at r
         × (root_of (plug path (fork l at r)) ≡ root) }
     ensures tree { (path : Path) (l r : Tree) →
-        CanTake cells.old (way_of route.now) path l at r →
+        CanTake cells.old (notes_of route.now) path l at r →
         root_of (plug path (fork l at r)) ≡ root →
         (v : Tree) × IsTaken cells.old cells.new path l r result v }
     ensures comparisons { M.comparisons meter.new ≡ M.comparisons meter.old }
     ensures touches { (path : Path) (l r : Tree) →
-        CanTake cells.old (way_of route.now) path l at r →
+        CanTake cells.old (notes_of route.now) path l at r →
         root_of (plug path (fork l at r)) ≡ root →
         M.touches meter.new ≤ M.touches meter.old + 13 * height (plug path (fork l at r)) + 4 }
 {
-    let mut way = retraced(cells, root, route, meter);
-    take_along(cells, &mut way, at, meter)
+    let mut notes = retraced(cells, root, route, meter);
+    take_along(cells, &mut notes, at, meter)
 }
 
 // Takes out the place at the end of a route, and answers the new root.
@@ -134,15 +134,15 @@ pub fn take_at<C: Cell, M: Meter>(
     meter: &mut M,
 ) -> Option<usize>
     requires { (path : Path) × (l : Tree) × (r : Tree)
-        × CanTake cells.old (way_of route.old) path l at r
+        × CanTake cells.old (notes_of route.old) path l at r
         × (root_of (plug path (fork l at r)) ≡ root) }
     ensures tree { (path : Path) (l r : Tree) →
-        CanTake cells.old (way_of route.old) path l at r →
+        CanTake cells.old (notes_of route.old) path l at r →
         root_of (plug path (fork l at r)) ≡ root →
         (v : Tree) × IsTaken cells.old cells.new path l r result v }
     ensures comparisons { M.comparisons meter.new ≡ M.comparisons meter.old }
     ensures touches { (path : Path) (l r : Tree) →
-        CanTake cells.old (way_of route.old) path l at r →
+        CanTake cells.old (notes_of route.old) path l at r →
         root_of (plug path (fork l at r)) ≡ root →
         M.touches meter.new ≤ M.touches meter.old + 13 * height (plug path (fork l at r)) + 4 }
 {

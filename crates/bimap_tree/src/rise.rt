@@ -3,11 +3,11 @@ ghost use Rattle.std.specs.Prelude.{◌≡◌, ℕ, ◌+◌, ◌*◌, ◌<◌, �
 ghost use Rattle.bimap_tree.specs.Tree.{Tree, leaf, fork, height, root_of, branch};
 ghost use Rattle.bimap_tree.specs.Link.{Measures, IsRebalanced};
 ghost use Rattle.bimap_tree.specs.Path.{Path, plug, steps, Moves, KeepsWhole, CanRise, CanRelink, CanPut, IsRisen};
-ghost use Rattle.bimap_tree.specs.Steps.{way_of};
+ghost use Rattle.bimap_tree.specs.Notes.{notes_of};
 
 use crate::link::{Subtree, children, link, measure, rebalance};
 use crate::route::Route;
-use crate::way::{Steps, fits, retraced};
+use crate::notes::{Steps, fits, retraced};
 use bimap_base::{Cell, Meter, Node, Nodes};
 
 // Links a place above a child that has grown or shrunk, and looks at its sister only where the place's height may move.
@@ -46,17 +46,17 @@ fn relink<C: Cell, M: Meter>(
 // Goes up where no height moves any more: links the child, and counts its places in each node of the way.
 fn recount<C: Cell, W: Steps, M: Meter>(
     cells: &mut Nodes<C>,
-    way: &W,
+    notes: &W,
     depth: usize,
     child: Option<usize>,
     grew: bool,
     meter: &mut M,
 ) -> Option<usize>
     requires { (path : Path) × (s : Tree) × (u : Tree)
-        × CanRise cells.old (W.way way.now) path grew s u × (depth ≡ steps path)
+        × CanRise cells.old (W.notes notes.now) path grew s u × (depth ≡ steps path)
         × (depth ≤ 91) × (root_of u ≡ child) × (height u ≡ height s) }
     ensures tree { (path : Path) (s u : Tree) →
-        CanRise cells.old (W.way way.now) path grew s u → depth ≡ steps path →
+        CanRise cells.old (W.notes notes.now) path grew s u → depth ≡ steps path →
         root_of u ≡ child → height u ≡ height s →
         (v : Tree) × IsRisen cells.old cells.new path u result v }
     ensures comparisons { M.comparisons meter.new ≡ M.comparisons meter.old }
@@ -65,13 +65,13 @@ fn recount<C: Cell, W: Steps, M: Meter>(
     if depth == 0 {
         return child;
     }
-    let (at, turn) = way.step(depth - 1);
+    let (at, turn) = notes.step(depth - 1);
     cells.recount(at, turn, child, grew, meter);
     let mut top = at;
     let mut depth = depth - 1;
     while depth > 0 {
         depth -= 1;
-        let (at, _) = way.step(depth);
+        let (at, _) = notes.step(depth);
         cells.count(at, grew, meter);
         top = at;
     }
@@ -81,7 +81,7 @@ fn recount<C: Cell, W: Steps, M: Meter>(
 // Goes up from a child that stands in place of a tree of the height `was`, and answers the new root.
 pub fn rise<C: Cell, W: Steps, M: Meter>(
     cells: &mut Nodes<C>,
-    way: &W,
+    notes: &W,
     depth: usize,
     child: Subtree,
     was: usize,
@@ -89,10 +89,10 @@ pub fn rise<C: Cell, W: Steps, M: Meter>(
     meter: &mut M,
 ) -> Option<usize>
     requires { (path : Path) × (s : Tree) × (u : Tree)
-        × CanRise cells.old (W.way way.now) path grew s u × (depth ≡ steps path)
+        × CanRise cells.old (W.notes notes.now) path grew s u × (depth ≡ steps path)
         × (depth ≤ 91) × Measures child u × (was ≡ height s) }
     ensures tree { (path : Path) (s u : Tree) →
-        CanRise cells.old (W.way way.now) path grew s u → depth ≡ steps path →
+        CanRise cells.old (W.notes notes.now) path grew s u → depth ≡ steps path →
         Measures child u → was ≡ height s →
         (v : Tree) × IsRisen cells.old cells.new path u result v }
     ensures comparisons { M.comparisons meter.new ≡ M.comparisons meter.old }
@@ -106,28 +106,29 @@ pub fn rise<C: Cell, W: Steps, M: Meter>(
             return child.root;
         }
         depth -= 1;
-        let (at, turn) = way.step(depth);
+        let (at, turn) = notes.step(depth);
         let node = cells.read(at, meter);
         child = relink(cells, at, node, turn, child, grew, meter);
         was = node.height;
     }
-    recount(cells, way, depth, child.root, grew, meter)
+    recount(cells, notes, depth, child.root, grew, meter)
 }
 
 // Puts a place in at the end of a way that leads to no place, and answers the new root.
 #[inline(always)]
 fn put_along<C: Cell, W: Steps, M: Meter>(
     cells: &mut Nodes<C>,
-    way: &W,
+    notes: &W,
     place: usize,
     meter: &mut M,
 ) -> Option<usize>
-    requires put { (path : Path) × CanPut cells.old (W.way way.now) path place }
-    requires whole { KeepsWhole cells.old (W.way way.now) }
-    ensures tree { (path : Path) → CanPut cells.old (W.way way.now) path place →
+    requires put { (path : Path) × CanPut cells.old (W.notes notes.now) path place }
+    requires whole { KeepsWhole cells.old (W.notes notes.now) }
+    ensures tree { (path : Path) → CanPut cells.old (W.notes notes.now) path place →
         (v : Tree) × IsRisen cells.old cells.new path (fork leaf place leaf) result v }
     ensures comparisons { M.comparisons meter.new ≡ M.comparisons meter.old }
-    ensures touches { M.touches meter.new ≤ M.touches meter.old + 11 * (W.way way.now).depth + 1 }
+    ensures touches { M.touches meter.new ≤ M.touches meter.old + 11 * (W.notes notes.now).depth +
+        1 }
 {
     let nothing = Subtree {
         root: None,
@@ -135,7 +136,7 @@ fn put_along<C: Cell, W: Steps, M: Meter>(
         size: 0,
     };
     let alone = link(cells, place, false, nothing, nothing, meter);
-    rise(cells, way, way.depth(), alone, 0, true, meter)
+    rise(cells, notes, notes.depth(), alone, 0, true, meter)
 }
 
 // The same at the end of a route whose steps don't tell the places whole. It is a call of its own, so that no other makes room
@@ -148,16 +149,16 @@ fn put_retraced<C: Cell, M: Meter>(
     place: usize,
     meter: &mut M,
 ) -> Option<usize>
-    requires { (path : Path) × CanPut cells.old (way_of route.now) path place
+    requires { (path : Path) × CanPut cells.old (notes_of route.now) path place
         × (root_of (plug path leaf) ≡ root) }
-    ensures tree { (path : Path) → CanPut cells.old (way_of route.now) path place →
+    ensures tree { (path : Path) → CanPut cells.old (notes_of route.now) path place →
         root_of (plug path leaf) ≡ root →
         (v : Tree) × IsRisen cells.old cells.new path (fork leaf place leaf) result v }
     ensures comparisons { M.comparisons meter.new ≡ M.comparisons meter.old }
     ensures touches { M.touches meter.new ≤ M.touches meter.old + 12 * route.now.depth + 1 }
 {
-    let way = retraced(cells, root, route, meter);
-    put_along(cells, &way, place, meter)
+    let notes = retraced(cells, root, route, meter);
+    put_along(cells, &notes, place, meter)
 }
 
 // Puts a place in at the end of a route that leads to no place, and answers the new root.
@@ -169,9 +170,9 @@ pub fn put_at<C: Cell, M: Meter>(
     place: usize,
     meter: &mut M,
 ) -> Option<usize>
-    requires { (path : Path) × CanPut cells.old (way_of route.now) path place
+    requires { (path : Path) × CanPut cells.old (notes_of route.now) path place
         × (root_of (plug path leaf) ≡ root) }
-    ensures tree { (path : Path) → CanPut cells.old (way_of route.now) path place →
+    ensures tree { (path : Path) → CanPut cells.old (notes_of route.now) path place →
         root_of (plug path leaf) ≡ root →
         (v : Tree) × IsRisen cells.old cells.new path (fork leaf place leaf) result v }
     ensures comparisons { M.comparisons meter.new ≡ M.comparisons meter.old }

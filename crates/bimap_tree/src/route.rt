@@ -10,7 +10,7 @@ ghost use Rattle.bimap_tree.specs.Route.{CanFollow, IsFollowed, IsRoute};
 
 use crate::remove::first_in_tree;
 use crate::search_key::SearchKey;
-use crate::way::{PACKED, Steps};
+use crate::notes::{PACKED, Steps};
 use bimap_base::{Cell, Meter, Nodes};
 
 /// The way that a search went down an index: at each depth a place, and whether the way goes on to its right.
@@ -48,9 +48,9 @@ impl Route {
 }
 
 impl Steps for Route {
-    ghost use Rattle.bimap_tree.specs.Steps.{way_of};
+    ghost use Rattle.bimap_tree.specs.Notes.{notes_of};
 
-    ghost way = { way_of };
+    ghost notes = { notes_of };
 
     fn depth(&self) -> usize {
         self.depth

@@ -59,13 +59,13 @@ pub read-last-requires : goal.read-last-requires
 read-last-requires g c =
     let h = c.requires.take.3 in
     let (lefts, rest, i) = c.first_in_tree-first.ensures.first _ (can_descend _ _ _ _ _ _ h _ c.read-node.ensures.node _ c.in-Some.is _ c.depth-depth.ensures) in
-    first_within _ (g.W.Steps.way c.args.way.now) c.requires.take.0 c.requires.take.1 c.args.at _ lefts rest (taking _ _ _ _ _ _ _ h i.whole)
+    first_within _ (g.W.Steps.notes c.args.notes.now) c.requires.take.0 c.requires.take.1 c.args.at _ lefts rest (taking _ _ _ _ _ _ _ h i.whole)
 
 pub measure-rest-requires : goal.measure-rest-requires
 measure-rest-requires g c =
     let h = c.requires.take.3 in
     let (lefts, rest, i) = c.first_in_tree-first.ensures.first _ (can_descend _ _ _ _ _ _ h _ c.read-node.ensures.node _ c.in-Some.is _ c.depth-depth.ensures) in
-    (rest, rest_stands _ (g.W.Steps.way c.args.way.now) c.requires.take.0 c.requires.take.1 c.args.at _ lefts rest (taking _ _ _ _ _ _ _ h i.whole) _ c.read-last.ensures.node)
+    (rest, rest_stands _ (g.W.Steps.notes c.args.notes.now) c.requires.take.0 c.requires.take.1 c.args.at _ lefts rest (taking _ _ _ _ _ _ _ h i.whole) _ c.read-last.ensures.node)
 
 pub write-requires : goal.write-requires
 write-requires g c =
@@ -73,7 +73,7 @@ write-requires g c =
     let (lefts, rest, i) = c.first_in_tree-first.ensures.first _ (can_descend _ _ _ _ _ _ h _ c.read-node.ensures.node _ c.in-Some.is _ c.depth-depth.ensures) in
     let (low, few) = kept _ _ _ _ _ _ h _ c.read-node.ensures.node in
     record {
-      place = first_within _ (g.W.Steps.way c.args.way.now) c.requires.take.0 c.requires.take.1 c.args.at _ lefts rest (taking _ _ _ _ _ _ _ h i.whole);
+      place = first_within _ (g.W.Steps.notes c.args.notes.now) c.requires.take.0 c.requires.take.1 c.args.at _ lefts rest (taking _ _ _ _ _ _ _ h i.whole);
       left = there _ _ _ (left_tree _ _ _ _ _ _ h _ c.read-node.ensures.node);
       right = there _ _ _ (right_tree _ _ _ _ _ _ h _ c.read-node.ensures.node);
       height = low;
@@ -93,7 +93,7 @@ replace_child-requires-clause-place g c =
     let h = c.requires.take.3 in
     let (lefts, rest, i) = c.first_in_tree-first.ensures.first _ (can_descend _ _ _ _ _ _ h _ c.read-node.ensures.node _ c.in-Some.is _ c.depth-depth.ensures) in
     let h2 = taking _ _ _ _ _ _ _ h i.whole in
-    omega (arith, first_within _ (g.W.Steps.way c.args.way.now) c.requires.take.0 c.requires.take.1 c.args.at _ lefts rest h2, written_length _ (g.W.Steps.way c.args.way.now) c.requires.take.0 c.requires.take.1 c.args.at _ lefts rest h2 _ _ c.write.ensures.written)
+    omega (arith, first_within _ (g.W.Steps.notes c.args.notes.now) c.requires.take.0 c.requires.take.1 c.args.at _ lefts rest h2, written_length _ (g.W.Steps.notes c.args.notes.now) c.requires.take.0 c.requires.take.1 c.args.at _ lefts rest h2 _ _ c.write.ensures.written)
 
 pub note-requires : goal.note-requires
 note-requires g c =
@@ -108,18 +108,18 @@ rise-requires-2 g c =
     let h2 = taking _ _ _ _ _ _ _ h i.whole in
     let few = low_within _ _ _ _ _ _ h _ _ _ _ _ lefts rest c.depth-depth.ensures i in
     let is = c.depth-depth.ensures ∙ h.depth_is in
-    let (follows, low) = first_followed c.requires.take.0 c.requires.take.1 (g.W.Steps.way c.args.way.now) (g.W.Steps.way c.first_in_tree-first.new.way) (g.W.Steps.way c.note.new.self) _ _ _ _ lefts rest h.follows is i c.note.ensures.noted c.note.ensures.kept in
-    let stands = rest_stands _ (g.W.Steps.way c.args.way.now) c.requires.take.0 c.requires.take.1 c.args.at _ lefts rest h2 _ c.read-last.ensures.node in
+    let (follows, low) = first_followed c.requires.take.0 c.requires.take.1 (g.W.Steps.notes c.args.notes.now) (g.W.Steps.notes c.first_in_tree-first.new.notes) (g.W.Steps.notes c.note.new.self) _ _ _ _ lefts rest h.follows is i c.note.ensures.noted c.note.ensures.kept in
+    let stands = rest_stands _ (g.W.Steps.notes c.args.notes.now) c.requires.take.0 c.requires.take.1 c.args.at _ lefts rest h2 _ c.read-last.ensures.node in
     let can = can_replace _ _ c.requires.take.0 c.requires.take.1 c.args.at _ lefts rest h2 _ _ c.write.ensures.written _ _ (path_followed _ _ _ _ _ _ _ lefts rest h.follows is i) i.kept_is c.requires.whole is in
     let over = takes_over _ _ c.requires.take.0 c.requires.take.1 c.args.at _ lefts rest h2 _ _ c.write.ensures.written _ (c.replace_child.ensures.replaced _ _ _ can refl refl refl) c.replace_child.ensures.length in
-    (_, _, rest, rises_first _ _ c.requires.take.0 c.requires.take.1 c.args.at _ lefts rest h2 _ c.read-node.ensures.node _ c.write.ensures.written _ over c.requires.whole _ (c.note.ensures.kept ∙ i.kept_is) follows, low, omega (arith, h.deep, few.0), c.measure-rest.ensures.measured rest stands, was_height _ (g.W.Steps.way c.args.way.now) c.requires.take.0 c.requires.take.1 c.args.at _ lefts rest h2 _ c.read-last.ensures.node)
+    (_, _, rest, rises_first _ _ c.requires.take.0 c.requires.take.1 c.args.at _ lefts rest h2 _ c.read-node.ensures.node _ c.write.ensures.written _ over c.requires.whole _ (c.note.ensures.kept ∙ i.kept_is) follows, low, omega (arith, h.deep, few.0), c.measure-rest.ensures.measured rest stands, was_height _ (g.W.Steps.notes c.args.notes.now) c.requires.take.0 c.requires.take.1 c.args.at _ lefts rest h2 _ c.read-last.ensures.node)
 
 pub returns-clause-tree : goal.returns-clause-tree
 returns-clause-tree g c path l r h =
     let (lefts, rest, i) = c.first_in_tree-first.ensures.first r (can_descend _ _ path l _ r h _ c.read-node.ensures.node _ c.in-Some.is _ c.depth-depth.ensures) in
     let h2 = taking _ _ path l _ r _ h i.whole in
     let is = c.depth-depth.ensures ∙ h.depth_is in
-    let (follows, low) = first_followed path l (g.W.Steps.way c.args.way.now) (g.W.Steps.way c.first_in_tree-first.new.way) (g.W.Steps.way c.note.new.self) _ _ _ r lefts rest h.follows is i c.note.ensures.noted c.note.ensures.kept in
+    let (follows, low) = first_followed path l (g.W.Steps.notes c.args.notes.now) (g.W.Steps.notes c.first_in_tree-first.new.notes) (g.W.Steps.notes c.note.new.self) _ _ _ r lefts rest h.follows is i c.note.ensures.noted c.note.ensures.kept in
     let stands = rest_stands _ _ path l c.args.at _ lefts rest h2 _ c.read-last.ensures.node in
     let can = can_replace _ _ path l c.args.at _ lefts rest h2 _ _ c.write.ensures.written _ _ (path_followed path _ _ _ _ _ r lefts rest h.follows is i) i.kept_is c.requires.whole is in
     let over = takes_over _ _ path l c.args.at _ lefts rest h2 _ _ c.write.ensures.written _ (c.replace_child.ensures.replaced path _ _ can refl refl refl) c.replace_child.ensures.length in

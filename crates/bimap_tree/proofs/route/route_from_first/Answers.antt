@@ -1,6 +1,6 @@
 use Rattle.std.proofs.Common.{arith, ap, refl}
 use Rattle.bimap_tree.proofs.Descents.{is_equal}
-use Rattle.bimap_tree.proofs.Firsts.{can_descend_first, follow_anew, first_live, first_found, first_way, some_levels}
+use Rattle.bimap_tree.proofs.Firsts.{can_descend_first, follow_anew, first_live, first_found, first_notes, some_levels}
 use Rattle.bimap_tree.proofs.Heights.{height-bound}
 use Rattle.bimap_tree.proofs.route.route_from_first.Goals as goal
 use Rattle.bimap_tree.proofs.route.route_from_first.Goals.{in-true-Some+else-is_eq, then-is_first+in-None-1, else-is_first}
@@ -18,7 +18,7 @@ returns-then-is_eq-clause-found g c t h =
 pub returns-then-is_eq-clause-follows : goal.returns-then-is_eq-clause-follows
 returns-then-is_eq-clause-follows g c t h =
     let (lefts, rest, i) = c.first_in_tree-first.ensures.first t (can_descend_first _ _ _ _ _ t h _ c.in-true-Some.is-1) in
-    (_, _, first_way _ _ _ _ _ t h _ _ _ lefts rest i (is_equal _ _ _ c.ordering.ensures.ordering c.is_eq.ensures c.if-is_eq.true) _ refl refl)
+    (_, _, first_notes _ _ _ _ _ t h _ _ _ lefts rest i (is_equal _ _ _ c.ordering.ensures.ordering c.is_eq.ensures c.if-is_eq.true) _ refl refl)
 
 pub returns-then-is_eq-clause-comparisons : goal.returns-then-is_eq-clause-comparisons
 returns-then-is_eq-clause-comparisons g c t h b = omega (arith, some_levels _ _ t h _ c.in-true-Some.is-1 b)

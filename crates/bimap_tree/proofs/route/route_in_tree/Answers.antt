@@ -1,6 +1,6 @@
 use Rattle.std.proofs.Common.{arith, true, ap, sym, ◌∙◌}
 use Rattle.bimap_tree.proofs.Descents.{costs_none, costs_on, costs_last, costs_end, cell_within, falls, goes_top, goes_none, goes_end, goes_live, goes_deep, goes_here, goes_down, goes_right, wants, is_equal, is_less}
-use Rattle.bimap_tree.specs.Steps.{step_at}
+use Rattle.bimap_tree.specs.Notes.{step_at}
 use Rattle.bimap_tree.proofs.Removes.{no_child}
 use Rattle.bimap_tree.proofs.route.route_in_tree.Goals as goal
 use Rattle.bimap_tree.proofs.route.route_in_tree.Goals.{in-Some+then-is_eq, in-Some+else-is_eq+then-is_far+then-turn+then-is_none, in_default}

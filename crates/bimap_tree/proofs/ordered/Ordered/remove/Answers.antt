@@ -18,8 +18,8 @@ route_from_first-self-inside-requires g c =
     (tree_in (nodes_in c.self.inside.cells) c.self.inside.root, can_follow _ _ _ _ c.self.invariant c.self.view_is _ _ _ (can_seek_place _ _ _ _ c.self.invariant c.self.view_is _ _ g.met.K.Keys.total c.requires.ascends _ k is))
 
 -- the way that the search went, to the place
-the_way : (g : Over) (c : After-route_from_first-self-inside g) → (low : Path) × (s : Tree) × IsFollowed (λ q. standing g.K.Keys.order (g.K.Keys.key_at c.args.keys.now q) (g.K.Keys.key_at c.args.keys.now c.args.place)) c.route_from_first-self-inside.new.route c.route_from_first-self-inside.new.route.depth (Some c.args.place) (tree_in (nodes_in c.self.inside.cells) c.self.inside.root) low s
-the_way g c =
+the_notes : (g : Over) (c : After-route_from_first-self-inside g) → (low : Path) × (s : Tree) × IsFollowed (λ q. standing g.K.Keys.order (g.K.Keys.key_at c.args.keys.now q) (g.K.Keys.key_at c.args.keys.now c.args.place)) c.route_from_first-self-inside.new.route c.route_from_first-self-inside.new.route.depth (Some c.args.place) (tree_in (nodes_in c.self.inside.cells) c.self.inside.root) low s
+the_notes g c =
     let (k, is) = key_listed (g.K.Keys.key_at c.args.keys.now) g.K.Keys.order _ c.requires.ascends _ c.requires.listed in
     let f = can_follow _ _ _ _ c.self.invariant c.self.view_is _ _ c.new-route.result (can_seek_place _ _ _ _ c.self.invariant c.self.view_is _ _ g.met.K.Keys.total c.requires.ascends c.args.place k is) in
     let found = place_found _ _ _ _ c.self.invariant c.self.view_is _ _ _ k is _ (c.route_from_first-self-inside.ensures.found _ f) g.met.K.Keys.total c.requires.ascends c.requires.listed in
@@ -27,17 +27,17 @@ the_way g c =
 
 pub take_at-self-inside-requires : goal.take_at-self-inside-requires
 take_at-self-inside-requires g c =
-    let (low, s, f) = the_way g (goal.at.take_at-self-inside-requires g c).After-route_from_first-self-inside in
+    let (low, s, f) = the_notes g (goal.at.take_at-self-inside-requires g c).After-route_from_first-self-inside in
     (low, _, _, can_take _ _ _ _ c.self.invariant c.self.view_is _ _ _ low s f, take_root _ _ _ _ c.self.invariant c.self.view_is _ _ _ low s f)
 
 pub invariant_of-self : goal.invariant_of-self
 invariant_of-self g c =
-    let (low, s, f) = the_way g (goal.at.invariant_of-self g c).After-route_from_first-self-inside in
+    let (low, s, f) = the_notes g (goal.at.invariant_of-self g c).After-route_from_first-self-inside in
     take_whole _ _ _ _ c.self.invariant c.self.view_is _ _ _ low s f _ _ (c.take_at-self-inside.ensures.tree low _ _ (can_take _ _ _ _ c.self.invariant c.self.view_is _ _ _ low s f) (take_root _ _ _ _ c.self.invariant c.self.view_is _ _ _ low s f))
 
 pub returns : goal.returns
 returns g c =
-    let (low, s, f) = the_way g (goal.at.returns g c).After-route_from_first-self-inside in
+    let (low, s, f) = the_notes g (goal.at.returns g c).After-route_from_first-self-inside in
     let can = can_take _ _ _ _ c.self.invariant c.self.view_is _ _ _ low s f in
     let at_root = take_root _ _ _ _ c.self.invariant c.self.view_is _ _ _ low s f in
     let done = c.take_at-self-inside.ensures.tree low _ _ can at_root in

@@ -34,24 +34,24 @@ pub returns-in_err-found-clause-touches : goal.returns-in_err-found-clause-touch
 returns-in_err-found-clause-touches g c = omega (arith, c.route_from_first.ensures.touches _ c.self.invariant.index.tree, height_within _ _ _ _ c.self.invariant c.self.view_is)
 
 -- the way that it went, to the place found
-the_way : (g : Over) (c : In_ok-found g) → (low : Path) × (s : Tree) × IsFollowed (λ q. standing g.Q.Sought.order (g.K.Keys.key_at c.args.keys.now q) (Some c.args.query)) c.route_from_first.new.route c.route_from_first.new.route.depth (Some c.in_ok-found.found) (tree_in (nodes_in c.self.inside.cells) c.self.inside.root) low s
-the_way g c =
+the_notes : (g : Over) (c : In_ok-found g) → (low : Path) × (s : Tree) × IsFollowed (λ q. standing g.Q.Sought.order (g.K.Keys.key_at c.args.keys.now q) (Some c.args.query)) c.route_from_first.new.route c.route_from_first.new.route.depth (Some c.in_ok-found.found) (tree_in (nodes_in c.self.inside.cells) c.self.inside.root) low s
+the_notes g c =
     let f = can_follow _ _ _ _ c.self.invariant c.self.view_is _ _ c.new-route.result (can_seek _ _ _ _ c.self.invariant c.self.view_is _ _ _ g.met.Q.Sought.follows c.requires c.args.query) in
     subst (λ o. (low : Path) × (s : Tree) × IsFollowed (λ q. standing g.Q.Sought.order (g.K.Keys.key_at c.args.keys.now q) (Some c.args.query)) c.route_from_first.new.route c.route_from_first.new.route.depth o (tree_in (nodes_in c.self.inside.cells) c.self.inside.root) low s) c.in_ok-found.was (c.route_from_first.ensures.follows _ f)
 
 pub take_at-self-inside-requires : goal.take_at-self-inside-requires
 take_at-self-inside-requires g c =
-    let (low, s, f) = the_way g (goal.at.take_at-self-inside-requires g c).In_ok-found in
+    let (low, s, f) = the_notes g (goal.at.take_at-self-inside-requires g c).In_ok-found in
     (low, _, _, can_take _ _ _ _ c.self.invariant c.self.view_is _ _ _ low s f, take_root _ _ _ _ c.self.invariant c.self.view_is _ _ _ low s f)
 
 pub invariant_of-self : goal.invariant_of-self
 invariant_of-self g c =
-    let (low, s, f) = the_way g (goal.at.invariant_of-self g c).In_ok-found in
+    let (low, s, f) = the_notes g (goal.at.invariant_of-self g c).In_ok-found in
     take_whole _ _ _ _ c.self.invariant c.self.view_is _ _ _ low s f _ _ (c.take_at-self-inside.ensures.tree low _ _ (can_take _ _ _ _ c.self.invariant c.self.view_is _ _ _ low s f) (take_root _ _ _ _ c.self.invariant c.self.view_is _ _ _ low s f))
 
 pub returns : goal.returns
 returns g c =
-    let (low, s, f) = the_way g (goal.at.returns g c).In_ok-found in
+    let (low, s, f) = the_notes g (goal.at.returns g c).In_ok-found in
     let can = can_take _ _ _ _ c.self.invariant c.self.view_is _ _ _ low s f in
     let at_root = take_root _ _ _ _ c.self.invariant c.self.view_is _ _ _ low s f in
     let done = c.take_at-self-inside.ensures.tree low _ _ can at_root in

@@ -1,6 +1,6 @@
 use Rattle.std.proofs.Common.{refl, arith, ◌∙◌}
 use Rattle.bimap_tree.proofs.Retracing.{retraces_none, retraces_end, retraces_place, retraces_within, retraces_on}
-use Rattle.bimap_tree.proofs.way.retraced.Goals as goal
+use Rattle.bimap_tree.proofs.notes.retraced.Goals as goal
 
 pub loop-depth-init : goal.loop-depth-init
 loop-depth-init g c = record { retraces = retraces_none _ _ _ _; length = c.depth.ensures; compared = refl; touched = omega arith }
@@ -20,8 +20,8 @@ loop-depth-preserved g c =
       touched = omega arith;
     }
 
-pub returns-clause-way : goal.returns-clause-way
-returns-clause-way g c = retraces_end _ _ _ _ _ _ c.loop-depth.invariant.retraces c.loop-depth.invariant.length (omega (arith, c.depth.ensures))
+pub returns-clause-notes : goal.returns-clause-notes
+returns-clause-notes g c = retraces_end _ _ _ _ _ _ c.loop-depth.invariant.retraces c.loop-depth.invariant.length (omega (arith, c.depth.ensures))
 
 pub returns-clause-comparisons : goal.returns-clause-comparisons
 returns-clause-comparisons g c = c.loop-depth.invariant.compared

@@ -2,7 +2,7 @@
 ghost use Rattle.std.specs.Prelude.{◌≡◌, ℕ, ◌+◌, ◌<◌, ◌≤◌, ◌^◌, length, true};
 ghost use Rattle.bimap_tree.specs.Path.{Path};
 ghost use Rattle.bimap_tree.specs.Retraced.{CanRetrace, IsRetraced};
-ghost use Rattle.bimap_tree.specs.Steps.{IsNoted, long_way_of, way_of};
+ghost use Rattle.bimap_tree.specs.Notes.{IsNoted, long_notes_of, notes_of};
 ghost use Rattle.bimap_tree.specs.Tree.{Tree};
 
 use crate::route::Route;
@@ -13,26 +13,26 @@ pub(crate) const PACKED: usize = 2_147_483_648;
 
 // The steps of a way, by depth: a place, as it is kept, and whether the way goes on to its right.
 pub trait Steps {
-    ghost use Rattle.bimap_tree.specs.Steps.{Way};
+    ghost use Rattle.bimap_tree.specs.Notes.{Notes};
 
-    ghost way: { Self → Way };
+    ghost notes: { Self → Notes };
 
     // The number of steps.
     fn depth(&self) -> usize
-        ensures { result ≡ (way self.now).depth };
+        ensures { result ≡ (notes self.now).depth };
 
     // The place, as it is kept, and the turn at a depth.
     fn step(&self, depth: usize) -> (usize, bool)
         requires { depth < 91 }
-        ensures { result ≡ (way self.now).step_at depth };
+        ensures { result ≡ (notes self.now).step_at depth };
 
     // Notes the place and the turn at a depth.
     fn note(&mut self, depth: usize, place: usize, turn: bool)
         requires { depth < 91 }
-        ensures noted { IsNoted (way self.old).step_at depth ((way self.old).kept place, turn)
-            (way self.new).step_at }
-        ensures kept { (way self.new).kept ≡ (way self.old).kept }
-        ensures depth { (way self.new).depth ≡ (way self.old).depth };
+        ensures noted { IsNoted (notes self.old).step_at depth ((notes self.old).kept place, turn)
+            (notes self.new).step_at }
+        ensures kept { (notes self.new).kept ≡ (notes self.old).kept }
+        ensures depth { (notes self.new).depth ≡ (notes self.old).depth };
 }
 
 // The way of a route in a tree of more places than its steps tell whole.
@@ -44,7 +44,7 @@ pub struct LongRoute {
 }
 
 impl Steps for LongRoute {
-    ghost way = { long_way_of };
+    ghost notes = { long_notes_of };
 
     fn depth(&self) -> usize {
         self.depth
@@ -74,25 +74,25 @@ pub fn retraced<C: Cell, M: Meter>(
     route: &Route,
     meter: &mut M,
 ) -> LongRoute
-    requires { (path : Path) × (s : Tree) × CanRetrace cells.now root (way_of route.now) path s }
-    ensures way { (path : Path) (s : Tree) → CanRetrace cells.now root (way_of route.now) path s →
-        IsRetraced (long_way_of result) path }
+    requires { (path : Path) × (s : Tree) × CanRetrace cells.now root (notes_of route.now) path s }
+    ensures notes { (path : Path) (s : Tree) → CanRetrace cells.now root (notes_of route.now) path
+        s → IsRetraced (long_notes_of result) path }
     ensures comparisons { M.comparisons meter.new ≡ M.comparisons meter.old }
     ensures touches { M.touches meter.new ≤ M.touches meter.old + route.now.depth }
 {
-    let mut way = LongRoute {
+    let mut notes = LongRoute {
         places: [0; 91],
         turns: [false; 91],
         depth: route.depth(),
     };
     let mut root = root;
-    for depth in 0..way.depth {
+    for depth in 0..notes.depth {
         let Some(at) = root else {
             unreachable!();
         };
         let (_, turn) = route.step(depth);
-        way.note(depth, at, turn);
+        notes.note(depth, at, turn);
         root = cells.cell(at, meter).child(turn);
     }
-    way
+    notes
 }
