@@ -95,7 +95,7 @@ impl<C: Cell> Model for Nodes<C> {
     ghost invariant = { λ n. length n.cells.items < C.most };
 }
 
-/// A node for each place below a number, in 12 bytes where there are fewer than 2^26, and else in 32. There is no way to a node but `read`, `cell`, `write`, `relink`, `recount` and `count`, which count a touch each.
+/// A node for each place below a number, in 12 bytes where there are fewer than 2^26, and else in 32. There is no way to a node but `read`, `cell`, `write`, `set_child`, `recount` and `count`, which count a touch each.
 #[derive(Drop)]
 pub enum Cells {
     Narrow(Nodes<NarrowCell>),
@@ -312,7 +312,7 @@ impl<C: Cell> Nodes<C> {
 
     /// Makes this the child of a place's node on the side of the turn.
     #[inline(always)]
-    pub fn relink<M: Meter>(
+    pub fn set_child<M: Meter>(
         &mut self,
         place: usize,
         turn: bool,

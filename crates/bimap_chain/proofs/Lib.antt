@@ -1,5 +1,5 @@
 pub mod Below
-pub mod Relink
+pub mod WithNext
 pub mod Rethread
 pub mod Walk
 pub mod Kept

@@ -4,7 +4,7 @@ use Rattle.std.specs.Prelude.{slice_index_or, slice_set}
 use Rattle.bimap_chain.specs.Chains.{Numbers, number_at, is_of, last_below}
 use Rattle.std.proofs.lemmas.Bool.{cases_eq}
 use Rattle.bimap_chain.proofs.Below.{last_here, last_lower}
-use Rattle.bimap_chain.proofs.Relink.{listed_within, is_own, is_others, written_at}
+use Rattle.bimap_chain.proofs.WithNext.{listed_within, is_own, is_others, written_at}
 
 -- The places below `done` are threaded.
 pub record ThreadedBelow (c : Numbers) (links heads : List (Option ℕ)) (done : ℕ) : Type 0 where

@@ -3,7 +3,7 @@ use Rattle.std.proofs.Common.{◌≡◌, ℕ, ◌+◌, ◌-◌, ◌<◌, ◌≤�
 use Rattle.std.specs.Prelude.{slice_index_or, slice_set, IfSome, IsSome, is_some}
 use Rattle.std.proofs.lemmas.List.{length-map, take_all, map-append, get_or-map, map-set}
 use Rattle.bimap_base.proofs.NodesInCells.{map-written}
-use Rattle.bimap_chain.specs.Cells.{Cell, free_cell, relinked_cell, numbers_in}
+use Rattle.bimap_chain.specs.Cells.{Cell, free_cell, cell_with_next, numbers_in}
 use Rattle.bimap_chain.proofs.Kept.{map-replicated, set_same}
 
 module _ {X : Type 0} (f : X → Cell) (xs : List X) (cells : List Cell) (e : map f xs ≡ cells) where
@@ -22,8 +22,8 @@ module _ {X : Type 0} (f : X → Cell) (xs : List X) (cells : List Cell) (e : ma
   rewritten g place x c is = ap (map g) (map-written f xs place x cells c e is) ∙ map-set g cells place c
 
   -- another link of a listed place leaves the numbers
-  pub numbers_left : (place : ℕ) (x d y : X) (next : Option ℕ) → place < length (numbers_in cells) → x ≡ get_or xs place d → f y ≡ relinked_cell (f x) next → numbers_in (map f (slice_set xs place y)) ≡ numbers_in cells
-  numbers_left place x d y next h is r = rewritten (λ c. c.number) place y (relinked_cell (f x) next) r ∙ set_same (numbers_in cells) place (f x).number None (seen (λ c. c.number) place x d h is)
+  pub numbers_left : (place : ℕ) (x d y : X) (next : Option ℕ) → place < length (numbers_in cells) → x ≡ get_or xs place d → f y ≡ cell_with_next (f x) next → numbers_in (map f (slice_set xs place y)) ≡ numbers_in cells
+  numbers_left place x d y next h is r = rewritten (λ c. c.number) place y (cell_with_next (f x) next) r ∙ set_same (numbers_in cells) place (f x).number None (seen (λ c. c.number) place x d h is)
 
   -- each place is told by a link that is less than the greatest
   pub fits : (free : ℕ) (o : Option ℕ) → length xs < free → IfSome o (λ p. p < length (numbers_in cells)) → IfSome o (λ p. p + 1 < free)

@@ -17,8 +17,8 @@ abbrev pub listed_cell : ℕ → Option ℕ → Cell
 listed_cell number next = record { number = Some number; next = next }
 
 -- the same with another next place
-abbrev pub relinked_cell : Cell → Option ℕ → Cell
-relinked_cell c next = record { number = c.number; next = next }
+abbrev pub cell_with_next : Cell → Option ℕ → Cell
+cell_with_next c next = record { number = c.number; next = next }
 
 -- what a cell that is kept so tells
 abbrev pub cell_of : {L : Type 0} → Width L → ChainCell L → Cell

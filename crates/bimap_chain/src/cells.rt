@@ -1,7 +1,7 @@
 //! A cell as it is kept. It knows no other.
 ghost use Rattle.std.specs.Prelude.{◌≡◌, ◌+◌, ◌<◌, IsSome, Some, IfSome, nat_eq};
 ghost use Rattle.std.specs.Option.{option_eq};
-ghost use Rattle.bimap_chain.specs.Cells.{free_cell, listed_cell, relinked_cell, cell_of};
+ghost use Rattle.bimap_chain.specs.Cells.{free_cell, listed_cell, cell_with_next, cell_of};
 
 use crate::link::{Link, link_to, place_of};
 
@@ -38,10 +38,10 @@ impl<L: Link> ChainCell<L> {
 
     /// The same with another next place.
     #[inline(always)]
-    pub(crate) fn relinked(self, next: Option<usize>) -> Self
+    pub(crate) fn with_next(self, next: Option<usize>) -> Self
         requires listed { IsSome (cell_of L.width self).number }
         requires next { IfSome next (λ p. p + 1 < L.width.free) }
-        ensures { cell_of L.width result ≡ relinked_cell (cell_of L.width self) next }
+        ensures { cell_of L.width result ≡ cell_with_next (cell_of L.width self) next }
     {
         Self::of(self.number, next)
     }

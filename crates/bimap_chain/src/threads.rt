@@ -134,7 +134,7 @@ impl<L: Link> Threads<L> {
     {
         match over {
             None => self.heads[bucket] = link_to(to),
-            Some(place) => self.cells[place] = self.cells[place].relinked(to),
+            Some(place) => self.cells[place] = self.cells[place].with_next(to),
         }
     }
 

@@ -4,10 +4,10 @@ use Rattle.std.specs.Prelude.{slice_get}
 use Rattle.bimap_base.specs.declared.cells.Node.{Node}
 use Rattle.bimap_tree.specs.Tree.{Tree, height, root_of, branch}
 use Rattle.bimap_tree.specs.Link.{Measures, IsRebalanced}
-use Rattle.bimap_tree.specs.Path.{Path, below, steps, Moves, CanRise, CanRelink, IsRisen}
+use Rattle.bimap_tree.specs.Path.{Path, below, steps, Moves, CanRise, CanRejoin, IsRisen}
 use Rattle.bimap_tree.specs.Notes.{Notes}
 use Rattle.bimap_tree.specs.declared.link.Subtree.{Subtree}
-use Rattle.bimap_tree.proofs.Rises.{last_step, can_relink, can_rise, risen_on, at_top}
+use Rattle.bimap_tree.proofs.Rises.{last_step, can_rejoin, can_rise, risen_on, at_top}
 
 -- the tree u stands at this root in place of s, and is as high
 pub record Stays (root : Option ℕ) (s u : Tree) : Type 0 where
@@ -60,16 +60,16 @@ module _ (ns : List Node) (notes : Notes) (grew : Bool) (start : ℕ) (has : Tre
           let (up, sister, i) = last_step now notes grew x t depth low r e more at turn step in
           (up, sister, x, t, record { here = i.here; known = n })
 
-      pub relinks : (path : Path) (s u : Tree) → Start path s u → (node : Node) → slice_get now at ≡ Some node → (sister : Tree) × (x : Tree) × (t : Tree) × CanRelink now at turn grew node sister x t × next x t
-      relinks path s u c node told =
+      pub rejoins : (path : Path) (s u : Tree) → Start path s u → (node : Node) → slice_get now at ≡ Some node → (sister : Tree) × (x : Tree) × (t : Tree) × CanRejoin now at turn grew node sister x t × next x t
+      rejoins path s u c node told =
           let (up, sister, x, t, a) = above path s u c in
-          (sister, x, t, can_relink now notes grew x t up turn at sister a.here node told, a.known)
+          (sister, x, t, can_rejoin now notes grew x t up turn at sister a.here node told, a.known)
 
-      pub relinked : (path : Path) (s u : Tree) → Start path s u → (node : Node) × (sister : Tree) × (x : Tree) × (t : Tree) × CanRelink now at turn grew node sister x t × next x t
-      relinked path s u c =
+      pub rejoined : (path : Path) (s u : Tree) → Start path s u → (node : Node) × (sister : Tree) × (x : Tree) × (t : Tree) × CanRejoin now at turn grew node sister x t × next x t
+      rejoined path s u c =
           let (up, sister, x, t, a) = above path s u c in
           let told = a.here.holds.0 in
-          (told.0, sister, x, t, can_relink now notes grew x t up turn at sister a.here told.0 told.1, a.known)
+          (told.0, sister, x, t, can_rejoin now notes grew x t up turn at sister a.here told.0 told.1, a.known)
 
       -- the next tree on the way up
       pub record Raised (new : List Node) (after : Tree → Tree → Type 0) (sister x t y : Tree) : Type 0 where
@@ -77,12 +77,12 @@ module _ (ns : List Node) (notes : Notes) (grew : Bool) (start : ℕ) (has : Tre
         pub moves : Moves grew (branch turn x at sister) y
         pub known : after (branch turn x at sister) y
 
-      pub climbs_on : (node : Node) → slice_get now at ≡ Some node → (new : List Node) (after : Tree → Tree → Type 0) → ((sister x t : Tree) → CanRelink now at turn grew node sister x t → next x t → (y : Tree) × Raised new after sister x t y) → Climbs new (depth - 1) after
+      pub climbs_on : (node : Node) → slice_get now at ≡ Some node → (new : List Node) (after : Tree → Tree → Type 0) → ((sister x t : Tree) → CanRejoin now at turn grew node sister x t → next x t → (y : Tree) × Raised new after sister x t y) → Climbs new (depth - 1) after
       climbs_on node told new after raise = record {
         deep = omega arith;
         alike = λ path s u c. let (low, x, t, r, e, n, f) = d.alike path s u c in
             let (up, sister, i) = last_step now notes grew x t depth low r e more at turn step in
-            let (y, z) = raise sister x t (can_relink now notes grew x t up turn at sister i.here node told) n in (
+            let (y, z) = raise sister x t (can_rejoin now notes grew x t up turn at sister i.here node told) n in (
               up,
               branch turn x at sister,
               y,

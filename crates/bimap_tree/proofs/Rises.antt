@@ -7,7 +7,7 @@ use Rattle.bimap_base.specs.declared.cells.Node.{Node}
 use Rattle.bimap_base.specs.NodesInCells.{IsThere, CanCount, counted, recounted}
 use Rattle.bimap_tree.specs.Tree.{Tree, leaf, fork, reading, height, size, root_of, Stands, branch, node_on, near_of, far_of}
 use Rattle.bimap_tree.specs.Link.{CanRebalance, IsRebalanced}
-use Rattle.bimap_tree.specs.Path.{Path, top, below, steps, front, back, Tells, one_if, Moves, KeepsWhole, CanRise, CanRelink, CanPut, IsRisen}
+use Rattle.bimap_tree.specs.Path.{Path, top, below, steps, front, back, Tells, one_if, Moves, KeepsWhole, CanRise, CanRejoin, CanPut, IsRisen}
 use Rattle.bimap_tree.specs.Notes.{Notes}
 use Rattle.bimap_tree.proofs.Branch.{height-branch, size-branch, height-node_on, size-node_on, near-node_on, far-node_on, node_is, level, Shows-linked}
 use Rattle.bimap_tree.proofs.Paths.{balanced_inside, Holds-frame, holds_of}
@@ -40,7 +40,7 @@ size-recounted turn child true n some = omega arith
 size-recounted turn child false n some = omega (arith, some refl)
 
 -- ---- a place above a tree that has moved
-module _ (nodes : List Node) (at : ℕ) (turn grew : Bool) (node : Node) (sister s u : Tree) (h : CanRelink nodes at turn grew node sister s u) where
+module _ (nodes : List Node) (at : ℕ) (turn grew : Bool) (node : Node) (sister s u : Tree) (h : CanRejoin nodes at turn grew node sister s u) where
   pub sister_stands : Stands nodes (far_of turn node) sister
   sister_stands = record { root_is = sym h.told.far_is; shown = h.sister_shown }
 
@@ -137,8 +137,8 @@ module _ (nodes : List Node) (notes : Notes) (grew : Bool) (s u : Tree) where
     pub within : at < length nodes
     within = slice_get_within nodes at c.holds.0.0 c.holds.0.1
 
-    pub can_relink : (node : Node) → slice_get nodes at ≡ Some node → CanRelink nodes at turn grew node sister s u
-    can_relink node e =
+    pub can_rejoin : (node : Node) → slice_get nodes at ≡ Some node → CanRejoin nodes at turn grew node sister s u
+    can_rejoin node e =
         let both : Some c.holds.0.0 ≡ Some node = sym c.holds.0.1 ∙ e in
         let same : c.holds.0.0 ≡ node = cc in
         record {

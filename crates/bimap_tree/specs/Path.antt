@@ -97,7 +97,7 @@ pub record CanRise (nodes : List Node) (notes : Notes) (path : Path) (grew : Boo
   pub moves : Moves grew s u
 
 -- at a step of the path
-pub record CanRelink (nodes : List Node) (at : ℕ) (turn grew : Bool) (node : Node) (sister s u : Tree) : Type 0 where
+pub record CanRejoin (nodes : List Node) (at : ℕ) (turn grew : Bool) (node : Node) (sister s u : Tree) : Type 0 where
   pub node_is : slice_get nodes at ≡ Some node
   pub has_cell : at < length nodes
   pub told : Tells turn node s sister

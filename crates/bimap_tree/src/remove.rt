@@ -58,7 +58,7 @@ fn replace_child<C: Cell, W: Steps, M: Meter>(
 {
     if depth > 0 {
         let (above, turn) = notes.step(depth - 1);
-        cells.relink(above, turn, Some(place), meter);
+        cells.set_child(above, turn, Some(place), meter);
     }
 }
 

@@ -2,7 +2,7 @@
 ghost use Rattle.std.specs.Prelude.{◌≡◌, ℕ, ◌+◌, ◌*◌, ◌<◌, ◌≤◌};
 ghost use Rattle.bimap_tree.specs.Tree.{Tree, leaf, fork, height, root_of, branch};
 ghost use Rattle.bimap_tree.specs.Link.{Measures, IsRebalanced};
-ghost use Rattle.bimap_tree.specs.Path.{Path, plug, steps, Moves, KeepsWhole, CanRise, CanRelink, CanPut, IsRisen};
+ghost use Rattle.bimap_tree.specs.Path.{Path, plug, steps, Moves, KeepsWhole, CanRise, CanRejoin, CanPut, IsRisen};
 ghost use Rattle.bimap_tree.specs.Notes.{notes_of};
 
 use crate::link::{Subtree, children, link, measure, rebalance};
@@ -12,7 +12,7 @@ use bimap_base::{Cell, Meter, Node, Nodes};
 
 // Links a place above a child that has grown or shrunk, and looks at its sister only where the place's height may move.
 #[inline(always)]
-fn relink<C: Cell, M: Meter>(
+fn rejoin<C: Cell, M: Meter>(
     cells: &mut Nodes<C>,
     at: usize,
     node: Node,
@@ -22,8 +22,8 @@ fn relink<C: Cell, M: Meter>(
     meter: &mut M,
 ) -> Subtree
     requires { (sister : Tree) × (s : Tree) × (u : Tree)
-        × CanRelink cells.old at turn grew node sister s u × Measures child u }
-    ensures tree { (sister s u : Tree) → CanRelink cells.old at turn grew node sister s u →
+        × CanRejoin cells.old at turn grew node sister s u × Measures child u }
+    ensures tree { (sister s u : Tree) → CanRejoin cells.old at turn grew node sister s u →
         Measures child u → (t : Tree) × Measures result t
         × IsRebalanced cells.old cells.new turn at u sister t
         × Moves grew (branch turn s at sister) t }
@@ -108,7 +108,7 @@ pub fn rise<C: Cell, W: Steps, M: Meter>(
         depth -= 1;
         let (at, turn) = notes.step(depth);
         let node = cells.read(at, meter);
-        child = relink(cells, at, node, turn, child, grew, meter);
+        child = rejoin(cells, at, node, turn, child, grew, meter);
         was = node.height;
     }
     recount(cells, notes, depth, child.root, grew, meter)

@@ -1,6 +1,6 @@
 use Rattle.std.proofs.Common.{arith, ◌∙◌}
 use Rattle.bimap_tree.proofs.Branch.{root-branch}
-use Rattle.bimap_tree.proofs.Climbs.{Stays, climbs_none, climbs_end, climbs_on, relinked}
+use Rattle.bimap_tree.proofs.Climbs.{Stays, climbs_none, climbs_end, climbs_on, rejoined}
 use Rattle.bimap_tree.proofs.Rises.{at_top, counted_alone, steady, can_count, child_there, moved}
 use Rattle.bimap_tree.proofs.rise.recount.Goals as goal
 
@@ -9,17 +9,17 @@ returns-then-depth-eq0-clause-tree g c path s u rise e root level = at_top _ _ p
 
 pub recount-requires-clause-child : goal.recount-requires-clause-child
 recount-requires-clause-child g c =
-    let (node, sister, x, t, h, known) = relinked _ _ _ _ _ _ _ _ (climbs_none _ _ _ _ (Stays c.args.child) c.requires.5) _ _ (omega arith) c.step-at.ensures _ _ _ record { rise = c.requires.3; start_is = c.requires.4; known = record { root_is = c.requires.6; as_high = c.requires.7 } } in
+    let (node, sister, x, t, h, known) = rejoined _ _ _ _ _ _ _ _ (climbs_none _ _ _ _ (Stays c.args.child) c.requires.5) _ _ (omega arith) c.step-at.ensures _ _ _ record { rise = c.requires.3; start_is = c.requires.4; known = record { root_is = c.requires.6; as_high = c.requires.7 } } in
     child_there _ _ _ _ _ sister x t h _ known.root_is
 
 pub recount-requires-clause-count : goal.recount-requires-clause-count
 recount-requires-clause-count g c =
-    let (node, sister, x, t, h, known) = relinked _ _ _ _ _ _ _ _ (climbs_none _ _ _ _ (Stays c.args.child) c.requires.5) _ _ (omega arith) c.step-at.ensures _ _ _ record { rise = c.requires.3; start_is = c.requires.4; known = record { root_is = c.requires.6; as_high = c.requires.7 } } in
+    let (node, sister, x, t, h, known) = rejoined _ _ _ _ _ _ _ _ (climbs_none _ _ _ _ (Stays c.args.child) c.requires.5) _ _ (omega arith) c.step-at.ensures _ _ _ record { rise = c.requires.3; start_is = c.requires.4; known = record { root_is = c.requires.6; as_high = c.requires.7 } } in
     (node, h.node_is, can_count _ _ _ _ _ sister x t h)
 
 pub loop-depth-init : goal.loop-depth-init
 loop-depth-init g c =
-    let (node, _, _, _, is, _) = relinked _ _ _ _ _ _ _ _ (climbs_none _ _ _ _ (Stays c.args.child) c.requires.5) _ _ (omega arith) c.step-at.ensures _ _ _ record { rise = c.requires.3; start_is = c.requires.4; known = record { root_is = c.requires.6; as_high = c.requires.7 } } in
+    let (node, _, _, _, is, _) = rejoined _ _ _ _ _ _ _ _ (climbs_none _ _ _ _ (Stays c.args.child) c.requires.5) _ _ (omega arith) c.step-at.ensures _ _ _ record { rise = c.requires.3; start_is = c.requires.4; known = record { root_is = c.requires.6; as_high = c.requires.7 } } in
     record {
       climbs = climbs_on _ _ _ _ _ _ _ _ (climbs_none _ _ _ _ (Stays c.args.child) c.requires.5) _ _ (omega arith) c.step-at.ensures node is.node_is _ _ (λ sister x t h known.
           let r = steady _ _ _ _ _ sister x t h _ known.root_is _ (c.recount.ensures.written node is.node_is) known.as_high in
@@ -30,12 +30,12 @@ loop-depth-init g c =
 
 pub count-requires : goal.count-requires
 count-requires g c =
-    let (node, sister, x, t, h, known) = relinked _ _ _ _ _ _ _ _ c.loop-depth.invariant.climbs _ _ (omega arith) c.step-at-in-loop-depth.ensures _ _ _ record { rise = c.requires.3; start_is = c.requires.4; known = record { root_is = c.requires.6; as_high = c.requires.7 } } in
+    let (node, sister, x, t, h, known) = rejoined _ _ _ _ _ _ _ _ c.loop-depth.invariant.climbs _ _ (omega arith) c.step-at-in-loop-depth.ensures _ _ _ record { rise = c.requires.3; start_is = c.requires.4; known = record { root_is = c.requires.6; as_high = c.requires.7 } } in
     (node, h.node_is, can_count _ _ _ _ _ sister x t h)
 
 pub loop-depth-preserved : goal.loop-depth-preserved
 loop-depth-preserved g c =
-    let (node, _, _, _, is, _) = relinked _ _ _ _ _ _ _ _ c.loop-depth.invariant.climbs _ _ (omega arith) c.step-at-in-loop-depth.ensures _ _ _ record { rise = c.requires.3; start_is = c.requires.4; known = record { root_is = c.requires.6; as_high = c.requires.7 } } in
+    let (node, _, _, _, is, _) = rejoined _ _ _ _ _ _ _ _ c.loop-depth.invariant.climbs _ _ (omega arith) c.step-at-in-loop-depth.ensures _ _ _ record { rise = c.requires.3; start_is = c.requires.4; known = record { root_is = c.requires.6; as_high = c.requires.7 } } in
     record {
       climbs = climbs_on _ _ _ _ _ _ _ _ c.loop-depth.invariant.climbs _ _ (omega arith) c.step-at-in-loop-depth.ensures node is.node_is _ _ (λ sister x t h known.
           let written = counted_alone _ _ _ node _ _ _ (h.told.near_is ∙ known.was_at) (c.count.ensures.written node is.node_is) in

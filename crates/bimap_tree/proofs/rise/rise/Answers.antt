@@ -1,5 +1,5 @@
 use Rattle.std.proofs.Common.{arith, refl, sym, ◌∙◌}
-use Rattle.bimap_tree.proofs.Climbs.{climbs_none, climbs_end, climbs_on, relinks, relinked}
+use Rattle.bimap_tree.proofs.Climbs.{climbs_none, climbs_end, climbs_on, rejoins, rejoined}
 use Rattle.bimap_tree.proofs.Rises.{as_told}
 use Rattle.bimap_tree.proofs.rise.rise.Goals as goal
 
@@ -15,19 +15,19 @@ step-at-requires g c = omega (arith, c.loop-child.invariant.climbs.deep)
 
 pub read-node-requires : goal.read-node-requires
 read-node-requires g c =
-    let (node, sister, x, t, h, known) = relinked _ _ _ _ _ _ _ _ c.loop-child.invariant.climbs _ _ (omega arith) c.step-at.ensures _ _ _ record { rise = c.requires.3; start_is = c.requires.4; known = record { measured = c.requires.6; was_high = c.requires.7 } } in
+    let (node, sister, x, t, h, known) = rejoined _ _ _ _ _ _ _ _ c.loop-child.invariant.climbs _ _ (omega arith) c.step-at.ensures _ _ _ record { rise = c.requires.3; start_is = c.requires.4; known = record { measured = c.requires.6; was_high = c.requires.7 } } in
     h.has_cell
 
-pub relink-child-requires : goal.relink-child-requires
-relink-child-requires g c =
-    let (sister, x, t, h, known) = relinks _ _ _ _ _ _ _ _ c.loop-child.invariant.climbs _ _ (omega arith) c.step-at.ensures _ _ _ record { rise = c.requires.3; start_is = c.requires.4; known = record { measured = c.requires.6; was_high = c.requires.7 } } _ c.read-node.ensures.node in
+pub rejoin-child-requires : goal.rejoin-child-requires
+rejoin-child-requires g c =
+    let (sister, x, t, h, known) = rejoins _ _ _ _ _ _ _ _ c.loop-child.invariant.climbs _ _ (omega arith) c.step-at.ensures _ _ _ record { rise = c.requires.3; start_is = c.requires.4; known = record { measured = c.requires.6; was_high = c.requires.7 } } _ c.read-node.ensures.node in
     (sister, x, t, h, known.measured)
 
 pub loop-child-preserved : goal.loop-child-preserved
 loop-child-preserved g c =
     record {
       climbs = climbs_on _ _ _ _ _ _ _ _ c.loop-child.invariant.climbs _ _ (omega arith) c.step-at.ensures _ c.read-node.ensures.node _ _ (λ sister x t h known.
-          let (y, m, b, moves) = c.relink-child.ensures.tree sister x t h known.measured in
+          let (y, m, b, moves) = c.rejoin-child.ensures.tree sister x t h known.measured in
           (y, record { tree = b; moves = moves; known = record { measured = m; was_high = as_told _ _ _ _ _ sister x t h } }));
       compared = omega arith;
       touched = omega arith;

@@ -1,6 +1,6 @@
 use Rattle.std.proofs.Common.{◌∙◌, ◌<◌, length, arith, ap, None, length-set}
 use Rattle.bimap_chain.specs.Threads.{numbers_of}
-use Rattle.bimap_chain.proofs.Relink.{sound_again, few, over_listed, listed_within, unlisted}
+use Rattle.bimap_chain.proofs.WithNext.{sound_again, few, over_listed, listed_within, unlisted}
 use Rattle.bimap_chain.proofs.threads.Threads.cut.Goals as goal
 
 pub next-next-requires-clause-listed : goal.next-next-requires-clause-listed

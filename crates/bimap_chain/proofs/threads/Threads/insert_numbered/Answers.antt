@@ -1,5 +1,5 @@
 use Rattle.std.proofs.Common.{◌∙◌, suc, arith}
-use Rattle.bimap_chain.proofs.Relink.{sound_again, few, over_listed, goes_listed, link_over, listed}
+use Rattle.bimap_chain.proofs.WithNext.{sound_again, few, over_listed, goes_listed, link_over, listed}
 use Rattle.bimap_chain.proofs.threads.Threads.insert_numbered.Goals as goal
 
 pub link-next-requires-clause-listed : goal.link-next-requires-clause-listed

@@ -6,8 +6,8 @@ use Rattle.bimap_chain.specs.Width.{target}
 use Rattle.bimap_chain.proofs.Seen.{rewritten, numbers_left, has_one}
 use Rattle.bimap_chain.proofs.threads.Threads.set_link.Goals as goal
 
-pub relinked-requires-clause-listed : goal.relinked-requires-clause-listed
-relinked-requires-clause-listed g c =
+pub with_next-requires-clause-listed : goal.with_next-requires-clause-listed
+with_next-requires-clause-listed g c =
     let over = rw c.in-Some.is at c.requires.over in
     let listed = rw c.in-Some.is at c.requires.listed in
     has_one (cell_of g.L.Link.width) _ _ (ap (λ t. t.cells) c.self.view_is) _ listed.0 _ _ over c.index.ensures listed.1
@@ -19,8 +19,8 @@ returns-in-None-clause-links g c =
 pub returns-in-Some-clause-numbers : goal.returns-in-Some-clause-numbers
 returns-in-Some-clause-numbers g c =
     let over = rw c.in-Some.is at c.requires.over in
-    numbers_left (cell_of g.L.Link.width) _ _ (ap (λ t. t.cells) c.self.view_is) _ _ _ _ _ over c.index.ensures c.relinked.ensures
+    numbers_left (cell_of g.L.Link.width) _ _ (ap (λ t. t.cells) c.self.view_is) _ _ _ _ _ over c.index.ensures c.with_next.ensures
 
 pub returns-in-Some-clause-links : goal.returns-in-Some-clause-links
 returns-in-Some-clause-links g c =
-    rw c.in-Some.is (rewritten (cell_of g.L.Link.width) _ _ (ap (λ t. t.cells) c.self.view_is) (λ e. e.next) _ _ _ c.relinked.ensures, ap (λ t. t.heads) c.self.view_is)
+    rw c.in-Some.is (rewritten (cell_of g.L.Link.width) _ _ (ap (λ t. t.cells) c.self.view_is) (λ e. e.next) _ _ _ c.with_next.ensures, ap (λ t. t.heads) c.self.view_is)

@@ -3,7 +3,7 @@ use Rattle.std.specs.Prelude.{slice_index_or, slice_set}
 use Rattle.std.proofs.lemmas.List.{length-map}
 use Rattle.bimap_chain.specs.Threads.{numbers_of, links_of}
 use Rattle.bimap_chain.proofs.Kept.{everywhere, set_same}
-use Rattle.bimap_chain.proofs.Relink.{as_sized, few}
+use Rattle.bimap_chain.proofs.WithNext.{as_sized, few}
 use Rattle.bimap_chain.proofs.Rethread.{ThreadedBelow, begun, passed, put_first}
 use Rattle.bimap_chain.proofs.threads.Threads.thread.Goals as goal
 use Rattle.bimap_chain.proofs.threads.Threads.thread.Goals.{in-Some, in_default}

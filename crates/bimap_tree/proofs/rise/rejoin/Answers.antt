@@ -7,7 +7,7 @@ use Rattle.bimap_tree.specs.Path.{one_if}
 use Rattle.bimap_tree.proofs.Branch.{root-branch, size-branch}
 use Rattle.bimap_tree.proofs.Rises.{sister_stands, can_rebalance, can_count, child_there, counts, as_told, low, moved}
 use Rattle.bimap_tree.proofs.Shown.{Stands-at}
-use Rattle.bimap_tree.proofs.rise.relink.Goals as goal
+use Rattle.bimap_tree.proofs.rise.rejoin.Goals as goal
 
 pub recount-requires-clause-child : goal.recount-requires-clause-child
 recount-requires-clause-child g c = child_there _ _ _ _ _ _ _ _ c.requires.3 _ c.requires.4.root_is

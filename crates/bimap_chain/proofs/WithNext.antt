@@ -145,8 +145,8 @@ module _ (c : Numbers) (links heads : List (Option ℕ)) (b place : ℕ) (over :
     lengths (Some p) links' heads' w = (ap length w.0 ∙ length-set kept p (last_below d n b (suc place)), ap length w.1)
 
     -- the chains stand again
-    pub relinked : (to : Option ℕ) (links' heads' : List (Option ℕ)) → to ≡ last_below d n b (suc place) → Links b over to kept heads links' heads' → IsThreaded d links' heads'
-    relinked to links' heads' e written =
+    pub with_next : (to : Option ℕ) (links' heads' : List (Option ℕ)) → to ≡ last_below d n b (suc place) → Links b over to kept heads links' heads' → IsThreaded d links' heads'
+    with_next to links' heads' e written =
         let w = subst (λ s. Links b over s kept heads links' heads') e written in
         let long = lengths over links' heads' w in
         let cells : length d ≡ length c = length-set c place v in
@@ -163,7 +163,7 @@ pub listed : (c : Numbers) (links heads : List (Option ℕ)) (b number place : �
 listed c links heads b number place over next links' heads' t own inn free o is written =
     let some : 0 < length heads = omega (arith, t.enough_heads) in
     let fits : b < length heads = omega (arith, own) in
-    relinked c links heads b place over t fits inn o (Some number) (slice_set links place next)
+    with_next c links heads b place over t fits inn o (Some number) (slice_set links place next)
     (λ k differs. ap (is_of (length heads) k) free)
     (λ k differs. is_others (length heads) number k (λ i. differs (i ∙ sym own)))
     (length-set links place next)
@@ -180,7 +180,7 @@ unlisted c links heads b number place over next left links' heads' t own held o 
     let inn : place < length c = listed_within c place number held in
     let some : 0 < length heads = omega (arith, t.enough_heads) in
     let fits : b < length heads = omega (arith, own) in
-    relinked c links heads b place over t fits inn o None (slice_set links place left)
+    with_next c links heads b place over t fits inn o None (slice_set links place left)
     (λ k differs. ap (is_of (length heads) k) held ∙ is_others (length heads) number k (λ i. differs (i ∙ sym own)))
     (λ k differs. refl)
     (length-set links place left)

@@ -2,7 +2,7 @@ use Rattle.std.proofs.Common.{ap, ◌∙◌, arith, length, ◌<◌}
 use Rattle.std.proofs.lemmas.List.{length-map}
 use Rattle.bimap_base.specs.NodesInCells.{linked}
 use Rattle.bimap_base.proofs.NodesInCells.{map-written, read-mapped}
-use Rattle.bimap_base.proofs.cells.Nodes.relink.Goals as goal
+use Rattle.bimap_base.proofs.cells.Nodes.set_child.Goals as goal
 
 pub linked-requires : goal.linked-requires
 linked-requires g c =
