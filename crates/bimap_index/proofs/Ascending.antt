@@ -11,7 +11,7 @@ use Rattle.bimap_base.specs.Digits.{bits, most_height}
 use Rattle.bimap_base.specs.Keyed.{standing, Ascends, Follows, Adds, Drops}
 use Rattle.bimap_base.specs.QueryLaws.{follows_itself}
 use Rattle.bimap_base.proofs.Digits.{bits-enough, bits-least}
-use Rattle.bimap_tree.specs.Index.{Index}
+use Rattle.bimap_tree.specs.IndexView.{IndexView}
 use Rattle.bimap_tree.specs.Route.{IsRoute}
 use Rattle.bimap_tree.specs.declared.route.Route.{Route}
 use Rattle.bimap_tree.proofs.Ascending.{only_one}
@@ -99,7 +99,7 @@ module _ {K : Type 0} (order : K → K → Ordering) (same : K → K → Bool) (
       by_bits (suc k) e some = omega arith
 
   -- a place is listed
-  module _ (index : Index) (g : ℕ → Option K) (place : ℕ) (key : K) (m : MayLink (λ o. ListsByOrder order (Index.places o)) same index g place key) where
+  module _ (index : IndexView) (g : ℕ → Option K) (place : ℕ) (key : K) (m : MayLink (λ o. ListsByOrder order (IndexView.places o)) same index g place key) where
     pub link_off : Contains index.places place → ⊥
     link_off there = true≢false (sym (live_listed order same total agrees m.f index.places place m.listing.up there) ∙ ap is_some m.without.free)
 

@@ -7,7 +7,7 @@ use Rattle.std.specs.declared.cmp.Ordering.{Ordering}
 use Rattle.std.specs.declared.cmp.Ordering.TheVariants.{Less, Equal, Greater}
 use Rattle.bimap_base.specs.declared.cells.Node.{Node}
 use Rattle.bimap_tree.specs.Tree.{Tree, Stands, reading, height, size, branch, near_of}
-use Rattle.bimap_tree.specs.Index.{height_at}
+use Rattle.bimap_tree.specs.IndexView.{height_at}
 use Rattle.bimap_tree.specs.Order.{first_equal, count_below}
 use Rattle.bimap_tree.specs.Path.{Path, below, plug, wanted, Follows}
 use Rattle.bimap_tree.specs.Notes.{Notes, IsNoted, packed, step_at}

@@ -4,7 +4,7 @@ use Rattle.std.specs.Prelude.{slice_get}
 use Rattle.std.specs.List.{Contains}
 use Rattle.std.specs.declared.cmp.Ordering.{Ordering}
 use Rattle.bimap_tree.specs.Tree.{leaf, Stands}
-use Rattle.bimap_tree.specs.Index.{Index, IsIndex}
+use Rattle.bimap_tree.specs.IndexView.{IndexView, IsIndex}
 use Rattle.bimap_tree.specs.Path.{plug}
 use Rattle.bimap_tree.specs.Route.{IsRoute}
 use Rattle.bimap_tree.specs.declared.route.Route.{Route}
@@ -13,7 +13,7 @@ use Rattle.bimap_tree.proofs.Paths.{occurs-plug, Wants-alike}
 use Rattle.bimap_tree.proofs.Shown.{Shows-frame, in_tree}
 
 -- where the listed places stand alike to two keys, a route of the one is a route of the other
-pub IsRoute-alike : (index : Index) (first second : ℕ → Ordering) (route : Route) → ((q : ℕ) → Contains index.places q → second q ≡ first q) → IsRoute index first route → IsRoute index second route
+pub IsRoute-alike : (index : IndexView) (first second : ℕ → Ordering) (route : Route) → ((q : ℕ) → Contains index.places q → second q ≡ first q) → IsRoute index first route → IsRoute index second route
 IsRoute-alike index first second route same r = record {
   path = r.path;
   of_index = r.of_index;
@@ -24,7 +24,7 @@ IsRoute-alike index first second route same r = record {
 }
 
 -- more cells change no route
-pub IsRoute-grown : (old new : Index) (go : ℕ → Ordering) (route : Route) → ((k : ℕ) → k < length old.nodes → slice_get new.nodes k ≡ slice_get old.nodes k) → new.root ≡ old.root → new.places ≡ old.places → IsRoute old go route → IsRoute new go route
+pub IsRoute-grown : (old new : IndexView) (go : ℕ → Ordering) (route : Route) → ((k : ℕ) → k < length old.nodes → slice_get new.nodes k ≡ slice_get old.nodes k) → new.root ≡ old.root → new.places ≡ old.places → IsRoute old go route → IsRoute new go route
 IsRoute-grown old new go route same root places h =
     let t = plug h.path leaf in
     let stands : Stands new.nodes old.root t = record { root_is = h.of_index.tree.tree.root_is; shown = Shows-frame old.nodes new.nodes t (λ q n. same q (in_tree old.nodes t q h.of_index.tree.tree.shown n)) h.of_index.tree.tree.shown } in

@@ -7,7 +7,7 @@ use Rattle.std.proofs.lemmas.Bool.Decides.{eqb_tells, leb_tells}
 use Rattle.bimap_base.specs.declared.cells.Node.{Node}
 use Rattle.bimap_base.specs.NodesInCells.{IsThere}
 use Rattle.bimap_tree.specs.Tree.{Tree, leaf, fork, reading, height, size, root_of, node_of, Shows, is_at, occurs, IsDistinctTree, Stands}
-use Rattle.bimap_tree.specs.Index.{height_at}
+use Rattle.bimap_tree.specs.IndexView.{height_at}
 
 pub is_at-same : (p : ℕ) → is_at p p ≡ 1
 is_at-same p = rw (eq-eqb p p refl)

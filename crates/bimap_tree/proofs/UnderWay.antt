@@ -9,7 +9,7 @@ use Rattle.bimap_base.specs.Digits.{most_height}
 use Rattle.bimap_base.specs.Keyed.{standing, Ascends}
 use Rattle.bimap_base.specs.QueryLaws.{follows_itself}
 use Rattle.bimap_tree.specs.Tree.{Tree, Shows, fork, reading, root_of, branch, node_of}
-use Rattle.bimap_tree.specs.Index.{Index, IsBalancedIndex, IsWhole, index_of, tree_in, height_at}
+use Rattle.bimap_tree.specs.IndexView.{IndexView, IsBalancedIndex, IsWhole, index_of, tree_in, height_at}
 use Rattle.bimap_tree.specs.Order.{first_equal}
 use Rattle.bimap_tree.specs.Path.{Path, top, below, plug, Wants, wanted}
 use Rattle.bimap_tree.specs.Route.{CanFollow, IsFollowed, IsRoute}
@@ -53,7 +53,7 @@ module _ (ns : List Node) (live : ℕ → Type 0) (go : ℕ → Ordering) where
       let (m, e) = a_level turn s sister p k w.0 in
       (m, f ∙ e)
 
-module _ (ns : List Node) (root : Option ℕ) (len : ℕ) (v : Index) (w : IsWhole ns root len) (e : index_of ns root ≡ v) (descent : Descent) (at_root : descent.root ≡ root) (no_step : descent.depth ≡ 0) (not_found : descent.is_found ≡ false) where
+module _ (ns : List Node) (root : Option ℕ) (len : ℕ) (v : IndexView) (w : IsWhole ns root len) (e : index_of ns root ≡ v) (descent : Descent) (at_root : descent.root ≡ root) (no_step : descent.depth ≡ 0) (not_found : descent.is_found ≡ false) where
   -- a search that has not gone down yet
   pub starts : (go : ℕ → Ordering) (route : Route) → IsUnderWay v go descent route
   starts go route = record {
@@ -73,7 +73,7 @@ module _ (ns : List Node) (root : Option ℕ) (len : ℕ) (v : Index) (w : IsWho
       let r : height_at v.nodes descent.root ≡ height_at v.nodes v.root = ap (λ x. height_at v.nodes x) (at_root ∙ ap (λ x. x.root) e) in
       omega (arith, levels_on v.nodes descent not_found, h, r, height_within ns root len v w e)
 
-module _ (ns : List Node) (root : Option ℕ) (len : ℕ) (v : Index) (w : IsWhole ns root len) (e : index_of ns root ≡ v) {K : Type 0} (key : ℕ → Option K) (order : K → K → Ordering) (total : IsTotalOrder order) (up : Ascends key order v.places) (k : K) (descent : Descent) where
+module _ (ns : List Node) (root : Option ℕ) (len : ℕ) (v : IndexView) (w : IsWhole ns root len) (e : index_of ns root ≡ v) {K : Type 0} (key : ℕ → Option K) (order : K → K → Ordering) (total : IsTotalOrder order) (up : Ascends key order v.places) (k : K) (descent : Descent) where
   -- which places have a key, and how each stands to the one sought
   abbrev live : ℕ → Type 0
   live = λ q. IsSome (key q)

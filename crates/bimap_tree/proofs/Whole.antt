@@ -10,7 +10,7 @@ use Rattle.bimap_base.specs.Digits.{bits, most_height}
 use Rattle.bimap_base.specs.Keyed.{standing, Ascends, Follows, Adds, Drops}
 use Rattle.bimap_base.specs.QueryLaws.{follows_itself}
 use Rattle.bimap_tree.specs.Tree.{Tree, leaf, fork, reading, height, size, occurs, is_at, IsBalanced, IsDistinctTree, Stands, Shows, root_of}
-use Rattle.bimap_tree.specs.Index.{Index, IsIndex, IsBalancedIndex, IsWhole, index_of, tree_in}
+use Rattle.bimap_tree.specs.IndexView.{IndexView, IsIndex, IsBalancedIndex, IsWhole, index_of, tree_in}
 use Rattle.bimap_tree.specs.Order.{after_key, first_equal, IsSplit}
 use Rattle.bimap_tree.specs.Path.{Path, top, plug, front, back, Wants, CanPut, IsRisen}
 use Rattle.bimap_tree.specs.Remove.{CanTake, IsTaken}
@@ -23,12 +23,12 @@ use Rattle.bimap_tree.proofs.Distinct.{absent_reading, adds, drops, contains_occ
 use Rattle.bimap_tree.proofs.Found.{none_of, one_of}
 pub use Rattle.bimap_tree.proofs.Heights.{few_levels}
 use Rattle.bimap_tree.proofs.Heights.{height-bound}
-use Rattle.bimap_tree.proofs.Index.{tree_in-shown, whole_of}
+use Rattle.bimap_tree.proofs.IndexView.{tree_in-shown, whole_of}
 use Rattle.bimap_tree.proofs.Paths.{occurs-plug, size-plug, reading-plug, steps_within, beside}
 use Rattle.bimap_tree.proofs.Rooms.{size_room}
 use Rattle.bimap_tree.proofs.Shown.{Shows-frame, no_root, a_fork, size-reading, with_absent, in_tree}
 
-module _ (ns : List Node) (root : Option ℕ) (len : ℕ) (v : Index) (w : IsWhole ns root len) (e : index_of ns root ≡ v) where
+module _ (ns : List Node) (root : Option ℕ) (len : ℕ) (v : IndexView) (w : IsWhole ns root len) (e : index_of ns root ≡ v) where
   pub places_are : reading (tree_in ns root) ≡ v.places
   places_are = ap (λ x. x.places) e
 

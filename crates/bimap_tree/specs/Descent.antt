@@ -4,7 +4,7 @@ use Rattle.std.specs.declared.cmp.Ordering.{Ordering}
 use Rattle.std.specs.declared.cmp.Ordering.TheVariants.{Equal}
 use Rattle.bimap_base.specs.declared.cells.Node.{Node}
 use Rattle.bimap_tree.specs.Tree.{Tree, root_of}
-use Rattle.bimap_tree.specs.Index.{Index, IsBalancedIndex, height_at}
+use Rattle.bimap_tree.specs.IndexView.{IndexView, IsBalancedIndex, height_at}
 use Rattle.bimap_tree.specs.Path.{Path, plug, steps, Follows, Wants}
 use Rattle.bimap_tree.specs.Notes.{packed, step_at}
 use Rattle.bimap_tree.specs.declared.descent.Descent.{Descent}
@@ -16,7 +16,7 @@ levels_left nodes descent = cond descent.is_found 0 (height_at nodes descent.roo
 
 -- the search has come down the index's tree, as places that stand so to a key want, to a subtree; where it has found
 -- the key, it is that of the place at the top there
-pub record IsUnderWay (index : Index) (go : ℕ → Ordering) (descent : Descent) (route : Route) : Type 0 where
+pub record IsUnderWay (index : IndexView) (go : ℕ → Ordering) (descent : Descent) (route : Route) : Type 0 where
   pub path : Path
   pub rest : Tree
   pub of_index : IsBalancedIndex index (plug path rest)

@@ -1,6 +1,6 @@
 pub mod Tree
 pub mod Filled
-pub mod Index
+pub mod IndexView
 pub mod Order
 pub mod Search
 pub mod Link

@@ -3,14 +3,14 @@ use Rattle.std.specs.Prelude.{◌≡◌, ℕ, ◌+◌, ◌≤◌, List, Option}
 use Rattle.std.specs.declared.cmp.Ordering.{Ordering}
 use Rattle.bimap_base.specs.declared.cells.Node.{Node}
 use Rattle.bimap_tree.specs.Tree.{Tree, leaf, height, root_of}
-use Rattle.bimap_tree.specs.Index.{Index, IsBalancedIndex}
+use Rattle.bimap_tree.specs.IndexView.{IndexView, IsBalancedIndex}
 use Rattle.bimap_tree.specs.Path.{Path, plug, steps, Follows, Wants}
 use Rattle.bimap_tree.specs.Search.{CanSeek}
 use Rattle.bimap_tree.specs.Notes.{packed, step_at}
 use Rattle.bimap_tree.specs.declared.route.Route.{Route}
 
 -- the route leads down the index's tree, as places that stand so to a key want, to where no place is
-pub record IsRoute (index : Index) (go : ℕ → Ordering) (route : Route) : Type 0 where
+pub record IsRoute (index : IndexView) (go : ℕ → Ordering) (route : Route) : Type 0 where
   pub path : Path
   pub of_index : IsBalancedIndex index (plug path leaf)
   pub follows : Follows packed (step_at route) path

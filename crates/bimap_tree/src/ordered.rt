@@ -10,7 +10,7 @@ ghost use Rattle.bimap_tree.specs.Filled.{IsRow};
 ghost use Rattle.bimap_tree.specs.Order.{count_below};
 ghost use Rattle.bimap_tree.specs.Ranges.{is_from_start};
 ghost use Rattle.bimap_tree.specs.Tree.{Tree, height};
-ghost use Rattle.bimap_tree.specs.Index.{IsBalancedIndex};
+ghost use Rattle.bimap_tree.specs.IndexView.{IsBalancedIndex};
 ghost use Rattle.bimap_tree.specs.Route.{IsRoute};
 ghost use Rattle.bimap_tree.specs.Spans.{IsCut};
 
@@ -39,9 +39,9 @@ pub struct Ordered {
 }
 
 impl Model for Ordered {
-    ghost use Rattle.bimap_tree.specs.Index.{Index, IsWhole, index_of};
+    ghost use Rattle.bimap_tree.specs.IndexView.{IndexView, IsWhole, index_of};
 
-    ghost Value = { Index };
+    ghost Value = { IndexView };
 
     ghost use Rattle.bimap_base.specs.NodesInCells.{nodes_in};
 

@@ -4,7 +4,7 @@ ghost use Rattle.std.specs.declared.cmp.Ordering.{Ordering};
 ghost use Rattle.bimap_tree.specs.Tree.{IsBalanced, Tree, leaf, Stands, height, reading, size};
 ghost use Rattle.bimap_base.specs.Digits.{most_height};
 ghost use Rattle.bimap_tree.specs.Order.{first_equal};
-ghost use Rattle.bimap_tree.specs.Index.{Index, IsBalancedIndex};
+ghost use Rattle.bimap_tree.specs.IndexView.{IndexView, IsBalancedIndex};
 ghost use Rattle.bimap_tree.specs.Path.{Path, plug, top};
 ghost use Rattle.bimap_tree.specs.Route.{CanFollow, IsFollowed, IsRoute};
 
@@ -26,7 +26,7 @@ pub struct Route {
 impl Route {
     /// A route of no steps, for `Ordered::step` and `finish` to write.
     pub fn new() -> Self
-        ensures { (index : Index) (go : ℕ → Ordering) → IsBalancedIndex index leaf →
+        ensures { (index : IndexView) (go : ℕ → Ordering) → IsBalancedIndex index leaf →
             IsRoute index go result }
     {
         Route {

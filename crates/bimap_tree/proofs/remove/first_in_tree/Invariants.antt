@@ -1,5 +1,5 @@
 use Rattle.std.proofs.Common.{◌≡◌, Some}
-use Rattle.bimap_tree.specs.Index.{height_at}
+use Rattle.bimap_tree.specs.IndexView.{height_at}
 use Rattle.bimap_tree.proofs.Descents.{Costs, Descends}
 use Rattle.bimap_tree.proofs.remove.first_in_tree.Given as goal
 

@@ -1,7 +1,7 @@
 use Rattle.std.proofs.Common.{Some}
 use Rattle.std.specs.Prelude.{IsSome}
 use Rattle.bimap_base.specs.Keyed.{standing}
-use Rattle.bimap_tree.specs.Index.{height_at}
+use Rattle.bimap_tree.specs.IndexView.{height_at}
 use Rattle.bimap_tree.proofs.Descents.{Costs, Finds}
 use Rattle.bimap_tree.proofs.search.find_in_tree.Given as goal
 

@@ -1,5 +1,5 @@
 use Rattle.std.proofs.Common.{◌≡◌}
-use Rattle.bimap_tree.specs.Index.{height_at}
+use Rattle.bimap_tree.specs.IndexView.{height_at}
 use Rattle.bimap_tree.proofs.Descents.{Costs, Leads}
 use Rattle.bimap_tree.proofs.search.place_in_tree.Given as goal
 

@@ -1,4 +1,4 @@
-use Rattle.bimap_tree.specs.Index.{height_at}
+use Rattle.bimap_tree.specs.IndexView.{height_at}
 use Rattle.bimap_tree.proofs.Descents.{Costs, Counts}
 use Rattle.bimap_tree.proofs.search.rank_in_tree.Given as goal
 

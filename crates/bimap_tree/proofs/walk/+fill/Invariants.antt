@@ -1,5 +1,5 @@
 use Rattle.std.proofs.Common.{◌+◌, ◌*◌, Some}
-use Rattle.bimap_tree.specs.Index.{height_at}
+use Rattle.bimap_tree.specs.IndexView.{height_at}
 use Rattle.bimap_tree.proofs.walk.+fill.Given as goal
 
 abbrev pub decreases-fill_tree : goal.decreases-fill_tree

@@ -1,6 +1,6 @@
 use Rattle.std.proofs.Common.{◌∙◌, sym, refl, subst}
 use Rattle.bimap_base.specs.NodesInCells.{nodes_in}
-use Rattle.bimap_tree.specs.Index.{index_of}
+use Rattle.bimap_tree.specs.IndexView.{index_of}
 use Rattle.bimap_tree.specs.Route.{IsRoute}
 use Rattle.bimap_tree.proofs.Routes.{IsRoute-grown}
 use Rattle.bimap_tree.proofs.Whole.{whole_grown, places_grown, places_are}

@@ -1,7 +1,7 @@
 use Rattle.std.proofs.Common.{◌≡◌, Some, arith, refl}
 use Rattle.bimap_base.specs.Keyed.{standing}
 use Rattle.bimap_base.specs.NodesInCells.{nodes_in}
-use Rattle.bimap_tree.specs.Index.{tree_in}
+use Rattle.bimap_tree.specs.IndexView.{tree_in}
 use Rattle.bimap_tree.specs.Path.{top}
 use Rattle.bimap_tree.specs.Route.{IsRoute}
 use Rattle.bimap_tree.proofs.Ascending.{key_is}

@@ -1,5 +1,5 @@
 use Rattle.bimap_base.specs.NodesInCells.{nodes_in}
-use Rattle.bimap_tree.specs.Index.{tree_in}
+use Rattle.bimap_tree.specs.IndexView.{tree_in}
 use Rattle.bimap_tree.proofs.Distinct.{distinct_reading}
 use Rattle.bimap_tree.proofs.Whole.{length_is, shown_index, height_within, listed_within}
 use Rattle.bimap_tree.proofs.ordered.Ordered.len.Goals as goal

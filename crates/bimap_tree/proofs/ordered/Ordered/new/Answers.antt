@@ -1,7 +1,7 @@
 use Rattle.std.proofs.Common.{ap, refl, None, lit<}
 use Rattle.bimap_base.specs.NodesInCells.{nodes_in}
 use Rattle.bimap_tree.specs.Tree.{leaf, reading}
-use Rattle.bimap_tree.proofs.Index.{whole_of, no_index, tree_in-shown}
+use Rattle.bimap_tree.proofs.IndexView.{whole_of, no_index, tree_in-shown}
 use Rattle.bimap_tree.proofs.ordered.Ordered.new.Goals as goal
 
 pub invariant_of-result : goal.invariant_of-result

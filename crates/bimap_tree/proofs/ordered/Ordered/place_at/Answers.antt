@@ -1,7 +1,7 @@
 use Rattle.std.proofs.Common.{arith, ap, ◌∙◌, sym}
 use Rattle.std.specs.Prelude.{slice_get}
 use Rattle.bimap_base.specs.NodesInCells.{nodes_in}
-use Rattle.bimap_tree.specs.Index.{tree_in}
+use Rattle.bimap_tree.specs.IndexView.{tree_in}
 use Rattle.bimap_tree.proofs.Whole.{rank_within, places_are, height_within}
 use Rattle.bimap_tree.proofs.ordered.Ordered.place_at.Goals as goal
 

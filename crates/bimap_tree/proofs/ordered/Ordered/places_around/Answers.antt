@@ -1,7 +1,7 @@
 use Rattle.std.proofs.Common.{arith, subst}
 use Rattle.bimap_base.specs.NodesInCells.{nodes_in}
 use Rattle.bimap_tree.specs.Filled.{IsRow}
-use Rattle.bimap_tree.specs.Index.{tree_in}
+use Rattle.bimap_tree.specs.IndexView.{tree_in}
 use Rattle.bimap_tree.proofs.Whole.{places_are, height_within, rank_within}
 use Rattle.bimap_tree.proofs.ordered.Ordered.places_around.Goals as goal
 

@@ -1,7 +1,7 @@
 use Rattle.std.proofs.Common.{arith, ap, sym, subst, ◌∙◌, Some}
 use Rattle.bimap_base.specs.Keyed.{standing}
 use Rattle.bimap_base.specs.NodesInCells.{nodes_in}
-use Rattle.bimap_tree.specs.Index.{tree_in}
+use Rattle.bimap_tree.specs.IndexView.{tree_in}
 use Rattle.bimap_tree.specs.Order.{count_below, after_key}
 use Rattle.bimap_tree.specs.Ranges.{is_from_start}
 use Rattle.bimap_tree.specs.Spans.{IsCut}

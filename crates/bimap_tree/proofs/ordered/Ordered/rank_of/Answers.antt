@@ -1,7 +1,7 @@
 use Rattle.std.proofs.Common.{arith, ap, ◌∙◌, Some}
 use Rattle.bimap_base.specs.Keyed.{standing}
 use Rattle.bimap_base.specs.NodesInCells.{nodes_in}
-use Rattle.bimap_tree.specs.Index.{tree_in}
+use Rattle.bimap_tree.specs.IndexView.{tree_in}
 use Rattle.bimap_tree.specs.Order.{count_below}
 use Rattle.bimap_tree.proofs.Whole.{can_seek, places_are, height_within, cost_within}
 use Rattle.bimap_tree.proofs.ordered.Ordered.rank_of.Goals as goal

@@ -1,6 +1,6 @@
 use Rattle.std.proofs.Common.{Some, ap, arith, subst}
 use Rattle.bimap_base.specs.NodesInCells.{nodes_in}
-use Rattle.bimap_tree.specs.Index.{tree_in}
+use Rattle.bimap_tree.specs.IndexView.{tree_in}
 use Rattle.bimap_base.specs.Digits.{most_height}
 use Rattle.bimap_base.specs.Keyed.{standing}
 use Rattle.bimap_tree.specs.Path.{Path}

@@ -2,7 +2,7 @@ use Rattle.std.proofs.Common.{◌≡◌, Some, arith, ap, subst, sym, ◌∙◌}
 use Rattle.bimap_base.specs.Digits.{most_height}
 use Rattle.bimap_base.specs.Keyed.{standing}
 use Rattle.bimap_base.specs.NodesInCells.{nodes_in}
-use Rattle.bimap_tree.specs.Index.{tree_in}
+use Rattle.bimap_tree.specs.IndexView.{tree_in}
 use Rattle.bimap_tree.specs.Order.{first_equal}
 use Rattle.bimap_tree.specs.Path.{Path}
 use Rattle.bimap_tree.specs.Route.{IsFollowed}

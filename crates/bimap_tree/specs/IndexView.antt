@@ -4,7 +4,7 @@ use Rattle.bimap_base.specs.declared.cells.Node.{Node}
 use Rattle.bimap_tree.specs.Tree.{Tree, leaf, fork, Stands, IsBalanced, IsDistinctTree, size, reading}
 
 -- the places in order, the nodes and the root
-pub record Index : Type 0 where
+pub record IndexView : Type 0 where
   pub places : List ℕ
   pub nodes : List Node
   pub root : Option ℕ
@@ -16,7 +16,7 @@ pub record IsIndex (nodes : List Node) (root : Option ℕ) (t : Tree) : Type 0 w
   pub distinct : IsDistinctTree t
 
 -- the nodes show a balanced tree at the root, and it reads as the list
-pub record IsBalancedIndex (index : Index) (t : Tree) : Type 0 where
+pub record IsBalancedIndex (index : IndexView) (t : Tree) : Type 0 where
   pub tree : IsIndex index.nodes index.root t
   pub in_order : reading t ≡ index.places
 
@@ -56,5 +56,5 @@ pub record IsWhole (nodes : List Node) (root : Option ℕ) (len : ℕ) : Type 0 
   pub few : len < 2 ^ 64
 
 -- what the fields of an index show
-abbrev pub index_of : List Node → Option ℕ → Index
+abbrev pub index_of : List Node → Option ℕ → IndexView
 index_of nodes root = record { places = reading (tree_in nodes root); nodes = nodes; root = root }

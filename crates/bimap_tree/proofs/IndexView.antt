@@ -3,8 +3,8 @@ use Rattle.std.proofs.Common.{◌≡◌, ℕ, zero, suc, ◌^◌, ◌≤◌, ◌
 use Rattle.std.specs.Prelude.{slice_get}
 use Rattle.bimap_base.specs.declared.cells.Node.{Node}
 use Rattle.bimap_tree.specs.Tree.{Tree, leaf, fork, height, size, Shows, Stands, root_of}
-use Rattle.bimap_tree.specs.Index.{height_at}
-use Rattle.bimap_tree.specs.Index.{tree_at, tree_in, left_in, right_in, IsIndex, IsWhole}
+use Rattle.bimap_tree.specs.IndexView.{height_at}
+use Rattle.bimap_tree.specs.IndexView.{tree_at, tree_in, left_in, right_in, IsIndex, IsWhole}
 use Rattle.bimap_tree.proofs.Shown.{height_told}
 
 pub tree_at-shown : (ns : List Node) (t : Tree) (levels : ℕ) → Shows ns t → height t ≤ levels → tree_at ns levels (root_of t) ≡ t
