@@ -6,12 +6,12 @@ use Rattle.std.proofs.lemmas.Bool.{or_left, or_right, false_from_ne_true, cases_
 use Rattle.bimap_base.specs.Sets.{shares, IsApart, IsSameSet, IsWithPut, IsWithoutLeft, IsWithoutRight}
 use Rattle.bimap_base.proofs.Members.{cases_in}
 use Rattle.bimap_base.proofs.Apart.{apart_more, apart_unique, no_longer, shares_itself}
-use Rattle.bimap_base.specs.Exchange.{IsRemoving}
+use Rattle.bimap_base.specs.Exchange.{IsWithoutPair}
 
 module _ {L R : Type 0} (same_left : L → L → Bool) (same_right : R → R → Bool) (lefts : IsEquivalence same_left) (rights : IsEquivalence same_right) where
   module _ (A : List (L × R)) (p : L × R) (B : List (L × R)) (apart : IsApart same_left same_right A) where
     -- one pair less is held
-    pub removing_shorter : IsApart same_left same_right B → IsRemoving A p B → suc (length B) ≤ length A
+    pub removing_shorter : IsApart same_left same_right B → IsWithoutPair A p B → suc (length B) ≤ length A
     removing_shorter apart_after r =
         no_longer same_left same_right lefts rights (p ∷ B) A
         (apart_more same_left same_right p B (λ q n. false_from_ne_true (shares same_left same_right p q) (λ e. ((r.without q).0 n).1 (sym (apart_unique same_left same_right lefts rights A p q apart r.member ((r.without q).0 n).0 e)))) apart_after)
@@ -19,7 +19,7 @@ module _ {L R : Type 0} (same_left : L → L → Bool) (same_right : R → R →
         (λ q n. elim (cases_in p B q n) [ inl e ↦ subst (Contains A) e r.member | inr m ↦ ((r.without q).0 m).0 ])
 
     -- putting the pair in again gives the set before the removal
-    pub put_again : (T : List (L × R)) → IsRemoving A p B → IsWithPut same_left same_right (Contains B) p (Contains T) → IsSameSet (Contains A) (Contains T)
+    pub put_again : (T : List (L × R)) → IsWithoutPair A p B → IsWithPut same_left same_right (Contains B) p (Contains T) → IsSameSet (Contains A) (Contains T)
     put_again T r put q = (
       λ n. (put q).1 (elim (cases_Bool (shares same_left same_right q p)) [
         | inl e ↦ inl (apart_unique same_left same_right lefts rights A q p apart n r.member e)
@@ -29,7 +29,7 @@ module _ {L R : Type 0} (same_left : L → L → Bool) (same_right : R → R →
     )
 
     -- a removal by left takes one pair out
-    pub removing_left : (left : L) → Contains A p → same_left p.0 left ≡ true → IsWithoutLeft same_left (Contains A) left (Contains B) → IsRemoving A p B
+    pub removing_left : (left : L) → Contains A p → same_left p.0 left ≡ true → IsWithoutLeft same_left (Contains A) left (Contains B) → IsWithoutPair A p B
     removing_left left m e w = record {
       member = m;
       without = λ q. (
@@ -39,7 +39,7 @@ module _ {L R : Type 0} (same_left : L → L → Bool) (same_right : R → R →
     }
 
     -- and so does one by right
-    pub removing_right : (right : R) → Contains A p → same_right p.1 right ≡ true → IsWithoutRight same_right (Contains A) right (Contains B) → IsRemoving A p B
+    pub removing_right : (right : R) → Contains A p → same_right p.1 right ≡ true → IsWithoutRight same_right (Contains A) right (Contains B) → IsWithoutPair A p B
     removing_right right m e w = record {
       member = m;
       without = λ q. (
@@ -49,7 +49,7 @@ module _ {L R : Type 0} (same_left : L → L → Bool) (same_right : R → R →
     }
 
   -- each member of the one set before a removal is one of the other
-  removed_in : (A A' : List (L × R)) (p : L × R) (B : List (L × R)) → IsApart same_left same_right A → IsRemoving A p B → IsRemoving A' p B → (q : L × R) → Contains A q → Contains A' q
+  removed_in : (A A' : List (L × R)) (p : L × R) (B : List (L × R)) → IsApart same_left same_right A → IsWithoutPair A p B → IsWithoutPair A' p B → (q : L × R) → Contains A q → Contains A' q
   removed_in A A' p B apart r r' q m =
       elim (cases_Bool (shares same_left same_right q p)) [
         | inl s ↦ subst (Contains A') (sym (apart_unique same_left same_right lefts rights A q p apart m r.member s)) r'.member
@@ -57,5 +57,5 @@ module _ {L R : Type 0} (same_left : L → L → Bool) (same_right : R → R →
       ]
 
   -- a removal of this pair leads from one set alone
-  pub removing_from_one : (A A' : List (L × R)) (p : L × R) (B : List (L × R)) → IsApart same_left same_right A → IsApart same_left same_right A' → IsRemoving A p B → IsRemoving A' p B → IsSameSet (Contains A) (Contains A')
+  pub removing_from_one : (A A' : List (L × R)) (p : L × R) (B : List (L × R)) → IsApart same_left same_right A → IsApart same_left same_right A' → IsWithoutPair A p B → IsWithoutPair A' p B → IsSameSet (Contains A) (Contains A')
   removing_from_one A A' p B apart apart' r r' q = (removed_in A A' p B apart r r' q, removed_in A' A p B apart' r' r q)

@@ -4,7 +4,7 @@ use Rattle.std.specs.Prelude.{Contains, not, Ok, Err}
 use Rattle.std.specs.Cmp.{IsEquivalence}
 use Rattle.std.proofs.lemmas.Bool.{or_left, or_right, or_from, false_from_ne_true}
 use Rattle.bimap_base.specs.Sets.{IsApart, NoneShares, IsWithPut, LacksLeft, LacksRight}
-use Rattle.bimap_base.specs.Exchange.{IsRemoving, IsExchanged, LacksPart, IsReplacement}
+use Rattle.bimap_base.specs.Exchange.{IsWithoutPair, IsExchanged, LacksPart, IsReplacement}
 use Rattle.bimap_base.specs.Holding.{Holding, IsInsertion}
 use Rattle.bimap_base.specs.declared.overwritten.Overwritten.{Overwritten}
 use Rattle.bimap_base.specs.declared.refusal.NotReplaced.TheVariants.{Missing}
@@ -15,7 +15,7 @@ true_from_not : (b : Bool) → false ≡ not b → b ≡ true
 true_from_not true e = refl
 true_from_not false e = absurd (true≢false (sym e))
 
-module _ {L R : Type 0} (same_left : L → L → Bool) (same_right : R → R → Bool) (lefts : IsEquivalence same_left) (rights : IsEquivalence same_right) (A B : List (L × R)) (p : L × R) (apart : IsApart same_left same_right A) (r : IsRemoving A p B) where
+module _ {L R : Type 0} (same_left : L → L → Bool) (same_right : R → R → Bool) (lefts : IsEquivalence same_left) (rights : IsEquivalence same_right) (A B : List (L × R)) (p : L × R) (apart : IsApart same_left same_right A) (r : IsWithoutPair A p B) where
   -- none of the pairs that stay has the value that stays, nor the other one
   pub none_shares_left : (to : L) → LacksLeft same_left (Contains B) to → NoneShares same_left same_right (Contains B) (to, p.1)
   none_shares_left to lacks q m =
@@ -41,7 +41,7 @@ module _ {L R : Type 0} (same_left : L → L → Bool) (same_right : R → R →
 
 module _ {L R : Type 0} (same_left : L → L → Bool) (same_right : R → R → Bool) (lefts : IsEquivalence same_left) (rights : IsEquivalence same_right) (old held new : Holding L R) (apart : IsApart same_left same_right old.pairs) (fits : length old.pairs ≤ old.room) (answer : Overwritten L R) where
   -- one pair was taken out, and another put in, with which none shares a value
-  placed : (p other : L × R) → IsRemoving old.pairs p held.pairs → NoneShares same_left same_right (Contains held.pairs) other → length held.pairs + 1 ≡ length old.pairs → held.room ≡ old.room → IsInsertion same_left same_right held other (Ok answer) new
+  placed : (p other : L × R) → IsWithoutPair old.pairs p held.pairs → NoneShares same_left same_right (Contains held.pairs) other → length held.pairs + 1 ≡ length old.pairs → held.room ≡ old.room → IsInsertion same_left same_right held other (Ok answer) new
       → IsExchanged (Contains old.pairs) p other (Contains new.pairs) × (length new.pairs ≡ length old.pairs) × (new.room ≡ old.room)
   placed p other r none count room i = (
     exchanging same_left same_right lefts rights old.pairs held.pairs p apart r other (Contains new.pairs) none i.put,
@@ -56,8 +56,8 @@ module _ {L R K M : Type 0} (part : L × R → K) (rest : L × R → M) (pair : 
   missing held from to lacks = record { replaced = tt; refused = (refl, lacks); unchanged = refl; count = refl; room = refl }
 
   module _ (same_left : L → L → Bool) (same_right : R → R → Bool) (lefts : IsEquivalence same_left) (rights : IsEquivalence same_right) (equal : IsEquivalence same)
-      (removing : (A : List (L × R)) (p : L × R) (B : List (L × R)) → IsApart same_left same_right A → (k : K) → Contains A p → same (part p) k ≡ true → ((q : L × R) → Contains B q ↔ (Contains A q × (same (part q) k ≡ false))) → IsRemoving A p B)
-      (none_shares : (A B : List (L × R)) (p : L × R) → IsApart same_left same_right A → IsRemoving A p B → (to : K) → LacksPart part pair same (Contains B) to → NoneShares same_left same_right (Contains B) (pair to (rest p))) where
+      (removing : (A : List (L × R)) (p : L × R) (B : List (L × R)) → IsApart same_left same_right A → (k : K) → Contains A p → same (part p) k ≡ true → ((q : L × R) → Contains B q ↔ (Contains A q × (same (part q) k ≡ false))) → IsWithoutPair A p B)
+      (none_shares : (A B : List (L × R)) (p : L × R) → IsApart same_left same_right A → IsWithoutPair A p B → (to : K) → LacksPart part pair same (Contains B) to → NoneShares same_left same_right (Contains B) (pair to (rest p))) where
     pub replaced : (old held new : Holding L R) → IsApart same_left same_right old.pairs → length old.pairs ≤ old.room → (answer : Overwritten L R) (from to : K) (p : L × R) → p ≡ pair (part p) (rest p)
         → Contains old.pairs p × (same (part p) from ≡ true) → ((q : L × R) → Contains held.pairs q ↔ (Contains old.pairs q × (same (part q) from ≡ false))) → length held.pairs + 1 ≡ length old.pairs → held.room ≡ old.room
         → LacksPart part pair same (Contains old.pairs) to ⊎ (false ≡ not (same to from)) → IsInsertion same_left same_right held (pair to (rest p)) (Ok answer) new → IsReplacement part pair same old from to (Ok (part p)) new

@@ -4,7 +4,7 @@ use Rattle.std.specs.Prelude.{Contains}
 use Rattle.std.specs.Cmp.{IsEquivalence}
 use Rattle.std.proofs.lemmas.Bool.{or_left, or_right, or_from, false_from_ne_true, cases_Bool}
 use Rattle.bimap_base.specs.Sets.{shares, IsApart, NoneShares, IsWithPut}
-use Rattle.bimap_base.specs.Exchange.{IsRemoving, AreSwapped}
+use Rattle.bimap_base.specs.Exchange.{IsWithoutPair, AreSwapped}
 use Rattle.bimap_base.proofs.Apart.{apart_unique, shares_itself}
 
 module _ {L R : Type 0} (same_left : L → L → Bool) (same_right : R → R → Bool) (lefts : IsEquivalence same_left) (rights : IsEquivalence same_right) where
@@ -30,7 +30,7 @@ module _ {L R : Type 0} (same_left : L → L → Bool) (same_right : R → R →
         );
       }
 
-module _ {L R : Type 0} (same_left : L → L → Bool) (same_right : R → R → Bool) (lefts : IsEquivalence same_left) (rights : IsEquivalence same_right) (old less none once : List (L × R)) (apart : IsApart same_left same_right old) (p q : L × R) (first : IsRemoving old p less) (second : IsRemoving less q none) where
+module _ {L R : Type 0} (same_left : L → L → Bool) (same_right : R → R → Bool) (lefts : IsEquivalence same_left) (rights : IsEquivalence same_right) (old less none once : List (L × R)) (apart : IsApart same_left same_right old) (p q : L × R) (first : IsWithoutPair old p less) (second : IsWithoutPair less q none) where
   -- two pairs of the old ones share no value
   away : (x y : L × R) → Contains old x → Contains old y → x ≢ y → (same_left x.0 y.0 ≡ false) × (same_right x.1 y.1 ≡ false)
   away x y m n differ = (

@@ -8,7 +8,7 @@ use Rattle.bimap_base.specs.declared.refusal.NotSwapped.{NotSwapped}
 use Rattle.bimap_base.specs.declared.refusal.NotSwapped.TheVariants.{FirstMissing, SecondMissing}
 
 -- A has the pair, and B is A without it
-pub record IsRemoving {L R : Type 0} (A : List (L × R)) (pair : L × R) (B : List (L × R)) : Type 0 where
+pub record IsWithoutPair {L R : Type 0} (A : List (L × R)) (pair : L × R) (B : List (L × R)) : Type 0 where
   pub member : Contains A pair
   pub without : (q : L × R) → Contains B q ↔ (Contains A q × (q ≢ pair))
 

@@ -4,7 +4,7 @@ ghost use Rattle.std.specs.List.{fold};
 ghost use Rattle.std.proofs.Common.{ap, sym};
 ghost use Rattle.bimap_base.specs.Numbered.{number_by};
 
-use crate::hash_keys::Spread;
+use crate::spread::Spread;
 use crate::numbered::hash_number;
 use crate::query::HashQuery;
 use crate::side::Side;

@@ -10,7 +10,7 @@ use Rattle.std.specs.declared.cmp.Ordering.TheVariants.{Less, Greater}
 use Rattle.std.proofs.lemmas.Bool.{cases_lt}
 use Rattle.std.proofs.lemmas.List.{get_or-set_same, get_or-set_other, length-set, take-append-drop, take_all, drop_all, append-nil}
 use Rattle.std.proofs.lemmas.Option.{slice_get-get_or, slice_get_past, slice_get_within, get_or_from_slice_get}
-use Rattle.bimap_base.specs.Exchange.{IsRemoving}
+use Rattle.bimap_base.specs.Exchange.{IsWithoutPair}
 use Rattle.bimap_base.specs.PairsAt.{pairs_at}
 use Rattle.bimap_base.specs.Places.{pairs_in}
 use Rattle.bimap_base.specs.Sets.{IsApart}
@@ -135,7 +135,7 @@ module _ {L R K : Type 0} {same_left : L → L → Bool} {same_right : R → R �
       (λ q. subst (λ xs. Contains (pairs_at slots' places') q ↔ (Contains xs q × (q ≢ p))) is (others q))
 
   -- the store has the pairs without the one
-  pub store_without : IsRemoving (pairs_in slots) p (pairs_in slots')
+  pub store_without : IsWithoutPair (pairs_in slots) p (pairs_in slots')
   store_without =
       record {
         member = held_at slots place p was;

@@ -14,7 +14,7 @@ use Rattle.std.specs.Ordering.{eq_by_cmp}
 use Rattle.std.specs.declared.cmp.Ordering.{Ordering}
 use Rattle.std.specs.declared.cmp.Ordering.TheVariants.{Less}
 use Rattle.bimap_base.specs.Capacity.{IsReservation, IsShrink}
-use Rattle.bimap_base.specs.Exchange.{IsRemoving}
+use Rattle.bimap_base.specs.Exchange.{IsWithoutPair}
 use Rattle.bimap_base.specs.Holding.{Holding, IsRetention}
 use Rattle.bimap_base.specs.Kept.{TestedAt, TestsInTurn, answered_true, MayTest, MayTestInTurn}
 use Rattle.bimap_base.specs.Visited.{MayVisit, IsVisited}
@@ -55,7 +55,7 @@ module _ {L R : Type 0} (slots : List (Option (L × R))) (places : List ℕ) (wa
   ordered order all = pairs_walked slots places walk (λ a b. (k l : L) → left_at slots a ≡ Some k → left_at slots b ≡ Some l → order k l ≡ Less) (λ p q. order p.0 q.0 ≡ Less) (λ a b p q s i j. s p.0 q.0 (ap (option_map (λ x. x.0)) i) (ap (option_map (λ x. x.0)) j)) all
 
   -- the pairs of a store without the one are those of a walk without it
-  pub removing_walked : (slots' : List (Option (L × R))) (places' : List ℕ) → IsWalk slots' places' → (p : L × R) → IsRemoving (pairs_in slots) p (pairs_in slots') → IsRemoving (pairs_at slots places) p (pairs_at slots' places')
+  pub removing_walked : (slots' : List (Option (L × R))) (places' : List ℕ) → IsWalk slots' places' → (p : L × R) → IsWithoutPair (pairs_in slots) p (pairs_in slots') → IsWithoutPair (pairs_at slots places) p (pairs_at slots' places')
   removing_walked slots' places' walk' p h =
       record {
         member = (walked slots places walk p).0 h.member;

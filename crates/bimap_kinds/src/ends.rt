@@ -3,7 +3,7 @@ ghost use Rattle.std.specs.Prelude.{◌≡◌, suc, ◌+◌, ◌-◌, ◌*◌, �
 ghost use Rattle.std.specs.Ordering.{is_lt};
 ghost use Rattle.std.specs.Map.Iter.{TakesFirst, TakesLast, deref_pair};
 ghost use Rattle.bimap_base.specs.Digits.{most_height};
-ghost use Rattle.bimap_base.specs.Exchange.{IsRemoving};
+ghost use Rattle.bimap_base.specs.Exchange.{IsWithoutPair};
 
 use crate::map::BijectiveMap;
 use bimap_base::{ByOrder, Count, LeftSide, Meter, OrderQuery, RightSide};
@@ -219,7 +219,7 @@ impl<L: Eq, R: Ord, I: Index<L>> BijectiveMap<L, R, I, Ordered> {
     pub fn pop_first_by_right(&mut self) -> Option<(L, R)>
         ensures taken { TakesFirst (λ p. p) (by_right self.old) result (by_right self.new) }
         ensures sorted { IsByRight R.cmp (holding self.old).pairs (by_right self.old) }
-        ensures removed { IfSome result (λ p. IsRemoving (holding self.old).pairs p
+        ensures removed { IfSome result (λ p. IsWithoutPair (holding self.old).pairs p
             (holding self.new).pairs) }
         ensures room { (holding self.new).room ≡ (holding self.old).room }
     {
@@ -232,7 +232,7 @@ impl<L: Eq, R: Ord, I: Index<L>> BijectiveMap<L, R, I, Ordered> {
     pub fn pop_last_by_right(&mut self) -> Option<(L, R)>
         ensures taken { TakesLast (λ p. p) (by_right self.old) result (by_right self.new) }
         ensures sorted { IsByRight R.cmp (holding self.old).pairs (by_right self.old) }
-        ensures removed { IfSome result (λ p. IsRemoving (holding self.old).pairs p
+        ensures removed { IfSome result (λ p. IsWithoutPair (holding self.old).pairs p
             (holding self.new).pairs) }
         ensures room { (holding self.new).room ≡ (holding self.old).room }
     {
@@ -294,7 +294,7 @@ impl<L: Eq, R: Ord, I: Index<L>> BijectiveMap<L, R, I, Ordered> {
     pub fn pop_first_by_right_metered<M: Meter>(&mut self, meter: &mut M) -> Option<(L, R)>
         ensures taken { TakesFirst (λ p. p) (by_right self.old) result (by_right self.new) }
         ensures sorted { IsByRight R.cmp (holding self.old).pairs (by_right self.old) }
-        ensures removed { IfSome result (λ p. IsRemoving (holding self.old).pairs p
+        ensures removed { IfSome result (λ p. IsWithoutPair (holding self.old).pairs p
             (holding self.new).pairs) }
         ensures room { (holding self.new).room ≡ (holding self.old).room }
         ensures comparisons { let n = length (holding self.old).pairs in
@@ -310,7 +310,7 @@ impl<L: Eq, R: Ord, I: Index<L>> BijectiveMap<L, R, I, Ordered> {
     pub fn pop_last_by_right_metered<M: Meter>(&mut self, meter: &mut M) -> Option<(L, R)>
         ensures taken { TakesLast (λ p. p) (by_right self.old) result (by_right self.new) }
         ensures sorted { IsByRight R.cmp (holding self.old).pairs (by_right self.old) }
-        ensures removed { IfSome result (λ p. IsRemoving (holding self.old).pairs p
+        ensures removed { IfSome result (λ p. IsWithoutPair (holding self.old).pairs p
             (holding self.new).pairs) }
         ensures room { (holding self.new).room ≡ (holding self.old).room }
         ensures comparisons { let n = length (holding self.old).pairs in
@@ -329,7 +329,7 @@ impl<L: Eq, R: Ord, I: Index<L>> BijectiveMap<L, R, I, Ordered> {
         ensures rest { (by_right self.new) ≡ take rank (by_right self.old)
             ++ drop (suc rank) (by_right self.old) }
         ensures sorted { IsByRight R.cmp (holding self.old).pairs (by_right self.old) }
-        ensures removed { IfSome result (λ p. IsRemoving (holding self.old).pairs p
+        ensures removed { IfSome result (λ p. IsWithoutPair (holding self.old).pairs p
             (holding self.new).pairs) }
         ensures room { (holding self.new).room ≡ (holding self.old).room }
         ensures comparisons { let n = length (holding self.old).pairs in

@@ -3,7 +3,7 @@ use Rattle.std.proofs.Common.{◌≡◌, ◌↔◌, ◌∙◌, ◌+◌, ◌≤�
 use Rattle.std.specs.Prelude.{Contains, Result, Ok, Err, IsErr}
 use Rattle.bimap.specs.Sets.{IsApart}
 use Rattle.bimap.specs.Holding.{Holding}
-use Rattle.bimap.specs.Exchange.{IsRemoving}
+use Rattle.bimap.specs.Exchange.{IsWithoutPair}
 use Rattle.bimap.specs.declared.NoMemory.{NoMemory}
 use Rattle.bimap_undo.specs.declared.entry.Entry.{Entry}
 use Rattle.bimap_undo.specs.declared.entry.Entry.TheVariants.{Removed}
@@ -31,13 +31,13 @@ module _ {L R K : Type 0} (same_left : L → L → Bool) (same_right : R → R �
   refused (Err e) some has still = record { found = tt; without = tt; recorded = tt; last = tt; kept = tt; count = tt; room = refl; refused = has; unchanged = ap (marked old) still }
 
   -- the pair is taken out and recorded
-  module _ (removing : (A : List (L × R)) (p : L × R) (B : List (L × R)) → IsApart same_left same_right A → (k : K) → Contains A p → same (part p) k ≡ true → ((q : L × R) → Contains B q ↔ (Contains A q × (same (part q) k ≡ false))) → IsRemoving A p B)
+  module _ (removing : (A : List (L × R)) (p : L × R) (B : List (L × R)) → IsApart same_left same_right A → (k : K) → Contains A p → same (part p) k ≡ true → ((q : L × R) → Contains B q ↔ (Contains A q × (same (part q) k ≡ false))) → IsWithoutPair A p B)
       (new : Holding L R) (p : L × R) (apart : IsApart same_left same_right old.pairs) (apart' : IsApart same_left same_right new.pairs) (removed : Contains old.pairs p × (same (part p) value ≡ true)) (without : (q : L × R) → Contains new.pairs q ↔ (Contains old.pairs q × (same (part q) value ≡ false))) (count : length new.pairs + 1 ≡ length old.pairs) (room : new.room ≡ old.room)
       (between : List (Entry L R)) (pushed : entries' ≡ between ++ Removed p.0 p.1 ∷ []) (reserved : between ≡ entries) where
     grown : entries' ≡ entries ++ Removed p.0 p.1 ∷ []
     grown = pushed ∙ ap (λ es. es ++ Removed p.0 p.1 ∷ []) reserved
 
-    taken : IsRemoving old.pairs p new.pairs
+    taken : IsWithoutPair old.pairs p new.pairs
     taken = removing old.pairs p new.pairs apart value removed.0 removed.1 without
 
     pub marks_recorded : HasMarks same_left same_right (marked old entries) → length new.pairs ≤ new.room → HasMarks same_left same_right (marked new entries')

@@ -4,7 +4,7 @@ use Rattle.std.specs.Bool.{OnTrue}
 use Rattle.bimap.specs.Sets.{IsApart, IsSameSet, SomeShares, IsWithPut, HasLeft, LacksLeft, HasRight}
 use Rattle.bimap.specs.Holding.{Holding, IsRoomAfter}
 use Rattle.bimap.specs.Undoing.{IsInserting}
-use Rattle.bimap.specs.Exchange.{IsRemoving, IsExchanged, IsPartReplaced, IsPartKept}
+use Rattle.bimap.specs.Exchange.{IsWithoutPair, IsExchanged, IsPartReplaced, IsPartKept}
 use Rattle.bimap.specs.Answer.{IsAnswer, IsAllowed, named_count}
 use Rattle.bimap.specs.Types.{Overwritten, Policy, Refuse, NotInsertedWith}
 use Rattle.bimap.specs.declared.NotInsertedWith.TheVariants.{LeftHeld, RightHeld, Memory as MemoryWith}
@@ -36,7 +36,7 @@ module _ {L R : Type 0} (same_left : L → L → Bool) (same_right : R → R →
   IsChange A (Inserted left answer) B = IsInserting same_left same_right A left answer B
   IsChange A (LeftReplaced left old) B = IsReplacing A left (λ p. (old, p.1)) B
   IsChange A (RightReplaced left old) B = IsReplacing A left (λ p. (p.0, old)) B
-  IsChange A (Removed left right) B = IsRemoving A (left, right) B
+  IsChange A (Removed left right) B = IsWithoutPair A (left, right) B
 
   -- changes, one after the other, lead from A to S
   abbrev pub IsPath : List (L × R) → List (Entry L R) → List (L × R) → Type 0
