@@ -1,6 +1,6 @@
 //! Support for tests that refuse memory. It knows nothing of what is tested.
 #![tactic(auto)]
 
-mod famine;
+mod memory_limit;
 
-pub use famine::Famine;
+pub use memory_limit::MemoryLimit;

@@ -1,6 +1,6 @@
 //! What no run of the program shows: reads that fail in mid-stream, flushes counted, each request for memory refused.
 use crate::serve::{Ending, serve};
-use bimap_famine::Famine;
+use bimap_famine::MemoryLimit;
 use std::alloc::{AllocError, Global};
 use std::io::{self, BufReader, BufWriter, Error, ErrorKind, Read, Write};
 use std::test::Fail;
@@ -87,7 +87,7 @@ fn serve_lines(alloc: Global, lines: &[u8], output: &mut Vec<u8>) -> io::Result<
 // that were written before it, are not right.
 fn last_refusal(alloc: Global, lines: &[u8], all: &[u8]) -> Result<Option<usize>, AllocError> {
     let mut output = Vec::with_capacity(alloc, 4096)?;
-    let mut famine = Famine::begin(alloc, 200)?;
+    let mut limit = MemoryLimit::begin(alloc, 200)?;
     let mut refused = None;
     for _ in 0..200 {
         output.clear();
@@ -98,7 +98,7 @@ fn last_refusal(alloc: Global, lines: &[u8], all: &[u8]) -> Result<Option<usize>
             _ => return Ok(None),
         }
         refused = Some(output.len());
-        famine.ease()?;
+        limit.raise()?;
     }
     Ok(None)
 }

@@ -5,7 +5,7 @@ use crate::session::Session;
 use crate::word::Word;
 use bimap::NoMemory;
 use bimap_calls::CopyKind;
-use bimap_famine::Famine;
+use bimap_famine::MemoryLimit;
 use std::alloc::AllocError;
 
 /// How much may be said while nothing can be allocated.
@@ -34,7 +34,7 @@ fn eased<B: CopyKind<Word, Word> + ShellKind>(
     let mut after = String::with_capacity(session.alloc, SAID)?;
     session.show(&mut before)?;
     let (mut refused, mut changed) = (false, false);
-    let mut famine = Famine::begin(session.alloc, 300)?;
+    let mut famine = MemoryLimit::begin(session.alloc, 300)?;
     for _ in 0..300u32 {
         said.clear();
         if !session.call(request, said)? {
@@ -70,8 +70,8 @@ fn fed<B: CopyKind<Word, Word> + ShellKind>(
     match request.memory {
         Memory::Plenty => session.call(request, said),
         Memory::Easing => eased(session, request, said),
-        Memory::Famine => {
-            let famine = Famine::begin(session.alloc, 0)?;
+        Memory::MemoryLimit => {
+            let famine = MemoryLimit::begin(session.alloc, 0)?;
             let has = session.call(request, said)?;
             drop(famine);
             Ok(has)

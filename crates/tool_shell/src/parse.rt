@@ -207,7 +207,7 @@ fn before<'a>(words: &mut SplitAsciiWhitespace<'a>) -> Option<(On, Memory, usize
             "inverse" => on = On::Inverse,
             "counted" => on = On::Counted,
             "bounded" => on = On::Bounded,
-            "famine" => memory = Memory::Famine,
+            "famine" => memory = Memory::MemoryLimit,
             "easing" => memory = Memory::Easing,
             call => return Some((on, memory, count, call)),
         }

@@ -33,7 +33,7 @@ pub enum On {
 #[derive(Clone, Copy, Eq, PartialEq)]
 pub enum Memory {
     Plenty,
-    Famine,
+    MemoryLimit,
     Easing,
 }
 

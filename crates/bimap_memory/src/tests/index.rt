@@ -1,6 +1,6 @@
 //! The ordered index asks for no more memory than the cells that it stands on.
 use bimap_base::Cells;
-use bimap_famine::Famine;
+use bimap_famine::MemoryLimit;
 use bimap_tree::Ordered;
 use std::alloc::{AllocError, Global};
 use std::test::Fail;
@@ -10,26 +10,26 @@ const STEPS: usize = 2400;
 
 // After how many steps a thousand cells are granted.
 fn steps_of_cells(alloc: Global) -> Result<Option<usize>, AllocError> {
-    let mut famine = Famine::begin(alloc, STEPS)?;
+    let mut limit = MemoryLimit::begin(alloc, STEPS)?;
     for step in 0..STEPS {
         let mut cells = Cells::new(alloc);
         if cells.grow(1000).is_ok() {
             return Ok(Some(step));
         }
-        famine.ease()?;
+        limit.raise()?;
     }
     Ok(None)
 }
 
 // After how many steps an index for a thousand places is granted.
 fn steps_of_index(alloc: Global) -> Result<Option<usize>, AllocError> {
-    let mut famine = Famine::begin(alloc, STEPS)?;
+    let mut limit = MemoryLimit::begin(alloc, STEPS)?;
     for step in 0..STEPS {
         let mut index = Ordered::new(alloc);
         if index.grow(1000).is_ok() {
             return Ok(Some(step));
         }
-        famine.ease()?;
+        limit.raise()?;
     }
     Ok(None)
 }

@@ -1,6 +1,6 @@
 //! Marks over a bimap that is none of the library's, and over texts, of which a record holds copies.
 use bimap::{Bijection, NoRoom};
-use bimap_famine::Famine;
+use bimap_famine::MemoryLimit;
 use bimap_plain::Plain;
 use bimap_undo::Undoable;
 use std::alloc::Global;
@@ -56,9 +56,9 @@ fn stands_at(texts: &Texts, mark: usize) -> bool {
 
 // Whether the insertion of a text is refused for its copy, which hands the very text back.
 fn is_refused(alloc: Global, texts: &mut Texts, left: String, right: i32) -> Result<String, Fail> {
-    let famine = Famine::begin(alloc, 0)?;
+    let limit = MemoryLimit::begin(alloc, 0)?;
     let refused = texts.insert(left, right);
-    drop(famine);
+    drop(limit);
     match refused {
         Err(NoRoom { left, right: back }) if back == right => Ok(left),
         _ => Err("it found memory".into()),
@@ -97,9 +97,9 @@ fn goes_back_over_texts_and_a_plain_bimap(rt: HostRuntime) -> Result<(), Fail> {
     let six = String::from_str(alloc, "six")?;
     assert!(rt; texts.remove_by_left(&six) == Ok(true));
     assert!(rt; stands(&texts, &[("two", 12), ("one", 4)], 8));
-    let famine = Famine::begin(alloc, 0)?;
+    let limit = MemoryLimit::begin(alloc, 0)?;
     let goes_back = goes_back_by_each(&mut texts);
-    drop(famine);
+    drop(limit);
     assert!(rt; goes_back);
     Ok(())
 }

@@ -1,7 +1,7 @@
 //! A bimap of texts, of which the clone and the JSON of each ask for memory too.
 use bimap::value::{JsonFault, JsonObject, Value};
 use bimap::{BiBTreeMap, Bijection, NoMemory};
-use bimap_famine::Famine;
+use bimap_famine::MemoryLimit;
 use std::alloc::{AllocError, Global};
 use std::process::Abort;
 
@@ -43,12 +43,12 @@ fn refusals(
     texts: &Texts,
     value: &Value,
 ) -> Result<Option<u64>, AllocError> {
-    let mut famine = Famine::begin(alloc, 400)?;
+    let mut limit = MemoryLimit::begin(alloc, 400)?;
     for refusals in 0..400u64 {
         if let Some(right) = made(alloc, call, texts, value) {
             return Ok(right.then_some(refusals));
         }
-        famine.ease()?;
+        limit.raise()?;
     }
     Ok(None)
 }

@@ -4,7 +4,7 @@ ghost use Rattle.bimap.specs.Trail.{Leads};
 
 use bimap::{BiBTreeMap, Bijection, Overwritten, undo_run};
 use bimap_calls::{CopyKind, insert_all, shows};
-use bimap_famine::Famine;
+use bimap_famine::MemoryLimit;
 use std::alloc::{AllocError, Global};
 use std::test::Fail;
 
@@ -46,7 +46,7 @@ fn refusals<L: Copy + Eq + Drop, R: Copy + Eq + Drop, B: Bijection<L, R> + Drop>
         (B.holding bimap.old).pairs }
 {
     let mut entries = entries;
-    let mut famine = Famine::begin(alloc, 60)?;
+    let mut limit = MemoryLimit::begin(alloc, 60)?;
     for refusals in 0..60u64 {
         match undo_run(bimap, entries) {
             Ok(()) => return Ok(shows(bimap, pairs).then_some(refusals)),
@@ -57,7 +57,7 @@ fn refusals<L: Copy + Eq + Drop, R: Copy + Eq + Drop, B: Bijection<L, R> + Drop>
                 entries = stopped.rest;
             }
         }
-        famine.ease()?;
+        limit.raise()?;
     }
     Ok(None)
 }

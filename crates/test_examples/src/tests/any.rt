@@ -7,7 +7,7 @@ use bimap::{
     replace_right, run, swap_partners, undo_run,
 };
 use bimap_calls::insert_all;
-use bimap_famine::Famine;
+use bimap_famine::MemoryLimit;
 use std::alloc::Global;
 use std::process::Abort;
 use std::test::Fail;
@@ -129,7 +129,7 @@ fn answers<B: Bijection<char, u32> + Drop>(
     assert!(rt; performed(seats) == Reply::Occupied('a', 1));
     assert!(rt; performed(other) == Reply::Put);
     put_in(rt, none);
-    let famine = Famine::begin(rt.alloc(), 4).expect(rt, "memory");
+    let famine = MemoryLimit::begin(rt.alloc(), 4).expect(rt, "memory");
     let refused = performed(empty);
     drop(famine);
     assert!(rt; refused == Reply::NoRoom('a', 1));

@@ -3,15 +3,15 @@ use std::alloc::{AllocError, Global};
 
 /// The blocks that are held back. To drop it ends the famine.
 #[derive(Drop)]
-pub struct Famine {
+pub struct MemoryLimit {
     alloc: Global,
     held: Vec<Vec<u8>>,
     rooms: Vec<Vec<u8>>,
 }
 
-impl Famine {
+impl MemoryLimit {
     /// Takes all the memory that the process can get, but keeps `steps` rooms of falling size.
-    pub fn begin(alloc: Global, steps: usize) -> Result<Famine, AllocError> {
+    pub fn begin(alloc: Global, steps: usize) -> Result<MemoryLimit, AllocError> {
         let held = Vec::with_capacity(alloc, 1 << 17)?;
         let mut rooms = Vec::with_capacity(alloc, steps)?;
         let mut bytes = steps.saturating_mul(16).saturating_add(4064);
@@ -19,9 +19,9 @@ impl Famine {
             rooms.push(Vec::with_capacity(alloc, bytes)?)?;
             bytes = bytes.saturating_sub(16);
         }
-        let mut famine = Famine { alloc, held, rooms };
-        famine.gather(1 << 46)?;
-        Ok(famine)
+        let mut memory_limit = MemoryLimit { alloc, held, rooms };
+        memory_limit.gather(1 << 46)?;
+        Ok(memory_limit)
     }
 
     /// Takes all blocks of up to `size` bytes that there are.
@@ -39,7 +39,7 @@ impl Famine {
     }
 
     /// Gives the process 16 bytes more than the last time, in one block, or nothing more at the end.
-    pub fn ease(&mut self) -> Result<bool, AllocError> {
+    pub fn raise(&mut self) -> Result<bool, AllocError> {
         self.gather(1 << 17)?;
         let Some(room) = self.rooms.pop() else {
             return Ok(false);
