@@ -10,12 +10,12 @@ use Rattle.bimap_base.specs.declared.refusal.NotInsertedWith.TheVariants.{LeftHe
 use Rattle.bimap_base.specs.Survivors.{Survives, PutsItself, TouchesSharing, AreSurvivors}
 use Rattle.bimap_base.specs.Holding.{Holding, IsInsertionUnder}
 use Rattle.bimap_base.specs.Extension.{AreAllowed}
-use Rattle.bimap_base.specs.Turns.{StandsInTurn}
+use Rattle.bimap_base.specs.Positions.{StandsInOrder}
 use Rattle.bimap_base.specs.declared.policy.OnHeld.TheVariants.{Refuse}
 use Rattle.bimap_base.specs.declared.policy.Policy.{Policy}
 use Rattle.bimap_base.proofs.Survivors.{items_none, items_push, not_split}
 use Rattle.bimap_base.proofs.Extending.{allowed_push}
-use Rattle.bimap_base.proofs.Turns.{stands_last}
+use Rattle.bimap_base.proofs.Positions.{stands_last}
 use Rattle.bimap_base.specs.Growth.{Outgrows}
 use Rattle.bimap_base.proofs.Growing.{answer_overwrites, room_after, room_push}
 use Rattle.bimap.specs.JsonObjects.{Entry, HasEntries, ReadsAs, EachReadsAs, StopsAt, StopsUnder, FollowEntries, IsReadIntoUnder, ReadsObject, ReadsObjectUnder}
@@ -30,22 +30,22 @@ module _ {L R : Type 0} (reads_key : List ℕ → L → Type 0) (reads : Data �
   read_more (f ∷ before) (q ∷ pairs) e p each one = (each.0, read_more before pairs e p each.1 one)
 
   -- of all entries these are left, and the others read as the pairs in order, if there is a pair for each
-  pub record IsReadInTurn (all left : List Entry) (held : List (L × R)) : Type 0 where
+  pub record IsReadInOrder (all left : List Entry) (held : List (L × R)) : Type 0 where
     pub before : List Entry
     pub split : all ≡ before ++ left
     pub no_longer : length held ≤ length before
     pub in_turn : length held ≡ length before → EachReadsAs reads_key reads before held
 
-  pub in_turn_first : (all : List Entry) (held : List (L × R)) → held ≡ [] → IsReadInTurn all all held
-  in_turn_first all held empty = record {
+  pub in_order_first : (all : List Entry) (held : List (L × R)) → held ≡ [] → IsReadInOrder all all held
+  in_order_first all held empty = record {
     before = [];
     split = refl;
     no_longer = omega (arith, ap length empty);
     in_turn = λ _. subst (EachReadsAs reads_key reads []) (sym empty) tt;
   }
 
-  pub in_turn_more : (all left : List Entry) (e : Entry) (old new : List (L × R)) (p : L × R) (answer : Overwritten L R) → IsReadInTurn all (e ∷ left) old → ReadsAs reads_key reads e p → length new + named_count answer ≡ length old + 1 → StandsInTurn old p answer new → IsReadInTurn all left new
-  in_turn_more all left e old new p answer r one count stands =
+  pub in_order_more : (all left : List Entry) (e : Entry) (old new : List (L × R)) (p : L × R) (answer : Overwritten L R) → IsReadInOrder all (e ∷ left) old → ReadsAs reads_key reads e p → length new + named_count answer ≡ length old + 1 → StandsInOrder old p answer new → IsReadInOrder all left new
+  in_order_more all left e old new p answer r one count stands =
       let more = length_push r.before e in
       record {
         before = r.before ++ e ∷ [];
@@ -55,8 +55,8 @@ module _ {L R : Type 0} (reads_key : List ℕ → L → Type 0) (reads : Data �
             (read_more r.before old e p (r.in_turn (omega (arith, more, whole, count, r.no_longer))) one);
       }
 
-  pub in_turn_done : (value : Data) (all : List Entry) (held : List (L × R)) → HasEntries value all → IsReadInTurn all [] held → FollowEntries reads_key reads value held
-  in_turn_done value all held has r = record { entries = r.before; has = subst (HasEntries value) (r.split ∙ append-nil r.before) has; in_turn = r.in_turn }
+  pub in_order_done : (value : Data) (all : List Entry) (held : List (L × R)) → HasEntries value all → IsReadInOrder all [] held → FollowEntries reads_key reads value held
+  in_order_done value all held has r = record { entries = r.before; has = subst (HasEntries value) (r.split ∙ append-nil r.before) has; in_turn = r.in_turn }
 
   module _ (same_left : L → L → Bool) (same_right : R → R → Bool) (policy : Policy) where
     -- so many entries of all were read as pairs, whose survivors are held, and these are left

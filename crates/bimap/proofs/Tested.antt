@@ -6,11 +6,11 @@ use Rattle.std.proofs.lemmas.List.Elements.{Contains-append_right}
 use denote.Param.Members.{Mut, Shared, Called}
 use Rattle.bimap.specs.Test.{Answers, IsDecided}
 use denote.Ref.{Bor}
-use Rattle.bimap_base.specs.Kept.{TestedAt, TestsInTurn, MayTest, answered_true, IsKept}
+use Rattle.bimap_base.specs.Kept.{TestedAt, TestsInOrder, MayTest, answered_true, IsKept}
 use Rattle.bimap_base.proofs.Members.{head_in, more_in, cases_in, none_in}
 
 module _ {F L R : Type 0} (g : Mut F (Bor L × (Bor R × Unit {0})) Bool) (I : F → Type 0) (keeps : (s : F) (a : Bor L × (Bor R × Unit {0})) (b : Bool) (t : F) → I s → Called g s a b t → I t) where
-  kept_along : (ps : List (L × R)) (bs : List Bool) (s t : F) → I s → TestsInTurn g s ps bs t → I t
+  kept_along : (ps : List (L × R)) (bs : List Bool) (s t : F) → I s → TestsInOrder g s ps bs t → I t
   kept_along [] [] s t i e = subst I e i
   kept_along [] (b ∷ bs) s t i e = absurd e
   kept_along (p ∷ ps) [] s t i e = absurd e
@@ -29,7 +29,7 @@ module _ {F L R : Type 0} (g : Mut F (Bor L × (Bor R × Unit {0})) Bool) (I : F
     says_at : (s : F) (p : L × R) (b : Bool) (t : F) → I s → TestedAt g s p b t → Test p b
     says_at s p b t i e = subst (λ (q : L × R). Test q b) (ap (λ (x : L). (x, e.right.now)) e.shows_left ∙ ap (λ (y : R). (p.0, y)) e.shows_right) (says s e.left e.right b t i e.called)
 
-    answered_from : (ps : List (L × R)) (bs : List Bool) (s t : F) → I s → TestsInTurn g s ps bs t → (q : L × R) → Contains (answered_true g ps bs) q → Contains ps q × Test q true
+    answered_from : (ps : List (L × R)) (bs : List Bool) (s t : F) → I s → TestsInOrder g s ps bs t → (q : L × R) → Contains (answered_true g ps bs) q → Contains ps q × Test q true
     answered_from [] bs s t i e q m = none_in q m
     answered_from (p ∷ ps) [] s t i e q m = absurd e
     answered_from (p ∷ ps) (true ∷ bs) s t i e q m =
@@ -40,7 +40,7 @@ module _ {F L R : Type 0} (g : Mut F (Bor L × (Bor R × Unit {0})) Bool) (I : F
     answered_from (p ∷ ps) (false ∷ bs) s t i e q m =
         let n = answered_from ps bs e.0 t (keeps s _ false e.0 i e.1.called) e.2 q m in (more_in p ps q n.0, n.1)
 
-    answered_to : (ps : List (L × R)) (bs : List Bool) (s t : F) → I s → TestsInTurn g s ps bs t → (q : L × R) → Contains ps q → Contains (answered_true g ps bs) q ⊎ Test q false
+    answered_to : (ps : List (L × R)) (bs : List Bool) (s t : F) → I s → TestsInOrder g s ps bs t → (q : L × R) → Contains ps q → Contains (answered_true g ps bs) q ⊎ Test q false
     answered_to [] bs s t i e q m = none_in q m
     answered_to (p ∷ ps) [] s t i e q m = absurd e
     answered_to (p ∷ ps) (true ∷ bs) s t i e q m =

@@ -15,7 +15,7 @@ pub use Rattle.bimap_base.specs.Inverse
 pub use Rattle.bimap_inverse.specs.Turned
 pub use Rattle.bimap_base.specs.Growth
 pub use Rattle.bimap_base.specs.Extension
-pub use Rattle.bimap_base.specs.Turns
+pub use Rattle.bimap_base.specs.Positions
 pub use Rattle.bimap_tree.specs.Ranges
 pub use Rattle.bimap_base.specs.Digits
 pub use Rattle.bimap_base.specs.Capacity

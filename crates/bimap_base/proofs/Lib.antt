@@ -26,6 +26,6 @@ pub mod SetsAlike
 pub mod Survivors
 pub mod Swapping
 pub mod Testing
-pub mod Turns
+pub mod Positions
 pub mod Undoing
 pub mod Walk

@@ -4,7 +4,7 @@ use Rattle.std.specs.Borrow.{Bor}
 use denote.Param.Members.{Mut}
 use Rattle.bimap_base.specs.Sets.{NoneShares, SomeShares, IsWithPut, HasLeft, LacksLeft}
 use Rattle.bimap_base.specs.Answer.{IsAnswer, IsRefusal, IsAllowed, IsRefusalUnder, IsBoth, named_count}
-use Rattle.bimap_base.specs.Kept.{IsKept, IsKeptInTurn}
+use Rattle.bimap_base.specs.Kept.{IsKept, IsKeptInOrder}
 use Rattle.bimap_base.specs.Undoing.{IsUndone}
 use Rattle.bimap_base.specs.declared.overwritten.Overwritten.{Overwritten}
 use Rattle.bimap_base.specs.declared.policy.Policy.{Policy}
@@ -121,6 +121,6 @@ pub record IsRetention {F L R : Type 0} (g : Mut F (Bor L × (Bor R × Unit {0})
   pub room : new.room ≡ old.room
 
 -- what `retain` leaves, the closure being called in the order of the pairs
-pub record IsRetentionInTurn {F L R : Type 0} (g : Mut F (Bor L × (Bor R × Unit {0})) Bool) (old : Holding L R) (f : F) (new : Holding L R) : Type 0 where
-  pub kept : IsKeptInTurn g f old.pairs new.pairs
+pub record IsRetentionInOrder {F L R : Type 0} (g : Mut F (Bor L × (Bor R × Unit {0})) Bool) (old : Holding L R) (f : F) (new : Holding L R) : Type 0 where
+  pub kept : IsKeptInOrder g f old.pairs new.pairs
   pub room : new.room ≡ old.room

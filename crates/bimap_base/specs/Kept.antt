@@ -17,19 +17,19 @@ MayTestPair {F} {L} {R} {A} g f p = (left : Bor L) (right : Bor R) → left.now 
 
 module _ {F L R : Type 0} (g : Mut F (Bor L × (Bor R × Unit {0})) Bool) where
   -- f was called at each pair of the list in turn, each call in the state that the one before left
-  abbrev pub TestsInTurn : F → List (L × R) → List Bool → F → Type 0
-  TestsInTurn f [] [] last = f ≡ last
-  TestsInTurn f [] (b ∷ bs) last = ⊥
-  TestsInTurn f (p ∷ ps) [] last = ⊥
-  TestsInTurn f (p ∷ ps) (b ∷ bs) last = (next : F) × TestedAt g f p b next × TestsInTurn next ps bs last
+  abbrev pub TestsInOrder : F → List (L × R) → List Bool → F → Type 0
+  TestsInOrder f [] [] last = f ≡ last
+  TestsInOrder f [] (b ∷ bs) last = ⊥
+  TestsInOrder f (p ∷ ps) [] last = ⊥
+  TestsInOrder f (p ∷ ps) (b ∷ bs) last = (next : F) × TestedAt g f p b next × TestsInOrder next ps bs last
 
   -- f may be called once at each of the pairs held, in any order
   pub record MayTest (f : F) (held : List (L × R)) : Type 0 where
-    pub at : (ps : List (L × R)) (bs : List Bool) (later : F) (left : Bor L) (right : Bor R) (rest : List (L × R)) → IsPermutation held (ps ++ (left.now, right.now) ∷ rest) → TestsInTurn f ps bs later → g.pre later (left, (right, tt))
+    pub at : (ps : List (L × R)) (bs : List Bool) (later : F) (left : Bor L) (right : Bor R) (rest : List (L × R)) → IsPermutation held (ps ++ (left.now, right.now) ∷ rest) → TestsInOrder f ps bs later → g.pre later (left, (right, tt))
 
   -- f may be called once at each of the pairs of the list, in its order
-  pub record MayTestInTurn (f : F) (pairs : List (L × R)) : Type 0 where
-    pub at : (ps : List (L × R)) (bs : List Bool) (later : F) (left : Bor L) (right : Bor R) (rest : List (L × R)) → pairs ≡ ps ++ (left.now, right.now) ∷ rest → TestsInTurn f ps bs later → g.pre later (left, (right, tt))
+  pub record MayTestInOrder (f : F) (pairs : List (L × R)) : Type 0 where
+    pub at : (ps : List (L × R)) (bs : List Bool) (later : F) (left : Bor L) (right : Bor R) (rest : List (L × R)) → pairs ≡ ps ++ (left.now, right.now) ∷ rest → TestsInOrder f ps bs later → g.pre later (left, (right, tt))
 
   -- the pairs of the list that were answered true
   abbrev pub answered_true : List (L × R) → List Bool → List (L × R)
@@ -44,12 +44,12 @@ module _ {F L R : Type 0} (g : Mut F (Bor L × (Bor R × Unit {0})) Bool) where
     pub answers : List Bool
     pub last : F
     pub each_once : IsPermutation held order
-    pub calls : TestsInTurn f order answers last
+    pub calls : TestsInOrder f order answers last
     pub kept : (q : L × R) → Contains left q ↔ Contains (answered_true order answers) q
 
   -- f was called once at each of the pairs held, in their order, and those answered true are left
-  pub record IsKeptInTurn (f : F) (held left : List (L × R)) : Type 0 where
+  pub record IsKeptInOrder (f : F) (held left : List (L × R)) : Type 0 where
     pub answers : List Bool
     pub last : F
-    pub calls : TestsInTurn f held answers last
+    pub calls : TestsInOrder f held answers last
     pub kept : left ≡ answered_true held answers

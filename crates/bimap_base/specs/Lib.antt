@@ -15,7 +15,7 @@ pub mod Put
 pub mod Inverse
 pub mod Growth
 pub mod Extension
-pub mod Turns
+pub mod Positions
 pub mod Digits
 pub mod Slots
 pub mod FreeSlots

@@ -39,7 +39,7 @@ pub record IsAmong (n : ℕ) (node : Node) : Type 0 where
 
 -- the node with this child on the side of the turn, right if it is true
 abbrev pub linked : Bool → Option ℕ → Node → Node
-linked turn child n = record { left = cond turn n.left child; right = cond turn child n.right; height = n.height; size = n.size }
+linked direction child n = record { left = cond direction n.left child; right = cond direction child n.right; height = n.height; size = n.size }
 
 -- the node with a place more or less below it
 abbrev pub counted : Bool → Node → Node
@@ -47,7 +47,7 @@ counted grew n = record { left = n.left; right = n.right; height = n.height; siz
 
 -- the node with this child, and a place more or less below it
 abbrev pub recounted : Bool → Option ℕ → Bool → Node → Node
-recounted turn child grew n = counted grew (linked turn child n)
+recounted direction child grew n = counted grew (linked direction child n)
 
 -- of so many places there may be one more below it, or one less
 pub record CanCount (n : ℕ) (grew : Bool) (node : Node) : Type 0 where

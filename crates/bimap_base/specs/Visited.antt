@@ -7,16 +7,16 @@ use Rattle.bimap_base.specs.Kept.{TestedAt}
 
 module _ {F L R : Type 0} (g : Mut F (Bor L × (Bor R × Unit {0})) (Unit {0})) where
   -- f was called at each pair of the list in turn, each call in the state that the one before left
-  abbrev pub VisitsInTurn : F → List (L × R) → F → Type 0
-  VisitsInTurn f pairs last = FoldsTo (λ state p next. TestedAt g state p tt next) f pairs last
+  abbrev pub VisitsInOrder : F → List (L × R) → F → Type 0
+  VisitsInOrder f pairs last = FoldsTo (λ state p next. TestedAt g state p tt next) f pairs last
 
   -- f may be called once at each of the pairs held, in any order
   pub record MayVisit (f : F) (held : List (L × R)) : Type 0 where
-    pub at : (ps : List (L × R)) (later : F) (left : Bor L) (right : Bor R) (rest : List (L × R)) → IsPermutation held (ps ++ (left.now, right.now) ∷ rest) → VisitsInTurn f ps later → g.pre later (left, (right, tt))
+    pub at : (ps : List (L × R)) (later : F) (left : Bor L) (right : Bor R) (rest : List (L × R)) → IsPermutation held (ps ++ (left.now, right.now) ∷ rest) → VisitsInOrder f ps later → g.pre later (left, (right, tt))
 
   -- f was called once at each of the pairs held, in some order
   pub record IsVisited (f : F) (held : List (L × R)) : Type 0 where
     pub order : List (L × R)
     pub last : F
     pub each_once : IsPermutation held order
-    pub calls : VisitsInTurn f order last
+    pub calls : VisitsInOrder f order last

@@ -6,7 +6,7 @@ ghost use Rattle.bimap_base.specs.Fitting.{FitsLeft, FitsRight, Fits};
 ghost use Rattle.bimap_base.specs.Sets.{shares, IsApart, HasLeft, HasRight};
 ghost use Rattle.bimap_base.specs.Holding.{Holding, IsFoundByLeft, IsFoundByRight, IsInsertion, IsInsertionWithoutOverwriting, IsInsertionUnder, IsRemovalByLeft, IsRemovalByRight, IsRetention, IsUndoing};
 ghost use Rattle.bimap_base.specs.Kept.{MayTest};
-ghost use Rattle.bimap_base.specs.Turns.{IsTakenOut, StandsInTurn, StandsUndone};
+ghost use Rattle.bimap_base.specs.Positions.{IsTakenOut, StandsInOrder, StandsUndone};
 ghost use Rattle.bimap_base.specs.Undoing.{IsUndoable};
 ghost use Rattle.bimap_base.specs.Visited.{MayVisit, IsVisited};
 
@@ -56,7 +56,7 @@ pub trait Bijection<L: Eq + Drop, R: Eq + Drop> {
     ) -> Result<Overwritten<L, R>, NotInsertedWith<L, R>>
         ensures answer { IsInsertionUnder L.eq R.eq (holding self.old) (left, right) policy result
             (holding self.new) }
-        ensures turn { appends → IfOk result (λ answer. StandsInTurn (holding self.old).pairs
+        ensures position { appends → IfOk result (λ answer. StandsInOrder (holding self.old).pairs
             (left, right) answer (holding self.new).pairs) }
         ensures lenders { lenders self.new ≡ lenders self.old };
 
@@ -64,7 +64,7 @@ pub trait Bijection<L: Eq + Drop, R: Eq + Drop> {
     fn remove_by_left(&mut self, left: &L) -> Option<(L, R)>
         ensures answer { IsRemovalByLeft L.eq (holding self.old) left.now result
             (holding self.new) }
-        ensures turn { appends → MatchOption result
+        ensures position { appends → MatchOption result
             ((holding self.new).pairs ≡ (holding self.old).pairs)
             (λ pair. IsTakenOut (holding self.old).pairs pair (holding self.new).pairs) }
         ensures lenders { lenders self.new ≡ lenders self.old };
@@ -73,7 +73,7 @@ pub trait Bijection<L: Eq + Drop, R: Eq + Drop> {
     fn remove_by_right(&mut self, right: &R) -> Option<(L, R)>
         ensures answer { IsRemovalByRight R.eq (holding self.old) right.now result
             (holding self.new) }
-        ensures turn { appends → MatchOption result
+        ensures position { appends → MatchOption result
             ((holding self.new).pairs ≡ (holding self.old).pairs)
             (λ pair. IsTakenOut (holding self.old).pairs pair (holding self.new).pairs) }
         ensures lenders { lenders self.new ≡ lenders self.old };
@@ -122,7 +122,7 @@ pub trait Bijection<L: Eq + Drop, R: Eq + Drop> {
             left.now answer }
         ensures answer { IsUndoing L.eq R.eq (holding self.old) left.now answer result
             (holding self.new) }
-        ensures turn { appends → IfOk result (λ pair. StandsUndone L.eq (holding self.old).pairs
+        ensures position { appends → IfOk result (λ pair. StandsUndone L.eq (holding self.old).pairs
             pair answer (holding self.new).pairs) }
         ensures lenders { lenders self.new ≡ lenders self.old };
 
@@ -151,7 +151,7 @@ pub trait Bijection<L: Eq + Drop, R: Eq + Drop> {
     final fn insert(&mut self, left: L, right: R) -> Result<Overwritten<L, R>, NoRoom<L, R>>
         ensures answer { IsInsertion L.eq R.eq (holding self.old) (left, right) result
             (holding self.new) }
-        ensures turn { appends → IfOk result (λ answer. StandsInTurn (holding self.old).pairs
+        ensures position { appends → IfOk result (λ answer. StandsInOrder (holding self.old).pairs
             (left, right) answer (holding self.new).pairs) }
         ensures lenders { lenders self.new ≡ lenders self.old }
     {
@@ -170,7 +170,7 @@ pub trait Bijection<L: Eq + Drop, R: Eq + Drop> {
     final fn insert_no_overwrite(&mut self, left: L, right: R) -> Result<(), NotInserted<L, R>>
         ensures answer { IsInsertionWithoutOverwriting L.eq R.eq (holding self.old) (left, right)
             result (holding self.new) }
-        ensures turn { appends → OnOk result ((holding self.new).pairs
+        ensures position { appends → OnOk result ((holding self.new).pairs
             ≡ (holding self.old).pairs ++ (left, right) ∷ []) }
         ensures lenders { lenders self.new ≡ lenders self.old }
     {

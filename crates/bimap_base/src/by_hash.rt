@@ -4,10 +4,10 @@ ghost use Rattle.std.specs.List.{fold};
 ghost use Rattle.std.proofs.Common.{ap, sym};
 ghost use Rattle.bimap_base.specs.Numbered.{number_by};
 
-use crate::spread::Spread;
 use crate::numbered::hash_number;
 use crate::query::HashQuery;
 use crate::side::Side;
+use crate::spread::Spread;
 use std::hash::{BuildHasher, Hash};
 use std::marker::PhantomData;
 

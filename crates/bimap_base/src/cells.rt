@@ -44,13 +44,13 @@ pub trait Cell: Copy + Drop {
         ensures { result ≡ node_in self };
 
     /// That node's child on the side of the turn, right if it is true, without the rest of the node.
-    fn child(self, turn: bool) -> Option<usize>
-        ensures { result ≡ cond turn (node_in self).right (node_in self).left };
+    fn child(self, direction: bool) -> Option<usize>
+        ensures { result ≡ cond direction (node_in self).right (node_in self).left };
 
     /// The cell that keeps the same node with this child on the side of the turn.
-    fn linked(self, turn: bool, child: Option<usize>) -> Self
+    fn linked(self, direction: bool, child: Option<usize>) -> Self
         requires { (n : ℕ) × (n < most) × IsThere n child }
-        ensures { node_in result ≡ linked turn child (node_in self) };
+        ensures { node_in result ≡ linked direction child (node_in self) };
 
     /// The cell that keeps the same node with a place more or less below it.
     fn counted(self, grew: bool) -> Self
@@ -153,17 +153,17 @@ impl Cell for NarrowCell {
     }
 
     #[inline(always)]
-    fn child(self, turn: bool) -> Option<usize> {
-        let link = if turn { self.right } else { self.left };
+    fn child(self, direction: bool) -> Option<usize> {
+        let link = if direction { self.right } else { self.left };
         child_of(link as usize)
     }
 
     #[inline(always)]
-    fn linked(self, turn: bool, child: Option<usize>) -> Self {
+    fn linked(self, direction: bool, child: Option<usize>) -> Self {
         let link = link_to(child) as u32;
         NarrowCell {
-            left: if turn { self.left } else { link },
-            right: if turn { link } else { self.right },
+            left: if direction { self.left } else { link },
+            right: if direction { link } else { self.right },
             count: self.count,
         }
     }
@@ -204,16 +204,16 @@ impl Cell for WideCell {
     }
 
     #[inline(always)]
-    fn child(self, turn: bool) -> Option<usize> {
-        child_of(if turn { self.right } else { self.left })
+    fn child(self, direction: bool) -> Option<usize> {
+        child_of(if direction { self.right } else { self.left })
     }
 
     #[inline(always)]
-    fn linked(self, turn: bool, child: Option<usize>) -> Self {
+    fn linked(self, direction: bool, child: Option<usize>) -> Self {
         let link = link_to(child);
         WideCell {
-            left: if turn { self.left } else { link },
-            right: if turn { link } else { self.right },
+            left: if direction { self.left } else { link },
+            right: if direction { link } else { self.right },
             height: self.height,
             size: self.size,
         }
@@ -315,20 +315,20 @@ impl<C: Cell> Nodes<C> {
     pub fn set_child<M: Meter>(
         &mut self,
         place: usize,
-        turn: bool,
+        direction: bool,
         child: Option<usize>,
         meter: &mut M,
     )
         requires place { place < length self.old }
         requires child { IsThere (length self.old) child }
         ensures written { (n : Node) → slice_get self.old place ≡ Some n →
-            self.new ≡ slice_set self.old place (linked turn child n) }
+            self.new ≡ slice_set self.old place (linked direction child n) }
         ensures comparisons { M.comparisons meter.new ≡ M.comparisons meter.old }
         ensures touches { M.touches meter.new ≡ M.touches meter.old + 1 }
     {
         meter.touched();
         let cells = &mut self.cells;
-        cells[place] = cells[place].linked(turn, child);
+        cells[place] = cells[place].linked(direction, child);
     }
 
     /// Makes this the child of a place's node on the side of the turn, and counts a place more or less below it.
@@ -336,7 +336,7 @@ impl<C: Cell> Nodes<C> {
     pub fn recount<M: Meter>(
         &mut self,
         place: usize,
-        turn: bool,
+        direction: bool,
         child: Option<usize>,
         grew: bool,
         meter: &mut M,
@@ -345,13 +345,13 @@ impl<C: Cell> Nodes<C> {
         requires count { (n : Node) × (slice_get self.old place ≡ Some n)
             × CanCount (length self.old) grew n }
         ensures written { (n : Node) → slice_get self.old place ≡ Some n →
-            self.new ≡ slice_set self.old place (recounted turn child grew n) }
+            self.new ≡ slice_set self.old place (recounted direction child grew n) }
         ensures comparisons { M.comparisons meter.new ≡ M.comparisons meter.old }
         ensures touches { M.touches meter.new ≡ M.touches meter.old + 1 }
     {
         meter.touched();
         let cells = &mut self.cells;
-        cells[place] = cells[place].linked(turn, child).counted(grew);
+        cells[place] = cells[place].linked(direction, child).counted(grew);
     }
 
     /// Counts a place more or less below a place.

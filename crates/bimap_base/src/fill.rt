@@ -3,7 +3,7 @@ ghost use Rattle.std.specs.Prelude.{◌≡◌, [], OnOk, IfOk, IfErr};
 ghost use Rattle.std.specs.Iterator.{IsFiniteIterable};
 ghost use Rattle.bimap_base.specs.Extension.{IsExtension, IsExtensionStopped, IsExtensionUnder, IsExtensionStoppedUnder};
 ghost use Rattle.bimap_base.specs.Holding.{Holding};
-ghost use Rattle.bimap_base.specs.Turns.{ComeInTurn, FollowInTurn};
+ghost use Rattle.bimap_base.specs.Positions.{ComeInOrder, FollowInOrder};
 
 use crate::bijection::Bijection;
 use crate::policy::{OnHeld, Policy};
@@ -26,11 +26,11 @@ pub fn extend<L: Eq + Drop, R: Eq + Drop, B: Bijection<L, R>, I: IntoIterator<It
     ensures stopped { IfErr result (λ e. IsExtensionStopped L.eq R.eq
         (I.into_iter_gives items) I.IntoIter.next_gives (B.holding bimap.old) e
         (B.holding bimap.new)) }
-    ensures turn { B.appends → OnOk result (FollowInTurn (I.into_iter_gives items)
+    ensures position { B.appends → OnOk result (FollowInOrder (I.into_iter_gives items)
         I.IntoIter.next_gives (B.holding bimap.old).pairs (B.holding bimap.new).pairs) }
-    ensures turn_stopped { B.appends → IfErr result (λ e. (stop : IsExtensionStopped L.eq R.eq
+    ensures position_stopped { B.appends → IfErr result (λ e. (stop : IsExtensionStopped L.eq R.eq
         (I.into_iter_gives items) I.IntoIter.next_gives (B.holding bimap.old) e
-        (B.holding bimap.new)) × ComeInTurn (B.holding bimap.old).pairs stop.items
+        (B.holding bimap.new)) × ComeInOrder (B.holding bimap.old).pairs stop.items
         (B.holding bimap.new).pairs) }
     ensures lenders { B.lenders bimap.new ≡ B.lenders bimap.old }
 {
@@ -71,11 +71,11 @@ pub fn extend_with<L: Eq + Drop, R: Eq + Drop, B: Bijection<L, R>, I: IntoIterat
     ensures stopped { IfErr result (λ e. IsExtensionStoppedUnder L.eq R.eq
         (I.into_iter_gives items) I.IntoIter.next_gives (B.holding bimap.old) policy e
         (B.holding bimap.new)) }
-    ensures turn { B.appends → OnOk result (FollowInTurn (I.into_iter_gives items)
+    ensures position { B.appends → OnOk result (FollowInOrder (I.into_iter_gives items)
         I.IntoIter.next_gives (B.holding bimap.old).pairs (B.holding bimap.new).pairs) }
-    ensures turn_stopped { B.appends → IfErr result (λ e. (stop : IsExtensionStoppedUnder L.eq
+    ensures position_stopped { B.appends → IfErr result (λ e. (stop : IsExtensionStoppedUnder L.eq
         R.eq (I.into_iter_gives items) I.IntoIter.next_gives (B.holding bimap.old) policy e
-        (B.holding bimap.new)) × ComeInTurn (B.holding bimap.old).pairs stop.items
+        (B.holding bimap.new)) × ComeInOrder (B.holding bimap.old).pairs stop.items
         (B.holding bimap.new).pairs) }
     ensures lenders { B.lenders bimap.new ≡ B.lenders bimap.old }
 {
@@ -108,7 +108,7 @@ pub fn from_iter<
         (I.into_iter_gives items) I.IntoIter.next_gives (B.holding empty) (B.holding bimap)) }
     ensures stopped { IfErr result (λ e. (last : Holding L R) × IsExtensionStopped L.eq R.eq
         (I.into_iter_gives items) I.IntoIter.next_gives (B.holding empty) e last) }
-    ensures turn { B.appends → IfOk result (λ bimap. FollowInTurn (I.into_iter_gives items)
+    ensures position { B.appends → IfOk result (λ bimap. FollowInOrder (I.into_iter_gives items)
         I.IntoIter.next_gives [] (B.holding bimap).pairs) }
     ensures lenders { IfOk result (λ bimap. B.lenders bimap ≡ B.lenders empty) }
 {
@@ -138,7 +138,7 @@ pub fn from_iter_with<
         (B.holding bimap)) }
     ensures stopped { IfErr result (λ e. (last : Holding L R) × IsExtensionStoppedUnder L.eq R.eq
         (I.into_iter_gives items) I.IntoIter.next_gives (B.holding empty) policy e last) }
-    ensures turn { B.appends → IfOk result (λ bimap. FollowInTurn (I.into_iter_gives items)
+    ensures position { B.appends → IfOk result (λ bimap. FollowInOrder (I.into_iter_gives items)
         I.IntoIter.next_gives [] (B.holding bimap).pairs) }
     ensures lenders { IfOk result (λ bimap. B.lenders bimap ≡ B.lenders empty) }
 {

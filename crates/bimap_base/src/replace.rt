@@ -1,7 +1,7 @@
 //! One value of a pair replaced, in any bimap. It doesn't know how a bimap keeps its pairs.
 ghost use Rattle.std.specs.Prelude.{◌≡◌, IfOk};
 ghost use Rattle.bimap_base.specs.Exchange.{IsReplacementOfLeft, IsReplacementOfRight};
-ghost use Rattle.bimap_base.specs.Turns.{ComesLastWith};
+ghost use Rattle.bimap_base.specs.Positions.{ComesLastWith};
 
 use crate::bijection::Bijection;
 use crate::refusal::NotReplaced;
@@ -40,7 +40,7 @@ pub fn replace_left<L: Eq + Drop, R: Eq + Drop, B: Bijection<L, R>>(
 ) -> Result<L, NotReplaced<L>>
     ensures answer { IsReplacementOfLeft L.eq (B.holding bimap.old) from.now to result
         (B.holding bimap.new) }
-    ensures turn { B.appends → IfOk result (λ taken. ComesLastWith (λ (l : L) (r : R). (l, r))
+    ensures position { B.appends → IfOk result (λ taken. ComesLastWith (λ (l : L) (r : R). (l, r))
         (B.holding bimap.old).pairs taken to (B.holding bimap.new).pairs) }
     ensures lenders { B.lenders bimap.new ≡ B.lenders bimap.old }
 {
@@ -58,7 +58,7 @@ pub fn replace_right<L: Eq + Drop, R: Eq + Drop, B: Bijection<L, R>>(
 ) -> Result<R, NotReplaced<R>>
     ensures answer { IsReplacementOfRight R.eq (B.holding bimap.old) from.now to result
         (B.holding bimap.new) }
-    ensures turn { B.appends → IfOk result (λ taken. ComesLastWith (λ (r : R) (l : L). (l, r))
+    ensures position { B.appends → IfOk result (λ taken. ComesLastWith (λ (r : R) (l : L). (l, r))
         (B.holding bimap.old).pairs taken to (B.holding bimap.new).pairs) }
     ensures lenders { B.lenders bimap.new ≡ B.lenders bimap.old }
 {

@@ -1,7 +1,7 @@
 //! Two pairs that swap their rights, in any bimap. It doesn't know how a bimap keeps its pairs.
 ghost use Rattle.std.specs.Prelude.{◌≡◌, false, OnOk};
 ghost use Rattle.bimap_base.specs.Exchange.{IsSwap};
-ghost use Rattle.bimap_base.specs.Turns.{ComeLastSwapped};
+ghost use Rattle.bimap_base.specs.Positions.{ComeLastSwapped};
 
 use crate::bijection::Bijection;
 use crate::refusal::NotSwapped;
@@ -21,7 +21,7 @@ pub fn swap_partners<L: Eq + Drop, R: Eq + Drop, B: Bijection<L, R>>(
 ) -> Result<(), NotSwapped>
     ensures answer { IsSwap L.eq (B.holding bimap.old) left.now other.now result
         (B.holding bimap.new) }
-    ensures turn { B.appends → L.eq left.now other.now ≡ false → OnOk result
+    ensures position { B.appends → L.eq left.now other.now ≡ false → OnOk result
         (ComeLastSwapped L.eq (B.holding bimap.old).pairs left.now other.now
         (B.holding bimap.new).pairs) }
     ensures lenders { B.lenders bimap.new ≡ B.lenders bimap.old }

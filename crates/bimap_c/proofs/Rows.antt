@@ -23,10 +23,10 @@ one_more (q ∷ walk) (r ∷ old) (suc n) p l m e = ap (λ rows. row q ∷ rows)
 pub one_written : {W : Type 0} (gives : W → Option (Bor ℕ × Bor ℕ) → W → Type 0) (walk t u : W) (pairs : List (ℕ × ℕ)) (came : List (Bor ℕ × Bor ℕ)) (p : Bor ℕ × Bor ℕ) (old new : List Row) (n : ℕ) → AlwaysYields gives deref_pair walk pairs → Yields gives walk came t → gives t (Some p) u → n ≡ length came → n < length old → new ≡ map row (take n pairs) ++ drop n old
     → (n < length pairs) × (set new n (row (deref_pair p)) ≡ map row (take (n + 1) pairs) ++ drop (n + 1) old)
 one_written gives walk t u pairs came p old new n all y step e lt is =
-    let turn = YieldsList-turn {steps = gives} {v = deref_pair} {s = walk} {all = pairs} (record { runs = all }) came t y (Some p) u p (λ _. Some p) step in
-    let inside : n < length pairs = omega (arith, e, turn.0) in (
+    let position = YieldsList-turn {steps = gives} {v = deref_pair} {s = walk} {all = pairs} (record { runs = all }) came t y (Some p) u p (λ _. Some p) step in
+    let inside : n < length pairs = omega (arith, e, position.0) in (
       inside,
-      ap (λ rows. set rows n (row (deref_pair p))) is ∙ subst (λ k. set (map row (take n pairs) ++ drop n old) n (row (deref_pair p)) ≡ map row (take k pairs) ++ drop k old) (sym (add-one n)) (one_more pairs old n (deref_pair p) inside lt (subst (λ k. deref_pair p ≡ get_or pairs k (deref_pair p)) (sym e) turn.1)),
+      ap (λ rows. set rows n (row (deref_pair p))) is ∙ subst (λ k. set (map row (take n pairs) ++ drop n old) n (row (deref_pair p)) ≡ map row (take k pairs) ++ drop k old) (sym (add-one n)) (one_more pairs old n (deref_pair p) inside lt (subst (λ k. deref_pair p ≡ get_or pairs k (deref_pair p)) (sym e) position.1)),
     )
 
 from_place : (x : ℕ) (pairs : List (ℕ × ℕ)) (k : ℕ) → ((i : ℕ) (d : ℕ × ℕ) → i < k → i < length pairs → (get_or pairs i d).0 < x) → ((i : ℕ) (d : ℕ × ℕ) → k ≤ i → i < length pairs → x ≤ (get_or pairs i d).0) → filter (λ q. not (nat_lt q.0 x)) pairs ≡ drop k pairs

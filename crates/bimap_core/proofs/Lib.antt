@@ -15,7 +15,7 @@ pub mod Undoing
 pub mod Shrinking
 pub mod OneOut
 pub mod Ascending
-pub mod InTurn
+pub mod InOrder
 pub mod Below
 pub mod Writing
-pub mod Turns
+pub mod Positions

@@ -5,19 +5,19 @@ use Rattle.std.specs.List.{FoldsTo}
 use Rattle.std.proofs.lemmas.Fn.{FoldsTo-push}
 use denote.Param.Members.{Mut}
 use denote.Ref.{Bor}
-use Rattle.bimap_base.specs.Kept.{TestedAt, TestsInTurn}
+use Rattle.bimap_base.specs.Kept.{TestedAt, TestsInOrder}
 use Rattle.bimap_base.proofs.Testing.{tests_push, true_push, false_push}
 use Rattle.bimap_core.specs.Partition.{answered_false, answered, IsPartition}
 
 module _ {F L R : Type 0} (g : Mut F (Bor L × (Bor R × Unit {0})) Bool) where
-  false_more : (f : F) (ps : List (L × R)) (bs : List Bool) (m : F) (p : L × R) → TestsInTurn g f ps bs m → answered_false g (ps ++ p ∷ []) (bs ++ false ∷ []) ≡ answered_false g ps bs ++ p ∷ []
+  false_more : (f : F) (ps : List (L × R)) (bs : List Bool) (m : F) (p : L × R) → TestsInOrder g f ps bs m → answered_false g (ps ++ p ∷ []) (bs ++ false ∷ []) ≡ answered_false g ps bs ++ p ∷ []
   false_more f [] [] m p h = refl
   false_more f [] (c ∷ bs) m p h = absurd h
   false_more f (q ∷ ps) [] m p h = absurd h
   false_more f (q ∷ ps) (true ∷ bs) m p h = false_more h.0 ps bs m p h.2
   false_more f (q ∷ ps) (false ∷ bs) m p h = ap (λ xs. q ∷ xs) (false_more h.0 ps bs m p h.2)
 
-  false_same : (f : F) (ps : List (L × R)) (bs : List Bool) (m : F) (p : L × R) → TestsInTurn g f ps bs m → answered_false g (ps ++ p ∷ []) (bs ++ true ∷ []) ≡ answered_false g ps bs
+  false_same : (f : F) (ps : List (L × R)) (bs : List Bool) (m : F) (p : L × R) → TestsInOrder g f ps bs m → answered_false g (ps ++ p ∷ []) (bs ++ true ∷ []) ≡ answered_false g ps bs
   false_same f [] [] m p h = refl
   false_same f [] (c ∷ bs) m p h = absurd h
   false_same f (q ∷ ps) [] m p h = absurd h
@@ -25,15 +25,15 @@ module _ {F L R : Type 0} (g : Mut F (Bor L × (Bor R × Unit {0})) Bool) where
   false_same f (q ∷ ps) (false ∷ bs) m p h = ap (λ xs. q ∷ xs) (false_same h.0 ps bs m p h.2)
 
   -- an answer adds its pair to those answered so, and leaves the others
-  more : (b : Bool) (f : F) (ps : List (L × R)) (bs : List Bool) (m : F) (p : L × R) → TestsInTurn g f ps bs m → answered g b (ps ++ p ∷ []) (bs ++ b ∷ []) ≡ answered g b ps bs ++ p ∷ []
+  more : (b : Bool) (f : F) (ps : List (L × R)) (bs : List Bool) (m : F) (p : L × R) → TestsInOrder g f ps bs m → answered g b (ps ++ p ∷ []) (bs ++ b ∷ []) ≡ answered g b ps bs ++ p ∷ []
   more true f ps bs m p h = true_push g f ps bs m p h
   more false f ps bs m p h = false_more f ps bs m p h
 
-  same : (b : Bool) (f : F) (ps : List (L × R)) (bs : List Bool) (m : F) (p : L × R) → TestsInTurn g f ps bs m → answered g b (ps ++ p ∷ []) (bs ++ not b ∷ []) ≡ answered g b ps bs
+  same : (b : Bool) (f : F) (ps : List (L × R)) (bs : List Bool) (m : F) (p : L × R) → TestsInOrder g f ps bs m → answered g b (ps ++ p ∷ []) (bs ++ not b ∷ []) ≡ answered g b ps bs
   same true f ps bs m p h = false_push g f ps bs m p h
   same false f ps bs m p h = false_same f ps bs m p h
 
-  same_not : (b : Bool) (f : F) (ps : List (L × R)) (bs : List Bool) (m : F) (p : L × R) → TestsInTurn g f ps bs m → answered g (not b) (ps ++ p ∷ []) (bs ++ b ∷ []) ≡ answered g (not b) ps bs
+  same_not : (b : Bool) (f : F) (ps : List (L × R)) (bs : List Bool) (m : F) (p : L × R) → TestsInOrder g f ps bs m → answered g (not b) (ps ++ p ∷ []) (bs ++ b ∷ []) ≡ answered g (not b) ps bs
   same_not true f ps bs m p h = false_same f ps bs m p h
   same_not false f ps bs m p h = false_push g f ps bs m p h
 
@@ -46,7 +46,7 @@ module _ {F L R : Type 0} (g : Mut F (Bor L × (Bor R × Unit {0})) Bool) where
     -- rest, and the others were kept
     pub record IsParted (first f : F) (from to : S) (tested rest kept : List (L × R)) : Type 0 where
       pub answers : List Bool
-      pub calls : TestsInTurn g first tested answers f
+      pub calls : TestsInOrder g first tested answers f
       pub gone : FoldsTo receives from (answered g goes tested answers) to
       pub left : kept ≡ answered g (not goes) tested answers
       pub room : (n : ℕ) → n ≤ length rest → has_room to n

@@ -10,7 +10,7 @@ use denote.Ref.{Bor}
 use Rattle.bimap_base.specs.Kept.{TestedAt}
 use Rattle.bimap_base.specs.Places.{pairs_in}
 use Rattle.bimap_base.specs.Slots.{pair_at}
-use Rattle.bimap_base.specs.Visited.{VisitsInTurn, MayVisit, IsVisited}
+use Rattle.bimap_base.specs.Visited.{VisitsInOrder, MayVisit, IsVisited}
 use Rattle.bimap_base.proofs.Compaction.{pairs_in-append}
 use Rattle.bimap_core.proofs.Retaining.{pairs_in-none, head_at, none_left}
 
@@ -21,7 +21,7 @@ module _ {F L R : Type 0} (g : Mut F (Bor L × (Bor R × Unit {0})) (Unit {0})) 
     pub rest : List (Option (L × R))
     pub all : slots ≡ seen ++ rest
     pub long : place ≡ length seen
-    pub calls : VisitsInTurn g first (pairs_in seen) f
+    pub calls : VisitsInOrder g first (pairs_in seen) f
 
   pub start : (f : F) (slots : List (Option (L × R))) → IsVisitedBelow f f slots 0
   start f slots = record { seen = []; rest = slots; all = refl; long = refl; calls = refl }
@@ -49,9 +49,9 @@ module _ {F L R : Type 0} (g : Mut F (Bor L × (Bor R × Unit {0})) (Unit {0})) 
       calls = by (pair_at slots place) some none;
     }
       where
-        by : (o : Option (L × R)) → IfSome o (λ p. TestedAt g f p tt f') → IfNone o (f' ≡ f) → VisitsInTurn g first (pairs_in (so_far.seen ++ o ∷ [])) f'
-        by None some none = subst (λ z. VisitsInTurn g first z f') (sym (pairs_in-none so_far.seen)) (subst (VisitsInTurn g first (pairs_in so_far.seen)) (sym none) so_far.calls)
-        by (Some p) some none = subst (λ z. VisitsInTurn g first z f') (sym (pairs_in-append so_far.seen (Some p ∷ []))) (FoldsTo-push (λ state p next. TestedAt g state p tt next) first (pairs_in so_far.seen) f p f' so_far.calls some)
+        by : (o : Option (L × R)) → IfSome o (λ p. TestedAt g f p tt f') → IfNone o (f' ≡ f) → VisitsInOrder g first (pairs_in (so_far.seen ++ o ∷ [])) f'
+        by None some none = subst (λ z. VisitsInOrder g first z f') (sym (pairs_in-none so_far.seen)) (subst (VisitsInOrder g first (pairs_in so_far.seen)) (sym none) so_far.calls)
+        by (Some p) some none = subst (λ z. VisitsInOrder g first z f') (sym (pairs_in-append so_far.seen (Some p ∷ []))) (FoldsTo-push (λ state p next. TestedAt g state p tt next) first (pairs_in so_far.seen) f p f' so_far.calls some)
 
   -- at the end each pair was visited
   pub ended : (first f : F) (slots : List (Option (L × R))) (place : ℕ) → IsVisitedBelow first f slots place → length slots ≤ place → IsVisited g first (pairs_in slots)

@@ -3,7 +3,7 @@ use Rattle.std.specs.Prelude.{◌≡◌, Bool, true, false, not, List, [], ◌�
 use Rattle.std.specs.List.{FoldsTo}
 use denote.Param.Members.{Mut}
 use denote.Ref.{Bor}
-use Rattle.bimap_base.specs.Kept.{TestsInTurn, answered_true}
+use Rattle.bimap_base.specs.Kept.{TestsInOrder, answered_true}
 
 module _ {F L R : Type 0} (g : Mut F (Bor L × (Bor R × Unit {0})) Bool) where
   -- the pairs of the list that were answered false
@@ -23,6 +23,6 @@ module _ {F L R : Type 0} (g : Mut F (Bor L × (Bor R × Unit {0})) Bool) where
   pub record IsPartition {S : Type 0} (receives : S → L × R → S → Type 0) (goes : Bool) (f : F) (held left : List (L × R)) (from to : S) : Type 0 where
     pub answers : List Bool
     pub last : F
-    pub calls : TestsInTurn g f held answers last
+    pub calls : TestsInOrder g f held answers last
     pub gone : FoldsTo receives from (answered goes held answers) to
     pub kept : left ≡ answered (not goes) held answers

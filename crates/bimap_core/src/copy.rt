@@ -34,7 +34,7 @@ where
     pub fn add<M: Meter>(&mut self, left: L, right: R, meter: &mut M) -> Result<(), NoMemory>
         ensures put { OnOk result (IsWithPut L.eq R.eq (Contains (pairs_in self.old.pairs))
             (left, right) (Contains (pairs_in self.new.pairs))) }
-        ensures turn { I.appends →
+        ensures position { I.appends →
             NoneShares L.eq R.eq (Contains (pairs_in self.old.pairs)) (left, right) →
             OnOk result (pairs_at self.new.pairs (I.places self.new.left)
             ≡ pairs_at self.old.pairs (I.places self.old.left) ++ (left, right) ∷ []) }

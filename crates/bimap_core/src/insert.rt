@@ -2,7 +2,7 @@
 ghost use Rattle.std.specs.Prelude.{◌≡◌, ◌+◌, ◌*◌, ◌≤◌, None, IsSome, MatchBool, IfOk, OnErr, length};
 ghost use Rattle.bimap_base.specs.Holding.{IsInsertionUnder};
 ghost use Rattle.bimap_base.specs.PairsAt.{pairs_at};
-ghost use Rattle.bimap_base.specs.Turns.{StandsInTurn};
+ghost use Rattle.bimap_base.specs.Positions.{StandsInOrder};
 
 use crate::table::Table;
 use bimap_base::{Meter, NotInsertedWith, OnHeld, Overwritten, Policy};
@@ -32,7 +32,7 @@ impl<L: Eq, R: Eq, I: Index<L>, J: Index<R>> Table<L, R, I, J> {
     ) -> Result<Overwritten<L, R>, NotInsertedWith<L, R>>
         ensures answer { IsInsertionUnder L.eq R.eq (holding_of self.old.pairs)
             (left, right) policy result (holding_of self.new.pairs) }
-        ensures turn { I.appends → IfOk result (λ answer. StandsInTurn
+        ensures position { I.appends → IfOk result (λ answer. StandsInOrder
             (pairs_at self.old.pairs (I.places self.old.left)) (left, right) answer
             (pairs_at self.new.pairs (I.places self.new.left))) }
         ensures slots { OnErr result (self.new.pairs ≡ self.old.pairs) }

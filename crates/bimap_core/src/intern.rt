@@ -25,7 +25,7 @@ impl<L: Eq + Drop, R: Copy + Eq + Drop, I: Index<L>, J: Index<R>> Table<L, R, I,
     ) -> Result<R, NotInserted<L, R>>
         ensures answer { IsInterning L.eq R.eq (holding_of self.old.pairs) (left, right) result
             (holding_of self.new.pairs) }
-        ensures turn { I.appends → LacksLeft L.eq (Contains (pairs_in self.old.pairs)) left →
+        ensures position { I.appends → LacksLeft L.eq (Contains (pairs_in self.old.pairs)) left →
             OnOk result (pairs_at self.new.pairs (I.places self.new.left)
             ≡ pairs_at self.old.pairs (I.places self.old.left) ++ (left, right) ∷ []) }
         ensures held_slots { HasLeft L.eq (Contains (pairs_in self.old.pairs)) left →

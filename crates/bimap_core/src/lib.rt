@@ -9,7 +9,7 @@ mod intern;
 mod inverse;
 mod outlet;
 mod partition;
-mod partition_in_turn;
+mod partition_ordered;
 mod ranks;
 mod remove;
 mod room;
@@ -19,6 +19,6 @@ mod undo;
 mod write;
 
 pub use outlet::{Dropped, Outlet};
-pub use partition_in_turn::PartedIndex;
+pub use partition_ordered::PartedIndex;
 pub use ranks::pair_at_rank;
 pub use table::Table;

@@ -1,6 +1,6 @@
 //! Pairs taken out by the answers of a closure, in the order of the places.
 ghost use Rattle.std.specs.Prelude.{◌≡◌, ◌≤◌, ℕ, length, false, not, Some, IfSome, IfNone, if◌then◌else◌};
-ghost use Rattle.bimap_base.specs.Kept.{MayTestInTurn, MayTestPair, TestedAt};
+ghost use Rattle.bimap_base.specs.Kept.{MayTestInOrder, MayTestPair, TestedAt};
 ghost use Rattle.bimap_base.specs.Places.{pairs_in};
 ghost use Rattle.bimap_base.specs.Slots.{pair_at};
 ghost use Rattle.bimap_core.specs.Partition.{IsPartition};
@@ -41,7 +41,7 @@ impl<L: Eq, R: Eq, I: Index<L>, J: Index<R>> Table<L, R, I, J> {
         outlet: &mut S,
         meter: &mut M,
     )
-        requires may { MayTestInTurn F.FnMut f (pairs_in self.old.pairs) }
+        requires may { MayTestInOrder F.FnMut f (pairs_in self.old.pairs) }
         requires fits { (n : ℕ) → n ≤ length (pairs_in self.old.pairs) → S.has_room outlet.old n }
         ensures parted { IsPartition F.FnMut S.receives goes f (pairs_in self.old.pairs)
             (pairs_in self.new.pairs) outlet.old outlet.new }

@@ -2,7 +2,7 @@
 ghost use Rattle.std.specs.Prelude.{◌≡◌, ◌+◌, ◌*◌, ◌≤◌, length, MatchOption};
 ghost use Rattle.bimap_base.specs.Holding.{IsRemovalByLeft, IsRemovalByRight};
 ghost use Rattle.bimap_base.specs.PairsAt.{pairs_at};
-ghost use Rattle.bimap_base.specs.Turns.{IsTakenOut};
+ghost use Rattle.bimap_base.specs.Positions.{IsTakenOut};
 
 use crate::table::Table;
 use bimap_base::{LeftSide, Meter, Query, RightSide};
@@ -21,7 +21,7 @@ impl<L: Eq, R: Eq, I: Index<L>, J: Index<R>> Table<L, R, I, J> {
         I: Lookup<L, Q>,
         ensures answer { IsRemovalByLeft Q.same (holding_of self.old.pairs) left result
             (holding_of self.new.pairs) }
-        ensures turn { I.appends → let was = pairs_at self.old.pairs (I.places self.old.left) in
+        ensures position { I.appends → let was = pairs_at self.old.pairs (I.places self.old.left) in
             let now = pairs_at self.new.pairs (I.places self.new.left) in
             MatchOption result (now ≡ was) (λ pair. IsTakenOut was pair now) }
         ensures comparisons { M.comparisons meter.new ≤ M.comparisons meter.old
@@ -48,7 +48,7 @@ impl<L: Eq, R: Eq, I: Index<L>, J: Index<R>> Table<L, R, I, J> {
         J: Lookup<R, Q>,
         ensures answer { IsRemovalByRight Q.same (holding_of self.old.pairs) right result
             (holding_of self.new.pairs) }
-        ensures turn { I.appends → let was = pairs_at self.old.pairs (I.places self.old.left) in
+        ensures position { I.appends → let was = pairs_at self.old.pairs (I.places self.old.left) in
             let now = pairs_at self.new.pairs (I.places self.new.left) in
             MatchOption result (now ≡ was) (λ pair. IsTakenOut was pair now) }
         ensures comparisons { M.comparisons meter.new ≤ M.comparisons meter.old

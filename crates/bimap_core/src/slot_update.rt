@@ -1,7 +1,7 @@
 //! One index beside a place whose pair is written over. It is changed only where the key is new.
 ghost use Rattle.std.specs.Prelude.{◌≡◌, ◌<◌, ◌≤◌, ◌+◌, ◌*◌, ◌++◌, ◌∷◌, [], ℕ, Option, IsSome, IsSomeAnd, IfSome, MatchBool, MatchOption, is_some, true, false, length, if◌then◌else◌};
 ghost use Rattle.bimap_index.specs.Listed.{IsWithout, MayLink};
-ghost use Rattle.bimap_base.specs.Turns.{IsTakenOut};
+ghost use Rattle.bimap_base.specs.Positions.{IsTakenOut};
 
 use bimap_base::{Meter, Side};
 use bimap_index::Index;

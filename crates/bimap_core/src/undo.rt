@@ -4,7 +4,7 @@ ghost use Rattle.bimap_base.specs.Holding.{IsUndoing};
 ghost use Rattle.bimap_base.specs.PairsAt.{pairs_at};
 ghost use Rattle.bimap_base.specs.Places.{IsFoundAt};
 ghost use Rattle.bimap_base.specs.Slots.{pair_at, IsLive, pair_count};
-ghost use Rattle.bimap_base.specs.Turns.{StandsFor, StandsUndone};
+ghost use Rattle.bimap_base.specs.Positions.{StandsFor, StandsUndone};
 ghost use Rattle.bimap_base.specs.Undoing.{IsUndoable};
 
 use crate::slot_update::renew;
@@ -29,7 +29,7 @@ impl<L: Eq, R: Eq, I: Index<L>, J: Index<R>> Table<L, R, I, J> {
             left.now answer }
         ensures answer { IsUndoing L.eq R.eq (holding_of self.old.pairs) left.now answer result
             (holding_of self.new.pairs) }
-        ensures turn { I.appends → IfOk result (λ pair. StandsUndone L.eq
+        ensures position { I.appends → IfOk result (λ pair. StandsUndone L.eq
             (pairs_at self.old.pairs (I.places self.old.left)) pair answer
             (pairs_at self.new.pairs (I.places self.new.left))) }
         ensures slots { OnErr result (self.new.pairs ≡ self.old.pairs) }
@@ -74,7 +74,7 @@ impl<L: Eq, R: Eq, I: Index<L>, J: Index<R>> Table<L, R, I, J> {
         ensures was { pair_at self.old.pairs place ≡ Some result }
         ensures pairs { self.new.pairs ≡ slice_set self.old.pairs place (Some (left, right)) }
         ensures count { pair_count self.new.pairs ≡ pair_count self.old.pairs }
-        ensures turn { I.appends → StandsFor L.eq
+        ensures position { I.appends → StandsFor L.eq
             (pairs_at self.old.pairs (I.places self.old.left)) result (left, right)
             (pairs_at self.new.pairs (I.places self.new.left)) }
         ensures comparisons { M.comparisons meter.new ≤ M.comparisons meter.old
@@ -100,7 +100,7 @@ impl<L: Eq, R: Eq, I: Index<L>, J: Index<R>> Table<L, R, I, J> {
         ensures there { result < length self.old.pairs }
         ensures was_free { pair_at self.old.pairs result ≡ None }
         ensures pairs { self.new.pairs ≡ slice_set self.old.pairs result (Some (left, right)) }
-        ensures turn { I.appends → pairs_at self.new.pairs (I.places self.new.left)
+        ensures position { I.appends → pairs_at self.new.pairs (I.places self.new.left)
             ≡ pairs_at self.old.pairs (I.places self.old.left) ++ (left, right) ∷ [] }
         ensures comparisons { M.comparisons meter.new ≤ M.comparisons meter.old
             + I.effort (length (I.places self.old.left))

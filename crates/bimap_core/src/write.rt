@@ -2,7 +2,7 @@
 ghost use Rattle.std.specs.Prelude.{◌≡◌, ◌<◌, ◌≤◌, ◌+◌, ◌*◌, ◌++◌, ◌∷◌, [], ℕ, true, length, Some, None, IsSomeAnd, MatchOption, is_some, OnOk, OnErr, max, slice_set, if◌then◌else◌};
 ghost use Rattle.bimap_base.specs.Holding.{IsRoomAfter};
 ghost use Rattle.bimap_base.specs.Slots.{pair_at, left_at, right_at, IsLive, pair_count};
-ghost use Rattle.bimap_base.specs.Turns.{ComesLast, IsTakenOut};
+ghost use Rattle.bimap_base.specs.Positions.{ComesLast, IsTakenOut};
 
 use crate::slot_update::{relist, unlist};
 use crate::table::Table;

@@ -12,7 +12,7 @@ use Rattle.bimap_base.specs.Keyed.{Drops}
 use Rattle.bimap_base.proofs.Members.{any_in, in_any}
 use Rattle.bimap_index.specs.ByInsertion.{ListsByInsertion}
 use Rattle.bimap_index.specs.Listed.{IsWithout}
-use Rattle.bimap_base.specs.Turns.{IsTakenOut}
+use Rattle.bimap_base.specs.Positions.{IsTakenOut}
 
 -- places that differ, each of them one of others, are no more than those
 no_longer : (xs ys : List ℕ) → AllPairs (λ a b. a ≢ b) xs → ((p : ℕ) → Contains xs p → Contains ys p) → length xs ≤ length ys

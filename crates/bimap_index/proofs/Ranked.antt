@@ -25,9 +25,9 @@ module _ {K : Type 0} where
   dense (Some k ∷ keys) n live (suc r) inside = dense keys (n - 1) (λ s less. live (suc s) (omega (arith, less))) r (omega (arith, inside))
 
   -- the key of a listed place is the one of a walk at its turn
-  by_turn : (keys : List (Option K)) (places : List ℕ) → ((p : ℕ) → Contains places p → IsSome (pair_at keys p)) → (r p : ℕ) → slice_get places r ≡ Some p → slice_get (pairs_at keys places) r ≡ pair_at keys p
-  by_turn keys [] live r p is = cc
-  by_turn keys (q ∷ qs) live r p is = by (pair_at keys q) refl (live q (head_in q qs)) r is (λ s. by_turn keys qs (λ p c. live p (more_in q qs p c)) s p)
+  by_insertion : (keys : List (Option K)) (places : List ℕ) → ((p : ℕ) → Contains places p → IsSome (pair_at keys p)) → (r p : ℕ) → slice_get places r ≡ Some p → slice_get (pairs_at keys places) r ≡ pair_at keys p
+  by_insertion keys [] live r p is = cc
+  by_insertion keys (q ∷ qs) live r p is = by (pair_at keys q) refl (live q (head_in q qs)) r is (λ s. by_insertion keys qs (λ p c. live p (more_in q qs p c)) s p)
     where
       by : (o : Option K) → pair_at keys q ≡ o → IsSome o → (r : ℕ) → slice_get (q ∷ qs) r ≡ Some p → ((s : ℕ) → slice_get qs s ≡ Some p → slice_get (pairs_at keys qs) s ≡ pair_at keys p) → slice_get (pairs_at keys (q ∷ qs)) r ≡ pair_at keys p
       by None e some r is rest = absurd (true≢false (sym some))
@@ -97,7 +97,7 @@ module _ (places ranks : List ℕ) (are : AreRanks places ranks) where
     in_turn = pairs_by_place keys are.sorted are.ascends sorted_listed
 
     key_of : (r p : ℕ) → slice_get are.sorted r ≡ Some p → slice_get (pairs_in keys) r ≡ pair_at keys p
-    key_of r p is = ap (λ ks. slice_get ks r) (sym in_turn) ∙ by_turn keys are.sorted (λ p. (sorted_listed p).0) r p is
+    key_of r p is = ap (λ ks. slice_get ks r) (sym in_turn) ∙ by_insertion keys are.sorted (λ p. (sorted_listed p).0) r p is
 
     -- the ranks are walked as the places were
     pub ranked_alike : (moved : List (Option K)) → ((r : ℕ) → Contains ranks r ↔ IsSome (pair_at moved r)) → pairs_in moved ≡ pairs_in keys → pairs_at moved ranks ≡ pairs_at keys places

@@ -4,7 +4,7 @@ ghost use Rattle.std.specs.List.{AllPairs};
 ghost use Rattle.std.specs.declared.cmp.Ordering.TheVariants.{Less};
 ghost use Rattle.bimap_index.specs.ByInsertion.{ListsByInsertion};
 ghost use Rattle.bimap_index.specs.Listed.{IsFoundBy, IsWithout};
-ghost use Rattle.bimap_base.specs.Turns.{IsTakenOut};
+ghost use Rattle.bimap_base.specs.Positions.{IsTakenOut};
 ghost use Rattle.bimap_list.specs.Ranks.{AreRanks};
 ghost use Rattle.bimap_index.specs.InsertionLaws.{insertion_respects, insertion_settled};
 

@@ -1,7 +1,7 @@
 //! Look-ups by a query, in an index of any kind.
 ghost use Rattle.std.specs.Prelude.{◌≡◌, ◌+◌, ◌*◌, ◌≤◌, ℕ, Option, length, IfSome, IfNone};
 ghost use Rattle.bimap_index.specs.Listed.{IsFoundBy, IsWithout};
-ghost use Rattle.bimap_base.specs.Turns.{IsTakenOut};
+ghost use Rattle.bimap_base.specs.Positions.{IsTakenOut};
 
 use crate::index::Index;
 use bimap_base::{Meter, Query, Side};

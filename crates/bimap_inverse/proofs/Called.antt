@@ -7,10 +7,10 @@ use denote.Param.Members.{Mut, Called}
 use denote.Ref.{Bor}
 use Rattle.bimap_base.specs.Holding.{Holding, IsRetention}
 use Rattle.bimap_base.specs.Inverse.{inverse_pair}
-use Rattle.bimap_base.specs.Kept.{TestedAt, TestsInTurn, MayTest, answered_true}
-use Rattle.bimap_base.specs.Visited.{VisitsInTurn, MayVisit, IsVisited}
+use Rattle.bimap_base.specs.Kept.{TestedAt, TestsInOrder, MayTest, answered_true}
+use Rattle.bimap_base.specs.Visited.{VisitsInOrder, MayVisit, IsVisited}
 use Rattle.bimap_base.proofs.Inverse.{inverse_in, in_inverse}
-use Rattle.bimap_inverse.specs.Turned.{inverse_holding}
+use Rattle.bimap_inverse.specs.Exchanged.{inverse_holding}
 
 -- a call of g' is one of g, with the arguments exchanged
 abbrev pub Exchanges : {F F' L R A : Type 0} → Mut F (Bor R × (Bor L × Unit {0})) A → Mut F' (Bor L × (Bor R × Unit {0})) A → (F' → F) → Type 0
@@ -28,7 +28,7 @@ moved_inverse : {L R : Type 0} (held ps : List (L × R)) (p : L × R) (rest : Li
 moved_inverse held ps p rest moved = subst (IsPermutation (map inverse_pair held)) (map-append inverse_pair ps (p ∷ rest)) (IsPermutation-map inverse_pair held (ps ++ p ∷ rest) moved)
 
 module _ {F F' L R : Type 0} (g : Mut F (Bor R × (Bor L × Unit {0})) (Unit {0})) (g' : Mut F' (Bor L × (Bor R × Unit {0})) (Unit {0})) (inner : F' → F) (gives : Exchanges g g' inner) where
-  visits : (s : F') (ps : List (L × R)) (t : F') → VisitsInTurn g' s ps t → VisitsInTurn g (inner s) (map inverse_pair ps) (inner t)
+  visits : (s : F') (ps : List (L × R)) (t : F') → VisitsInOrder g' s ps t → VisitsInOrder g (inner s) (map inverse_pair ps) (inner t)
   visits s [] t h = ap inner h
   visits s (p ∷ ps) t h = (inner h.0, tested g g' inner gives s p tt h.0 h.1, visits h.0 ps t h.2)
 
@@ -47,7 +47,7 @@ module _ {F F' L R : Type 0} (g : Mut F (Bor R × (Bor L × Unit {0})) (Unit {0}
   }
 
 module _ {F F' L R : Type 0} (g : Mut F (Bor R × (Bor L × Unit {0})) Bool) (g' : Mut F' (Bor L × (Bor R × Unit {0})) Bool) (inner : F' → F) (gives : Exchanges g g' inner) where
-  tests : (s : F') (ps : List (L × R)) (bs : List Bool) (t : F') → TestsInTurn g' s ps bs t → TestsInTurn g (inner s) (map inverse_pair ps) bs (inner t)
+  tests : (s : F') (ps : List (L × R)) (bs : List Bool) (t : F') → TestsInOrder g' s ps bs t → TestsInOrder g (inner s) (map inverse_pair ps) bs (inner t)
   tests s [] [] t h = ap inner h
   tests s [] (b ∷ bs) t h = absurd h
   tests s (p ∷ ps) [] t h = absurd h

@@ -16,7 +16,7 @@ use Rattle.bimap_base.specs.declared.refusal.NotInsertedWith.TheVariants.{LeftHe
 use Rattle.bimap_base.proofs.Counts.{none_named}
 use Rattle.bimap_base.proofs.Inverse.{inverse_in, in_inverse}
 use Rattle.bimap_inverse.specs.Added.{IsAdded}
-use Rattle.bimap_inverse.specs.Turned.{inverse_holding, inverse_answer}
+use Rattle.bimap_inverse.specs.Exchanged.{inverse_holding, inverse_answer}
 
 -- the policy of the one side for the other
 abbrev pub inverse_policy : Policy → Policy
@@ -34,17 +34,17 @@ module _ {L R : Type 0} (same_left : L → L → Bool) (same_right : R → R →
   shares_inverse : (p q : R × L) → shares same_right same_left p q ≡ shares same_left same_right (inverse_pair p) (inverse_pair q)
   shares_inverse p q = or_comm (same_right p.0 q.0) (same_left p.1 q.1)
 
-  module _ (S : L × R → Type 0) (T : R × L → Type 0) (turned : (q : R × L) → T q ↔ S (inverse_pair q)) (new : L × R) where
+  module _ (S : L × R → Type 0) (T : R × L → Type 0) (exchanged : (q : R × L) → T q ↔ S (inverse_pair q)) (new : L × R) where
     none_inverse : NoneShares same_left same_right S new → NoneShares same_right same_left T (inverse_pair new)
-    none_inverse h q c = shares_inverse q (inverse_pair new) ∙ h (inverse_pair q) ((turned q).0 c)
+    none_inverse h q c = shares_inverse q (inverse_pair new) ∙ h (inverse_pair q) ((exchanged q).0 c)
 
     inverse_some : SomeShares same_right same_left T (inverse_pair new) → SomeShares same_left same_right S new
-    inverse_some h = (inverse_pair h.0, (turned h.0).0 h.1, sym (shares_inverse h.0 (inverse_pair new)) ∙ h.2)
+    inverse_some h = (inverse_pair h.0, (exchanged h.0).0 h.1, sym (shares_inverse h.0 (inverse_pair new)) ∙ h.2)
 
     struck : (p : L × R) → IsOnlyStruck same_left same_right S new p → IsOnlyStruck same_right same_left T (inverse_pair new) (inverse_pair p)
     struck p h = record {
-      member = (turned (inverse_pair p)).1 h.member;
-      only = λ q c e. ap inverse_pair (h.only (inverse_pair q) ((turned q).0 c) (sym (shares_inverse q (inverse_pair new)) ∙ e));
+      member = (exchanged (inverse_pair p)).1 h.member;
+      only = λ q c e. ap inverse_pair (h.only (inverse_pair q) ((exchanged q).0 c) (sym (shares_inverse q (inverse_pair new)) ∙ e));
     }
 
     answer_inverse : (answer : Overwritten L R) → IsAnswer same_left same_right S new answer → IsAnswer same_right same_left T (inverse_pair new) (inverse_answer answer)
@@ -53,26 +53,26 @@ module _ {L R : Type 0} (same_left : L → L → Bool) (same_right : R → R →
     answer_inverse (Right l r) h = (struck (l, r) h.0, h.2, h.1)
     answer_inverse (Pair l r) h = (struck (l, r) h.0, h.2, h.1)
     answer_inverse (Both p q) h = record {
-      first = (turned (inverse_pair q)).1 h.second;
-      second = (turned (inverse_pair p)).1 h.first;
+      first = (exchanged (inverse_pair q)).1 h.second;
+      second = (exchanged (inverse_pair p)).1 h.first;
       two = λ e. h.two (sym (ap inverse_pair e));
       by_left = h.by_right;
       by_right = h.by_left;
-      only = λ s c e. elim (h.only (inverse_pair s) ((turned s).0 c) (sym (shares_inverse s (inverse_pair new)) ∙ e)) [
+      only = λ s c e. elim (h.only (inverse_pair s) ((exchanged s).0 c) (sym (shares_inverse s (inverse_pair new)) ∙ e)) [
         | inl f ↦ inr (ap inverse_pair f)
         | inr f ↦ inl (ap inverse_pair f)
       ];
     }
 
     put_inverse : (S' : L × R → Type 0) (T' : R × L → Type 0) → ((q : R × L) → T' q ↔ S' (inverse_pair q)) → IsWithPut same_left same_right S new S' → IsWithPut same_right same_left T (inverse_pair new) T'
-    put_inverse S' T' turned' h q = (
-      λ c. elim ((h (inverse_pair q)).0 ((turned' q).0 c)) [
+    put_inverse S' T' exchanged' h q = (
+      λ c. elim ((h (inverse_pair q)).0 ((exchanged' q).0 c)) [
         | inl e ↦ inl (ap inverse_pair e)
-        | inr d ↦ inr ((turned q).1 d.0, shares_inverse q (inverse_pair new) ∙ d.1)
+        | inr d ↦ inr ((exchanged q).1 d.0, shares_inverse q (inverse_pair new) ∙ d.1)
       ],
-      λ c. (turned' q).1 ((h (inverse_pair q)).1 (elim c [
+      λ c. (exchanged' q).1 ((h (inverse_pair q)).1 (elim c [
         | inl e ↦ inl (ap inverse_pair e)
-        | inr d ↦ inr ((turned q).0 d.0, sym (shares_inverse q (inverse_pair new)) ∙ d.1)
+        | inr d ↦ inr ((exchanged q).0 d.0, sym (shares_inverse q (inverse_pair new)) ∙ d.1)
       ])),
     )
 

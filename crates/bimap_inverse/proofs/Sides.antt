@@ -6,7 +6,7 @@ use Rattle.std.proofs.lemmas.List.{length-map}
 use Rattle.bimap_base.specs.Holding.{Holding, IsPartner, IsRemoval}
 use Rattle.bimap_base.specs.Inverse.{inverse_pair}
 use Rattle.bimap_base.proofs.Inverse.{inverse_in, in_inverse}
-use Rattle.bimap_inverse.specs.Turned.{inverse_holding}
+use Rattle.bimap_inverse.specs.Exchanged.{inverse_holding}
 
 module _ {L R : Type 0} where
   pub partner_inverse : {X Y : Type 0} {pair : X → Y → L × R} {passes : L × R → Bool} {held : Holding L R} {result : Option (Bor Y)} → IsPartner pair passes held result → IsPartner (λ x y. inverse_pair (pair x y)) (λ q. passes (inverse_pair q)) (inverse_holding held) result

@@ -1,7 +1,7 @@
 //! A bimap seen with its sides exchanged.
 #![tactic(auto)]
 
-mod turned;
+mod exchanged;
 mod undo;
 mod view;
 

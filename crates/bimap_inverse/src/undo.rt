@@ -5,9 +5,9 @@ ghost use Rattle.bimap_base.specs.Holding.{IsFull, IsRoomAfter, IsRemovalByLeft,
 ghost use Rattle.bimap_base.specs.Sets.{HasLeft, NoneShares};
 ghost use Rattle.bimap_base.specs.Undoing.{IsUndoable};
 ghost use Rattle.bimap_inverse.specs.Added.{IsAdded};
-ghost use Rattle.bimap_inverse.specs.Turned.{inverse_holding};
+ghost use Rattle.bimap_inverse.specs.Exchanged.{inverse_holding};
 
-use crate::turned::turn_pair;
+use crate::exchanged::exchange_pair;
 use bimap_base::{Bijection, NoMemory, Overwritten, UndoStopped};
 
 // Makes sure that a place is free. Where none is, the places double.
@@ -34,7 +34,7 @@ fn take<L: Eq + Drop, R: Eq + Drop, B: Bijection<L, R>>(bimap: &mut B, left: &R)
         (Some result) (inverse_holding (B.holding bimap.new)) }
     ensures lenders { B.lenders bimap.new ≡ B.lenders bimap.old }
 {
-    match turn_pair(bimap.remove_by_right(left)) {
+    match exchange_pair(bimap.remove_by_right(left)) {
         Some(pair) => pair,
         None => unreachable!(),
     }

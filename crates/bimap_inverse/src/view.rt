@@ -1,12 +1,12 @@
 //! The view. It knows a bimap by its calls alone.
 ghost use Rattle.std.specs.Prelude.{◌≡◌, ◌∷◌, Contains, IfOk};
 ghost use Rattle.bimap_base.specs.Holding.{IsUndoing};
-ghost use Rattle.bimap_base.specs.Turns.{StandsUndone};
+ghost use Rattle.bimap_base.specs.Positions.{StandsUndone};
 ghost use Rattle.bimap_base.specs.Undoing.{IsUndoable};
 ghost use Rattle.bimap_base.proofs.Inverse.{apart_inverse, fits_inverse};
-ghost use Rattle.bimap_inverse.specs.Turned.{inverse_holding};
+ghost use Rattle.bimap_inverse.specs.Exchanged.{inverse_holding};
 
-use crate::turned::{turn_answer, turn_pair};
+use crate::exchanged::{exchange_answer, exchange_pair};
 use crate::undo::undo;
 use bimap_base::{Bijection, NoMemory, NotInsertedWith, Overwritten, Policy, UndoStopped};
 
@@ -70,12 +70,12 @@ impl<L: Eq + Drop, R: Eq + Drop, B: Bijection<L, R>> Bijection<R, L> for Inverse
         policy: Policy,
     ) -> Result<Overwritten<R, L>, NotInsertedWith<R, L>> {
         let keep_left = policy.left.refuses();
-        let turned = Policy {
+        let exchanged = Policy {
             left: policy.right,
             right: policy.left,
         };
-        match self.bimap.insert_with(right, left, turned) {
-            Ok(answer) => Ok(turn_answer(answer)),
+        match self.bimap.insert_with(right, left, exchanged) {
+            Ok(answer) => Ok(exchange_answer(answer)),
             Err(NotInsertedWith::LeftHeld(right, left)) => {
                 if keep_left && self.bimap.contains_right(&left) {
                     Err(NotInsertedWith::LeftHeld(left, right))
@@ -91,11 +91,11 @@ impl<L: Eq + Drop, R: Eq + Drop, B: Bijection<L, R>> Bijection<R, L> for Inverse
     }
 
     fn remove_by_left(&mut self, left: &R) -> Option<(R, L)> {
-        turn_pair(self.bimap.remove_by_right(left))
+        exchange_pair(self.bimap.remove_by_right(left))
     }
 
     fn remove_by_right(&mut self, right: &L) -> Option<(R, L)> {
-        turn_pair(self.bimap.remove_by_left(right))
+        exchange_pair(self.bimap.remove_by_left(right))
     }
 
     fn for_each<F: FnMut(&R, &L)>(&self, mut f: F) {
@@ -131,7 +131,7 @@ impl<L: Eq + Drop, R: Eq + Drop, B: Bijection<L, R>> Bijection<R, L> for Inverse
             (Contains (inverse_holding (B.holding self.old.bimap.now)).pairs) left.now answer }
         ensures answer { IsUndoing R.eq L.eq (inverse_holding (B.holding self.old.bimap.now))
             left.now answer result (inverse_holding (B.holding self.new.bimap.now)) }
-        ensures turn { ⊥ → IfOk result (λ pair. StandsUndone R.eq
+        ensures position { ⊥ → IfOk result (λ pair. StandsUndone R.eq
             (inverse_holding (B.holding self.old.bimap.now)).pairs pair answer
             (inverse_holding (B.holding self.new.bimap.now)).pairs) }
         ensures lenders { (self.new.bimap.ghost_name ∷ B.lenders self.new.bimap.now)

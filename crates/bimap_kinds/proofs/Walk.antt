@@ -16,7 +16,7 @@ use Rattle.std.specs.declared.cmp.Ordering.TheVariants.{Less}
 use Rattle.bimap_base.specs.Capacity.{IsReservation, IsShrink}
 use Rattle.bimap_base.specs.Exchange.{IsWithoutPair}
 use Rattle.bimap_base.specs.Holding.{Holding, IsRetention}
-use Rattle.bimap_base.specs.Kept.{TestedAt, TestsInTurn, answered_true, MayTest, MayTestInTurn}
+use Rattle.bimap_base.specs.Kept.{TestedAt, TestsInOrder, answered_true, MayTest, MayTestInOrder}
 use Rattle.bimap_base.specs.Visited.{MayVisit, IsVisited}
 use Rattle.bimap_base.specs.declared.refusal.NoMemory.{NoMemory}
 use Rattle.bimap_base.specs.PairsAt.{pairs_at}
@@ -28,7 +28,7 @@ use Rattle.bimap_base.proofs.Walk.{IsWalk, walked, long_walked, fits_walked, lis
 use Rattle.bimap_index.specs.ByOrder.{ListsByOrder}
 use Rattle.bimap_core.proofs.Ascending.{order_walk, order_ascends}
 use Rattle.bimap_core.proofs.Permuted.{walk_apart, walk_permuted}
-pub use Rattle.bimap_core.proofs.Turns.{hash_walk, pairs_kept, the_walk}
+pub use Rattle.bimap_core.proofs.Positions.{hash_walk, pairs_kept, the_walk}
 use Rattle.bimap_core.specs.Partition.{IsPartition, answered_false}
 use Rattle.bimap_core.specs.Store.{holding_of}
 use Rattle.bimap_core.specs.declared.table.Table.{Table}
@@ -98,7 +98,7 @@ module _ {L R : Type 0} (slots : List (Option (L × R))) (places : List ℕ) (wa
 -- what `retain` leaves, in the order of a walk
 module _ {F L R : Type 0} (g : Mut F (Bor L × (Bor R × Unit {0})) Bool) {same_left : L → L → Bool} {same_right : R → R → Bool} (equal_left : IsEquivalence same_left) (equal_right : IsEquivalence same_right)
     (slots : List (Option (L × R))) (places : List ℕ) (walk : IsWalk slots places) (apart : IsApart same_left same_right (pairs_in slots)) where
-  pub may_test_walked : (f : F) → MayTest g f (pairs_at slots places) → MayTestInTurn g f (pairs_in slots)
+  pub may_test_walked : (f : F) → MayTest g f (pairs_at slots places) → MayTestInOrder g f (pairs_in slots)
   may_test_walked f may =
       record { at = λ ps bs later left right rest is calls. may.at ps bs later left right rest (subst (IsPermutation (pairs_at slots places)) is (walk_permuted equal_left equal_right slots places walk apart)) calls }
 
@@ -201,13 +201,13 @@ pushed v items (x ∷ xs) w h = pushed h.0 items xs w h.2 ∙ ap (λ z. z ++ xs)
 
 -- where each answer is true, all were answered true
 module _ {F L R : Type 0} (g : Mut F (Bor L × (Bor R × Unit {0})) Bool) (yes : (f : F) (p : L × R) (b : Bool) (f' : F) → TestedAt g f p b f' → b ≡ true) where
-  pub all_true : (f : F) (ps : List (L × R)) (bs : List Bool) (last : F) → TestsInTurn g f ps bs last → answered_true g ps bs ≡ ps
+  pub all_true : (f : F) (ps : List (L × R)) (bs : List Bool) (last : F) → TestsInOrder g f ps bs last → answered_true g ps bs ≡ ps
   all_true f [] bs last h = refl
   all_true f (p ∷ ps) [] last h = absurd h
   all_true f (p ∷ ps) (true ∷ bs) last h = ap (λ xs. p ∷ xs) (all_true h.0 ps bs last h.2)
   all_true f (p ∷ ps) (false ∷ bs) last h = absurd (true≢false (sym (yes f p false h.0 h.1)))
 
-  pub none_false : (f : F) (ps : List (L × R)) (bs : List Bool) (last : F) → TestsInTurn g f ps bs last → answered_false g ps bs ≡ []
+  pub none_false : (f : F) (ps : List (L × R)) (bs : List Bool) (last : F) → TestsInOrder g f ps bs last → answered_false g ps bs ≡ []
   none_false f [] bs last h = refl
   none_false f (p ∷ ps) [] last h = absurd h
   none_false f (p ∷ ps) (true ∷ bs) last h = none_false h.0 ps bs last h.2

@@ -1,7 +1,7 @@
 //! Every bimap as a bijection, by calls of its own.
 ghost use Rattle.std.specs.Prelude.{[], Contains, IfOk};
 ghost use Rattle.bimap_base.specs.Holding.{IsUndoing};
-ghost use Rattle.bimap_base.specs.Turns.{StandsUndone};
+ghost use Rattle.bimap_base.specs.Positions.{StandsUndone};
 ghost use Rattle.bimap_base.specs.Undoing.{IsUndoable};
 ghost use Rattle.bimap_kinds.specs.Held.{holding};
 
@@ -81,8 +81,8 @@ impl<L: Eq + Drop, R: Eq + Drop, I: Index<L>, J: Index<R>> Bijection<L, R>
             left.now answer }
         ensures answer { IsUndoing L.eq R.eq (holding self.old) left.now answer result
             (holding self.new) }
-        ensures turn { I.appends → IfOk result (λ pair. StandsUndone L.eq (holding self.old).pairs
-            pair answer (holding self.new).pairs) }
+        ensures position { I.appends → IfOk result (λ pair. StandsUndone L.eq (holding
+            self.old).pairs pair answer (holding self.new).pairs) }
     {
         BijectiveMap::undo_insert(self, left, answer)
     }

@@ -3,7 +3,7 @@ ghost use Rattle.std.specs.Prelude.{[], OnOk, IfOk, IfErr};
 ghost use Rattle.std.specs.Iterator.{IsFiniteIterable};
 ghost use Rattle.bimap_base.specs.Extension.{IsExtension, IsExtensionStopped};
 ghost use Rattle.bimap_base.specs.Holding.{Holding};
-ghost use Rattle.bimap_base.specs.Turns.{ComeInTurn, FollowInTurn};
+ghost use Rattle.bimap_base.specs.Positions.{ComeInOrder, FollowInOrder};
 
 use crate::map::BijectiveMap;
 use bimap_base::ExtendStopped;
@@ -31,11 +31,11 @@ impl<L: Eq + Drop, R: Eq + Drop, I: Index<L>, J: Index<R>> BijectiveMap<L, R, I,
         ensures stopped { IfErr result (λ e. IsExtensionStopped L.eq R.eq
             (A.into_iter_gives items) A.IntoIter.next_gives (holding self.old) e
             (holding self.new)) }
-        ensures turn { I.appends → OnOk result (FollowInTurn (A.into_iter_gives items)
+        ensures position { I.appends → OnOk result (FollowInOrder (A.into_iter_gives items)
             A.IntoIter.next_gives (holding self.old).pairs (holding self.new).pairs) }
-        ensures turn_stopped { I.appends → IfErr result (λ e. (stop : IsExtensionStopped L.eq R.eq
-            (A.into_iter_gives items) A.IntoIter.next_gives (holding self.old) e
-            (holding self.new)) × ComeInTurn (holding self.old).pairs stop.items
+        ensures position_stopped { I.appends → IfErr result (λ e. (stop : IsExtensionStopped L.eq
+            R.eq (A.into_iter_gives items) A.IntoIter.next_gives (holding self.old) e
+            (holding self.new)) × ComeInOrder (holding self.old).pairs stop.items
             (holding self.new).pairs) }
     {
         bimap_base::extend(self, items)
@@ -65,7 +65,7 @@ impl<L: Eq + Drop, R: Eq + Drop, I: EmptyIndex<L> + Drop, J: EmptyIndex<R> + Dro
         ensures stopped { IfErr result (λ e. (last : Holding L R) × IsExtensionStopped L.eq R.eq
             (A.into_iter_gives items) A.IntoIter.next_gives (record { pairs = []; room = 0 })
             e last) }
-        ensures turn { I.appends → IfOk result (λ bimap. FollowInTurn (A.into_iter_gives items)
+        ensures position { I.appends → IfOk result (λ bimap. FollowInOrder (A.into_iter_gives items)
             A.IntoIter.next_gives [] (holding bimap).pairs) }
     {
         bimap_base::from_iter(BijectiveMap::empty(alloc), items)

@@ -26,7 +26,7 @@ impl<
         requires equal { AreClonesEqual L.is_clone R.is_clone L.eq R.eq (holding self.now).pairs }
         ensures pairs { IfOk result (λ copy. IsCopy L.is_clone R.is_clone L.eq R.eq
             (holding self.now).pairs (holding copy).pairs) }
-        ensures turn { I.appends → IfOk result (λ copy. AllZip
+        ensures position { I.appends → IfOk result (λ copy. AllZip
             (IsPairClone L.is_clone R.is_clone) (holding self.now).pairs (holding copy).pairs) }
         ensures room { IfOk result (λ copy. (holding copy).room ≡ (holding self.now).room) }
     {

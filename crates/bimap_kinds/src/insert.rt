@@ -2,7 +2,7 @@
 ghost use Rattle.std.specs.Prelude.{◌≡◌, ◌+◌, ◌*◌, ◌≤◌, ◌++◌, ◌∷◌, [], Contains, length, IfOk, OnOk};
 ghost use Rattle.bimap_base.specs.Holding.{IsInsertion, IsInsertionWithoutOverwriting, IsInsertionUnder, IsInterning};
 ghost use Rattle.bimap_base.specs.Sets.{LacksLeft};
-ghost use Rattle.bimap_base.specs.Turns.{StandsInTurn};
+ghost use Rattle.bimap_base.specs.Positions.{StandsInOrder};
 
 use crate::map::BijectiveMap;
 use bimap_base::{Count, Meter, NoRoom, NotInserted, NotInsertedWith, OnHeld, Overwritten, Policy};
@@ -18,7 +18,7 @@ impl<L: Eq + Drop, R: Eq + Drop, I: Index<L>, J: Index<R>> BijectiveMap<L, R, I,
     pub fn insert(&mut self, left: L, right: R) -> Result<Overwritten<L, R>, NoRoom<L, R>>
         ensures answer { IsInsertion L.eq R.eq (holding self.old) (left, right) result
             (holding self.new) }
-        ensures turn { I.appends → IfOk result (λ answer. StandsInTurn (holding self.old).pairs
+        ensures position { I.appends → IfOk result (λ answer. StandsInOrder (holding self.old).pairs
             (left, right) answer (holding self.new).pairs) }
     {
         self.insert_metered(left, right, &mut Count::new())
@@ -30,7 +30,7 @@ impl<L: Eq + Drop, R: Eq + Drop, I: Index<L>, J: Index<R>> BijectiveMap<L, R, I,
     pub fn insert_no_overwrite(&mut self, left: L, right: R) -> Result<(), NotInserted<L, R>>
         ensures answer { IsInsertionWithoutOverwriting L.eq R.eq (holding self.old) (left, right)
             result (holding self.new) }
-        ensures turn { I.appends → OnOk result ((holding self.new).pairs
+        ensures position { I.appends → OnOk result ((holding self.new).pairs
             ≡ (holding self.old).pairs ++ (left, right) ∷ []) }
     {
         let policy = Policy {
@@ -58,7 +58,7 @@ impl<L: Eq + Drop, R: Eq + Drop, I: Index<L>, J: Index<R>> BijectiveMap<L, R, I,
     ) -> Result<Overwritten<L, R>, NotInsertedWith<L, R>>
         ensures answer { IsInsertionUnder L.eq R.eq (holding self.old) (left, right) policy result
             (holding self.new) }
-        ensures turn { I.appends → IfOk result (λ answer. StandsInTurn (holding self.old).pairs
+        ensures position { I.appends → IfOk result (λ answer. StandsInOrder (holding self.old).pairs
             (left, right) answer (holding self.new).pairs) }
     {
         self.table
@@ -74,7 +74,7 @@ impl<L: Eq + Drop, R: Eq + Drop, I: Index<L>, J: Index<R>> BijectiveMap<L, R, I,
     ) -> Result<Overwritten<L, R>, NoRoom<L, R>>
         ensures answer { IsInsertion L.eq R.eq (holding self.old) (left, right) result
             (holding self.new) }
-        ensures turn { I.appends → IfOk result (λ answer. StandsInTurn (holding self.old).pairs
+        ensures position { I.appends → IfOk result (λ answer. StandsInOrder (holding self.old).pairs
             (left, right) answer (holding self.new).pairs) }
         ensures comparisons { let n = length (holding self.old).pairs in
             M.comparisons meter.new ≤ M.comparisons meter.old + 3 * I.effort n + 5 * J.effort n }
@@ -108,7 +108,7 @@ impl<L: Eq + Drop, R: Copy + Eq + Drop, I: Index<L>, J: Index<R>> BijectiveMap<L
     pub fn get_by_left_or_insert(&mut self, left: L, right: R) -> Result<R, NotInserted<L, R>>
         ensures answer { IsInterning L.eq R.eq (holding self.old) (left, right) result
             (holding self.new) }
-        ensures turn { I.appends → LacksLeft L.eq (Contains (holding self.old).pairs) left →
+        ensures position { I.appends → LacksLeft L.eq (Contains (holding self.old).pairs) left →
             OnOk result ((holding self.new).pairs
             ≡ (holding self.old).pairs ++ (left, right) ∷ []) }
     {
@@ -124,7 +124,7 @@ impl<L: Eq + Drop, R: Copy + Eq + Drop, I: Index<L>, J: Index<R>> BijectiveMap<L
     ) -> Result<R, NotInserted<L, R>>
         ensures answer { IsInterning L.eq R.eq (holding self.old) (left, right) result
             (holding self.new) }
-        ensures turn { I.appends → LacksLeft L.eq (Contains (holding self.old).pairs) left →
+        ensures position { I.appends → LacksLeft L.eq (Contains (holding self.old).pairs) left →
             OnOk result ((holding self.new).pairs
             ≡ (holding self.old).pairs ++ (left, right) ∷ []) }
         ensures comparisons { let n = length (holding self.old).pairs in

@@ -7,7 +7,7 @@ use crate::map::BijectiveMap;
 use bimap_core::Table;
 use bimap_index::{HashIndex, Index, InsertionOrder};
 use bimap_tree::Ordered;
-use bimap_walk::{by_place, by_rank, by_turn};
+use bimap_walk::{by_insertion, by_place, by_rank};
 use std::hash::{BuildHasher, Hash};
 
 impl<'a, L: Ord + Drop, R: Eq + Drop, J: Index<R>> IntoIterator
@@ -71,12 +71,12 @@ impl<'a, L: Eq + Drop, R: Eq + Drop, I: Index<L>, J: Index<R>> IntoIterator
     for &'a BijectiveMap<L, R, InsertionOrder<I>, J> {
     type Item = (&'a L, &'a R);
 
-    type IntoIter = by_turn::Iter<'a, L, R>;
+    type IntoIter = by_insertion::Iter<'a, L, R>;
 
     ghost into_iter_gives = { λ m r. (r ≡ (holding m.now).pairs)
         × ShowsInOrder (deref_pair {K = L} {X = R}) };
 
-    fn into_iter(self) -> by_turn::Iter<'a, L, R> {
+    fn into_iter(self) -> by_insertion::Iter<'a, L, R> {
         self.iter()
     }
 }
@@ -85,12 +85,12 @@ impl<L: Eq + Drop, R: Eq + Drop, I: Index<L> + Drop, J: Index<R> + Drop> IntoIte
     for BijectiveMap<L, R, InsertionOrder<I>, J> {
     type Item = (L, R);
 
-    type IntoIter = by_turn::IntoIter<L, R>;
+    type IntoIter = by_insertion::IntoIter<L, R>;
 
     ghost into_iter_gives = { λ m r. (r ≡ (holding m).pairs) × GivesInOrder (L × R) };
 
-    fn into_iter(self) -> by_turn::IntoIter<L, R> {
+    fn into_iter(self) -> by_insertion::IntoIter<L, R> {
         let Table { pairs, left, .. } = self.into_table();
-        by_turn::into_iter(pairs, left.into_list())
+        by_insertion::into_iter(pairs, left.into_list())
     }
 }

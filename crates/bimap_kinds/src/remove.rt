@@ -1,7 +1,7 @@
 //! Removals. The capacity stays.
 ghost use Rattle.std.specs.Prelude.{◌≡◌, ◌+◌, ◌*◌, ◌≤◌, [], length, MatchOption};
 ghost use Rattle.bimap_base.specs.Holding.{IsRemovalByLeft, IsRemovalByRight};
-ghost use Rattle.bimap_base.specs.Turns.{IsTakenOut};
+ghost use Rattle.bimap_base.specs.Positions.{IsTakenOut};
 
 use crate::map::BijectiveMap;
 use bimap_base::{Count, Meter, Query};
@@ -18,7 +18,7 @@ impl<L: Eq, R: Eq, I: Index<L>, J: Index<R>> BijectiveMap<L, R, I, J> {
         I: Lookup<L, Q>,
         ensures answer { IsRemovalByLeft Q.same (holding self.old) left result
             (holding self.new) }
-        ensures turn { I.appends → MatchOption result
+        ensures position { I.appends → MatchOption result
             ((holding self.new).pairs ≡ (holding self.old).pairs)
             (λ pair. IsTakenOut (holding self.old).pairs pair (holding self.new).pairs) }
     {
@@ -33,7 +33,7 @@ impl<L: Eq, R: Eq, I: Index<L>, J: Index<R>> BijectiveMap<L, R, I, J> {
         J: Lookup<R, Q>,
         ensures answer { IsRemovalByRight Q.same (holding self.old) right result
             (holding self.new) }
-        ensures turn { I.appends → MatchOption result
+        ensures position { I.appends → MatchOption result
             ((holding self.new).pairs ≡ (holding self.old).pairs)
             (λ pair. IsTakenOut (holding self.old).pairs pair (holding self.new).pairs) }
     {
@@ -63,7 +63,7 @@ impl<L: Eq, R: Eq, I: Index<L>, J: Index<R>> BijectiveMap<L, R, I, J> {
     where
         I: Lookup<L, Q>,
         ensures answer { IsRemovalByLeft Q.same (holding self.old) left result (holding self.new) }
-        ensures turn { I.appends → MatchOption result
+        ensures position { I.appends → MatchOption result
             ((holding self.new).pairs ≡ (holding self.old).pairs)
             (λ pair. IsTakenOut (holding self.old).pairs pair (holding self.new).pairs) }
         ensures comparisons { let n = length (holding self.old).pairs in
@@ -85,7 +85,7 @@ impl<L: Eq, R: Eq, I: Index<L>, J: Index<R>> BijectiveMap<L, R, I, J> {
         J: Lookup<R, Q>,
         ensures answer { IsRemovalByRight Q.same (holding self.old) right result
             (holding self.new) }
-        ensures turn { I.appends → MatchOption result
+        ensures position { I.appends → MatchOption result
             ((holding self.new).pairs ≡ (holding self.old).pairs)
             (λ pair. IsTakenOut (holding self.old).pairs pair (holding self.new).pairs) }
         ensures comparisons { let n = length (holding self.old).pairs in

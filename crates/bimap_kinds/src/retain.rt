@@ -1,7 +1,7 @@
 //! Keeping what a closure wants, or taking it out.
 ghost use Rattle.std.specs.Prelude.{◌≡◌, ◌+◌, ◌≤◌, ◌++◌, [], length, IsOk, OnOk, OnErr, vec_len, vec_capacity};
-ghost use Rattle.bimap_base.specs.Holding.{IsRetention, IsRetentionInTurn};
-ghost use Rattle.bimap_base.specs.Kept.{MayTest, MayTestInTurn};
+ghost use Rattle.bimap_base.specs.Holding.{IsRetention, IsRetentionInOrder};
+ghost use Rattle.bimap_base.specs.Kept.{MayTest, MayTestInOrder};
 ghost use Rattle.bimap_kinds.specs.Extraction.{IsExtraction};
 
 use crate::map::BijectiveMap;
@@ -22,10 +22,10 @@ impl<L: Eq + Drop, R: Eq + Drop, I: WalkedIndex<L>, J: Index<R>> BijectiveMap<L,
     ///     seats.retain(|_: &char, seat: &u32| *seat >= 2);
     ///     seats.len(); // 2
     pub fn retain<F: FnMut(&L, &R) -> bool>(&mut self, f: F)
-        requires may { MayTestInTurn F.FnMut f (holding self.old).pairs }
-        ensures { IsRetentionInTurn F.FnMut (holding self.old) f (holding self.new) }
+        requires may { MayTestInOrder F.FnMut f (holding self.old).pairs }
+        ensures { IsRetentionInOrder F.FnMut (holding self.old) f (holding self.new) }
     {
-        I::partition_in_turn(&mut self.table, false, f, &mut Dropped, &mut Count::new());
+        I::partition_ordered(&mut self.table, false, f, &mut Dropped, &mut Count::new());
     }
 
     /// Moves the pairs on which the closure returns true to the end of a list, asked once each in the order of
@@ -42,7 +42,7 @@ impl<L: Eq + Drop, R: Eq + Drop, I: WalkedIndex<L>, J: Index<R>> BijectiveMap<L,
         pairs: &mut Vec<(L, R)>,
         f: F,
     ) -> Result<(), NoMemory>
-        requires may { MayTestInTurn F.FnMut f (holding self.old).pairs }
+        requires may { MayTestInOrder F.FnMut f (holding self.old).pairs }
         ensures extracted { OnOk result (IsExtraction F.FnMut (holding self.old) f pairs.old.items
             (holding self.new) pairs.new.items) }
         ensures had_room { vec_len pairs.old + length (holding self.old).pairs
@@ -51,7 +51,7 @@ impl<L: Eq + Drop, R: Eq + Drop, I: WalkedIndex<L>, J: Index<R>> BijectiveMap<L,
         ensures untouched { OnErr result (pairs.new.items ≡ pairs.old.items) }
     {
         pairs.try_reserve(self.len())?;
-        I::partition_in_turn(&mut self.table, true, f, pairs, &mut Count::new());
+        I::partition_ordered(&mut self.table, true, f, pairs, &mut Count::new());
         Ok(())
     }
 

@@ -1,7 +1,7 @@
 //! Insertions undone, and whether one may be.
 ghost use Rattle.std.specs.Prelude.{◌↔◌, Contains, IfOk, IsTrue};
 ghost use Rattle.bimap_base.specs.Holding.{IsUndoing};
-ghost use Rattle.bimap_base.specs.Turns.{StandsUndone};
+ghost use Rattle.bimap_base.specs.Positions.{StandsUndone};
 ghost use Rattle.bimap_base.specs.Undoing.{IsUndoable};
 
 use crate::map::BijectiveMap;
@@ -27,8 +27,8 @@ impl<L: Eq + Drop, R: Eq + Drop, I: Index<L>, J: Index<R>> BijectiveMap<L, R, I,
             left.now answer }
         ensures answer { IsUndoing L.eq R.eq (holding self.old) left.now answer result
             (holding self.new) }
-        ensures turn { I.appends → IfOk result (λ pair. StandsUndone L.eq (holding self.old).pairs
-            pair answer (holding self.new).pairs) }
+        ensures position { I.appends → IfOk result (λ pair. StandsUndone L.eq (holding
+            self.old).pairs pair answer (holding self.new).pairs) }
     {
         self.table.undo_insert(left, answer, &mut Count::new())
     }

@@ -8,7 +8,7 @@ use bimap_core::PartedIndex;
 use bimap_index::{HashIndex, Index, InsertionOrder};
 use bimap_list::LinkedList;
 use bimap_tree::Ordered;
-use bimap_walk::{ByPlace, Course, Iter, by_place, by_rank, by_turn};
+use bimap_walk::{ByPlace, Course, Iter, by_insertion, by_place, by_rank};
 use std::hash::{BuildHasher, Hash};
 
 /// An index that leads an iterator through the pairs of a store.
@@ -58,7 +58,7 @@ impl<K: Eq, I: Index<K>> WalkedIndex<K> for InsertionOrder<I> {
         &'a self,
         _side: S,
         pairs: &'a Pairs<L, R>,
-    ) -> by_turn::Iter<'a, L, R> {
-        by_turn::iter(pairs, self.list())
+    ) -> by_insertion::Iter<'a, L, R> {
+        by_insertion::iter(pairs, self.list())
     }
 }

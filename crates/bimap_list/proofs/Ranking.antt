@@ -131,8 +131,8 @@ pub record IsFound (places sorted : List ℕ) (n place : ℕ) (r : Result ℕ �
   pub stands : (rank : ℕ) → r ≡ Ok rank → slice_get sorted rank ≡ Some place
   pub not_missed : ((rank : ℕ) → r ≡ Ok rank → ⊥) → ⊥
 
-pub at_turn : (places items items' sorted searched_in : List ℕ) (n : ℕ) (r : Result ℕ ℕ) → items ≡ places → items' ≡ places → IsPermutation items' sorted → IsSorted nat_cmp sorted → AllPairs (λ a b. a ≢ b) places → searched_in ≡ sorted → n < length items → IsBinarySearchResult (λ y. nat_cmp y (get_or items n 0)) searched_in r → IsFound places sorted n (get_or items n 0) r
-at_turn places items items' sorted searched_in n r same same' moved rises distinct all inside searched_at =
+pub at_position : (places items items' sorted searched_in : List ℕ) (n : ℕ) (r : Result ℕ ℕ) → items ≡ places → items' ≡ places → IsPermutation items' sorted → IsSorted nat_cmp sorted → AllPairs (λ a b. a ≢ b) places → searched_in ≡ sorted → n < length items → IsBinarySearchResult (λ y. nat_cmp y (get_or items n 0)) searched_in r → IsFound places sorted n (get_or items n 0) r
+at_position places items items' sorted searched_in n r same same' moved rises distinct all inside searched_at =
     let place = get_or items n 0 in
     let is = ap (λ z. slice_get z n) (sym same) ∙ slice_get-get_or items n 0 inside in
     let from = subst (λ xs. IsPermutation xs sorted) same' moved in

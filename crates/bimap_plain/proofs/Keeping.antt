@@ -6,7 +6,7 @@ use Rattle.std.proofs.lemmas.List.Sorted.{IsPermutation-refl}
 use denote.Param.Members.{Mut}
 use denote.Ref.{Bor}
 use Rattle.bimap_base.specs.Sets.{IsApart}
-use Rattle.bimap_base.specs.Kept.{TestedAt, TestsInTurn, answered_true}
+use Rattle.bimap_base.specs.Kept.{TestedAt, TestsInOrder, answered_true}
 use Rattle.bimap_base.proofs.Members.{head_in, more_in, cases_in}
 use Rattle.bimap_base.proofs.Testing.{tests_push, true_push, false_push}
 use Rattle.bimap_base.proofs.Apart.{apart_head, apart_tail, apart_more, apart_none}
@@ -32,7 +32,7 @@ module _ {F L R : Type 0} (g : Mut F (Bor L × (Bor R × Unit {0})) Bool) where
     pub all : old ≡ tested ++ rest
     pub left : items ≡ answered_true g tested answers ++ rest
     pub count : kept ≡ length (answered_true g tested answers)
-    pub calls : TestsInTurn g first tested answers f
+    pub calls : TestsInOrder g first tested answers f
 
   at_length : (xs ys : List (L × R)) (d : L × R) (k : ℕ) → k ≡ length xs → k < length (xs ++ ys) → ys ≡ get_or (xs ++ ys) k d ∷ drop (suc k) (xs ++ ys)
   at_length xs [] d k e h = absurd (omega (arith, length-append xs []))

@@ -2,7 +2,7 @@
 ghost use Rattle.std.specs.Prelude.{◌≡◌, ◌≤◌, [], length, Contains, IfOk, vec_capacity};
 ghost use Rattle.bimap_base.specs.Sets.{IsApart};
 ghost use Rattle.bimap_base.specs.Holding.{IsUndoing};
-ghost use Rattle.bimap_base.specs.Turns.{StandsUndone};
+ghost use Rattle.bimap_base.specs.Positions.{StandsUndone};
 ghost use Rattle.bimap_base.specs.Undoing.{IsUndoable};
 ghost use Rattle.bimap_plain.specs.Plain.{shown};
 
@@ -104,8 +104,8 @@ impl<L: Eq + Drop, R: Eq + Drop> Bijection<L, R> for Plain<L, R> {
         ensures answer { IsUndoing L.eq R.eq
             (shown self.old.pairs.items (vec_capacity self.old.pairs)) left.now answer result
             (shown self.new.pairs.items (vec_capacity self.new.pairs)) }
-        ensures turn { ⊥ → IfOk result (λ pair. StandsUndone L.eq self.old.pairs.items pair answer
-            self.new.pairs.items) }
+        ensures position { ⊥ → IfOk result (λ pair. StandsUndone L.eq self.old.pairs.items pair
+            answer self.new.pairs.items) }
     {
         changes::undo(&mut self.pairs, left, answer)
     }

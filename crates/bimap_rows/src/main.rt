@@ -12,10 +12,10 @@ mod serve;
 #[cfg(test)]
 mod tests;
 
-use tool_lines::no_argument;
 use serve::{Ending, serve};
 use std::io::{self, BufReader, BufWriter, ErrorKind};
 use std::process::ExitCode;
+use tool_lines::no_argument;
 
 // The lines that say a call. A left is a character, a right a number from 0 to 4294967295.
 const REQUESTS: &str = "insert LEFT RIGHT - overwrites what is held of either

@@ -8,39 +8,39 @@ use Rattle.bimap_tree.specs.Link.{Measures}
 use Rattle.bimap_tree.specs.declared.link.Subtree.{Subtree}
 use Rattle.bimap_tree.proofs.Shown.{get-written, Shows-keeps, opened, there}
 
-pub height-branch : (turn : Bool) (near : Tree) (p : ℕ) (far : Tree) → height (branch turn near p far) ≡ max (height near) (height far) + 1
+pub height-branch : (direction : Bool) (near : Tree) (p : ℕ) (far : Tree) → height (branch direction near p far) ≡ max (height near) (height far) + 1
 height-branch true near p far = omega arith
 height-branch false near p far = refl
 
-pub size-branch : (turn : Bool) (near : Tree) (p : ℕ) (far : Tree) → size (branch turn near p far) ≡ size near + size far + 1
+pub size-branch : (direction : Bool) (near : Tree) (p : ℕ) (far : Tree) → size (branch direction near p far) ≡ size near + size far + 1
 size-branch true near p far = omega arith
 size-branch false near p far = refl
 
-pub occurs-branch : (q : ℕ) (turn : Bool) (near : Tree) (p : ℕ) (far : Tree) → occurs q (branch turn near p far) ≡ occurs q near + is_at q p + occurs q far
+pub occurs-branch : (q : ℕ) (direction : Bool) (near : Tree) (p : ℕ) (far : Tree) → occurs q (branch direction near p far) ≡ occurs q near + is_at q p + occurs q far
 occurs-branch q true near p far = omega arith
 occurs-branch q false near p far = refl
 
-pub root-branch : (turn : Bool) (near : Tree) (p : ℕ) (far : Tree) → root_of (branch turn near p far) ≡ Some p
+pub root-branch : (direction : Bool) (near : Tree) (p : ℕ) (far : Tree) → root_of (branch direction near p far) ≡ Some p
 root-branch true near p far = refl
 root-branch false near p far = refl
 
-pub branch-not : (turn : Bool) (near : Tree) (p : ℕ) (far : Tree) → branch (not turn) far p near ≡ branch turn near p far
+pub branch-not : (direction : Bool) (near : Tree) (p : ℕ) (far : Tree) → branch (not direction) far p near ≡ branch direction near p far
 branch-not true near p far = refl
 branch-not false near p far = refl
 
-pub height-node_on : (turn : Bool) (near far : Tree) → (node_on turn near far).height ≡ max (height near) (height far) + 1
+pub height-node_on : (direction : Bool) (near far : Tree) → (node_on direction near far).height ≡ max (height near) (height far) + 1
 height-node_on true near far = omega arith
 height-node_on false near far = refl
 
-pub size-node_on : (turn : Bool) (near far : Tree) → (node_on turn near far).size ≡ size near + size far + 1
+pub size-node_on : (direction : Bool) (near far : Tree) → (node_on direction near far).size ≡ size near + size far + 1
 size-node_on true near far = omega arith
 size-node_on false near far = refl
 
-pub near-node_on : (turn : Bool) (near far : Tree) → near_of turn (node_on turn near far) ≡ root_of near
+pub near-node_on : (direction : Bool) (near far : Tree) → near_of direction (node_on direction near far) ≡ root_of near
 near-node_on true near far = refl
 near-node_on false near far = refl
 
-pub far-node_on : (turn : Bool) (near far : Tree) → far_of turn (node_on turn near far) ≡ root_of far
+pub far-node_on : (direction : Bool) (near far : Tree) → far_of direction (node_on direction near far) ≡ root_of far
 far-node_on true near far = refl
 far-node_on false near far = refl
 
@@ -48,21 +48,21 @@ far-node_on false near far = refl
 same_node : (n m : Node) → n.left ≡ m.left → n.right ≡ m.right → n.height ≡ m.height → n.size ≡ m.size → n ≡ m
 same_node n m a b c d = let e : record { left = n.left; right = n.right; height = n.height; size = n.size } ≡ record { left = m.left; right = m.right; height = m.height; size = m.size } = cc in e
 
-pub node_is : (turn : Bool) (n m : Node) → near_of turn n ≡ near_of turn m → far_of turn n ≡ far_of turn m → n.height ≡ m.height → n.size ≡ m.size → n ≡ m
+pub node_is : (direction : Bool) (n m : Node) → near_of direction n ≡ near_of direction m → far_of direction n ≡ far_of direction m → n.height ≡ m.height → n.size ≡ m.size → n ≡ m
 node_is true n m a b c d = same_node n m b a c d
 node_is false n m a b c d = same_node n m a b c d
 
 -- what the nodes show of it
-pub record Parts (ns : List Node) (turn : Bool) (near : Tree) (p : ℕ) (far : Tree) : Type 0 where
-  pub node : slice_get ns p ≡ Some (node_on turn near far)
+pub record Parts (ns : List Node) (direction : Bool) (near : Tree) (p : ℕ) (far : Tree) : Type 0 where
+  pub node : slice_get ns p ≡ Some (node_on direction near far)
   pub near_shown : Shows ns near
   pub far_shown : Shows ns far
 
-pub parts : (ns : List Node) (turn : Bool) (near : Tree) (p : ℕ) (far : Tree) → Shows ns (branch turn near p far) → Parts ns turn near p far
+pub parts : (ns : List Node) (direction : Bool) (near : Tree) (p : ℕ) (far : Tree) → Shows ns (branch direction near p far) → Parts ns direction near p far
 parts ns true near p far h = record { node = h.0; near_shown = h.2; far_shown = h.1 }
 parts ns false near p far h = record { node = h.0; near_shown = h.1; far_shown = h.2 }
 
-pub Shows-branch : (ns : List Node) (turn : Bool) (near : Tree) (p : ℕ) (far : Tree) → Parts ns turn near p far → Shows ns (branch turn near p far)
+pub Shows-branch : (ns : List Node) (direction : Bool) (near : Tree) (p : ℕ) (far : Tree) → Parts ns direction near p far → Shows ns (branch direction near p far)
 Shows-branch ns true near p far h = (h.node, h.far_shown, h.near_shown)
 Shows-branch ns false near p far h = (h.node, h.near_shown, h.far_shown)
 
@@ -73,30 +73,30 @@ pub record Level (near far : Tree) : Type 0 where
   pub near_balanced : IsBalanced near
   pub far_balanced : IsBalanced far
 
-pub level : (turn : Bool) (near : Tree) (p : ℕ) (far : Tree) → IsBalanced (branch turn near p far) → Level near far
+pub level : (direction : Bool) (near : Tree) (p : ℕ) (far : Tree) → IsBalanced (branch direction near p far) → Level near far
 level true near p far h = record { near_level = h.1; far_level = h.0; near_balanced = h.3; far_balanced = h.2 }
 level false near p far h = record { near_level = h.0; far_level = h.1; near_balanced = h.2; far_balanced = h.3 }
 
-pub IsBalanced-branch : (turn : Bool) (near : Tree) (p : ℕ) (far : Tree) → Level near far → IsBalanced (branch turn near p far)
+pub IsBalanced-branch : (direction : Bool) (near : Tree) (p : ℕ) (far : Tree) → Level near far → IsBalanced (branch direction near p far)
 IsBalanced-branch true near p far h = (h.far_level, h.near_level, h.far_balanced, h.near_balanced)
 IsBalanced-branch false near p far h = (h.near_level, h.far_level, h.near_balanced, h.far_balanced)
 
 -- a place linked above two trees
-pub Shows-linked : (ns ms : List Node) (turn : Bool) (near : Tree) (p : ℕ) (far : Tree) → ms ≡ slice_set ns p (node_on turn near far) → p < length ns → occurs p near ≡ 0 → occurs p far ≡ 0 → Shows ns near → Shows ns far → Shows ms (branch turn near p far)
-Shows-linked ns ms turn near p far e within nn nf hn hf =
-    Shows-branch ms turn near p far record {
-      node = rw e (get-written ns p (node_on turn near far) within);
-      near_shown = Shows-keeps ns ms near p (node_on turn near far) e nn hn;
-      far_shown = Shows-keeps ns ms far p (node_on turn near far) e nf hf;
+pub Shows-linked : (ns ms : List Node) (direction : Bool) (near : Tree) (p : ℕ) (far : Tree) → ms ≡ slice_set ns p (node_on direction near far) → p < length ns → occurs p near ≡ 0 → occurs p far ≡ 0 → Shows ns near → Shows ns far → Shows ms (branch direction near p far)
+Shows-linked ns ms direction near p far e within nn nf hn hf =
+    Shows-branch ms direction near p far record {
+      node = rw e (get-written ns p (node_on direction near far) within);
+      near_shown = Shows-keeps ns ms near p (node_on direction near far) e nn hn;
+      far_shown = Shows-keeps ns ms far p (node_on direction near far) e nf hf;
     }
 
 -- a tree whose root is a place, with the node of that place
-pub record Opened (ns : List Node) (p : ℕ) (turn : Bool) (node : Node) (t near far : Tree) : Type 0 where
-  pub is : t ≡ branch turn near p far
-  pub near_stands : Stands ns (near_of turn node) near
-  pub far_stands : Stands ns (far_of turn node) far
+pub record Opened (ns : List Node) (p : ℕ) (direction : Bool) (node : Node) (t near far : Tree) : Type 0 where
+  pub is : t ≡ branch direction near p far
+  pub near_stands : Stands ns (near_of direction node) near
+  pub far_stands : Stands ns (far_of direction node) far
 
-pub opened_on : (ns : List Node) (root : Option ℕ) (p : ℕ) (turn : Bool) (node : Node) (t : Tree) → Stands ns root t → root ≡ Some p → slice_get ns p ≡ Some node → (near : Tree) × (far : Tree) × Opened ns p turn node t near far
+pub opened_on : (ns : List Node) (root : Option ℕ) (p : ℕ) (direction : Bool) (node : Node) (t : Tree) → Stands ns root t → root ≡ Some p → slice_get ns p ≡ Some node → (near : Tree) × (far : Tree) × Opened ns p direction node t near far
 opened_on ns root p true node t h some e =
     let (l, r, o) = opened ns root p node t h some e in
     (r, l, record { is = o.is; near_stands = o.right_stands; far_stands = o.left_stands })

@@ -48,47 +48,47 @@ module _ (ns : List Node) (notes : Notes) (grew : Bool) (start : ℕ) (has : Tre
         let (v, i) = at_top now notes up grew x t depth root r e none (at x t n) in
         (v, f now root v i)
 
-    module _ (at : ℕ) (turn : Bool) (more : depth ≢ 0) (step : (at, turn) ≡ notes.step_at (depth - 1)) where
+    module _ (at : ℕ) (direction : Bool) (more : depth ≢ 0) (step : (at, direction) ≡ notes.step_at (depth - 1)) where
       -- the step above it
       pub record Above (up : Path) (sister x t : Tree) : Type 0 where
-        pub here : CanRise now notes (below up turn at sister) grew x t
+        pub here : CanRise now notes (below up direction at sister) grew x t
         pub known : next x t
 
       pub above : (path : Path) (s u : Tree) → Start path s u → (up : Path) × (sister : Tree) × (x : Tree) × (t : Tree) × Above up sister x t
       above path s u c =
           let (low, x, t, r, e, n, f) = d.alike path s u c in
-          let (up, sister, i) = last_step now notes grew x t depth low r e more at turn step in
+          let (up, sister, i) = last_step now notes grew x t depth low r e more at direction step in
           (up, sister, x, t, record { here = i.here; known = n })
 
-      pub rejoins : (path : Path) (s u : Tree) → Start path s u → (node : Node) → slice_get now at ≡ Some node → (sister : Tree) × (x : Tree) × (t : Tree) × CanRejoin now at turn grew node sister x t × next x t
+      pub rejoins : (path : Path) (s u : Tree) → Start path s u → (node : Node) → slice_get now at ≡ Some node → (sister : Tree) × (x : Tree) × (t : Tree) × CanRejoin now at direction grew node sister x t × next x t
       rejoins path s u c node told =
           let (up, sister, x, t, a) = above path s u c in
-          (sister, x, t, can_rejoin now notes grew x t up turn at sister a.here node told, a.known)
+          (sister, x, t, can_rejoin now notes grew x t up direction at sister a.here node told, a.known)
 
-      pub rejoined : (path : Path) (s u : Tree) → Start path s u → (node : Node) × (sister : Tree) × (x : Tree) × (t : Tree) × CanRejoin now at turn grew node sister x t × next x t
+      pub rejoined : (path : Path) (s u : Tree) → Start path s u → (node : Node) × (sister : Tree) × (x : Tree) × (t : Tree) × CanRejoin now at direction grew node sister x t × next x t
       rejoined path s u c =
           let (up, sister, x, t, a) = above path s u c in
           let told = a.here.holds.0 in
-          (told.0, sister, x, t, can_rejoin now notes grew x t up turn at sister a.here told.0 told.1, a.known)
+          (told.0, sister, x, t, can_rejoin now notes grew x t up direction at sister a.here told.0 told.1, a.known)
 
       -- the next tree on the way up
       pub record Raised (new : List Node) (after : Tree → Tree → Type 0) (sister x t y : Tree) : Type 0 where
-        pub tree : IsRebalanced now new turn at t sister y
-        pub moves : Moves grew (branch turn x at sister) y
-        pub known : after (branch turn x at sister) y
+        pub tree : IsRebalanced now new direction at t sister y
+        pub moves : Moves grew (branch direction x at sister) y
+        pub known : after (branch direction x at sister) y
 
-      pub climbs_on : (node : Node) → slice_get now at ≡ Some node → (new : List Node) (after : Tree → Tree → Type 0) → ((sister x t : Tree) → CanRejoin now at turn grew node sister x t → next x t → (y : Tree) × Raised new after sister x t y) → Climbs new (depth - 1) after
+      pub climbs_on : (node : Node) → slice_get now at ≡ Some node → (new : List Node) (after : Tree → Tree → Type 0) → ((sister x t : Tree) → CanRejoin now at direction grew node sister x t → next x t → (y : Tree) × Raised new after sister x t y) → Climbs new (depth - 1) after
       climbs_on node told new after raise = record {
         deep = omega arith;
         alike = λ path s u c. let (low, x, t, r, e, n, f) = d.alike path s u c in
-            let (up, sister, i) = last_step now notes grew x t depth low r e more at turn step in
-            let (y, z) = raise sister x t (can_rejoin now notes grew x t up turn at sister i.here node told) n in (
+            let (up, sister, i) = last_step now notes grew x t depth low r e more at direction step in
+            let (y, z) = raise sister x t (can_rejoin now notes grew x t up direction at sister i.here node told) n in (
               up,
-              branch turn x at sister,
+              branch direction x at sister,
               y,
-              can_rise now notes grew x t up turn at sister i.here new y z.tree z.moves,
+              can_rise now notes grew x t up direction at sister i.here new y z.tree z.moves,
               i.above,
               z.known,
-              λ last root v w. f last root v (risen_on now new last low up turn at sister t y root v i.is z.tree w),
+              λ last root v w. f last root v (risen_on now new last low up direction at sister t y root v i.is z.tree w),
             );
       }

@@ -25,19 +25,19 @@ use Rattle.bimap_tree.proofs.Split.{count_length, less_or_not, not_less}
 use Rattle.bimap_tree.proofs.Found.{equal_or_not}
 
 -- ---- a test of how a place stands
-pub wants : (how go : Ordering) (same turn : Bool) → how ≡ go → same ≡ is_eq how → same ≡ false → turn ≡ is_lt how → go ≡ wanted turn
-wants Less go same turn e f n t = sym e ∙ ap wanted (sym t)
-wants Equal go same turn e f n t = cc
-wants Greater go same turn e f n t = sym e ∙ ap wanted (sym t)
+pub wants : (how go : Ordering) (same direction : Bool) → how ≡ go → same ≡ is_eq how → same ≡ false → direction ≡ is_lt how → go ≡ wanted direction
+wants Less go same direction e f n t = sym e ∙ ap wanted (sym t)
+wants Equal go same direction e f n t = cc
+wants Greater go same direction e f n t = sym e ∙ ap wanted (sym t)
 
 pub is_equal : (how go : Ordering) (same : Bool) → how ≡ go → same ≡ is_eq how → same ≡ true → go ≡ Equal
 is_equal how go same e f y = elim (equal_or_not how) [ inl w ↦ cc | inr n ↦ cc ]
 
-pub is_less : (how go : Ordering) (turn : Bool) → how ≡ go → turn ≡ is_lt how → turn ≡ true → go ≡ Less
-is_less how go turn e f y = elim (less_or_not how) [ inl w ↦ cc | inr n ↦ let no = not_less how n in cc ]
+pub is_less : (how go : Ordering) (direction : Bool) → how ≡ go → direction ≡ is_lt how → direction ≡ true → go ≡ Less
+is_less how go direction e f y = elim (less_or_not how) [ inl w ↦ cc | inr n ↦ let no = not_less how n in cc ]
 
-pub is_not_less : (how go : Ordering) (turn : Bool) → how ≡ go → turn ≡ is_lt how → turn ≡ false → go ≢ Less
-is_not_less how go turn e f n less = let is : is_lt how ≡ true = ap is_lt (e ∙ less) in cc
+pub is_not_less : (how go : Ordering) (direction : Bool) → how ≡ go → direction ≡ is_lt how → direction ≡ false → go ≢ Less
+is_not_less how go direction e f n less = let is : is_lt how ≡ true = ap is_lt (e ∙ less) in cc
 
 -- ---- what it costs
 module _ (ns : List Node) (top : Option ℕ) (each before : ℕ) where
@@ -56,39 +56,39 @@ module _ (ns : List Node) (top : Option ℕ) (each before : ℕ) where
       pub cell_within : (t : Tree) → Stands ns top t → at < length ns
       cell_within t h = let (s, k, le) = c.within t h in root_within ns at s (Stands-at ns root (Some at) s is k)
 
-      module _ (node : Node) (told : slice_get ns at ≡ Some node) (turn : Bool) where
+      module _ (node : Node) (told : slice_get ns at ≡ Some node) (direction : Bool) where
         -- the next level
-        near_stands : (s : Tree) → Stands ns root s → (near : Tree) × Stands ns (near_of turn node) near × (height near + 1 ≤ height s)
+        near_stands : (s : Tree) → Stands ns root s → (near : Tree) × Stands ns (near_of direction node) near × (height near + 1 ≤ height s)
         near_stands s k =
-            let (near, far, o) = opened_on ns root at turn node s k is told in
-            (near, o.near_stands, omega (arith, ap height o.is, height-branch turn near at far))
+            let (near, far, o) = opened_on ns root at direction node s k is told in
+            (near, o.near_stands, omega (arith, ap height o.is, height-branch direction near at far))
 
-        pub costs_on : (next : Option ℕ) → next ≡ near_of turn node → (later : ℕ) → later ≤ now + each → Costs next later
+        pub costs_on : (next : Option ℕ) → next ≡ near_of direction node → (later : ℕ) → later ≤ now + each → Costs next later
         costs_on next e later le = record {
           within = λ t h. let (s, k, few) = c.within t h in
               let (near, st, low) = near_stands s k in
               let m : each * (height near + 1) ≤ each * height s = mul-le-mul_left each low in
-              (near, Stands-at ns (near_of turn node) next near (sym e) st, omega (arith, mul-suc each (height near)));
+              (near, Stands-at ns (near_of direction node) next near (sym e) st, omega (arith, mul-suc each (height near)));
         }
 
         pub costs_last : (later : ℕ) → later ≤ now + each → (t : Tree) → Stands ns top t → later ≤ before + each * height t
-        costs_last later le t h = let (s, k, few) = (costs_on (near_of turn node) refl later le).within t h in omega arith
+        costs_last later le t h = let (s, k, few) = (costs_on (near_of direction node) refl later le).within t h in omega arith
 
-        pub falls : (next : Option ℕ) → next ≡ near_of turn node → (t : Tree) → Stands ns top t → height_at ns next < height_at ns root
+        pub falls : (next : Option ℕ) → next ≡ near_of direction node → (t : Tree) → Stands ns top t → height_at ns next < height_at ns root
         falls next e t h =
             let (s, k, few) = c.within t h in
             let (near, st, low) = near_stands s k in
-            omega (arith, height_told ns root s k, height_told ns next near (Stands-at ns (near_of turn node) next near (sym e) st))
+            omega (arith, height_told ns root s k, height_told ns next near (Stands-at ns (near_of direction node) next near (sym e) st))
 
 -- ---- what it finds
 module _ (ns : List Node) (live : ℕ → Type 0) (go : ℕ → Ordering) where
   -- a step to the side of the turn
-  pub record StepOn (root : Option ℕ) (at : ℕ) (node : Node) (turn : Bool) (s near far : Tree) : Type 0 where
-    pub is : s ≡ branch turn near at far
-    pub can : CanSeek ns (near_of turn node) live go near
-    pub found : go at ≡ wanted turn → first_equal go (reading s) ≡ first_equal go (reading near)
+  pub record StepOn (root : Option ℕ) (at : ℕ) (node : Node) (direction : Bool) (s near far : Tree) : Type 0 where
+    pub is : s ≡ branch direction near at far
+    pub can : CanSeek ns (near_of direction node) live go near
+    pub found : go at ≡ wanted direction → first_equal go (reading s) ≡ first_equal go (reading near)
 
-  pub step_on : (root : Option ℕ) (at : ℕ) (node : Node) (turn : Bool) (s : Tree) → CanSeek ns root live go s → root ≡ Some at → slice_get ns at ≡ Some node → (near : Tree) × (far : Tree) × StepOn root at node turn s near far
+  pub step_on : (root : Option ℕ) (at : ℕ) (node : Node) (direction : Bool) (s : Tree) → CanSeek ns root live go s → root ≡ Some at → slice_get ns at ≡ Some node → (near : Tree) × (far : Tree) × StepOn root at node direction s near far
   step_on root at node true s h e f =
       let (l, r, i) = seek_into ns root at node live go s h e f in
       (r, l, record { is = i.is; can = i.can_right; found = λ w. found_right ns root at node live go s l r i w })
@@ -129,10 +129,10 @@ module _ (ns : List Node) (live : ℕ → Type 0) (go : ℕ → Ordering) where
         pub finds_here : go at ≡ Equal → (t : Tree) → CanSeek ns top live go t → Some at ≡ first_equal go (reading t)
         finds_here same t h = let (s, k, f) = d.alike t h in sym (f ∙ here root at node s k is told same)
 
-        pub finds_on : (turn : Bool) → go at ≡ wanted turn → (next : Option ℕ) → next ≡ near_of turn node → Finds next
-        finds_on turn w next e = record {
+        pub finds_on : (direction : Bool) → go at ≡ wanted direction → (next : Option ℕ) → next ≡ near_of direction node → Finds next
+        finds_on direction w next e = record {
           alike = λ t h. let (s, k, f) = d.alike t h in
-              let (near, far, o) = step_on root at node turn s k is told in
+              let (near, far, o) = step_on root at node direction s k is told in
               (near, rw e o.can, f ∙ o.found w);
         }
 
@@ -158,8 +158,8 @@ module _ (ns : List Node) (live : ℕ → Type 0) (go : ℕ → Ordering) where
             let (l, r, i) = seek_into ns root at node live go s k is told in
             (l, i.can_left.tree, omega (arith, counted_fits ns root at node live go s l r i, k.fits), λ less. omega (arith, f, counted_right ns root at node live go s l r i less, count_length go (reading t), size-reading t, h.fits))
 
-        module _ (turn : Bool) (next : Option ℕ) (e : next ≡ near_of turn node) (later : ℕ) where
-          pub counts_below : turn ≡ true → go at ≡ Less → (sized : ℕ) → ((l : Tree) → Stands ns node.left l → sized ≡ size l) → later ≡ rank + (sized + 1) → Counts next later
+        module _ (direction : Bool) (next : Option ℕ) (e : next ≡ near_of direction node) (later : ℕ) where
+          pub counts_below : direction ≡ true → go at ≡ Less → (sized : ℕ) → ((l : Tree) → Stands ns node.left l → sized ≡ size l) → later ≡ rank + (sized + 1) → Counts next later
           counts_below right less sized counted now = record {
             alike = λ t h. let (s, k, f) = d.alike t h in
                 let (l, r, i) = seek_into ns root at node live go s k is told in
@@ -167,7 +167,7 @@ module _ (ns : List Node) (live : ℕ → Type 0) (go : ℕ → Ordering) where
                 (r, rw same i.can_right, omega (arith, now, f, counted_right ns root at node live go s l r i less, counted l i.can_left.tree));
           }
 
-          pub counts_above : turn ≡ false → go at ≢ Less → later ≡ rank → Counts next later
+          pub counts_above : direction ≡ false → go at ≢ Less → later ≡ rank → Counts next later
           counts_above left n now = record {
             alike = λ t h. let (s, k, f) = d.alike t h in
                 let (l, r, i) = seek_into ns root at node live go s k is told in
@@ -252,21 +252,21 @@ module _ (ns : List Node) (live : ℕ → Type 0) (go : ℕ → Ordering) (top :
       pub goes_here : go at ≡ Equal → (path : Path) (s : Tree) → CanFollow ns top live go first start path s → Some at ≡ first_equal go (reading s)
       goes_here same path s h = let (low, x, k, w, f) = d.alike path s h in sym (f ∙ here ns live go root at node x k.seek is told same)
 
-      pub goes_down : (turn : Bool) → go at ≡ wanted turn → (next : Option ℕ) → next ≡ near_of turn node → (then : Route) → IsNoted (step_at now) depth (packed at, turn) (step_at then) → Goes next then (depth + 1)
-      goes_down turn w next e then noted = record {
+      pub goes_down : (direction : Bool) → go at ≡ wanted direction → (next : Option ℕ) → next ≡ near_of direction node → (then : Route) → IsNoted (step_at now) depth (packed at, direction) (step_at then) → Goes next then (depth + 1)
+      goes_down direction w next e then noted = record {
         alike = λ path s h. let (low, x, k, whole, f) = d.alike path s h in
-            let (near, far, o) = step_on ns live go root at node turn x k.seek is told in
+            let (near, far, o) = step_on ns live go root at node direction x k.seek is told in
             let can : CanSeek ns next live go near = rw e o.can in (
-              below low turn at far,
+              below low direction at far,
               near,
-              goes_on ns root next live go now then depth low x k turn near far at o.is can w noted,
+              goes_on ns root next live go now then depth low x k direction near far at o.is can w noted,
               ap (λ y. plug low y) (sym o.is) ∙ whole,
               f ∙ o.found w,
             );
       }
 
-      pub goes_right : (turn : Bool) → turn ≡ true → go at ≡ Less → (next : Option ℕ) → next ≡ node.right → (then : Route) → IsNoted (step_at now) depth (packed at, turn) (step_at then) → Goes next then (depth + 1)
-      goes_right turn right less next e then noted = goes_down turn (less ∙ ap wanted (sym right)) next (e ∙ ap (λ x. near_of x node) (sym right)) then noted
+      pub goes_right : (direction : Bool) → direction ≡ true → go at ≡ Less → (next : Option ℕ) → next ≡ node.right → (then : Route) → IsNoted (step_at now) depth (packed at, direction) (step_at then) → Goes next then (depth + 1)
+      goes_right direction right less next e then noted = goes_down direction (less ∙ ap wanted (sym right)) next (e ∙ ap (λ x. near_of x node) (sym right)) then noted
 
 -- ---- the way to a tree's first place
 module _ (ns : List Node) (top start : ℕ) (old : Notes) where

@@ -18,15 +18,15 @@ use Rattle.bimap_tree.proofs.Split.{split_below, split_above}
 -- what a whole tree has, it has beside the subtree or in it
 pub occurs-plug : (q : ℕ) (path : Path) (t : Tree) → occurs q (plug path t) ≡ occurs_on q path + occurs q t
 occurs-plug q top t = omega arith
-occurs-plug q (below up turn p sister) t = omega (arith, occurs-plug q up (branch turn t p sister), occurs-branch q turn t p sister)
+occurs-plug q (below up direction p sister) t = omega (arith, occurs-plug q up (branch direction t p sister), occurs-branch q direction t p sister)
 
 pub size-plug : (path : Path) (t : Tree) → size (plug path t) ≡ size_on path + size t
 size-plug top t = omega arith
-size-plug (below up turn p sister) t = omega (arith, size-plug up (branch turn t p sister), size-branch turn t p sister)
+size-plug (below up direction p sister) t = omega (arith, size-plug up (branch direction t p sister), size-branch direction t p sister)
 
 pub steps_within : (path : Path) (t : Tree) → steps path + height t ≤ height (plug path t)
 steps_within top t = omega arith
-steps_within (below up turn p sister) t = omega (arith, steps_within up (branch turn t p sister), height-branch turn t p sister)
+steps_within (below up direction p sister) t = omega (arith, steps_within up (branch direction t p sister), height-branch direction t p sister)
 
 pub reading-plug : (path : Path) (t : Tree) → reading (plug path t) ≡ front path ++ reading t ++ back path
 reading-plug top t = sym (append-nil (reading t))
@@ -35,36 +35,36 @@ reading-plug (below up false p sister) t = reading-plug up (fork t p sister) ∙
 
 pub balanced_inside : (path : Path) (t : Tree) → IsBalanced (plug path t) → IsBalanced t
 balanced_inside top t h = h
-balanced_inside (below up turn p sister) t h = (level turn t p sister (balanced_inside up (branch turn t p sister) h)).near_balanced
+balanced_inside (below up direction p sister) t h = (level direction t p sister (balanced_inside up (branch direction t p sister) h)).near_balanced
 
-pub tells : (turn : Bool) (s sister : Tree) → Tells turn (node_on turn s sister) s sister
-tells turn s sister = record { near_is = near-node_on turn s sister; far_is = far-node_on turn s sister; height_is = height-node_on turn s sister; size_is = size-node_on turn s sister }
+pub tells : (direction : Bool) (s sister : Tree) → Tells direction (node_on direction s sister) s sister
+tells direction s sister = record { near_is = near-node_on direction s sister; far_is = far-node_on direction s sister; height_is = height-node_on direction s sister; size_is = size-node_on direction s sister }
 
 -- nodes that show a whole tree hold the path, and show the subtree
 pub holds_of : (ns : List Node) (path : Path) (t : Tree) → Shows ns (plug path t) → Holds ns path t × Shows ns t
 holds_of ns top t h = (tt, h)
-holds_of ns (below up turn p sister) t h =
-    let (holds, shown) = holds_of ns up (branch turn t p sister) h in
-    let o = parts ns turn t p sister shown in
-    (((node_on turn t sister, o.node, tells turn t sister), o.far_shown, holds), o.near_shown)
+holds_of ns (below up direction p sister) t h =
+    let (holds, shown) = holds_of ns up (branch direction t p sister) h in
+    let o = parts ns direction t p sister shown in
+    (((node_on direction t sister, o.node, tells direction t sister), o.far_shown, holds), o.near_shown)
 
 -- nodes that agree on the places of the path hold it too
 pub Holds-frame : (ns ms : List Node) (path : Path) (s : Tree) → ((q : ℕ) → 0 < occurs_on q path → slice_get ms q ≡ slice_get ns q) → Holds ns path s → Holds ms path s
 Holds-frame ns ms top s same h = tt
-Holds-frame ns ms (below up turn p sister) s same h = (
+Holds-frame ns ms (below up direction p sister) s same h = (
   (h.0.0, same p (omega (arith, is_at-same p)) ∙ h.0.1, h.0.2),
   Shows-frame ns ms sister (λ q o. same q (omega arith)) h.1,
-  Holds-frame ns ms up (branch turn s p sister) (λ q o. same q (omega arith)) h.2,
+  Holds-frame ns ms up (branch direction s p sister) (λ q o. same q (omega arith)) h.2,
 )
 
 -- steps that agree as far as the path goes follow it too
 pub Follows-frame : (kept : ℕ → ℕ) (noted other : ℕ → ℕ × Bool) (path : Path) → ((i : ℕ) → i < steps path → other i ≡ noted i) → Follows kept noted path → Follows kept other path
 Follows-frame kept noted other top same h = tt
-Follows-frame kept noted other (below up turn p sister) same h = (same (steps up) (omega arith) ∙ h.0, Follows-frame kept noted other up (λ i l. same i (omega arith)) h.1)
+Follows-frame kept noted other (below up direction p sister) same h = (same (steps up) (omega arith) ∙ h.0, Follows-frame kept noted other up (λ i l. same i (omega arith)) h.1)
 
 -- a step noted at the path's end
-pub Follows-noted : (kept : ℕ → ℕ) (old new : ℕ → ℕ × Bool) (path : Path) (turn : Bool) (p : ℕ) (sister : Tree) (depth : ℕ) → depth ≡ steps path → IsNoted old depth (kept p, turn) new → Follows kept old path → Follows kept new (below path turn p sister)
-Follows-noted kept old new path turn p sister depth is n h = (ap new (sym is) ∙ n.here, Follows-frame kept old new path (λ i l. n.elsewhere i (λ e. absurd (omega arith))) h)
+pub Follows-noted : (kept : ℕ → ℕ) (old new : ℕ → ℕ × Bool) (path : Path) (direction : Bool) (p : ℕ) (sister : Tree) (depth : ℕ) → depth ≡ steps path → IsNoted old depth (kept p, direction) new → Follows kept old path → Follows kept new (below path direction p sister)
+Follows-noted kept old new path direction p sister depth is n h = (ap new (sym is) ∙ n.here, Follows-frame kept old new path (λ i l. n.elsewhere i (λ e. absurd (omega arith))) h)
 
 -- ---- what stands before the path's end is below the key, and what stands behind it is above
 pub beside : (go : ℕ → Ordering) (path : Path) (t : Tree) → IsSplit go (reading (plug path t)) → Wants go path → AllStand go Less (front path) × AllStand go Greater (back path)
@@ -83,42 +83,42 @@ beside go (below up false p sister) t split w =
 -- keys that stand alike to each place of the path want one way
 pub Wants-alike : (go other : ℕ → Ordering) (path : Path) → ((q : ℕ) → 0 < occurs_on q path → other q ≡ go q) → Wants go path → Wants other path
 Wants-alike go other top same w = tt
-Wants-alike go other (below up turn p sister) same w = (same p (omega (arith, is_at-same p)) ∙ w.0, Wants-alike go other up (λ q o. same q (omega arith)) w.1)
+Wants-alike go other (below up direction p sister) same w = (same p (omega (arith, is_at-same p)) ∙ w.0, Wants-alike go other up (λ q o. same q (omega arith)) w.1)
 
 -- only the root, the height and the size of a subtree matter to the places above
 Holds-alike : (ns : List Node) (path : Path) (s t : Tree) → root_of t ≡ root_of s → height t ≡ height s → size t ≡ size s → Holds ns path s → Holds ns path t
 Holds-alike ns top s t r a b h = tt
-Holds-alike ns (below up turn p sister) s t r a b h = (
+Holds-alike ns (below up direction p sister) s t r a b h = (
   (h.0.0, h.0.1, record { near_is = h.0.2.near_is ∙ sym r; far_is = h.0.2.far_is; height_is = omega arith; size_is = omega arith }),
   h.1,
-  Holds-alike ns up (branch turn s p sister) (branch turn t p sister)
-      (root-branch turn t p sister ∙ sym (root-branch turn s p sister))
-      (omega (arith, height-branch turn s p sister, height-branch turn t p sister, a))
-      (omega (arith, size-branch turn s p sister, size-branch turn t p sister, b)) h.2,
+  Holds-alike ns up (branch direction s p sister) (branch direction t p sister)
+      (root-branch direction t p sister ∙ sym (root-branch direction s p sister))
+      (omega (arith, height-branch direction s p sister, height-branch direction t p sister, a))
+      (omega (arith, size-branch direction s p sister, size-branch direction t p sister, b)) h.2,
 )
 
-tells-linked : (turn : Bool) (node : Node) (s t sister : Tree) → height t ≡ height s → size t ≡ size s → Tells turn node s sister → Tells turn (linked turn (root_of t) node) t sister
+tells-linked : (direction : Bool) (node : Node) (s t sister : Tree) → height t ≡ height s → size t ≡ size s → Tells direction node s sister → Tells direction (linked direction (root_of t) node) t sister
 tells-linked true node s t sister a b h = record { near_is = refl; far_is = h.far_is; height_is = omega (arith, h.height_is, a); size_is = omega (arith, h.size_is, b) }
 tells-linked false node s t sister a b h = record { near_is = refl; far_is = h.far_is; height_is = omega (arith, h.height_is, a); size_is = omega (arith, h.size_is, b) }
 
 -- nor does its root, once the place above is told of it
-pub Holds-linked : (ns ms : List Node) (up : Path) (turn : Bool) (p : ℕ) (sister s t : Tree) → ((q : ℕ) → occurs_on q (below up turn p sister) ≤ 1) → height t ≡ height s → size t ≡ size s → (h : Holds ns (below up turn p sister) s) → ms ≡ slice_set ns p (linked turn (root_of t) h.0.0) → Holds ms (below up turn p sister) t
-Holds-linked ns ms up turn p sister s t once a b h e =
+pub Holds-linked : (ns ms : List Node) (up : Path) (direction : Bool) (p : ℕ) (sister s t : Tree) → ((q : ℕ) → occurs_on q (below up direction p sister) ≤ 1) → height t ≡ height s → size t ≡ size s → (h : Holds ns (below up direction p sister) s) → ms ≡ slice_set ns p (linked direction (root_of t) h.0.0) → Holds ms (below up direction p sister) t
+Holds-linked ns ms up direction p sister s t once a b h e =
     let within = slice_get_within ns p h.0.0 h.0.1 in
-    let same : (q : ℕ) → is_at q p ≡ 0 → slice_get ms q ≡ slice_get ns q = λ q other. ap (λ x. slice_get x q) e ∙ get-elsewhere ns p q (linked turn (root_of t) h.0.0) (is_at-apart q p other) in (
-      (linked turn (root_of t) h.0.0, ap (λ x. slice_get x p) e ∙ get-written ns p (linked turn (root_of t) h.0.0) within, tells-linked turn h.0.0 s t sister a b h.0.2),
+    let same : (q : ℕ) → is_at q p ≡ 0 → slice_get ms q ≡ slice_get ns q = λ q other. ap (λ x. slice_get x q) e ∙ get-elsewhere ns p q (linked direction (root_of t) h.0.0) (is_at-apart q p other) in (
+      (linked direction (root_of t) h.0.0, ap (λ x. slice_get x p) e ∙ get-written ns p (linked direction (root_of t) h.0.0) within, tells-linked direction h.0.0 s t sister a b h.0.2),
       Shows-frame ns ms sister (λ q o. same q (let d = once q in omega arith)) h.1,
-      Holds-frame ns ms up (branch turn t p sister) (λ q o. same q (let d = once q in omega arith))
-          (Holds-alike ns up (branch turn s p sister) (branch turn t p sister)
-          (root-branch turn t p sister ∙ sym (root-branch turn s p sister))
-          (omega (arith, height-branch turn s p sister, height-branch turn t p sister, a))
-          (omega (arith, size-branch turn s p sister, size-branch turn t p sister, b)) h.2),
+      Holds-frame ns ms up (branch direction t p sister) (λ q o. same q (let d = once q in omega arith))
+          (Holds-alike ns up (branch direction s p sister) (branch direction t p sister)
+          (root-branch direction t p sister ∙ sym (root-branch direction s p sister))
+          (omega (arith, height-branch direction s p sister, height-branch direction t p sister, a))
+          (omega (arith, size-branch direction s p sister, size-branch direction t p sister, b)) h.2),
     )
 
 -- a subtree of the same height keeps the whole in balance
 pub IsBalanced-alike : (path : Path) (s t : Tree) → height t ≡ height s → IsBalanced t → IsBalanced (plug path s) → IsBalanced (plug path t)
 IsBalanced-alike top s t same b h = b
-IsBalanced-alike (below up turn p sister) s t same b h =
-    let lv = level turn s p sister (balanced_inside up (branch turn s p sister) h) in
-    IsBalanced-alike up (branch turn s p sister) (branch turn t p sister) (omega (arith, height-branch turn s p sister, height-branch turn t p sister, same))
-    (IsBalanced-branch turn t p sister record { near_level = omega arith; far_level = omega arith; near_balanced = b; far_balanced = lv.far_balanced }) h
+IsBalanced-alike (below up direction p sister) s t same b h =
+    let lv = level direction s p sister (balanced_inside up (branch direction s p sister) h) in
+    IsBalanced-alike up (branch direction s p sister) (branch direction t p sister) (omega (arith, height-branch direction s p sister, height-branch direction t p sister, same))
+    (IsBalanced-branch direction t p sister record { near_level = omega arith; far_level = omega arith; near_balanced = b; far_balanced = lv.far_balanced }) h

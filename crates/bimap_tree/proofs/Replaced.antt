@@ -23,7 +23,7 @@ above nodes notes depth (below up ordering p sister) s h more step e =
 -- where the way has no step
 pub replaced_at_top : (nodes : List Node) (notes : Notes) (depth : ℕ) (path : Path) (s t : Tree) → CanReplace nodes notes depth path s → depth ≡ 0 → IsReplaced nodes nodes path t
 replaced_at_top nodes notes depth top s t h none = record { holds = tt; same_elsewhere = λ q o. refl }
-replaced_at_top nodes notes depth (below up turn p sister) s t h none = absurd (omega (arith, h.depth_is, none))
+replaced_at_top nodes notes depth (below up direction p sister) s t h none = absurd (omega (arith, h.depth_is, none))
 
 module _ (nodes : List Node) (notes : Notes) (depth : ℕ) (path : Path) (s : Tree) (h : CanReplace nodes notes depth path s) (more : 0 < depth) (step : ℕ × Bool) (e : step ≡ notes.step_at (depth - 1)) where
   -- the node of the place there

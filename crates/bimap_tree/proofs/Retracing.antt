@@ -40,9 +40,9 @@ onward-last up (y ∷ ys) x = onward-last (below up y.0 y.1 y.2) ys x
 
 all_of : (path : Path) → (xs : Rest) × (path ≡ onward top xs)
 all_of top = ([], refl)
-all_of (below up turn p sister) =
+all_of (below up direction p sister) =
     let (xs, e) = all_of up in
-    (xs ++ (turn, p, sister) ∷ [], ap (λ y. below y turn p sister) e ∙ sym (onward-last top xs (turn, p, sister)))
+    (xs ++ (direction, p, sister) ∷ [], ap (λ y. below y direction p sister) e ∙ sym (onward-last top xs (direction, p, sister)))
 
 plug-onward : (up : Path) (xs : Rest) (s : Tree) → plug (onward up xs) s ≡ plug up (hang xs s)
 plug-onward up [] s = refl
@@ -56,11 +56,11 @@ Follows-up : (kept : ℕ → ℕ) (noted : ℕ → ℕ × Bool) (up : Path) (xs 
 Follows-up kept noted up [] h = h
 Follows-up kept noted up (x ∷ xs) h = (Follows-up kept noted (below up x.0 x.1 x.2) xs h).1
 
-noted_as : (kept : ℕ → ℕ) (old new : ℕ → ℕ × Bool) (depth at p : ℕ) (turn ordering : Bool) → p ≡ at → turn ≡ ordering → IsNoted old depth (kept at, turn) new → IsNoted old depth (kept p, ordering) new
-noted_as kept old new depth at p turn ordering e f n = record { here = n.here ∙ ap (λ b. (kept at, b)) f ∙ ap (λ q. (kept q, ordering)) (sym e); elsewhere = n.elsewhere }
+noted_as : (kept : ℕ → ℕ) (old new : ℕ → ℕ × Bool) (depth at p : ℕ) (direction ordering : Bool) → p ≡ at → direction ≡ ordering → IsNoted old depth (kept at, direction) new → IsNoted old depth (kept p, ordering) new
+noted_as kept old new depth at p direction ordering e f n = record { here = n.here ∙ ap (λ b. (kept at, b)) f ∙ ap (λ q. (kept q, ordering)) (sym e); elsewhere = n.elsewhere }
 
-near_told : (turn : Bool) (near far : Tree) (node : Node) → Some node ≡ Some (node_on turn near far) → near_of turn node ≡ root_of near
-near_told turn near far node e = let same : node ≡ node_on turn near far = cc in ap (λ n. near_of turn n) same ∙ near-node_on turn near far
+near_told : (direction : Bool) (near far : Tree) (node : Node) → Some node ≡ Some (node_on direction near far) → near_of direction node ≡ root_of near
+near_told direction near far node e = let same : node ≡ node_on direction near far = cc in ap (λ n. near_of direction n) same ∙ near-node_on direction near far
 
 module _ (nodes : List Node) (top_root : Option ℕ) (notes : Notes) where
   -- the way has come to here, and its steps are noted once more

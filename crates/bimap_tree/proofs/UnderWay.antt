@@ -35,7 +35,7 @@ module _ (ns : List Node) (live : ℕ → Type 0) (go : ℕ → Ordering) where
       let shown : Shows ns (fork l place r) = subst (λ x. Shows ns x) whole h.tree.shown in
       e ∙ sym (here ns live go root place (node_of l r) s h e shown.0 same)
 
-  a_level : (turn : Bool) (s sister : Tree) (p : ℕ) → CanSeek ns (root_of (branch turn s p sister)) live go (branch turn s p sister) → go p ≡ wanted turn → CanSeek ns (root_of s) live go s × (first_equal go (reading (branch turn s p sister)) ≡ first_equal go (reading s))
+  a_level : (direction : Bool) (s sister : Tree) (p : ℕ) → CanSeek ns (root_of (branch direction s p sister)) live go (branch direction s p sister) → go p ≡ wanted direction → CanSeek ns (root_of s) live go s × (first_equal go (reading (branch direction s p sister)) ≡ first_equal go (reading s))
   a_level true s sister p h w =
       let (l, r, i) = seek_into ns (Some p) p (node_of sister s) live go (fork sister p s) h refl h.tree.shown.0 in
       let same : r ≡ s = let e = i.is in cc in
@@ -48,9 +48,9 @@ module _ (ns : List Node) (live : ℕ → Type 0) (go : ℕ → Ordering) where
   -- where the way leads down a tree that may be searched, the rest may be, and finds what the whole would
   seek_along : (root : Option ℕ) (path : Path) (s : Tree) → CanSeek ns root live go (plug path s) → Wants go path → CanSeek ns (root_of s) live go s × (first_equal go (reading (plug path s)) ≡ first_equal go (reading s))
   seek_along root top s h w = (subst (λ x. CanSeek ns x live go s) (sym h.tree.root_is) h, refl)
-  seek_along root (below up turn p sister) s h w =
-      let (k, f) = seek_along root up (branch turn s p sister) h w.1 in
-      let (m, e) = a_level turn s sister p k w.0 in
+  seek_along root (below up direction p sister) s h w =
+      let (k, f) = seek_along root up (branch direction s p sister) h w.1 in
+      let (m, e) = a_level direction s sister p k w.0 in
       (m, f ∙ e)
 
 module _ (ns : List Node) (root : Option ℕ) (len : ℕ) (v : IndexView) (w : IsWhole ns root len) (e : index_of ns root ≡ v) (descent : Descent) (at_root : descent.root ≡ root) (no_step : descent.depth ≡ 0) (not_found : descent.is_found ≡ false) where

@@ -31,9 +31,9 @@ pub record CanRebalance (nodes : List Node) (place : ℕ) (near far : Tree) : Ty
   pub far_level : height far ≤ height near + 2
 
 -- the tree that stands after a place was linked above two trees, with rotations where they are needed
-pub record IsRebalanced (old new : List Node) (turn : Bool) (place : ℕ) (near far : Tree) (t : Tree) : Type 0 where
+pub record IsRebalanced (old new : List Node) (direction : Bool) (place : ℕ) (near far : Tree) (t : Tree) : Type 0 where
   pub shown : Shows new t
-  pub in_order : reading t ≡ reading (branch turn near place far)
+  pub in_order : reading t ≡ reading (branch direction near place far)
   pub same_places : (q : ℕ) → occurs q t ≡ occurs q near + is_at q place + occurs q far
   pub balanced : IsBalanced t
   pub not_lower : max (height near) (height far) ≤ height t

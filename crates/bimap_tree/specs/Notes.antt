@@ -23,7 +23,7 @@ notes_of route = record { kept = packed; step_at = step_at route; depth = route.
 
 -- the place and the turn that a `LongRoute` has at a depth
 abbrev pub long_step_at : LongRoute → ℕ → ℕ × Bool
-long_step_at route = λ depth. (get_or route.places depth 0, get_or route.turns depth false)
+long_step_at route = λ depth. (get_or route.places depth 0, get_or route.directions depth false)
 
 -- what it tells: it keeps places whole
 abbrev pub long_notes_of : LongRoute → Notes

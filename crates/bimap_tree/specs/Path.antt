@@ -14,12 +14,12 @@ pub data Path : Type 0 where
 -- the whole tree, with this subtree at the path's end
 abbrev pub plug : Path → Tree → Tree
 plug top t = t
-plug (below up turn p sister) t = plug up (branch turn t p sister)
+plug (below up direction p sister) t = plug up (branch direction t p sister)
 
 -- the number of steps
 abbrev pub steps : Path → ℕ
 steps top = 0
-steps (below up turn p sister) = suc (steps up)
+steps (below up direction p sister) = suc (steps up)
 
 -- the places before those of the subtree, and those after them
 abbrev pub front : Path → List ℕ
@@ -35,17 +35,17 @@ back (below up false p sister) = p ∷ reading sister ++ back up
 -- how often a place stands beside the subtree
 abbrev pub occurs_on : ℕ → Path → ℕ
 occurs_on q top = 0
-occurs_on q (below up turn p sister) = occurs_on q up + is_at q p + occurs q sister
+occurs_on q (below up direction p sister) = occurs_on q up + is_at q p + occurs q sister
 
 -- how many places stand beside the subtree
 abbrev pub size_on : Path → ℕ
 size_on top = 0
-size_on (below up turn p sister) = size_on up + size sister + 1
+size_on (below up direction p sister) = size_on up + size sister + 1
 
 -- the steps noted at the depths of the path are its own, with so much kept of their places
 abbrev pub Follows : (ℕ → ℕ) → (ℕ → ℕ × Bool) → Path → Type 0
 Follows kept noted top = Unit {0}
-Follows kept noted (below up turn p sister) = (noted (steps up) ≡ (kept p, turn)) × Follows kept noted up
+Follows kept noted (below up direction p sister) = (noted (steps up) ≡ (kept p, direction)) × Follows kept noted up
 
 -- the way that a key wants at a turn
 abbrev pub wanted : Bool → Ordering
@@ -55,19 +55,19 @@ wanted false = Greater
 -- at each place of the path the key wants the turn that it takes
 abbrev pub Wants : (ℕ → Ordering) → Path → Type 0
 Wants go top = Unit {0}
-Wants go (below up turn p sister) = (go p ≡ wanted turn) × Wants go up
+Wants go (below up direction p sister) = (go p ≡ wanted direction) × Wants go up
 
 -- what the node of a place tells of the subtree s and the sister, and of the height and the size that it has with them
-pub record Tells (turn : Bool) (node : Node) (s sister : Tree) : Type 0 where
-  pub near_is : near_of turn node ≡ root_of s
-  pub far_is : far_of turn node ≡ root_of sister
+pub record Tells (direction : Bool) (node : Node) (s sister : Tree) : Type 0 where
+  pub near_is : near_of direction node ≡ root_of s
+  pub far_is : far_of direction node ≡ root_of sister
   pub height_is : node.height ≡ max (height s) (height sister) + 1
   pub size_is : node.size ≡ size s + size sister + 1
 
 -- the nodes show the sisters, and those of the path's places tell what they did with the subtree s
 abbrev pub Holds : List Node → Path → Tree → Type 0
 Holds nodes top s = Unit {0}
-Holds nodes (below up turn p sister) s = ((node : Node) × (slice_get nodes p ≡ Some node) × Tells turn node s sister) × Shows nodes sister × Holds nodes up (branch turn s p sister)
+Holds nodes (below up direction p sister) s = ((node : Node) × (slice_get nodes p ≡ Some node) × Tells direction node s sister) × Shows nodes sister × Holds nodes up (branch direction s p sister)
 
 -- 1 if it is so, else 0
 abbrev pub one_if : Bool → ℕ
@@ -97,14 +97,14 @@ pub record CanRise (nodes : List Node) (notes : Notes) (path : Path) (grew : Boo
   pub moves : Moves grew s u
 
 -- at a step of the path
-pub record CanRejoin (nodes : List Node) (at : ℕ) (turn grew : Bool) (node : Node) (sister s u : Tree) : Type 0 where
+pub record CanRejoin (nodes : List Node) (at : ℕ) (direction grew : Bool) (node : Node) (sister s u : Tree) : Type 0 where
   pub node_is : slice_get nodes at ≡ Some node
   pub has_cell : at < length nodes
-  pub told : Tells turn node s sister
+  pub told : Tells direction node s sister
   pub shown : Shows nodes u
   pub sister_shown : Shows nodes sister
   pub distinct : (q : ℕ) → occurs q u + is_at q at + occurs q sister ≤ 1
-  pub steady : IsBalanced (branch turn s at sister)
+  pub steady : IsBalanced (branch direction s at sister)
   pub balanced : IsBalanced u
   pub fits : size s + size sister + 1 + one_if grew < 2 ^ 64
   pub moves : Moves grew s u

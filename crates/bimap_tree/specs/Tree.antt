@@ -71,7 +71,7 @@ node_on false near far = node_of near far
 
 -- the child of a node on the side of the turn
 abbrev pub near_of : Bool → Node → Option ℕ
-near_of turn node = cond turn node.right node.left
+near_of direction node = cond direction node.right node.left
 
 -- the other child
 abbrev pub far_of : Bool → Node → Option ℕ

@@ -7,9 +7,9 @@ ghost use Rattle.bimap_tree.specs.Path.{Path, plug};
 ghost use Rattle.bimap_tree.specs.Route.{CanFollow, IsFollowed};
 ghost use Rattle.bimap_tree.specs.Tree.{Tree, reading};
 
-use crate::route::{Route, route_in_tree, turns_by_branch};
-use crate::search_key::SearchKey;
 use crate::notes::Steps;
+use crate::route::{Route, branches_on_direction, route_in_tree};
+use crate::search_key::SearchKey;
 use bimap_base::{Cell, Meter, Nodes};
 
 /// A search that is under way: it has come down to a place, or to where there is none.
@@ -65,7 +65,7 @@ pub fn step_in_tree<C: Cell, S: SearchKey, M: Meter>(
         + levels_left cells.now descent.old }
 {
     // Where turns are guessed, a wrong guess would undo what the other search has done meanwhile.
-    if turns_by_branch::<C, S>(cells) {
+    if branches_on_direction::<C, S>(cells) {
         return false;
     }
     let (Some(at), false) = (descent.root, descent.is_found) else {
@@ -77,10 +77,10 @@ pub fn step_in_tree<C: Cell, S: SearchKey, M: Meter>(
         descent.is_found = true;
         return false;
     }
-    let turn = ordering.is_lt();
-    route.note(descent.depth, at, turn);
+    let direction = ordering.is_lt();
+    route.note(descent.depth, at, direction);
     descent.depth += 1;
-    descent.root = cell.child(turn);
+    descent.root = cell.child(direction);
     true
 }
 

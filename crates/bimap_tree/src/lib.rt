@@ -5,6 +5,7 @@ mod batch;
 mod by_width;
 mod descent;
 mod link;
+mod notes;
 mod ordered;
 mod remove;
 mod rise;
@@ -13,7 +14,6 @@ mod search;
 mod search_key;
 mod span;
 mod walk;
-mod notes;
 
 pub use batch::Batch;
 pub use descent::Descent;

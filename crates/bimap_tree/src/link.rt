@@ -14,11 +14,11 @@ pub struct Subtree {
 }
 
 // The child on the side of the turn, right if it is true, and the other one.
-pub fn children(node: Node, turn: bool) -> (Option<usize>, Option<usize>)
-    ensures near { result.0 ≡ near_of turn node }
-    ensures far { result.1 ≡ far_of turn node }
+pub fn children(node: Node, direction: bool) -> (Option<usize>, Option<usize>)
+    ensures near { result.0 ≡ near_of direction node }
+    ensures far { result.1 ≡ far_of direction node }
 {
-    if turn {
+    if direction {
         (node.right, node.left)
     } else {
         (node.left, node.right)
@@ -26,10 +26,10 @@ pub fn children(node: Node, turn: bool) -> (Option<usize>, Option<usize>)
 }
 
 // The child on the side of the turn, right if it is true.
-pub fn child(node: Node, turn: bool) -> Option<usize>
-    ensures { result ≡ near_of turn node }
+pub fn child(node: Node, direction: bool) -> Option<usize>
+    ensures { result ≡ near_of direction node }
 {
-    if turn { node.right } else { node.left }
+    if direction { node.right } else { node.left }
 }
 
 // The tree at this root.
@@ -60,7 +60,7 @@ pub fn measure<C: Cell, M: Meter>(cells: &Nodes<C>, root: Option<usize>, meter: 
 pub fn link<C: Cell, M: Meter>(
     cells: &mut Nodes<C>,
     place: usize,
-    turn: bool,
+    direction: bool,
     near: Subtree,
     far: Subtree,
     meter: &mut M,
@@ -68,9 +68,9 @@ pub fn link<C: Cell, M: Meter>(
     requires { (n : Tree) × (f : Tree) × CanLink cells.old place n f × Measures near n
         × Measures far f }
     ensures linked { (n f : Tree) → Measures near n → Measures far f →
-        cells.new ≡ slice_set cells.old place (node_on turn n f) }
+        cells.new ≡ slice_set cells.old place (node_on direction n f) }
     ensures measured { (n f : Tree) → Measures near n → Measures far f →
-        Measures result (branch turn n place f) }
+        Measures result (branch direction n place f) }
     ensures comparisons { M.comparisons meter.new ≡ M.comparisons meter.old }
     ensures touches { M.touches meter.new ≡ M.touches meter.old + 1 }
 {
@@ -81,7 +81,7 @@ pub fn link<C: Cell, M: Meter>(
     };
     let height = taller + 1;
     let size = near.size + far.size + 1;
-    let (left, right) = if turn {
+    let (left, right) = if direction {
         (far.root, near.root)
     } else {
         (near.root, far.root)
@@ -107,7 +107,7 @@ pub fn link<C: Cell, M: Meter>(
 pub fn rotate<C: Cell, M: Meter>(
     cells: &mut Nodes<C>,
     place: usize,
-    turn: bool,
+    direction: bool,
     heavy: usize,
     light: Subtree,
     meter: &mut M,
@@ -116,28 +116,28 @@ pub fn rotate<C: Cell, M: Meter>(
         × Measures light f × (height n ≡ height f + 2) }
     ensures tree { (n f : Tree) → CanRebalance cells.old place n f → root_of n ≡ Some heavy →
         Measures light f → height n ≡ height f + 2 →
-        (t : Tree) × Measures result t × IsRebalanced cells.old cells.new turn place n f t }
+        (t : Tree) × Measures result t × IsRebalanced cells.old cells.new direction place n f t }
     ensures comparisons { M.comparisons meter.new ≡ M.comparisons meter.old }
     ensures touches { M.touches meter.new ≤ M.touches meter.old + 9 }
 {
     let upper = cells.read(heavy, meter);
-    let (outer_root, inner_root) = children(upper, turn);
+    let (outer_root, inner_root) = children(upper, direction);
     let outer = measure(cells, outer_root, meter);
     let inner = measure(cells, inner_root, meter);
     if inner.height <= outer.height {
-        let lower = link(cells, place, turn, inner, light, meter);
-        return link(cells, heavy, turn, outer, lower, meter);
+        let lower = link(cells, place, direction, inner, light, meter);
+        return link(cells, heavy, direction, outer, lower, meter);
     }
     let Some(middle) = inner_root else {
         unreachable!();
     };
     let parts = cells.read(middle, meter);
-    let (near_root, far_root) = children(parts, turn);
+    let (near_root, far_root) = children(parts, direction);
     let near = measure(cells, near_root, meter);
     let far = measure(cells, far_root, meter);
-    let upper_side = link(cells, heavy, turn, outer, near, meter);
-    let lower_side = link(cells, place, turn, far, light, meter);
-    link(cells, middle, turn, upper_side, lower_side, meter)
+    let upper_side = link(cells, heavy, direction, outer, near, meter);
+    let lower_side = link(cells, place, direction, far, light, meter);
+    link(cells, middle, direction, upper_side, lower_side, meter)
 }
 
 // Links a place above two trees whose heights differ by at most two, and rotates where it must.
@@ -145,7 +145,7 @@ pub fn rotate<C: Cell, M: Meter>(
 pub fn rebalance<C: Cell, M: Meter>(
     cells: &mut Nodes<C>,
     place: usize,
-    turn: bool,
+    direction: bool,
     near: Subtree,
     far: Subtree,
     meter: &mut M,
@@ -154,7 +154,7 @@ pub fn rebalance<C: Cell, M: Meter>(
         × Measures far f }
     ensures tree { (n f : Tree) → CanRebalance cells.old place n f → Measures near n →
         Measures far f → (t : Tree) × Measures result t
-        × IsRebalanced cells.old cells.new turn place n f t }
+        × IsRebalanced cells.old cells.new direction place n f t }
     ensures comparisons { M.comparisons meter.new ≡ M.comparisons meter.old }
     ensures touches { M.touches meter.new ≤ M.touches meter.old + 9 }
 {
@@ -162,13 +162,13 @@ pub fn rebalance<C: Cell, M: Meter>(
         let Some(heavy) = near.root else {
             unreachable!();
         };
-        return rotate(cells, place, turn, heavy, far, meter);
+        return rotate(cells, place, direction, heavy, far, meter);
     }
     if far.height > near.height + 1 {
         let Some(heavy) = far.root else {
             unreachable!();
         };
-        return rotate(cells, place, !turn, heavy, near, meter);
+        return rotate(cells, place, !direction, heavy, near, meter);
     }
-    link(cells, place, turn, near, far, meter)
+    link(cells, place, direction, near, far, meter)
 }

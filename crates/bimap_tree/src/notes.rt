@@ -27,10 +27,12 @@ pub trait Steps {
         ensures { result ≡ (notes self.now).step_at depth };
 
     // Notes the place and the turn at a depth.
-    fn note(&mut self, depth: usize, place: usize, turn: bool)
+    fn note(&mut self, depth: usize, place: usize, direction: bool)
         requires { depth < 91 }
-        ensures noted { IsNoted (notes self.old).step_at depth ((notes self.old).kept place, turn)
-            (notes self.new).step_at }
+        ensures noted { IsNoted (notes self.old).step_at depth (
+          (notes self.old).kept place,
+          direction,
+        ) (notes self.new).step_at }
         ensures kept { (notes self.new).kept ≡ (notes self.old).kept }
         ensures depth { (notes self.new).depth ≡ (notes self.old).depth };
 }
@@ -39,7 +41,7 @@ pub trait Steps {
 #[derive(Drop)]
 pub struct LongRoute {
     places: [usize; 91],
-    turns: [bool; 91],
+    directions: [bool; 91],
     depth: usize,
 }
 
@@ -51,12 +53,12 @@ impl Steps for LongRoute {
     }
 
     fn step(&self, depth: usize) -> (usize, bool) {
-        (self.places[depth], self.turns[depth])
+        (self.places[depth], self.directions[depth])
     }
 
-    fn note(&mut self, depth: usize, place: usize, turn: bool) {
+    fn note(&mut self, depth: usize, place: usize, direction: bool) {
         self.places[depth] = place;
-        self.turns[depth] = turn;
+        self.directions[depth] = direction;
     }
 }
 
@@ -82,7 +84,7 @@ pub fn retraced<C: Cell, M: Meter>(
 {
     let mut notes = LongRoute {
         places: [0; 91],
-        turns: [false; 91],
+        directions: [false; 91],
         depth: route.depth(),
     };
     let mut root = root;
@@ -90,9 +92,9 @@ pub fn retraced<C: Cell, M: Meter>(
         let Some(at) = root else {
             unreachable!();
         };
-        let (_, turn) = route.step(depth);
-        notes.note(depth, at, turn);
-        root = cells.cell(at, meter).child(turn);
+        let (_, direction) = route.step(depth);
+        notes.note(depth, at, direction);
+        root = cells.cell(at, meter).child(direction);
     }
     notes
 }

@@ -6,9 +6,9 @@ ghost use Rattle.bimap_tree.specs.Remove.{CanDescend, IsFirst, CanReplace, IsRep
 ghost use Rattle.bimap_tree.specs.Notes.{notes_of};
 
 use crate::link::measure;
+use crate::notes::{Steps, fits, retraced};
 use crate::rise::rise;
 use crate::route::Route;
-use crate::notes::{Steps, fits, retraced};
 use bimap_base::{Cell, Meter, Nodes};
 
 // Notes the way down to a tree's first place, and answers that place and its depth.
@@ -57,8 +57,8 @@ fn replace_child<C: Cell, W: Steps, M: Meter>(
     ensures touches { M.touches meter.new ≤ M.touches meter.old + 1 }
 {
     if depth > 0 {
-        let (above, turn) = notes.step(depth - 1);
-        cells.set_child(above, turn, Some(place), meter);
+        let (above, direction) = notes.step(depth - 1);
+        cells.set_child(above, direction, Some(place), meter);
     }
 }
 

@@ -6,8 +6,8 @@ ghost use Rattle.bimap_tree.specs.Path.{Path, plug, steps, Moves, KeepsWhole, Ca
 ghost use Rattle.bimap_tree.specs.Notes.{notes_of};
 
 use crate::link::{Subtree, children, link, measure, rebalance};
-use crate::route::Route;
 use crate::notes::{Steps, fits, retraced};
+use crate::route::Route;
 use bimap_base::{Cell, Meter, Node, Nodes};
 
 // Links a place above a child that has grown or shrunk, and looks at its sister only where the place's height may move.
@@ -16,31 +16,31 @@ fn rejoin<C: Cell, M: Meter>(
     cells: &mut Nodes<C>,
     at: usize,
     node: Node,
-    turn: bool,
+    direction: bool,
     child: Subtree,
     grew: bool,
     meter: &mut M,
 ) -> Subtree
     requires { (sister : Tree) × (s : Tree) × (u : Tree)
-        × CanRejoin cells.old at turn grew node sister s u × Measures child u }
-    ensures tree { (sister s u : Tree) → CanRejoin cells.old at turn grew node sister s u →
+        × CanRejoin cells.old at direction grew node sister s u × Measures child u }
+    ensures tree { (sister s u : Tree) → CanRejoin cells.old at direction grew node sister s u →
         Measures child u → (t : Tree) × Measures result t
-        × IsRebalanced cells.old cells.new turn at u sister t
-        × Moves grew (branch turn s at sister) t }
+        × IsRebalanced cells.old cells.new direction at u sister t
+        × Moves grew (branch direction s at sister) t }
     ensures comparisons { M.comparisons meter.new ≡ M.comparisons meter.old }
     ensures touches { M.touches meter.new ≤ M.touches meter.old + 10 }
 {
     if grew && child.height < node.height {
-        cells.recount(at, turn, child.root, true, meter);
+        cells.recount(at, direction, child.root, true, meter);
         return Subtree {
             root: Some(at),
             height: node.height,
             size: node.size + 1,
         };
     }
-    let (_, root) = children(node, turn);
+    let (_, root) = children(node, direction);
     let sister = measure(cells, root, meter);
-    rebalance(cells, at, turn, child, sister, meter)
+    rebalance(cells, at, direction, child, sister, meter)
 }
 
 // Goes up where no height moves any more: links the child, and counts its places in each node of the way.
@@ -65,8 +65,8 @@ fn recount<C: Cell, W: Steps, M: Meter>(
     if depth == 0 {
         return child;
     }
-    let (at, turn) = notes.step(depth - 1);
-    cells.recount(at, turn, child, grew, meter);
+    let (at, direction) = notes.step(depth - 1);
+    cells.recount(at, direction, child, grew, meter);
     let mut top = at;
     let mut depth = depth - 1;
     while depth > 0 {
@@ -106,9 +106,9 @@ pub fn rise<C: Cell, W: Steps, M: Meter>(
             return child.root;
         }
         depth -= 1;
-        let (at, turn) = notes.step(depth);
+        let (at, direction) = notes.step(depth);
         let node = cells.read(at, meter);
-        child = rejoin(cells, at, node, turn, child, grew, meter);
+        child = rejoin(cells, at, node, direction, child, grew, meter);
         was = node.height;
     }
     recount(cells, notes, depth, child.root, grew, meter)

@@ -8,9 +8,9 @@ ghost use Rattle.bimap_tree.specs.IndexView.{IndexView, IsBalancedIndex};
 ghost use Rattle.bimap_tree.specs.Path.{Path, plug, top};
 ghost use Rattle.bimap_tree.specs.Route.{CanFollow, IsFollowed, IsRoute};
 
+use crate::notes::{PACKED, Steps};
 use crate::remove::first_in_tree;
 use crate::search_key::SearchKey;
-use crate::notes::{PACKED, Steps};
 use bimap_base::{Cell, Meter, Nodes};
 
 /// The way that a search went down an index: at each depth a place, and whether the way goes on to its right.
@@ -61,8 +61,8 @@ impl Steps for Route {
         (step / 2, step % 2 == 1)
     }
 
-    fn note(&mut self, depth: usize, place: usize, turn: bool) {
-        let to_right = if turn { 1 } else { 0 };
+    fn note(&mut self, depth: usize, place: usize, direction: bool) {
+        let to_right = if direction { 1 } else { 0 };
         self.steps[depth] = (place % PACKED * 2 + to_right) as u32;
     }
 }
@@ -73,7 +73,7 @@ const FAR: usize = 16_384;
 // Whether a turn to the right is a branch with an exit, of which the compiler makes no select: in a large tree, unless a key
 // is no wider than a word. A processor guesses the turn, and reads the next node while it awaits the keys. To compare keys of
 // a word takes no pointer, and wrong guesses cost more than the wait.
-pub fn turns_by_branch<C: Cell, S: SearchKey>(cells: &Nodes<C>) -> bool {
+pub fn branches_on_direction<C: Cell, S: SearchKey>(cells: &Nodes<C>) -> bool {
     S::has_wide_keys() && cells.places() >= FAR
 }
 
@@ -104,7 +104,7 @@ pub fn route_in_tree<C: Cell, S: SearchKey, M: Meter>(
     ensures touches { (s : Tree) → Stands cells.now root s →
         M.touches meter.new ≤ M.touches meter.old + height s }
 {
-    let is_far = turns_by_branch::<C, S>(cells);
+    let is_far = branches_on_direction::<C, S>(cells);
     let mut root = root;
     let mut depth = depth;
     while let Some(at) = root {
@@ -113,16 +113,16 @@ pub fn route_in_tree<C: Cell, S: SearchKey, M: Meter>(
         if ordering.is_eq() {
             break;
         }
-        let turn = ordering.is_lt();
-        route.note(depth, at, turn);
+        let direction = ordering.is_lt();
+        route.note(depth, at, direction);
         depth += 1;
-        if is_far && turn {
+        if is_far && direction {
             root = cell.child(true);
             if root.is_none() {
                 break;
             }
         } else {
-            root = cell.child(turn);
+            root = cell.child(direction);
         }
     }
     route.depth = depth;

@@ -6,7 +6,7 @@ ghost use Rattle.bimap_tree.specs.Search.{CanSeek};
 ghost use Rattle.bimap_tree.specs.Order.{first_equal, count_below};
 
 use crate::link::{child, measure};
-use crate::route::turns_by_branch;
+use crate::route::branches_on_direction;
 use crate::search_key::{SearchKey, ToQuery};
 use bimap_base::{Cell, Keys, Meter, Nodes, Sought};
 
@@ -28,7 +28,7 @@ pub fn find_in_tree<C: Cell, K: Keys, Q: Sought<K>, M: Meter>(
     ensures touches { (t : Tree) → Stands cells.now root t →
         M.touches meter.new ≤ M.touches meter.old + height t }
 {
-    let is_far = turns_by_branch::<C, ToQuery<K, Q>>(cells);
+    let is_far = branches_on_direction::<C, ToQuery<K, Q>>(cells);
     let mut root = root;
     while let Some(at) = root {
         let cell = cells.cell(at, meter);
@@ -36,14 +36,14 @@ pub fn find_in_tree<C: Cell, K: Keys, Q: Sought<K>, M: Meter>(
         if ordering.is_eq() {
             return Some(at);
         }
-        let turn = ordering.is_lt();
-        if is_far && turn {
+        let direction = ordering.is_lt();
+        if is_far && direction {
             root = cell.child(true);
             if root.is_none() {
                 break;
             }
         } else {
-            root = cell.child(turn);
+            root = cell.child(direction);
         }
     }
     None

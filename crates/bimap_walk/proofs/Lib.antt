@@ -3,4 +3,4 @@ pub mod Ends
 pub mod Listed
 pub mod InSpan
 pub mod Stepping
-pub mod Turns
+pub mod Positions

@@ -1,3 +1,3 @@
 pub mod Courses
 pub mod Windows
-pub mod Turns
+pub mod Positions

@@ -5,9 +5,9 @@
 //! and those that `by_rank` and `by_place` name along one of the two. Each has an exact `len`, and none takes memory.
 #![tactic(auto)]
 
+pub mod by_insertion;
 pub mod by_place;
 pub mod by_rank;
-pub mod by_turn;
 mod course;
 mod into_iter;
 mod iter;

@@ -3,9 +3,9 @@ use crate::codes::{assign, assign_all, code_of, name_of, written};
 use crate::fault::Fault;
 use crate::table::{Codes, gives_table, items_after, parse_items, table_of};
 use bimap::{NoMemory, NotInserted};
-use tool_lines::{number, wanted, words};
 use std::alloc::{AllocError, Global};
 use std::io;
+use tool_lines::{number, wanted, words};
 
 /// The requests, and what each asks.
 pub const REQUESTS: &str = "code NAME - which code?

@@ -9,13 +9,13 @@ mod fault;
 mod line;
 mod table;
 
-use tool_lines::{Asked, Keeper, NO_TEXT, file_argument, serve_file, status_of, text_of};
 use fault::Fault;
 use line::{REQUESTS, answer, shown};
 use std::alloc::{AllocError, Global};
 use std::io;
 use std::process::ExitCode;
 use table::{Codes, table_of};
+use tool_lines::{Asked, Keeper, NO_TEXT, file_argument, serve_file, status_of, text_of};
 
 // The program over a file.
 enum CodeTable {}

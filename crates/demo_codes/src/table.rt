@@ -2,8 +2,8 @@
 use crate::codes::{collect_codes, read_codes};
 use crate::fault::Fault;
 use bimap::BiBTreeHashMap;
-use tool_lines::{after_first, number, words};
 use std::alloc::Global;
+use tool_lines::{after_first, number, words};
 
 /// Names by their order, each with a code that is found by its hash.
 pub type Codes = BiBTreeHashMap<String, u32>;

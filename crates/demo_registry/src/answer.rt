@@ -6,9 +6,9 @@ use crate::registry::{
     Registry, give_back_room, id_of, name_of, register, register_all, rename, renumber,
 };
 use bimap::{NoMemory, NotInserted, NotReplaced};
-use tool_lines::wanted;
 use std::fmt::Display;
 use std::io;
+use tool_lines::wanted;
 
 // A name as a text of its own.
 fn owned(rt: &impl AllocGlobal, name: &str) -> io::Result<String> {

@@ -1,6 +1,6 @@
 //! What a line asks for, and the members that a text lists. It knows no registry.
-use tool_lines::{after_first, number, words};
 use std::alloc::{AllocError, Global};
+use tool_lines::{after_first, number, words};
 
 /// The requests, and what each asks.
 pub const REQUESTS: &str = "register ID NAME - if neither is taken

@@ -10,7 +10,6 @@ mod line;
 mod registry;
 
 use answer::answer;
-use tool_lines::{Asked, Keeper, NO_TEXT, file_argument, serve_file, status_of, text_of};
 use fault::Fault;
 use file::{listed, registry_of};
 use line::REQUESTS;
@@ -18,6 +17,7 @@ use registry::Registry;
 use std::alloc::{AllocError, Global};
 use std::io;
 use std::process::ExitCode;
+use tool_lines::{Asked, Keeper, NO_TEXT, file_argument, serve_file, status_of, text_of};
 
 // The program over a file.
 enum Members {}

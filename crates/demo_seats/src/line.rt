@@ -3,9 +3,9 @@ ghost use Rattle.std.specs.Prelude.{◌≤◌};
 
 use crate::seats::{first_taken, guest_on, last_taken, leave, move_to, row, seat_of, take};
 use bimap::{BiHashBTreeMap, NoRoom, NotInsertedWith, Overwritten};
-use tool_lines::{NO_TEXT, number, text_of, wanted, words};
 use std::alloc::{AllocError, Global};
 use std::io;
+use tool_lines::{NO_TEXT, number, text_of, wanted, words};
 
 /// The requests, and what each asks.
 pub const REQUESTS: &str = "take GUEST SEAT - whoever has it loses it

@@ -4,10 +4,10 @@
 mod line;
 mod seats;
 
-use tool_lines::{no_argument, status_of};
 use line::{REQUESTS, Seats, reply};
 use std::io;
 use std::process::ExitCode;
+use tool_lines::{no_argument, status_of};
 
 // Answers all lines, and prints last how many seats are taken.
 fn serve(rt: &HostRuntime) -> io::Result<ExitCode> {

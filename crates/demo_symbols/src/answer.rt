@@ -1,8 +1,8 @@
 //! The answers to lines. It doesn't know how a symbol table keeps its symbols.
 use crate::line::{REQUESTS, Request, parse_line};
 use crate::symbols::{NotInterned, Symbols};
-use tool_lines::wanted;
 use std::io;
+use tool_lines::wanted;
 
 // A name as a text of its own.
 fn owned(rt: &impl AllocGlobal, name: &str) -> io::Result<String> {

@@ -6,11 +6,11 @@ mod line;
 mod symbols;
 
 use answer::answer;
-use tool_lines::{NO_TEXT, no_argument, status_of, text_of};
 use line::REQUESTS;
 use std::io;
 use std::process::ExitCode;
 use symbols::Symbols;
+use tool_lines::{NO_TEXT, no_argument, status_of, text_of};
 
 // Answers all lines.
 fn serve(rt: &HostRuntime) -> io::Result<ExitCode> {

@@ -5,8 +5,8 @@ use crate::session::Session;
 use crate::word::Word;
 use bimap::{BiBTreeHashMap, BiBTreeMap, BiHashBTreeMap, BiHashMap, BiInsertionOrderMap};
 use bimap_calls::{Crowded, Zero};
-use tool_shell_json::{JsonCall, json_call};
 use std::alloc::AllocError;
+use tool_shell_json::{JsonCall, json_call};
 
 /// How a line and an answer name the kinds.
 pub const NAMES: [&str; 6] = [

@@ -27,11 +27,11 @@ mod times;
 mod values;
 mod word;
 
-use tool_lines::{no_argument, status_of};
 use help::HELP;
 use serve::Shell;
 use std::io;
 use std::process::ExitCode;
+use tool_lines::{no_argument, status_of};
 
 // Answers all lines.
 fn answer_lines(rt: &HostRuntime) -> io::Result<ExitCode> {

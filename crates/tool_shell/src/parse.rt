@@ -1,10 +1,10 @@
 //! What a line asks for, read from its words.
 use crate::request::{Memory, On, Request};
 use crate::values::{answer, call, pair, pairs, policy, range, steps, value};
-use tool_shell_json::{numbered, repeated};
-use tool_lines::{unsigned, words as words_in};
 use std::alloc::{AllocError, Global};
 use std::str::SplitAsciiWhitespace;
+use tool_lines::{unsigned, words as words_in};
+use tool_shell_json::{numbered, repeated};
 
 // The words that a call has after its name.
 #[derive(Clone, Copy)]

@@ -3,8 +3,8 @@ use crate::help::HELP;
 use crate::kinds::{Kinds, NAMES};
 use crate::parse::parse;
 use crate::times::times;
-use tool_lines::{after_first, unsigned, words};
 use std::alloc::{AllocError, Global};
+use tool_lines::{after_first, unsigned, words};
 
 /// How much may be said while nothing can be allocated.
 const SAID: usize = 1 << 16;

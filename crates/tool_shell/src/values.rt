@@ -2,11 +2,11 @@
 use crate::request::Step;
 use crate::word::Word;
 use bimap::{Call, OnHeld, Overwritten, Policy};
-use tool_shell_json::numbered;
-use tool_lines::unsigned;
 use std::alloc::{AllocError, Global};
 use std::ops::Bound;
 use std::str::SplitAsciiWhitespace;
+use tool_lines::unsigned;
+use tool_shell_json::numbered;
 
 /// The next word as a value.
 pub fn value(words: &mut SplitAsciiWhitespace<'_>) -> Option<Word> {

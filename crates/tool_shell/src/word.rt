@@ -1,10 +1,10 @@
 //! The values of the shell: words, each with a note that no comparison sees.
 use arrayvec::ArrayString;
 use bimap::NoMemory;
-use tool_lines::number;
 use bimap_undo::CopyLeft;
 use std::alloc::Global;
 use std::fmt;
+use tool_lines::number;
 
 /// A word of up to 16 bytes. Two words are equal, and ordered and hashed, whatever their notes.
 #[derive(Clone, Copy, Drop)]

@@ -1,6 +1,6 @@
 //! Texts with numbers in them.
-use tool_lines::unsigned;
 use std::alloc::{AllocError, Global};
+use tool_lines::unsigned;
 
 /// The text in which the digits of a number stand for each `#`.
 pub fn numbered(alloc: Global, pattern: &str, number: usize) -> Result<String, AllocError> {

@@ -54,7 +54,7 @@ pub fn read_text_with<L: JsonKey + Drop, R: JsonValue + Drop, B: Bijection<L, R>
     requires empty { (B.holding empty).pairs ≡ [] }
     ensures read { ReadsTextUnder L.reads_key R.reads L.eq R.eq B.holding (B.holding empty).room
         text.now policy result }
-    ensures turn { B.appends → IfOk result (λ bimap. (v : Data) × (read_text text.now ≡ Some v)
+    ensures position { B.appends → IfOk result (λ bimap. (v : Data) × (read_text text.now ≡ Some v)
         × FollowEntries L.reads_key R.reads v (B.holding bimap).pairs) }
 {
     check_names(alloc, text, policy)?;

@@ -66,7 +66,7 @@ pub trait JsonObject<L: JsonKey + Drop, R: JsonValue + Drop>: Bijection<L, R> + 
     fn from_value(alloc: Global, value: &Value) -> Result<Self, JsonFault>
         ensures read { ReadsObject L.reads_key R.reads L.eq R.eq Self.holding 0
             (view value.now) result }
-        ensures turn { Self.appends → IfOk result (λ bimap. FollowEntries L.reads_key R.reads
+        ensures position { Self.appends → IfOk result (λ bimap. FollowEntries L.reads_key R.reads
             (view value.now) (Self.holding bimap).pairs) };
 }
 
@@ -104,7 +104,7 @@ pub fn read_into<L: JsonKey + Drop, R: JsonValue + Drop, B: Bijection<L, R> + Dr
     requires empty { (B.holding empty).pairs ≡ [] }
     ensures read { ReadsObject L.reads_key R.reads L.eq R.eq B.holding (B.holding empty).room
         (view value.now) result }
-    ensures turn { B.appends → IfOk result (λ bimap. FollowEntries L.reads_key R.reads
+    ensures position { B.appends → IfOk result (λ bimap. FollowEntries L.reads_key R.reads
         (view value.now) (B.holding bimap).pairs) }
 {
     let policy = Policy {
@@ -130,7 +130,7 @@ pub fn read_into_with<L: JsonKey + Drop, R: JsonValue + Drop, B: Bijection<L, R>
     requires empty { (B.holding empty).pairs ≡ [] }
     ensures read { ReadsObjectUnder L.reads_key R.reads L.eq R.eq B.holding (B.holding empty).room
         (view value.now) policy result }
-    ensures turn { B.appends → IfOk result (λ bimap. FollowEntries L.reads_key R.reads
+    ensures position { B.appends → IfOk result (λ bimap. FollowEntries L.reads_key R.reads
         (view value.now) (B.holding bimap).pairs) }
 {
     let Some(map) = value.as_object() else {

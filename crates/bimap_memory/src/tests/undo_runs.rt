@@ -63,7 +63,7 @@ fn refusals<L: Copy + Eq + Drop, R: Copy + Eq + Drop, B: Bijection<L, R> + Drop>
 }
 
 // The undoing of two pairs wants three growths.
-fn is_refused_in_turn(met: Option<u64>) -> bool {
+fn is_refused_in_order(met: Option<u64>) -> bool {
     met.is_some_and(|met| met >= 3)
 }
 
@@ -76,7 +76,7 @@ fn is_right<B: CopyKind<char, u32>>(alloc: Global, row: &Row<'_, char, u32>) -> 
         return Ok(false);
     }
     let met = refusals(alloc, &mut bimap, entries, &PAIRS, row)?;
-    Ok(is_refused_in_turn(met))
+    Ok(is_refused_in_order(met))
 }
 
 #[test]

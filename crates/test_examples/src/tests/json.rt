@@ -77,9 +77,9 @@ fn writes_seats_and_reads_them_back(rt: HostRuntime) {
     assert!(&rt; reads_back(alloc, ordered(&rt)) == Ok(true));
 }
 
-type Turns = BiInsertionOrderMap<char, u32>;
+type Positions = BiInsertionOrderMap<char, u32>;
 
-fn pairs_written(alloc: Global, seats: &Turns) -> Result<Value, NoMemory> {
+fn pairs_written(alloc: Global, seats: &Positions) -> Result<Value, NoMemory> {
     let value = write_pairs(alloc, seats.iter())?;
     Ok(value)
 }
@@ -97,7 +97,9 @@ fn pairs_keep_their_order(rt: HostRuntime) -> Result<(), Fail> {
         .ok()
         .expect(&rt, "each item reads");
     assert!(&rt; pairs.as_slice() == [('c', 2), ('a', 3)].as_slice());
-    let seats = Turns::from_iter(alloc, pairs).ok().expect(&rt, "memory");
+    let seats = Positions::from_iter(alloc, pairs)
+        .ok()
+        .expect(&rt, "memory");
     let written = pairs_written(alloc, &seats).expect(&rt, "memory");
     let text = written.to_string(alloc).expect(&rt, "memory");
     assert!(&rt; text.as_str() == r#"[["c",2],["a",3]]"#);

@@ -2,9 +2,9 @@ use Rattle.std.proofs.Common.{append-nil, ◌≡◌, ◌∙◌, refl, sym, subst
 use Rattle.std.proofs.lemmas.List.{length_push}
 use Rattle.bimap_base.specs.Extension.{IsExtensionStoppedUnder}
 use Rattle.bimap_base.specs.Holding.{IsFull}
-use Rattle.bimap_base.specs.Turns.{ComeInTurn}
+use Rattle.bimap_base.specs.Positions.{ComeInOrder}
 use Rattle.bimap_base.proofs.Extending.{ArePutIn, put_in_none, put_in_more, put_in_full, refusal_along}
-use Rattle.bimap_base.proofs.Turns.{in_turn_more}
+use Rattle.bimap_base.proofs.Positions.{in_order_more}
 use Rattle.bimap_base.proofs.fill.extend_with.Goals as goal
 use Rattle.bimap_base.proofs.fill.extend_with.Goals.{In-Err}
 
@@ -31,7 +31,7 @@ loop-left-preserved g c =
       ends = p.1;
       taken = omega (arith, more, c.saturating_add-taken.ensures, i.taken);
       lenders = c.in-Ok.ensures.lenders ∙ i.lenders;
-      in_turn = λ appends. in_turn_more _ c.loop-left.yielded _ (c.in-Some.left, c.in-Some.right) c.in-Ok.answer _ i.put_in.no_longer (i.in_turn appends) e.count (c.in-Ok.ensures.turn appends);
+      in_turn = λ appends. in_order_more _ c.loop-left.yielded _ (c.in-Some.left, c.in-Some.right) c.in-Ok.answer _ i.put_in.no_longer (i.in_turn appends) e.count (c.in-Ok.ensures.position appends);
       put_in = put_in_more g.L.PartialEq.eq g.R.PartialEq.eq (g.B.Bijection.holding c.args.bimap.now) c.loop-left.yielded c.args.policy (g.B.Bijection.holding c.loop-left.bimap) (c.in-Some.left, c.in-Some.right) c.in-Ok.answer (g.B.Bijection.holding c.insert_with.new.self)
           g.met.L.Eq.laws g.met.R.Eq.laws (g.met.B.Bijection.apart c.loop-left.bimap) (g.met.B.Bijection.apart c.insert_with.new.self) (g.met.B.Bijection.fits c.loop-left.bimap) i.put_in e.allowed e.answer e.put e.room;
     }
@@ -72,12 +72,12 @@ stopped g c =
 pub returns-in-Err-clause-stopped : goal.returns-in-Err-clause-stopped
 returns-in-Err-clause-stopped g c = (stopped g ((goal.at.returns-in-Err-clause-stopped g c).In-Err)).0
 
-pub returns-in-Err-clause-turn_stopped : goal.returns-in-Err-clause-turn_stopped
-returns-in-Err-clause-turn_stopped g c appends =
+pub returns-in-Err-clause-position_stopped : goal.returns-in-Err-clause-position_stopped
+returns-in-Err-clause-position_stopped g c appends =
     let first = g.B.Bijection.holding c.args.bimap.now in
     let i = c.loop-left.invariant in
-    let stop = stopped g ((goal.at.returns-in-Err-clause-turn_stopped g c).In-Err) in
-    (stop.0, subst (λ items. ComeInTurn first.pairs items (g.B.Bijection.holding c.insert_with.new.self).pairs) (sym stop.1) (subst (λ held. ComeInTurn first.pairs c.loop-left.yielded held.pairs) (sym c.in-Err.ensures.answer.unchanged) (i.in_turn appends)))
+    let stop = stopped g ((goal.at.returns-in-Err-clause-position_stopped g c).In-Err) in
+    (stop.0, subst (λ items. ComeInOrder first.pairs items (g.B.Bijection.holding c.insert_with.new.self).pairs) (sym stop.1) (subst (λ held. ComeInOrder first.pairs c.loop-left.yielded held.pairs) (sym c.in-Err.ensures.answer.unchanged) (i.in_turn appends)))
 
 pub returns-clause-extended : goal.returns-clause-extended
 returns-clause-extended g c =
@@ -98,7 +98,7 @@ returns-clause-extended g c =
 pub returns-in-Err-clause-extended : goal.returns-in-Err-clause-extended
 returns-in-Err-clause-extended g c = search
 
-pub returns-clause-turn : goal.returns-clause-turn
-returns-clause-turn g c appends =
+pub returns-clause-position : goal.returns-clause-position
+returns-clause-position g c appends =
     let it = c.into_iter-left-iterator in
     record { iterator = it.result; items = c.loop-left.yielded; given = it.ensures.into_iter_gives; all = search rules; in_turn = c.loop-left.invariant.in_turn appends }

@@ -2,7 +2,7 @@ use Rattle.std.proofs.Common.{inl, inr, refl, arith, Contains}
 use Rattle.bimap_base.proofs.Members.{lacking}
 use Rattle.bimap_base.proofs.Removals.{removing_left}
 use Rattle.bimap_base.proofs.Replacing.{none_shares_left, replaced, missing}
-use Rattle.bimap_base.proofs.Turns.{stands_last}
+use Rattle.bimap_base.proofs.Positions.{stands_last}
 use Rattle.bimap_base.proofs.replace.replace_left.Goals.{else-ne-via-then-ne+else-contains_left, else-ne-via-else-ne}
 use Rattle.bimap_base.proofs.replace.replace_left.Goals as goal
 
@@ -14,8 +14,8 @@ returns-clause-answer g c =
     replaced (λ p. p.0) (λ p. p.1) (λ l r. (l, r)) g.L.PartialEq.eq g.L.PartialEq.eq g.R.PartialEq.eq g.met.L.Eq.laws g.met.R.Eq.laws g.met.L.Eq.laws (removing_left g.L.PartialEq.eq g.R.PartialEq.eq g.met.L.Eq.laws g.met.R.Eq.laws) (none_shares_left g.L.PartialEq.eq g.R.PartialEq.eq g.met.L.Eq.laws g.met.R.Eq.laws) _ _ _ (g.met.B.Bijection.apart c.args.bimap.now) (g.met.B.Bijection.fits c.args.bimap.now) _ c.args.from.now c.args.to (c.in-Some.left, c.in-Some.right) refl (rw c.in-Some.is at c.remove_by_left.ensures.answer.removed) c.remove_by_left.ensures.answer.without (rw c.in-Some.is at c.remove_by_left.ensures.answer.count) c.remove_by_left.ensures.answer.room
     (elim c.else-ne.branch [ else-ne-via-then-ne+else-contains_left w ↦ inl (lacking (Contains (g.B.Bijection.holding c.args.bimap.now).pairs) (λ (p : g.row.L.Denot × g.row.R.Denot). g.L.PartialEq.eq p.0 c.args.to) w.if-contains_left.ensures) | else-ne-via-else-ne w ↦ inr w.if-ne.ensures ]) (rw c.in-Ok.is at c.insert.ensures.answer)
 
-pub returns-clause-turn : goal.returns-clause-turn
-returns-clause-turn g c appends =
+pub returns-clause-position : goal.returns-clause-position
+returns-clause-position g c appends =
     let answer = returns-clause-answer g c in
     let inserted = rw c.in-Ok.is at c.insert.ensures.answer.count in
     let removed = rw c.in-Some.is at c.remove_by_left.ensures.answer.count in
@@ -23,8 +23,8 @@ returns-clause-turn g c appends =
       other = c.in-Some.right;
       last = record {
         rest = (g.B.Bijection.holding c.remove_by_left.new.self).pairs;
-        out = rw c.in-Some.is at c.remove_by_left.ensures.turn appends;
-        last = stands_last _ (c.args.to, c.in-Some.right) c.in-Ok.field-0 _ (omega (arith, answer.count, inserted, removed)) (rw c.in-Ok.is at c.insert.ensures.turn appends);
+        out = rw c.in-Some.is at c.remove_by_left.ensures.position appends;
+        last = stands_last _ (c.args.to, c.in-Some.right) c.in-Ok.field-0 _ (omega (arith, answer.count, inserted, removed)) (rw c.in-Ok.is at c.insert.ensures.position appends);
       };
     }
 

@@ -3,7 +3,7 @@ use Rattle.bimap_base.proofs.Counts.{none_named}
 use Rattle.bimap_base.proofs.Members.{lacking}
 use Rattle.bimap_base.proofs.Removals.{removing_left}
 use Rattle.bimap_base.proofs.Swapping.{swapped_with_itself, first_fits, second_fits, swapped}
-use Rattle.bimap_base.proofs.Turns.{two_last}
+use Rattle.bimap_base.proofs.Positions.{two_last}
 use Rattle.bimap_base.proofs.swap.swap_partners.Goals as goal
 
 pub returns-then-not-contains_left-clause-answer : goal.returns-then-not-contains_left-clause-answer
@@ -67,8 +67,8 @@ returns-clause-answer g c =
       room = two.room.had_place (omega (arith, g.met.B.Bijection.fits c.args.bimap.now, shorter, shortest, named, one.count, room_one)) ∙ room_one;
     }
 
-pub returns-clause-turn : goal.returns-clause-turn
-returns-clause-turn g c appends differ =
+pub returns-clause-position : goal.returns-clause-position
+returns-clause-position g c appends differ =
     let p = c.in-Some.first in
     let q = c.in-Some-remove_by_left.second in
     let shorter = rw c.in-Some.is at c.remove_by_left.ensures.answer.count in
@@ -83,7 +83,7 @@ returns-clause-turn g c appends differ =
       by_other = (rw c.in-Some-remove_by_left.is at c.remove_by_left-2.ensures.answer.removed).1;
       less = (g.B.Bijection.holding c.remove_by_left.new.self).pairs;
       rest = (g.B.Bijection.holding c.remove_by_left-2.new.self).pairs;
-      first_out = rw c.in-Some.is at c.remove_by_left.ensures.turn appends;
-      second_out = rw c.in-Some-remove_by_left.is at c.remove_by_left-2.ensures.turn appends;
-      last = two_last _ (q.0, p.1) (p.0, q.1) c.in-Ok-Ok.field-0-0 c.in-Ok-Ok.field-0-1 _ _ (omega (arith, answer.count, shorter, shortest, one, two)) (rw c.in-Ok-Ok.is-0 at c.insert.ensures.turn appends) (rw c.in-Ok-Ok.is-1 at c.insert-2.ensures.turn appends);
+      first_out = rw c.in-Some.is at c.remove_by_left.ensures.position appends;
+      second_out = rw c.in-Some-remove_by_left.is at c.remove_by_left-2.ensures.position appends;
+      last = two_last _ (q.0, p.1) (p.0, q.1) c.in-Ok-Ok.field-0-0 c.in-Ok-Ok.field-0-1 _ _ (omega (arith, answer.count, shorter, shortest, one, two)) (rw c.in-Ok-Ok.is-0 at c.insert.ensures.position appends) (rw c.in-Ok-Ok.is-1 at c.insert-2.ensures.position appends);
     }

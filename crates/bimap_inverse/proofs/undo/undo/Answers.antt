@@ -2,7 +2,7 @@ use Rattle.std.proofs.Common.{inl, arith, refl}
 use Rattle.std.proofs.lemmas.List.{length-map}
 use Rattle.bimap_base.specs.Inverse.{inverse_pair}
 use Rattle.bimap_base.proofs.Fits.{names_one}
-use Rattle.bimap_inverse.specs.Turned.{inverse_holding}
+use Rattle.bimap_inverse.specs.Exchanged.{inverse_holding}
 use Rattle.bimap_inverse.proofs.Inserted.{room_inverse}
 use Rattle.bimap_inverse.proofs.Undone.{one_back, two_back, named_free, second_free}
 use Rattle.bimap_inverse.proofs.undo.undo.Goals as goal

@@ -4,7 +4,7 @@ use Rattle.bimap_tree.proofs.descent.step_in_tree.Goals as goal
 
 pub returns-clause-goes : goal.returns-clause-goes
 returns-clause-goes g c =
-    let on = goes_down _ _ _ _ _ _ _ _ _ (goes_top _ _ _ _ _ _) _ c.in-Some-false.is-0 _ c.cell-cell.ensures.node _ (wants _ _ _ _ c.ordering-ordering.ensures.ordering c.is_eq.ensures c.if-is_eq.false c.is_lt-turn.ensures) _ c.child-descent.ensures c.note.new.self c.note.ensures.noted in
+    let on = goes_down _ _ _ _ _ _ _ _ _ (goes_top _ _ _ _ _ _) _ c.in-Some-false.is-0 _ c.cell-cell.ensures.node _ (wants _ _ _ _ c.ordering-ordering.ensures.ordering c.is_eq.ensures c.if-is_eq.false c.is_lt-direction.ensures) _ c.child-descent.ensures c.note.new.self c.note.ensures.noted in
     goes_end _ _ _ _ _ _ _ _ _ on _ refl _ refl
 
 pub returns-then-is_eq-clause-comparisons : goal.returns-then-is_eq-clause-comparisons

@@ -21,7 +21,7 @@ pub link-requires : goal.link-requires
 link-requires g c =
     let (a, b, u) = upper_of _ _ _ _ _ _ _ _ _ c.requires.2 c.requires.3 c.requires.5 c.read-upper.ensures.node c.children-outer_root.ensures.near c.children-outer_root.ensures.far in
     let inner = c.measure-inner.ensures.measured b u.inner_stands in
-    (a, branch c.args.turn b c.args.place c.requires.1, (single_second _ _ _ _ a b _ u.can u.two _ (c.link-lower.ensures.linked b _ inner c.requires.4)).link, c.measure-outer.ensures.measured a u.outer_stands, c.link-lower.ensures.measured b _ inner c.requires.4)
+    (a, branch c.args.direction b c.args.place c.requires.1, (single_second _ _ _ _ a b _ u.can u.two _ (c.link-lower.ensures.linked b _ inner c.requires.4)).link, c.measure-outer.ensures.measured a u.outer_stands, c.link-lower.ensures.measured b _ inner c.requires.4)
 
 pub returns-then-inner-outer-clause-tree : goal.returns-then-inner-outer-clause-tree
 returns-then-inner-outer-clause-tree g c n f h root light two =
@@ -41,7 +41,7 @@ read-parts-requires g c =
 
 -- the inner tree is the higher one, and has two trees of its own
 the_inner : (g : Over) (c : After-children-near_root g) (n f : Tree) → CanRebalance c.args.cells.now c.args.place n f → root_of n ≡ Some c.args.heavy → height n ≡ height f + 2
-    → (a : Tree) × (b : Tree) × (d : Tree) × Inner c.args.turn c.args.cells.now c.args.place c.args.heavy n f c.in-Some.middle c.children-outer_root.result.0 c.children-near_root.result.0 c.children-near_root.result.1 a b d
+    → (a : Tree) × (b : Tree) × (d : Tree) × Inner c.args.direction c.args.cells.now c.args.place c.args.heavy n f c.in-Some.middle c.children-outer_root.result.0 c.children-near_root.result.0 c.children-near_root.result.1 a b d
 the_inner g c n f h root two =
     let (a, x, u) = upper_of _ _ _ _ n f _ _ _ h root two c.read-upper.ensures.node c.children-outer_root.ensures.near c.children-outer_root.ensures.far in
     let outer = c.measure-outer.ensures.measured a u.outer_stands in

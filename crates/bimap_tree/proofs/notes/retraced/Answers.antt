@@ -14,7 +14,7 @@ cell-requires g c = retraces_within _ _ _ _ _ _ c.loop-depth.invariant.retraces 
 pub loop-depth-preserved : goal.loop-depth-preserved
 loop-depth-preserved g c =
     record {
-      retraces = retraces_on _ _ _ _ _ _ c.loop-depth.invariant.retraces (omega (arith, c.depth.ensures)) _ c.in-Some.is _ c.cell.ensures.node _ c.step-turn.ensures _ c.child-root.ensures _ c.note.ensures.noted refl;
+      retraces = retraces_on _ _ _ _ _ _ c.loop-depth.invariant.retraces (omega (arith, c.depth.ensures)) _ c.in-Some.is _ c.cell.ensures.node _ c.step-direction.ensures _ c.child-root.ensures _ c.note.ensures.noted refl;
       length = c.note.ensures.depth ∙ c.loop-depth.invariant.length;
       compared = omega arith;
       touched = omega arith;

@@ -23,12 +23,12 @@ overflow_add-result g c = omega (arith, (counts _ _ _ _ _ _ _ _ c.requires.3).0,
 pub returns-then-child-node-clause-tree : goal.returns-then-child-node-clause-tree
 returns-then-child-node-clause-tree g c sister s u h child =
     let written = c.recount.ensures.written _ h.node_is
-    ∙ ap (λ b. slice_set c.args.cells.now c.args.at (recounted c.args.turn c.args.child.root b c.args.node)) (sym c.if-grew.true) in
+    ∙ ap (λ b. slice_set c.args.cells.now c.args.at (recounted c.args.direction c.args.child.root b c.args.node)) (sym c.if-grew.true) in
     let r = low _ _ _ _ _ sister s u h _ child.root_is _ written c.if-grew.true (omega (arith, child.height_is, c.if-child-node.true)) in
-    let measured : Measures _ (branch c.args.turn u c.args.at sister) = record {
+    let measured : Measures _ (branch c.args.direction u c.args.at sister) = record {
       root_is = root-branch _ _ _ _;
       height_is = as_told _ _ _ _ _ sister s u h ∙ sym r.as_high;
-      size_is = omega (arith, size-branch c.args.turn u c.args.at sister, ap one_if c.if-grew.true, ap (λ b. one_if (not b)) c.if-grew.true);
+      size_is = omega (arith, size-branch c.args.direction u c.args.at sister, ap one_if c.if-grew.true, ap (λ b. one_if (not b)) c.if-grew.true);
     } in
     (_, measured, r.linked, moved _ _ _ _ _ sister s u h _ _ r.linked)
 

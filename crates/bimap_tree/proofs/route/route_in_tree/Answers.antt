@@ -3,7 +3,7 @@ use Rattle.bimap_tree.proofs.Descents.{costs_none, costs_on, costs_last, costs_e
 use Rattle.bimap_tree.specs.Notes.{step_at}
 use Rattle.bimap_tree.proofs.Removes.{no_child}
 use Rattle.bimap_tree.proofs.route.route_in_tree.Goals as goal
-use Rattle.bimap_tree.proofs.route.route_in_tree.Goals.{in-Some+then-is_eq, in-Some+else-is_eq+then-is_far+then-turn+then-is_none, in_default}
+use Rattle.bimap_tree.proofs.route.route_in_tree.Goals.{in-Some+then-is_eq, in-Some+else-is_eq+then-is_far+then-direction+then-is_none, in_default}
 
 pub loop-root-init : goal.loop-root-init
 loop-root-init g c = record { goes = goes_top _ _ _ _ _ _; compared = costs_none _ _ 1 _; touched = costs_none _ _ 1 _ }
@@ -20,10 +20,10 @@ note-requires g c = goes_deep _ _ _ _ _ _ _ _ _ c.loop-root.invariant.goes _ c.i
 pub overflow_add-depth : goal.overflow_add-depth
 overflow_add-depth g c = omega (arith, goes_deep _ _ _ _ _ _ _ _ _ c.loop-root.invariant.goes _ c.in-Some.is _ c.cell-cell.ensures.node _ _ c.requires.2)
 
-pub loop-root-preserved-then-turn : goal.loop-root-preserved-then-turn
-loop-root-preserved-then-turn g c =
+pub loop-root-preserved-then-direction : goal.loop-root-preserved-then-direction
+loop-root-preserved-then-direction g c =
     record {
-      goes = goes_right _ _ _ _ _ _ _ _ _ c.loop-root.invariant.goes _ c.in-Some.is _ c.cell-cell.ensures.node _ c.if-turn.true (is_less _ _ _ c.ordering-ordering.ensures.ordering c.is_lt-turn.ensures c.if-turn.true) _ c.child-root.ensures _ c.note.ensures.noted;
+      goes = goes_right _ _ _ _ _ _ _ _ _ c.loop-root.invariant.goes _ c.in-Some.is _ c.cell-cell.ensures.node _ c.if-direction.true (is_less _ _ _ c.ordering-ordering.ensures.ordering c.is_lt-direction.ensures c.if-direction.true) _ c.child-root.ensures _ c.note.ensures.noted;
       compared = costs_on _ _ _ _ _ _ c.loop-root.invariant.compared _ c.in-Some.is _ c.cell-cell.ensures.node true _ c.child-root.ensures _ (omega arith);
       touched = costs_on _ _ _ _ _ _ c.loop-root.invariant.touched _ c.in-Some.is _ c.cell-cell.ensures.node true _ c.child-root.ensures _ (omega arith);
     }
@@ -34,7 +34,7 @@ loop-root-smaller g c = falls _ _ _ _ _ _ c.loop-root.invariant.touched _ c.in-S
 pub loop-root-preserved : goal.loop-root-preserved
 loop-root-preserved g c =
     record {
-      goes = goes_down _ _ _ _ _ _ _ _ _ c.loop-root.invariant.goes _ c.in-Some.is _ c.cell-cell.ensures.node _ (wants _ _ _ _ c.ordering-ordering.ensures.ordering c.is_eq.ensures c.if-is_eq.false c.is_lt-turn.ensures) _ c.child-root-else-is_far.ensures _ c.note.ensures.noted;
+      goes = goes_down _ _ _ _ _ _ _ _ _ c.loop-root.invariant.goes _ c.in-Some.is _ c.cell-cell.ensures.node _ (wants _ _ _ _ c.ordering-ordering.ensures.ordering c.is_eq.ensures c.if-is_eq.false c.is_lt-direction.ensures) _ c.child-root-else-is_far.ensures _ c.note.ensures.noted;
       compared = costs_on _ _ _ _ _ _ c.loop-root.invariant.compared _ c.in-Some.is _ c.cell-cell.ensures.node _ _ c.child-root-else-is_far.ensures _ (omega arith);
       touched = costs_on _ _ _ _ _ _ c.loop-root.invariant.touched _ c.in-Some.is _ c.cell-cell.ensures.node _ _ c.child-root-else-is_far.ensures _ (omega arith);
     }
@@ -48,8 +48,8 @@ returns g c =
         comparisons = λ t h. omega (arith, ap g.M.Meter.comparisons w.meter-is, costs_last _ _ _ _ _ _ c.loop-root.invariant.compared _ w.in-Some.is _ w.cell-cell.ensures.node true (g.M.Meter.comparisons w.ordering-ordering.new.meter) (omega arith) t h);
         touches = λ t h. omega (arith, ap g.M.Meter.touches w.meter-is, costs_last _ _ _ _ _ _ c.loop-root.invariant.touched _ w.in-Some.is _ w.cell-cell.ensures.node true (g.M.Meter.touches w.ordering-ordering.new.meter) (omega arith) t h);
       }
-      | in-Some+else-is_eq+then-is_far+then-turn+then-is_none w ↦
-          let on = goes_right _ _ _ _ _ _ _ _ _ c.loop-root.invariant.goes _ w.in-Some.is _ w.cell-cell.ensures.node _ w.if-turn.true (is_less _ _ _ w.ordering-ordering.ensures.ordering w.is_lt-turn.ensures w.if-turn.true) _ w.child-root.ensures w.note.new.self w.note.ensures.noted in
+      | in-Some+else-is_eq+then-is_far+then-direction+then-is_none w ↦
+          let on = goes_right _ _ _ _ _ _ _ _ _ c.loop-root.invariant.goes _ w.in-Some.is _ w.cell-cell.ensures.node _ w.if-direction.true (is_less _ _ _ w.ordering-ordering.ensures.ordering w.is_lt-direction.ensures w.if-direction.true) _ w.child-root.ensures w.note.new.self w.note.ensures.noted in
           let none = no_child _ _ w.is_none.ensures w.if-is_none.true in
           record {
             found = λ path s h. w.root-is ∙ none ∙ goes_none _ _ _ _ _ _ _ _ _ on none path s h;

@@ -22,10 +22,10 @@ returns-then-is_eq-clause-comparisons g c t h = omega (arith, costs_last _ _ _ _
 pub returns-then-is_eq-clause-touches : goal.returns-then-is_eq-clause-touches
 returns-then-is_eq-clause-touches g c t h = omega (arith, costs_last _ _ _ _ _ _ c.loop-root.invariant.touched _ c.in-Some.is _ c.cell-cell.ensures.node true (g.M.Meter.touches c.compare-ordering.new.meter) (omega arith) t h)
 
-pub loop-root-preserved-then-turn : goal.loop-root-preserved-then-turn
-loop-root-preserved-then-turn g c =
+pub loop-root-preserved-then-direction : goal.loop-root-preserved-then-direction
+loop-root-preserved-then-direction g c =
     record {
-      finds = finds_on _ _ _ _ _ c.loop-root.invariant.finds _ c.in-Some.is _ c.cell-cell.ensures.node true (is_less _ _ _ c.compare-ordering.ensures.answer c.is_lt-turn.ensures c.if-turn.true) _ c.child-root.ensures;
+      finds = finds_on _ _ _ _ _ c.loop-root.invariant.finds _ c.in-Some.is _ c.cell-cell.ensures.node true (is_less _ _ _ c.compare-ordering.ensures.answer c.is_lt-direction.ensures c.if-direction.true) _ c.child-root.ensures;
       compared = costs_on _ _ _ _ _ _ c.loop-root.invariant.compared _ c.in-Some.is _ c.cell-cell.ensures.node true _ c.child-root.ensures _ (omega arith);
       touched = costs_on _ _ _ _ _ _ c.loop-root.invariant.touched _ c.in-Some.is _ c.cell-cell.ensures.node true _ c.child-root.ensures _ (omega arith);
     }
@@ -36,14 +36,14 @@ loop-root-smaller g c = falls _ _ _ _ _ _ c.loop-root.invariant.touched _ c.in-S
 pub loop-root-preserved : goal.loop-root-preserved
 loop-root-preserved g c =
     record {
-      finds = finds_on _ _ _ _ _ c.loop-root.invariant.finds _ c.in-Some.is _ c.cell-cell.ensures.node _ (wants _ _ _ _ c.compare-ordering.ensures.answer c.is_eq.ensures c.if-is_eq.false c.is_lt-turn.ensures) _ c.child-root-else-is_far.ensures;
+      finds = finds_on _ _ _ _ _ c.loop-root.invariant.finds _ c.in-Some.is _ c.cell-cell.ensures.node _ (wants _ _ _ _ c.compare-ordering.ensures.answer c.is_eq.ensures c.if-is_eq.false c.is_lt-direction.ensures) _ c.child-root-else-is_far.ensures;
       compared = costs_on _ _ _ _ _ _ c.loop-root.invariant.compared _ c.in-Some.is _ c.cell-cell.ensures.node _ _ c.child-root-else-is_far.ensures _ (omega arith);
       touched = costs_on _ _ _ _ _ _ c.loop-root.invariant.touched _ c.in-Some.is _ c.cell-cell.ensures.node _ _ c.child-root-else-is_far.ensures _ (omega arith);
     }
 
 pub returns-then-is_none-clause-found : goal.returns-then-is_none-clause-found
 returns-then-is_none-clause-found g c =
-    let on = finds_on _ _ _ _ _ c.loop-root.invariant.finds _ c.in-Some.is _ c.cell-cell.ensures.node true (is_less _ _ _ c.compare-ordering.ensures.answer c.is_lt-turn.ensures c.if-turn.true) _ c.child-root.ensures in
+    let on = finds_on _ _ _ _ _ c.loop-root.invariant.finds _ c.in-Some.is _ c.cell-cell.ensures.node true (is_less _ _ _ c.compare-ordering.ensures.answer c.is_lt-direction.ensures c.if-direction.true) _ c.child-root.ensures in
     finds_none _ _ _ _ _ on (no_child _ _ c.is_none.ensures c.if-is_none.true)
 
 pub returns-then-is_none-clause-comparisons : goal.returns-then-is_none-clause-comparisons

@@ -5,7 +5,7 @@ use Rattle.serde_json.specs.View.{members_view, view}
 use Rattle.bimap.specs.JsonReading.{Reads, ReadsNothing, ReadsSomething}
 use Rattle.bimap.specs.JsonObjects.{Entry, ReadsAs, StopsUnder, entries_of}
 use Rattle.bimap.proofs.JsonEntries.{map_has}
-use Rattle.bimap.proofs.JsonReading.{IsReading, IsReadInTurn, in_turn_first, in_turn_more, in_turn_done, reading_first, reading_more, reading_stops, reading_done, left_kept, right_kept}
+use Rattle.bimap.proofs.JsonReading.{IsReading, IsReadInOrder, in_order_first, in_order_more, in_order_done, reading_first, reading_more, reading_stops, reading_done, left_kept, right_kept}
 use Rattle.bimap.proofs.value.object.read_into_with.Goals.{In-Ok, In-Some-next}
 use Rattle.bimap.proofs.value.object.read_into_with.Goals as goal
 
@@ -16,7 +16,7 @@ read_key g c = subst (λ t. g.L.JsonKey.reads_key t c.in-Ok.left) c.as_str.ensur
 pub loop-key-init : goal.loop-key-init
 loop-key-init g c = record {
   reading = reading_first g.L.JsonKey.reads_key g.R.JsonValue.reads g.L.PartialEq.eq g.R.PartialEq.eq c.args.policy (entries_of (members_view c.iter-entries.result)) (g.B.Bijection.holding c.args.empty) c.requires.empty;
-  in_turn = λ _. in_turn_first g.L.JsonKey.reads_key g.R.JsonValue.reads _ _ c.requires.empty;
+  in_turn = λ _. in_order_first g.L.JsonKey.reads_key g.R.JsonValue.reads _ _ c.requires.empty;
   counted = omega arith;
 }
 
@@ -35,8 +35,8 @@ loop-key-preserved g c =
       reading = reading_more key val g.L.PartialEq.eq g.R.PartialEq.eq c.args.policy all (entries_of (members_view c.next.new.self)) (string_bytes c.in-Some-next.key.now, view c.in-Some-next.value.now) places held (g.B.Bijection.holding c.insert_with.new.self) c.loop-key.at p c.in-Ok-insert_with.struck
           (subst (λ l. IsReading key val g.L.PartialEq.eq g.R.PartialEq.eq c.args.policy all (entries_of (members_view l)) places held c.loop-key.at) c.in-Some-next.ensures.steps i.reading)
           one (g.met.B.Bijection.apart c.loop-key.bimap) (g.met.B.Bijection.fits c.loop-key.bimap) insertion.answer;
-      in_turn = λ appends. in_turn_more key val all (entries_of (members_view c.next.new.self)) _ held.pairs _ p c.in-Ok-insert_with.struck
-          (subst (λ l. IsReadInTurn key val all (entries_of (members_view l)) held.pairs) c.in-Some-next.ensures.steps (i.in_turn appends)) one insertion.answer.count (insertion.turn appends);
+      in_turn = λ appends. in_order_more key val all (entries_of (members_view c.next.new.self)) _ held.pairs _ p c.in-Ok-insert_with.struck
+          (subst (λ l. IsReadInOrder key val all (entries_of (members_view l)) held.pairs) c.in-Some-next.ensures.steps (i.in_turn appends)) one insertion.answer.count (insertion.position appends);
       counted = omega (arith, ap length c.in-Some-next.ensures.steps, i.counted);
     }
 
@@ -101,7 +101,7 @@ returns g c =
     record {
       read = reading_done key val g.L.PartialEq.eq g.R.PartialEq.eq c.args.policy (view c.args.value.now) all places held c.loop-key.at has
           (subst (λ l. IsReading key val g.L.PartialEq.eq g.R.PartialEq.eq c.args.policy all (entries_of (members_view l)) places held c.loop-key.at) none i.reading);
-      turn = λ appends. in_turn_done key val (view c.args.value.now) all held.pairs has (subst (λ l. IsReadInTurn key val all (entries_of (members_view l)) held.pairs) none (i.in_turn appends));
+      position = λ appends. in_order_done key val (view c.args.value.now) all held.pairs has (subst (λ l. IsReadInOrder key val all (entries_of (members_view l)) held.pairs) none (i.in_turn appends));
     }
 
 pub returns-in-Err-LeftHeld-clause-read : goal.returns-in-Err-LeftHeld-clause-read

@@ -14,10 +14,10 @@ counted-requires g c =
     let few : length c.args.self.now < g.C.Cell.most = omega (arith, c.self.invariant, ap length c.self.view_is, length-map c.self.inside.cells.items g.C.Cell.node_in) in
     let (n, told, can) = c.requires.count in
     let is = read-mapped g.C.Cell.node_in _ _ _ _ n c.index.ensures c.self.view_is told in
-    let kept = c.linked.ensures ∙ ap (λ z. linked c.args.turn c.args.child z) is in
+    let kept = c.linked.ensures ∙ ap (λ z. linked c.args.direction c.args.child z) is in
     (_, few, record { more = λ e. omega (arith, can.more e, ap (λ z. z.size) kept); less = λ e. omega (arith, can.less e, ap (λ z. z.size) kept) })
 
 pub returns-clause-written : goal.returns-clause-written
 returns-clause-written g c n told =
     let is = read-mapped g.C.Cell.node_in _ _ _ _ n c.index.ensures c.self.view_is told in
-    map-written g.C.Cell.node_in _ _ _ _ _ c.self.view_is (c.counted.ensures ∙ ap (λ z. counted c.args.grew z) (c.linked.ensures ∙ ap (λ z. linked c.args.turn c.args.child z) is))
+    map-written g.C.Cell.node_in _ _ _ _ _ c.self.view_is (c.counted.ensures ∙ ap (λ z. counted c.args.grew z) (c.linked.ensures ∙ ap (λ z. linked c.args.direction c.args.child z) is))

@@ -12,4 +12,4 @@ linked-requires g c =
 pub returns-clause-written : goal.returns-clause-written
 returns-clause-written g c n told =
     let is = read-mapped g.C.Cell.node_in _ _ _ _ n c.index.ensures c.self.view_is told in
-    map-written g.C.Cell.node_in _ _ _ _ _ c.self.view_is (c.linked.ensures ∙ ap (λ z. linked c.args.turn c.args.child z) is)
+    map-written g.C.Cell.node_in _ _ _ _ _ c.self.view_is (c.linked.ensures ∙ ap (λ z. linked c.args.direction c.args.child z) is)

@@ -2,7 +2,7 @@ use Rattle.std.proofs.Common.{◌≡◌, ◌∙◌, ◌++◌, ◌∷◌, [], ap,
 use Rattle.bimap_base.specs.Slots.{pair_at}
 use Rattle.bimap_core.proofs.Inserted.{on_err}
 use Rattle.bimap_core.proofs.Places.{held_at}
-use Rattle.bimap_core.proofs.Turns.{free_absent, pairs_kept, shown_last, the_walk}
+use Rattle.bimap_core.proofs.Positions.{free_absent, pairs_kept, shown_last, the_walk}
 use Rattle.bimap_core.proofs.Interned.{nothing, found_held, lacks_held, refused_occupied, refused_for_memory, interned_new}
 use Rattle.bimap_core.proofs.table.Table.get_by_left_or_insert.Goals as goal
 
@@ -49,16 +49,16 @@ returns-in-Some-clause-comparisons g c = search rules
 pub returns-in-Some-clause-touches : goal.returns-in-Some-clause-touches
 returns-in-Some-clause-touches g c = search rules
 
-pub returns-in-Some-clause-turn : goal.returns-in-Some-clause-turn
-returns-in-Some-clause-turn g c appends lacks =
+pub returns-in-Some-clause-position : goal.returns-in-Some-clause-position
+returns-in-Some-clause-position g c appends lacks =
     let slots = c.args.self.now.pairs in
     let pair : g.row.L.Denot × g.row.R.Denot = (c.in-Some-at.field-0-0.now, c.in-Some-at.held.now) in
     let there : pair_at slots c.in-Some.place ≡ Some pair = sym (rw c.in-Some-at.is at c.at.ensures) in
     let equal = rw there at (rw c.in-Some.is at c.finish_left.ensures.found.here) in
     absurd (true≢false (sym equal ∙ lacks pair (held_at slots c.in-Some.place pair there)))
 
-pub returns-clause-turn : goal.returns-clause-turn
-returns-clause-turn g c appends lacks =
+pub returns-clause-position : goal.returns-clause-position
+returns-clause-position g c appends lacks =
     let table = c.make_room.new.self in
     let walk = the_walk (λ p. p.0) g.I.Index.is_listing g.I.Index.places g.met.I.Index.listed g.met.I.Index.distinct g.met.I.Index.settled table.pairs table.left table.left_listing in
     rw c.put-place.ensures.pairs

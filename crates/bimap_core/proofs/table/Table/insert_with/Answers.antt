@@ -3,7 +3,7 @@ use Rattle.bimap_base.specs.PairsAt.{pairs_at}
 use Rattle.bimap_base.proofs.Room.{room_stays}
 use Rattle.bimap_core.proofs.Places.{apart_at_places, key_lacking}
 use Rattle.bimap_core.proofs.Inserted.{may, must, on_err, left_held, right_held, refused_memory, put_new, put_left, put_right, put_pair, put_both}
-use Rattle.bimap_core.proofs.Turns.{free_absent, live_listed, pairs_kept, shown_anew, shown_instead, shown_last, shown_without, the_walk}
+use Rattle.bimap_core.proofs.Positions.{free_absent, live_listed, pairs_kept, shown_anew, shown_instead, shown_last, shown_without, the_walk}
 use Rattle.bimap_core.proofs.table.Table.insert_with.Goals as goal
 
 pub returns-then-keeps-clause-answer : goal.returns-then-keeps-clause-answer
@@ -80,37 +80,37 @@ finish_left-by_left-requires g c = record { under_way = search }
 pub returns-then-keeps-clause-comparisons : goal.returns-then-keeps-clause-comparisons
 returns-then-keeps-clause-comparisons g c = omega (arith, c.descend-to_left.ensures.comparisons, c.finish_left-by_left.ensures.comparisons)
 
-pub returns-in-None-None-clause-turn : goal.returns-in-None-None-clause-turn
-returns-in-None-None-clause-turn g c appends =
+pub returns-in-None-None-clause-position : goal.returns-in-None-None-clause-position
+returns-in-None-None-clause-position g c appends =
     let table = c.make_room.new.self in
     let walk = the_walk (λ p. p.0) g.I.Index.is_listing g.I.Index.places g.met.I.Index.listed g.met.I.Index.distinct g.met.I.Index.settled table.pairs table.left table.left_listing in
     rw c.put-place.ensures.pairs
     (shown_last table.pairs c.put-place.result (c.args.left, c.args.right) (g.I.Index.places table.left) _ c.put-place.ensures.there (free_absent table.pairs (g.I.Index.places table.left) walk c.put-place.result c.put-place.ensures.was_free) (c.put-place.ensures.left_places appends)
     ∙ ap (λ ps. ps ++ (c.args.left, c.args.right) ∷ []) (pairs_kept c.args.self.now.pairs table.pairs (g.I.Index.places c.args.self.now.left) (g.I.Index.places table.left) c.make_room.ensures.kept c.make_room.ensures.left_places))
 
-pub returns-in-Some-None-clause-turn : goal.returns-in-Some-None-clause-turn
-returns-in-Some-None-clause-turn g c appends =
+pub returns-in-Some-None-clause-position : goal.returns-in-Some-None-clause-position
+returns-in-Some-None-clause-position g c appends =
     let table = c.args.self.now in
     let walk = the_walk (λ p. p.0) g.I.Index.is_listing g.I.Index.places g.met.I.Index.listed g.met.I.Index.distinct g.met.I.Index.settled table.pairs table.left table.left_listing in
     let swapped = c.swap-old-in-Some-None.ensures in
     rw swapped.pairs (shown_instead table.pairs c.in-Some-None.place c.swap-old-in-Some-None.result swapped.was (g.I.Index.places table.left) walk.distinct (c.args.left, c.args.right) _ (live_listed table.pairs (g.I.Index.places table.left) walk c.in-Some-None.place c.swap-old-in-Some-None.result swapped.was) swapped.left_places)
 
-pub returns-in-None-Some-clause-turn : goal.returns-in-None-Some-clause-turn
-returns-in-None-Some-clause-turn g c appends =
+pub returns-in-None-Some-clause-position : goal.returns-in-None-Some-clause-position
+returns-in-None-Some-clause-position g c appends =
     let table = c.args.self.now in
     let walk = the_walk (λ p. p.0) g.I.Index.is_listing g.I.Index.places g.met.I.Index.listed g.met.I.Index.distinct g.met.I.Index.settled table.pairs table.left table.left_listing in
     let swapped = c.swap-old.ensures in
     rw swapped.pairs (shown_anew table.pairs c.in-None-Some.place c.swap-old.result swapped.was (g.I.Index.places table.left) walk.distinct (c.args.left, c.args.right) _ (swapped.left_places appends))
 
-pub returns-then-place-other-clause-turn : goal.returns-then-place-other-clause-turn
-returns-then-place-other-clause-turn g c appends =
+pub returns-then-place-other-clause-position : goal.returns-then-place-other-clause-position
+returns-then-place-other-clause-position g c appends =
     let table = c.args.self.now in
     let walk = the_walk (λ p. p.0) g.I.Index.is_listing g.I.Index.places g.met.I.Index.listed g.met.I.Index.distinct g.met.I.Index.settled table.pairs table.left table.left_listing in
     let swapped = c.swap-old-then-place-other.ensures in
     rw swapped.pairs (shown_instead table.pairs c.in-Some-Some.place c.swap-old-then-place-other.result swapped.was (g.I.Index.places table.left) walk.distinct (c.args.left, c.args.right) _ (live_listed table.pairs (g.I.Index.places table.left) walk c.in-Some-Some.place c.swap-old-then-place-other.result swapped.was) swapped.left_places)
 
-pub returns-clause-turn : goal.returns-clause-turn
-returns-clause-turn g c appends =
+pub returns-clause-position : goal.returns-clause-position
+returns-clause-position g c appends =
     let table = c.args.self.now in
     let walk = the_walk (λ p. p.0) g.I.Index.is_listing g.I.Index.places g.met.I.Index.listed g.met.I.Index.distinct g.met.I.Index.settled table.pairs table.left table.left_listing in
     let after = c.take-second.new.self in

@@ -1,7 +1,7 @@
 use Rattle.std.proofs.Common.{arith}
 use Rattle.bimap_core.proofs.Places.{left_unequal, right_unequal}
 use Rattle.bimap_core.proofs.Linking.{may_put}
-use Rattle.bimap_core.proofs.Turns.{free_absent, shown_last, the_walk}
+use Rattle.bimap_core.proofs.Positions.{free_absent, shown_last, the_walk}
 use Rattle.bimap_core.proofs.Writing.{facts_put}
 use Rattle.bimap_core.proofs.table.Table.put_new.Goals as goal
 
@@ -33,8 +33,8 @@ invariant_of-self g c =
     (facts_put g.met.L.Eq.laws g.met.R.Eq.laws map.pairs c.put-place.result put.there map.apart (rw (c.new.ensures, put.now) at c.relink.ensures.listing) (rw (c.new-2.ensures, put.now) at c.relink-2.ensures.listing)
     (omega (arith, map.left_cells, c.relink.ensures.cells)) (omega (arith, map.right_cells, c.relink-2.ensures.cells)) (c.args.left, c.args.right) (c.requires.alone c.put-place.result put.was_free))
 
-pub returns-clause-turn : goal.returns-clause-turn
-returns-clause-turn g c appends =
+pub returns-clause-position : goal.returns-clause-position
+returns-clause-position g c appends =
     let table = c.args.self.now in
     let places = g.I.Index.places table.left in
     let walk = the_walk (λ p. p.0) g.I.Index.is_listing g.I.Index.places g.met.I.Index.listed g.met.I.Index.distinct g.met.I.Index.settled table.pairs table.left table.left_listing in

@@ -1,8 +1,8 @@
-use Rattle.bimap_core.proofs.Turns.{live_listed, renewed, shown_anew, shown_instead, the_walk}
+use Rattle.bimap_core.proofs.Positions.{live_listed, renewed, shown_anew, shown_instead, the_walk}
 use Rattle.bimap_core.proofs.table.Table.replace.Goals as goal
 
-pub returns-clause-turn : goal.returns-clause-turn
-returns-clause-turn g c appends =
+pub returns-clause-position : goal.returns-clause-position
+returns-clause-position g c appends =
     let table = c.args.self.now in
     let places = g.I.Index.places table.left in
     let walk = the_walk (λ p. p.0) g.I.Index.is_listing g.I.Index.places g.met.I.Index.listed g.met.I.Index.distinct g.met.I.Index.settled table.pairs table.left table.left_listing in

@@ -1,12 +1,12 @@
 use Rattle.std.proofs.Common.{◌∙◌, sym, subst, inl, inr, refl, None, true≢false}
 use Rattle.bimap_base.specs.PairsAt.{pairs_at}
-use Rattle.bimap_base.specs.Turns.{StandsFor}
+use Rattle.bimap_base.specs.Positions.{StandsFor}
 use Rattle.bimap_base.specs.declared.overwritten.Overwritten.TheVariants.{Both}
 use Rattle.bimap_base.proofs.Fits.{names_one}
 use Rattle.bimap_core.proofs.Places.{key_lacking}
 use Rattle.bimap_core.proofs.Inserted.{on_err}
 use Rattle.bimap_core.proofs.Undoing.{alone_named, alone_grown, alone_beside, undone_neither, undone_one, undone_both, undo_refused}
-use Rattle.bimap_core.proofs.Turns.{pairs_kept, shown_without, stands_one, the_walk}
+use Rattle.bimap_core.proofs.Positions.{pairs_kept, shown_without, stands_one, the_walk}
 use Rattle.bimap_core.proofs.table.Table.undo_insert.Goals as goal
 
 pub unreachable-requires : goal.unreachable-requires
@@ -50,22 +50,22 @@ returns-else-is_err-clause-answer g c =
 pub returns-then-is_err-clause-slots : goal.returns-then-is_err-clause-slots
 returns-then-is_err-clause-slots g c = on_err c.make_room.result (sym c.is_err.ensures.value ∙ c.if-is_err.true) c.make_room.ensures.err
 
-pub returns-in-Neither-clause-turn : goal.returns-in-Neither-clause-turn
-returns-in-Neither-clause-turn g c appends =
+pub returns-in-Neither-clause-position : goal.returns-in-Neither-clause-position
+returns-in-Neither-clause-position g c appends =
     let table = c.args.self.now in
     let places = g.I.Index.places table.left in
     let walk = the_walk (λ p. p.0) g.I.Index.is_listing g.I.Index.places g.met.I.Index.listed g.met.I.Index.distinct g.met.I.Index.settled table.pairs table.left table.left_listing in
     rw (c.in-Neither.is, c.take.ensures.pairs) (shown_without table.pairs c.in-Some.place c.take.result c.take.ensures.was places walk.distinct None _ (c.take.ensures.left_places appends))
 
-pub returns-in-Left-clause-turn : goal.returns-in-Left-clause-turn
-returns-in-Left-clause-turn g c appends = stands_one g.L.PartialEq.eq _ _ c.replace.result c.args.answer c.in-Left.l c.in-Left.r c.in-Left.is (c.replace.ensures.turn appends)
+pub returns-in-Left-clause-position : goal.returns-in-Left-clause-position
+returns-in-Left-clause-position g c appends = stands_one g.L.PartialEq.eq _ _ c.replace.result c.args.answer c.in-Left.l c.in-Left.r c.in-Left.is (c.replace.ensures.position appends)
 
-pub returns-else-is_err-clause-turn : goal.returns-else-is_err-clause-turn
-returns-else-is_err-clause-turn g c appends =
+pub returns-else-is_err-clause-position : goal.returns-else-is_err-clause-position
+returns-else-is_err-clause-position g c appends =
     let old = c.args.self.now in
     let made = c.make_room.new.self in
     let mid = c.replace-old.new.self in
     let places = g.I.Index.places in
     let same = pairs_kept old.pairs made.pairs (places old.left) (places made.left) c.make_room.ensures.kept c.make_room.ensures.left_places in
     let left = pairs_at mid.pairs (places mid.left) in
-    rw c.in-Both.is (left, subst (λ ps. StandsFor g.L.PartialEq.eq ps c.replace-old.result c.in-Both.first left) same (c.replace-old.ensures.turn appends), c.put_new-place.ensures.turn appends)
+    rw c.in-Both.is (left, subst (λ ps. StandsFor g.L.PartialEq.eq ps c.replace-old.result c.in-Both.first left) same (c.replace-old.ensures.position appends), c.put_new-place.ensures.position appends)

@@ -6,7 +6,7 @@ use Rattle.bimap_inverse.proofs.view.InverseBijection.insert_with.Goals.{else-ke
 use Rattle.bimap_inverse.proofs.view.InverseBijection.insert_with.Goals as goal
 
 pub returns-in-Ok-clause-answer : goal.returns-in-Ok-clause-answer
-returns-in-Ok-clause-answer g c = rw c.turn_answer.ensures (inserted_inverse c.in-Ok.ensures.answer)
+returns-in-Ok-clause-answer g c = rw c.exchange_answer.ensures (inserted_inverse c.in-Ok.ensures.answer)
 
 pub returns-in-Err-RightHeld-clause-answer : goal.returns-in-Err-RightHeld-clause-answer
 returns-in-Err-RightHeld-clause-answer g c = right_held (rw c.in-Err-RightHeld.field-0-is at c.in-Err-RightHeld.ensures.answer)

@@ -1,6 +1,6 @@
 use Rattle.std.proofs.Common.{◌∙◌, ap}
 use Rattle.bimap_base.specs.PairsAt.{pairs_at}
-use Rattle.bimap_core.proofs.Turns.{insertion_walk}
+use Rattle.bimap_core.proofs.Positions.{insertion_walk}
 use Rattle.bimap_kinds.specs.HeldTable.{held}
 use Rattle.bimap_kinds.proofs.loops.BijectiveMapInsertionOrderIntoIterator.into_iter.Goals as goal
 

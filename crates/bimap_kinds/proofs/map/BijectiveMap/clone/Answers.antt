@@ -17,7 +17,7 @@ loop-left-init g c =
     let none = c.in_ok-table.ensures.pairs in
     record {
       copied = subst (λ rest. IsCopiedUpTo g.L.Clone.is_clone g.R.Clone.is_clone old rest (pairs_in table.pairs)) (sym c.iter-walk.ensures.rest) (copied_none g.L.Clone.is_clone g.R.Clone.is_clone old (pairs_in table.pairs) none);
-      turn = λ appends. along_none g.L.Clone.is_clone g.R.Clone.is_clone old c.iter-walk.result _ c.iter-walk.ensures.rest (none_walked table.pairs (g.I.Index.places table.left) (left_walk table g.met.I.Index.listed g.met.I.Index.distinct g.met.I.Index.settled) none);
+      position = λ appends. along_none g.L.Clone.is_clone g.R.Clone.is_clone old c.iter-walk.result _ c.iter-walk.ensures.rest (none_walked table.pairs (g.I.Index.places table.left) (left_walk table g.met.I.Index.listed g.met.I.Index.distinct g.met.I.Index.settled) none);
       room = c.in_ok-table.ensures.room;
       count = omega (arith, ap length none, ap length c.iter-walk.ensures.rest);
     }
@@ -35,7 +35,7 @@ loop-left-preserved g c =
     apart_clone g.L.PartialEq.eq g.R.PartialEq.eq g.met.L.Eq.laws g.met.R.Eq.laws g.L.Clone.is_clone g.R.Clone.is_clone old c.next.new.self held pair clone map.apart c.requires.equal here (c.in_ok-clone.ensures.cases, c.in_ok-clone-2.ensures.cases) x ((here.held x).1 there) in
     record {
       copied = copied_more g.L.PartialEq.eq g.R.PartialEq.eq g.met.L.Eq.laws g.met.R.Eq.laws g.L.Clone.is_clone g.R.Clone.is_clone old c.next.new.self held (pairs_in c.add.new.self.pairs) pair clone map.apart c.requires.equal here (c.in_ok-clone.ensures.cases, c.in_ok-clone-2.ensures.cases) c.in_ok-add.ensures.put;
-      turn = λ appends. along_more g.L.Clone.is_clone g.R.Clone.is_clone old c.loop-left.walk c.next.new.self _ _ pair clone (i.turn appends) c.in-Some.ensures.steps (c.in_ok-clone.ensures.cases, c.in_ok-clone-2.ensures.cases) (c.in_ok-add.ensures.turn appends none);
+      position = λ appends. along_more g.L.Clone.is_clone g.R.Clone.is_clone old c.loop-left.walk c.next.new.self _ _ pair clone (i.position appends) c.in-Some.ensures.steps (c.in_ok-clone.ensures.cases, c.in_ok-clone-2.ensures.cases) (c.in_ok-add.ensures.position appends none);
       room = c.add.ensures.room (omega (arith, i.count, i.room, ap length c.in-Some.ensures.steps, map.fits)) ∙ i.room;
       count = omega (arith, i.count, c.in_ok-add.ensures.count, ap length c.in-Some.ensures.steps);
     }
@@ -53,9 +53,9 @@ returns-clause-pairs g c =
     copy_alike g.L.PartialEq.eq g.R.PartialEq.eq g.met.L.Eq.laws g.met.R.Eq.laws g.L.Clone.is_clone g.R.Clone.is_clone old old (pairs_in table.pairs) _ (λ p. (λ c. c, λ c. c)) alike.members refl alike.long map.apart c.requires.equal
     (copied_all g.L.PartialEq.eq g.R.PartialEq.eq g.met.L.Eq.laws g.met.R.Eq.laws g.L.Clone.is_clone g.R.Clone.is_clone old (pairs_in table.pairs) map.apart table.apart c.requires.equal done)
 
-pub returns-clause-turn : goal.returns-clause-turn
+pub returns-clause-position : goal.returns-clause-position
 unfolding held
-returns-clause-turn g c appends = along_all g.L.Clone.is_clone g.R.Clone.is_clone (holding c.args.self.now).pairs c.loop-left.walk _ (c.loop-left.invariant.turn appends) c.in_default.ensures.steps.0
+returns-clause-position g c appends = along_all g.L.Clone.is_clone g.R.Clone.is_clone (holding c.args.self.now).pairs c.loop-left.walk _ (c.loop-left.invariant.position appends) c.in_default.ensures.steps.0
 
 pub returns-clause-room : goal.returns-clause-room
 unfolding held

@@ -9,7 +9,7 @@ use Rattle.bimap_kinds.proofs.map.BijectiveMap.clone.Given as goal
 abbrev pub invariant-loop-left : goal.invariant-loop-left
 invariant-loop-left g l = record {
   copied : IsCopiedUpTo g.L.Clone.is_clone g.R.Clone.is_clone (holding l.self).pairs l.walk (pairs_in l.table.pairs);
-  turn : g.I.Index.appends → IsClonedAlong g.L.Clone.is_clone g.R.Clone.is_clone (holding l.self).pairs l.walk (pairs_at l.table.pairs (g.I.Index.places l.table.left));
+  position : g.I.Index.appends → IsClonedAlong g.L.Clone.is_clone g.R.Clone.is_clone (holding l.self).pairs l.walk (pairs_at l.table.pairs (g.I.Index.places l.table.left));
   room : length l.table.pairs ≡ (holding l.self).room;
   count : length (pairs_in l.table.pairs) + length l.walk ≤ length (holding l.self).pairs;
 }

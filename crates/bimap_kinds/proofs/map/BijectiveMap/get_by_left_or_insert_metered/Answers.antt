@@ -15,6 +15,6 @@ returns-clause-answer g c =
 pub returns-clause-comparisons : goal.returns-clause-comparisons
 returns-clause-comparisons g c = search rules
 
-pub returns-clause-turn : goal.returns-clause-turn
+pub returns-clause-position : goal.returns-clause-position
 unfolding Rattle.bimap_kinds.specs.HeldTable.held
-returns-clause-turn g c appends lacks = c.get_by_left_or_insert.ensures.turn appends (λ q there. lacks q (((table_alike c.args.self.now.table g.met.I.Index.listed g.met.I.Index.distinct g.met.I.Index.settled).members q).0 there))
+returns-clause-position g c appends lacks = c.get_by_left_or_insert.ensures.position appends (λ q there. lacks q (((table_alike c.args.self.now.table g.met.I.Index.listed g.met.I.Index.distinct g.met.I.Index.settled).members q).0 there))

@@ -14,6 +14,6 @@ returns-in-Err-Memory-clause-answer g c =
     let same = held_unchanged c.args.self.now.table c.insert_with.new.self c.insert_with.result c.insert_with.ensures.slots c.insert_with.ensures.places in
     let i = insertion_alike _ _ (table_alike c.args.self.now.table g.met.I.Index.listed g.met.I.Index.distinct g.met.I.Index.settled) _ _ (table_alike c.insert_with.new.self g.met.I.Index.listed g.met.I.Index.distinct g.met.I.Index.settled) _ _ _ _ _ (rw c.in-Err-Memory.is at same) (rw c.in-Err-Memory.field-0-is at c.in-Err-Memory.ensures.answer) in search
 
-pub returns-in-Ok-clause-turn : goal.returns-in-Ok-clause-turn
+pub returns-in-Ok-clause-position : goal.returns-in-Ok-clause-position
 unfolding Rattle.bimap_kinds.specs.HeldTable.held
-returns-in-Ok-clause-turn g c = c.in-Ok.ensures.turn
+returns-in-Ok-clause-position g c = c.in-Ok.ensures.position

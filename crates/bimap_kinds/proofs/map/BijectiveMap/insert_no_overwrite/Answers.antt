@@ -2,7 +2,7 @@ use Rattle.std.proofs.Common.{arith, refl, subst, Contains}
 use Rattle.std.proofs.lemmas.Bool.{or_left, or_right, or_from}
 use Rattle.bimap_base.specs.Sets.{NoneShares}
 use Rattle.bimap_base.proofs.Counts.{none_named}
-use Rattle.bimap_base.proofs.Turns.{stands_last}
+use Rattle.bimap_base.proofs.Positions.{stands_last}
 use Rattle.bimap_kinds.specs.Held.{holding}
 use Rattle.bimap_kinds.proofs.map.BijectiveMap.insert_no_overwrite.Goals as goal
 
@@ -14,12 +14,12 @@ returns-in-Ok-clause-answer g c =
     let named = none_named g.L.PartialEq.eq g.R.PartialEq.eq held (c.args.left, c.args.right) c.in-Ok.field-0 none e.answer in
     record { none_held = none; put = e.put; count = omega (arith, named, e.count); refused = tt; unchanged = tt; room = c.insert_with.ensures.answer.room }
 
-pub returns-in-Ok-clause-turn : goal.returns-in-Ok-clause-turn
-returns-in-Ok-clause-turn g c appends =
+pub returns-in-Ok-clause-position : goal.returns-in-Ok-clause-position
+returns-in-Ok-clause-position g c appends =
     let e = c.in-Ok.ensures.answer in
     let held = Contains (holding c.args.self.now).pairs in
     let none : NoneShares g.L.PartialEq.eq g.R.PartialEq.eq held (c.args.left, c.args.right) = λ q m. or_from _ _ (e.allowed.left refl q m) (e.allowed.right refl q m) in
-    stands_last _ (c.args.left, c.args.right) c.in-Ok.field-0 _ (none_named g.L.PartialEq.eq g.R.PartialEq.eq held (c.args.left, c.args.right) c.in-Ok.field-0 none e.answer) (c.in-Ok.ensures.turn appends)
+    stands_last _ (c.args.left, c.args.right) c.in-Ok.field-0 _ (none_named g.L.PartialEq.eq g.R.PartialEq.eq held (c.args.left, c.args.right) c.in-Ok.field-0 none e.answer) (c.in-Ok.ensures.position appends)
 
 pub returns-in-Err-LeftHeld-clause-answer : goal.returns-in-Err-LeftHeld-clause-answer
 returns-in-Err-LeftHeld-clause-answer g c =

@@ -10,6 +10,6 @@ returns-clause-answer g c =
     insertion_alike _ _ (table_alike c.args.self.now.table g.met.I.Index.listed g.met.I.Index.distinct g.met.I.Index.settled) _ _ (table_alike c.insert_with.new.self g.met.I.Index.listed g.met.I.Index.distinct g.met.I.Index.settled) g.L.PartialEq.eq g.R.PartialEq.eq (c.args.left, c.args.right) c.args.policy c.insert_with.result
     (held_unchanged c.args.self.now.table c.insert_with.new.self c.insert_with.result c.insert_with.ensures.slots c.insert_with.ensures.places) c.insert_with.ensures.answer
 
-pub returns-clause-turn : goal.returns-clause-turn
+pub returns-clause-position : goal.returns-clause-position
 unfolding Rattle.bimap_kinds.specs.HeldTable.held
-returns-clause-turn g c = c.insert_with.ensures.turn
+returns-clause-position g c = c.insert_with.ensures.position

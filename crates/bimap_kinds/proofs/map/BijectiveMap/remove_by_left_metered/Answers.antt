@@ -13,6 +13,6 @@ returns-clause-answer g c =
 pub returns-clause-comparisons : goal.returns-clause-comparisons
 returns-clause-comparisons g c = search rules
 
-pub returns-clause-turn : goal.returns-clause-turn
+pub returns-clause-position : goal.returns-clause-position
 unfolding Rattle.bimap_kinds.specs.HeldTable.held
-returns-clause-turn g c = c.remove_by_left.ensures.turn
+returns-clause-position g c = c.remove_by_left.ensures.position

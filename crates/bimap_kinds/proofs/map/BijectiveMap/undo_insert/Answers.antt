@@ -23,6 +23,6 @@ returns-clause-answer g c =
     undoing_alike _ _ (table_alike c.args.self.now.table g.met.I.Index.listed g.met.I.Index.distinct g.met.I.Index.settled) _ _ (table_alike c.undo_insert.new.self g.met.I.Index.listed g.met.I.Index.distinct g.met.I.Index.settled) g.L.PartialEq.eq g.R.PartialEq.eq c.args.left.now c.args.answer c.undo_insert.result
     (held_unchanged c.args.self.now.table c.undo_insert.new.self c.undo_insert.result c.undo_insert.ensures.slots c.undo_insert.ensures.places) c.undo_insert.ensures.answer
 
-pub returns-clause-turn : goal.returns-clause-turn
+pub returns-clause-position : goal.returns-clause-position
 unfolding Rattle.bimap_kinds.specs.HeldTable.held
-returns-clause-turn g c = c.undo_insert.ensures.turn
+returns-clause-position g c = c.undo_insert.ensures.position

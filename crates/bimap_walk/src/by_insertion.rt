@@ -1,0 +1,93 @@
+//! Iterators in the order of a linked list of places. They know not what the list is of.
+ghost use Rattle.std.specs.Prelude.{◌≡◌, ◌≢◌, ◌↔◌, ℕ, length};
+ghost use Rattle.std.specs.List.{AllPairs, Contains};
+ghost use Rattle.std.specs.Map.Iter.{TakesFirst, GivesInOrder};
+ghost use Rattle.bimap_base.specs.PairsAt.{pairs_at};
+ghost use Rattle.bimap_base.specs.Places.{pairs_in};
+ghost use Rattle.bimap_base.specs.Slots.{IsLive};
+ghost use Rattle.bimap_walk.specs.Positions.{IsLiveListPosition, places_left};
+
+use crate::course::Course;
+use bimap_base::Pairs;
+use bimap_list::LinkedList;
+
+/// An iterator over the pairs in the order of a list, each as `(&L, &R)`. A step takes constant time.
+pub type Iter<'a, L, R> = crate::iter::Iter<'a, L, R, LinkedList>;
+
+/// An owning iterator over the pairs in the order of a list.
+pub type IntoIter<L, R> = crate::into_iter::IntoIter<L, R, LinkedList>;
+
+/// The next place of a list, and how many of its places are left.
+#[derive(Clone, Copy)]
+pub struct ListPosition {
+    next: Option<usize>,
+    left: usize,
+}
+
+impl ListPosition {
+    ghost use Rattle.bimap_walk.specs.Positions.{IsListPosition};
+
+    // All places of a list of the pairs.
+    fn whole<L, R>(list: &LinkedList, pairs: &Pairs<L, R>) -> Self
+        requires lists { (place : ℕ) → Contains list.now.places place ↔ IsLive pairs.now place }
+        requires distinct { AllPairs (λ a b. a ≢ b) list.now.places }
+        ensures position { IsListPosition list.now.places result }
+        ensures places { places_left list.now.places result ≡ list.now.places }
+    {
+        ListPosition {
+            next: list.first(),
+            left: pairs.len(),
+        }
+    }
+
+    // The first place left.
+    #[inline(always)]
+    fn first(&mut self, list: &LinkedList) -> Option<usize>
+        requires position { IsListPosition list.now.places self.old }
+        ensures position { IsListPosition list.now.places self.new }
+        ensures takes { TakesFirst (λ place. place) (places_left list.now.places self.old) result
+            (places_left list.now.places self.new) }
+    {
+        let place = self.next?;
+        self.next = list.after(place);
+        self.left -= 1;
+        Some(place)
+    }
+}
+
+impl Course for LinkedList {
+    type Cursor = ListPosition;
+
+    ghost ahead = { λ P l position slots. pairs_at slots (places_left l.places position) };
+
+    ghost stands = { λ P l position slots. IsLiveListPosition slots l.places position };
+
+    fn len<L, R>(&self, _pairs: &Pairs<L, R>, position: &ListPosition) -> usize {
+        position.left
+    }
+
+    #[inline(always)]
+    fn first<L, R>(&self, _pairs: &Pairs<L, R>, position: &mut ListPosition) -> Option<usize> {
+        position.first(self)
+    }
+}
+
+/// Returns an iterator over the pairs in the order of a list of their places.
+pub fn iter<'a, L, R>(pairs: &'a Pairs<L, R>, list: &'a LinkedList) -> Iter<'a, L, R>
+    requires lists { (place : ℕ) → Contains list.now.places place ↔ IsLive pairs.now place }
+    requires distinct { AllPairs (λ a b. a ≢ b) list.now.places }
+    ensures { result ≡ pairs_at pairs.now list.now.places }
+{
+    Iter::new(pairs, list, ListPosition::whole(list, pairs))
+}
+
+/// Returns an owning iterator over the pairs in the order of a list of their places.
+pub fn into_iter<L: Drop, R: Drop>(pairs: Pairs<L, R>, list: LinkedList) -> IntoIter<L, R>
+    requires lists { (place : ℕ) → Contains list.places place ↔ IsLive pairs place }
+    requires distinct { AllPairs (λ a b. a ≢ b) list.places }
+    ensures rest { result ≡ pairs_at pairs list.places }
+    ensures runs { GivesInOrder (L × R) }
+{
+    let position = ListPosition::whole(&list, &pairs);
+    IntoIter::new(pairs, list, position)
+}
