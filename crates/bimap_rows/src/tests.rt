@@ -1,6 +1,6 @@
 //! What no run of the program shows: reads that fail in mid-stream, flushes counted, each request for memory refused.
 use crate::serve::{Ending, serve};
-use bimap_famine::MemoryLimit;
+use test_support::MemoryLimit;
 use std::alloc::{AllocError, Global};
 use std::io::{self, BufReader, BufWriter, Error, ErrorKind, Read, Write};
 use std::test::Fail;

@@ -8,7 +8,7 @@ use crate::word::Word;
 use crate::{hashed_left, insertion_left, ordered_left, right};
 use bimap::btree::Count;
 use bimap::{BiBTreeHashMap, BiBTreeMap, BiHashBTreeMap, BiHashMap, BiInsertionOrderMap};
-use bimap_calls::{Counter, Crowded};
+use test_support::{Counter, Crowded};
 use std::alloc::AllocError;
 
 impl ShellKind for BiBTreeMap<Word, Word> {

@@ -4,7 +4,7 @@ use crate::kinds::{has_ordered_left, has_ordered_right};
 use crate::request::{On, Request};
 use crate::word::Word;
 use bimap::Bijection;
-use bimap_calls::{CopyKind, at_zero};
+use test_support::{CopyKind, at_zero};
 use std::alloc::AllocError;
 
 // How many searches by left and by right the bound of a call counts.

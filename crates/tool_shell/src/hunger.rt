@@ -4,8 +4,8 @@ use crate::request::{Memory, Request};
 use crate::session::Session;
 use crate::word::Word;
 use bimap::NoMemory;
-use bimap_calls::CopyKind;
-use bimap_famine::MemoryLimit;
+use test_support::CopyKind;
+use test_support::MemoryLimit;
 use std::alloc::AllocError;
 
 /// How much may be said while nothing can be allocated.

@@ -4,7 +4,7 @@ use crate::request::Request;
 use crate::session::Session;
 use crate::word::Word;
 use bimap::{extend_with, from_iter_with};
-use bimap_calls::CopyKind;
+use test_support::CopyKind;
 use std::alloc::AllocError;
 
 /// Makes the call, if it is one of these.

@@ -3,7 +3,7 @@ use crate::request::Request;
 use crate::word::Word;
 use bimap::btree::Count;
 use bimap::{BijectiveMap, NoMemory, NotInverted, WalkedIndex};
-use bimap_calls::Counter;
+use test_support::Counter;
 use bimap_index::{CopiedIndex, Index};
 use std::alloc::AllocError;
 use std::fmt::Debug;

@@ -4,7 +4,7 @@ use crate::request::{On, Request};
 use crate::session::Session;
 use crate::word::Word;
 use bimap::{BiBTreeHashMap, BiBTreeMap, BiHashBTreeMap, BiHashMap, BiInsertionOrderMap};
-use bimap_calls::{Crowded, Zero};
+use test_support::{Crowded, Zero};
 use std::alloc::AllocError;
 use tool_shell_json::{JsonCall, json_call};
 

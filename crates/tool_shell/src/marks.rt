@@ -3,7 +3,7 @@ use crate::kind::{ShellKind, say};
 use crate::request::Request;
 use crate::session::Session;
 use crate::word::Word;
-use bimap_calls::CopyKind;
+use test_support::CopyKind;
 use bimap_undo::Undoable;
 use std::alloc::AllocError;
 use std::mem;

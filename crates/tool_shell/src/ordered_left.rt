@@ -5,7 +5,7 @@ use crate::kind::{self, Words, say};
 use crate::request::Request;
 use crate::word::Word;
 use bimap::btree::Count;
-use bimap_calls::Counter;
+use test_support::Counter;
 use bimap_index::{CopiedIndex, HashIndex};
 use bimap_tree::Ordered;
 use std::alloc::AllocError;

@@ -4,7 +4,7 @@ use crate::request::Request;
 use crate::session::Session;
 use crate::word::Word;
 use bimap::Bijection;
-use bimap_calls::CopyKind;
+use test_support::CopyKind;
 use std::alloc::AllocError;
 use std::mem;
 

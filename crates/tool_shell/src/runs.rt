@@ -3,7 +3,7 @@ use crate::kind::say;
 use crate::request::Request;
 use crate::word::Word;
 use bimap::{Bijection, RunRefused, perform, run, undo_run};
-use bimap_calls::insert_all;
+use test_support::insert_all;
 use std::alloc::{AllocError, Global};
 use std::mem;
 

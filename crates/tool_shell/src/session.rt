@@ -4,7 +4,7 @@ use crate::request::{On, Request};
 use crate::word::Word;
 use crate::{counted, items, look, marks, put, rooms, runs};
 use bimap::{Bijection, Inverse};
-use bimap_calls::CopyKind;
+use test_support::CopyKind;
 use bimap_undo::Undoable;
 use std::alloc::{AllocError, Global};
 use std::fmt::Debug;

@@ -6,8 +6,8 @@ use bimap::{
     from_iter_with, get_by_left_or_insert_with, get_by_right_or_insert, perform, put, replace_left,
     replace_right, run, swap_partners, undo_run,
 };
-use bimap_calls::insert_all;
-use bimap_famine::MemoryLimit;
+use test_support::insert_all;
+use test_support::MemoryLimit;
 use std::alloc::Global;
 use std::process::Abort;
 use std::test::Fail;

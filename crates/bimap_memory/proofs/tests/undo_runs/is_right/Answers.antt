@@ -1,4 +1,0 @@
-use Rattle.bimap_memory.proofs.tests.undo_runs.is_right.Goals as goal
-
-pub refusals-requires : goal.refusals-requires
-refusals-requires c a = record { leads = (_, rw (← a.shrink_to_fit.ensures.pairs) at a.in_ok-entries.ensures) }

@@ -1,5 +1,0 @@
-use Rattle.std.proofs.Common.{◌≡◌, ◌<◌, ℕ, get_or, false}
-use Rattle.bimap_plain.proofs.scan.find_right.Given as goal
-
-abbrev pub invariant-loop-pair : goal.invariant-loop-pair
-invariant-loop-pair g l = (k : ℕ) (d : _) → k < l.pair-index → g.R.PartialEq.eq (get_or l.pairs k d).1 l.right ≡ false

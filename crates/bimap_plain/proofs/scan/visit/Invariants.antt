@@ -1,6 +1,0 @@
-use Rattle.std.proofs.Common.{take}
-use Rattle.bimap_base.specs.Visited.{VisitsInOrder}
-use Rattle.bimap_plain.proofs.scan.visit.Given as goal
-
-abbrev pub invariant-loop-i : goal.invariant-loop-i
-invariant-loop-i g l = VisitsInOrder g.F.FnMut l.fn.f (take l.i l.fn.pairs) l.f

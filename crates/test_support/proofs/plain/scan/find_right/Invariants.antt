@@ -1,0 +1,5 @@
+use Rattle.std.proofs.Common.{◌≡◌, ◌<◌, ℕ, get_or, false}
+use Rattle.test_support.proofs.plain.scan.find_right.Given as goal
+
+abbrev pub invariant-loop-pair : goal.invariant-loop-pair
+invariant-loop-pair g l = (k : ℕ) (d : _) → k < l.pair-index → g.R.PartialEq.eq (get_or l.pairs k d).1 l.right ≡ false
