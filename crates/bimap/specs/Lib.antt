@@ -12,7 +12,7 @@ pub use Rattle.bimap_base.specs.Undoing
 pub use Rattle.bimap_base.specs.Exchange
 pub use Rattle.bimap_base.specs.Put
 pub use Rattle.bimap_base.specs.Inverse
-pub use Rattle.bimap_inverse.specs.Turned
+pub use Rattle.bimap_inverse.specs.Exchanged
 pub use Rattle.bimap_base.specs.Growth
 pub use Rattle.bimap_base.specs.Extension
 pub use Rattle.bimap_base.specs.Positions
