@@ -2,7 +2,7 @@
 ghost use Rattle.std.specs.Prelude.{◌≡◌, [], nat_eq};
 ghost use Rattle.bimap.specs.BTree.{holding};
 ghost use Rattle.bimap.specs.Holding.{IsInsertion};
-ghost use Rattle.bimap.specs.Turned.{inverse_holding};
+ghost use Rattle.bimap.specs.Exchanged.{inverse_holding};
 
 use super::{Seats, holds, ordered};
 use bimap::{Bijection, Inverse, NoRoom, Overwritten};
