@@ -6,17 +6,17 @@ use Rattle.std.proofs.lemmas.List.Elements.{Contains-append_left, Contains-appen
 use Rattle.bimap_base.specs.Sets.{IsApart, HasLeft, HasRight}
 use Rattle.bimap_base.specs.Holding.{Holding}
 use Rattle.bimap_base.proofs.Members.{head_in, more_in, none_in, lacking}
-use Rattle.bimap_base.proofs.SetsAlike.{IsAnswer-same, IsAllowed-same}
-use Rattle.bimap_base.proofs.Survivors.{split_append, split_push, not_split, Survives_none, Survives_append, Survives_along, survivors_push}
+use Rattle.bimap_any.proofs.SetsAlike.{IsAnswer-same, IsAllowed-same}
+use Rattle.bimap_any.proofs.Survivors.{split_append, split_push, not_split, Survives_none, Survives_append, Survives_along, survivors_push}
 use Rattle.bimap.specs.declared.call.Call.{Call}
 use Rattle.bimap.specs.declared.call.Call.TheVariants.{Insert, InsertNoOverwrite, InsertWith, RemoveByLeft, RemoveByRight, ContainsLeft, ContainsRight, Retain, Clear}
 use Rattle.bimap.specs.declared.call.Reply.{Reply}
 use Rattle.bimap.specs.declared.call.Reply.TheVariants.{Inserted, NoRoom, Put, Occupied, LeftHeld, RightHeld, Removed, Holds, Done}
 use Rattle.bimap.specs.Test.{IsHandedIn}
-use Rattle.bimap_base.specs.Growth.{IsOutOfRoom, Outgrows}
+use Rattle.bimap_any.specs.Growth.{IsOutOfRoom, Outgrows}
 use Rattle.bimap.specs.History.{Entry, Puts, Touches, IsNoRoom, IsSurvivor, IsRight, IsLegal, NeedsRoom, IsHistory, IsStanding, IsWholeHistory}
 use Rattle.bimap.specs.Step.{MayRetain, IsStep, IsRoomAfterCall}
-use Rattle.bimap_base.proofs.Growing.{out_of_room_along, outgrows_first, outgrows_second, room_push}
+use Rattle.bimap_any.proofs.Growing.{out_of_room_along, outgrows_first, outgrows_second, room_push}
 
 module _ {L R : Type 0} (same_left : L → L → Bool) (same_right : R → R → Bool) (S T : L × R → Type 0) (to : (p : L × R) → S p → T p) (from : (p : L × R) → T p → S p) where
   -- a reply that is right for a set is right for one with the same members

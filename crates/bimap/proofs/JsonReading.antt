@@ -7,17 +7,17 @@ use Rattle.bimap_base.specs.Sets.{IsApart}
 use Rattle.bimap_base.specs.Answer.{IsRefusalUnder, named_count, overwrites}
 use Rattle.bimap_base.specs.declared.overwritten.Overwritten.{Overwritten}
 use Rattle.bimap_base.specs.declared.refusal.NotInsertedWith.TheVariants.{LeftHeld as LeftKept, RightHeld as RightKept}
-use Rattle.bimap_base.specs.Survivors.{Survives, PutsItself, TouchesSharing, AreSurvivors}
+use Rattle.bimap_any.specs.Survivors.{Survives, PutsItself, TouchesSharing, AreSurvivors}
 use Rattle.bimap_base.specs.Holding.{Holding, IsInsertionUnder}
-use Rattle.bimap_base.specs.Extension.{AreAllowed}
+use Rattle.bimap_any.specs.Extension.{AreAllowed}
 use Rattle.bimap_base.specs.Positions.{StandsInOrder}
 use Rattle.bimap_base.specs.declared.policy.OnHeld.TheVariants.{Refuse}
 use Rattle.bimap_base.specs.declared.policy.Policy.{Policy}
-use Rattle.bimap_base.proofs.Survivors.{items_none, items_push, not_split}
-use Rattle.bimap_base.proofs.Extending.{allowed_push}
-use Rattle.bimap_base.proofs.Positions.{stands_last}
-use Rattle.bimap_base.specs.Growth.{Outgrows}
-use Rattle.bimap_base.proofs.Growing.{answer_overwrites, room_after, room_push}
+use Rattle.bimap_any.proofs.Survivors.{items_none, items_push, not_split}
+use Rattle.bimap_any.proofs.Extending.{allowed_push}
+use Rattle.bimap_any.proofs.Positions.{stands_last}
+use Rattle.bimap_any.specs.Growth.{Outgrows}
+use Rattle.bimap_any.proofs.Growing.{answer_overwrites, room_after, room_push}
 use Rattle.bimap.specs.JsonObjects.{Entry, HasEntries, ReadsAs, EachReadsAs, StopsAt, StopsUnder, FollowEntries, IsReadIntoUnder, ReadsObject, ReadsObjectUnder}
 use Rattle.bimap.specs.declared.value.object.JsonFault.{JsonFault}
 use Rattle.bimap.specs.declared.value.object.JsonFault.TheVariants.{NotJson, NameTwice, NotAnObject, BadKey, BadValue, LeftHeld, RightHeld, Memory}

@@ -7,9 +7,9 @@ use Rattle.std.proofs.lemmas.Map.Keys.{IsDistinct-from_apart}
 use Rattle.std.proofs.lemmas.Map.Made.{length-le_from_is_member}
 use Rattle.serde_json.specs.Data.{Data}
 use Rattle.bimap_base.specs.Sets.{shares, IsApart}
-use Rattle.bimap_base.specs.Same.{pair_eq, HasEqual, IsSame}
+use Rattle.bimap_any.specs.Same.{pair_eq, HasEqual, IsSame}
 use Rattle.bimap_base.specs.Holding.{Holding}
-use Rattle.bimap_base.specs.Survivors.{Survives, IsPutToStay, PutsItself, TouchesSharing}
+use Rattle.bimap_any.specs.Survivors.{Survives, IsPutToStay, PutsItself, TouchesSharing}
 use Rattle.bimap_base.proofs.Apart.{shares_symm, apart_unique}
 use Rattle.bimap_base.proofs.Members.{head_in, more_in, cases_in, none_in, any_in, in_any}
 use Rattle.bimap.specs.JsonObjects.{Entry, entries_of, Ascends, HasEntries, IsObjectOf, IsEntryOf, IsWrittenAs, EachReadsBack, ReadsAs, EachReadsAs, StopsAt, IsReadInto, ReadsObject}

@@ -9,7 +9,7 @@ use Rattle.serde_json.specs.Data.{Data, Members, put}
 use Rattle.bimap_base.specs.Sets.{shares, IsApart}
 use Rattle.bimap_base.proofs.Apart.{apart_head, apart_tail}
 use Rattle.bimap_base.proofs.Members.{head_in, cases_in, more_in, none_in}
-use Rattle.bimap_base.proofs.Survivors.{survivors_push}
+use Rattle.bimap_any.proofs.Survivors.{survivors_push}
 use Rattle.bimap.specs.JsonReading.{ReadsBack}
 use Rattle.bimap.specs.JsonObjects.{Entry, entries_of, Ascends, IsWrittenAs, TakesKey, IsEntryOf, IsLastEntryOf, EachReadsBack, shown_pairs}
 use Rattle.bimap.proofs.JsonEntries.{put_entries}

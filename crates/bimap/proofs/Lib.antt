@@ -1,6 +1,6 @@
 pub use Rattle.bimap_base.proofs.Members
-pub use Rattle.bimap_base.proofs.Extending
-pub use Rattle.bimap_base.proofs.Survivors
+pub use Rattle.bimap_any.proofs.Extending
+pub use Rattle.bimap_any.proofs.Survivors
 pub mod Ends
 pub mod Histories
 pub mod LookUps
@@ -16,5 +16,5 @@ pub mod JsonReading
 pub mod JsonWalks
 pub mod JsonRoundTrip
 pub use Rattle.bimap_base.proofs.Apart
-pub use Rattle.bimap_base.proofs.Undoing
-pub use Rattle.bimap_base.proofs.Removals
+pub use Rattle.bimap_any.proofs.Undoing
+pub use Rattle.bimap_any.proofs.Removals

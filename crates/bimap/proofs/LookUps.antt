@@ -4,7 +4,7 @@ use Rattle.std.specs.Prelude.{Contains, List, option_copied}
 use Rattle.std.specs.Borrow.{Bor}
 use Rattle.std.specs.Cmp.{IsEquivalence}
 use Rattle.std.proofs.lemmas.Bool.{or_left, or_right}
-use Rattle.bimap_base.specs.Exchange.{IsPartReplaced}
+use Rattle.bimap_any.specs.Exchange.{IsPartReplaced}
 use Rattle.bimap_base.specs.Sets.{shares, IsApart, IsWithPut, LacksLeft, LacksRight, NoneShares}
 use Rattle.bimap_base.specs.Holding.{Holding, IsFoundByLeft, IsFoundByRight}
 use Rattle.bimap_base.proofs.Apart.{apart_unique}

@@ -9,8 +9,8 @@ use Rattle.bimap_base.specs.Holding.{Holding, IsRoomAfter}
 use Rattle.bimap_base.specs.Undoing.{IsUndoable, IsUndone, IsInserting, IsTrail}
 use Rattle.bimap_base.specs.declared.overwritten.Overwritten.{Overwritten}
 use Rattle.bimap_base.specs.declared.overwritten.Overwritten.TheVariants.{Neither, Left, Right, Pair, Both}
-use Rattle.bimap_base.proofs.SetsAlike.{IsAnswer-same, turned}
-use Rattle.bimap_base.proofs.Undoing.{inserting_undoable, undone_same, inserting_shorter}
+use Rattle.bimap_any.proofs.SetsAlike.{IsAnswer-same, turned}
+use Rattle.bimap_any.proofs.Undoing.{inserting_undoable, undone_same, inserting_shorter}
 use Rattle.bimap.specs.Trail.{IsWithin, Leads, LeadsWithin, IsRoomAfterUndoing}
 
 module _ {L R : Type 0} (same_left : L → L → Bool) (same_right : R → R → Bool) (lefts : IsEquivalence same_left) (rights : IsEquivalence same_right) where

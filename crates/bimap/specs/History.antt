@@ -2,14 +2,14 @@
 use Rattle.std.specs.Prelude.{◌≡◌, ◌↔◌, ◌⊎◌, ℕ, ◌≤◌, Bool, true, false, Some, None, List, ◌∷◌, ◌++◌, Contains}
 use Rattle.bimap_base.specs.Sets.{shares, NoneShares, SomeShares, HasLeft, LacksLeft, HasRight, LacksRight}
 use Rattle.bimap_base.specs.Answer.{IsAnswer, IsAllowed}
-use Rattle.bimap_base.specs.Survivors.{Survives, IsPutToStay}
+use Rattle.bimap_any.specs.Survivors.{Survives, IsPutToStay}
 use Rattle.bimap_base.specs.Holding.{Holding}
 use Rattle.bimap_base.specs.declared.policy.OnHeld.TheVariants.{Refuse}
 use Rattle.bimap.specs.declared.call.Call.{Call}
 use Rattle.bimap.specs.declared.call.Call.TheVariants.{Insert, InsertNoOverwrite, InsertWith, RemoveByLeft, RemoveByRight, ContainsLeft, ContainsRight, Retain, Clear}
 use Rattle.bimap.specs.declared.call.Reply.{Reply}
 use Rattle.bimap.specs.declared.call.Reply.TheVariants.{Inserted, NoRoom, Put, Occupied, LeftHeld, RightHeld, Removed, Holds, Done}
-use Rattle.bimap_base.specs.Growth.{IsOutOfRoom, Outgrows}
+use Rattle.bimap_any.specs.Growth.{IsOutOfRoom, Outgrows}
 
 -- a call with its reply
 abbrev pub Entry : (L R K : Type 0) → Type 0

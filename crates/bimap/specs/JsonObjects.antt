@@ -7,12 +7,12 @@ use denote.Ref.{Bor}
 use Rattle.serde_json.specs.Data.{Data, Members, no_members, member}
 use Rattle.serde_json.specs.Find.{as_object}
 use Rattle.bimap_base.specs.Answer.{IsRefusalUnder}
-use Rattle.bimap_base.specs.Survivors.{Survives, PutsItself, TouchesSharing, AreSurvivors}
-use Rattle.bimap_base.specs.Extension.{AreAllowed}
+use Rattle.bimap_any.specs.Survivors.{Survives, PutsItself, TouchesSharing, AreSurvivors}
+use Rattle.bimap_any.specs.Extension.{AreAllowed}
 use Rattle.bimap_base.specs.Holding.{Holding}
 use Rattle.bimap_base.specs.declared.policy.Policy.{Policy}
 use Rattle.bimap_base.specs.declared.refusal.NotInsertedWith.TheVariants.{LeftHeld as LeftKept, RightHeld as RightKept}
-use Rattle.bimap_base.specs.Growth.{Outgrows}
+use Rattle.bimap_any.specs.Growth.{Outgrows}
 use Rattle.bimap.specs.JsonReading.{ReadsSomething, ReadsNothing, ReadsBack}
 use Rattle.bimap.specs.declared.value.object.JsonFault.{JsonFault}
 use Rattle.bimap.specs.declared.value.object.JsonFault.TheVariants.{NotAnObject, BadKey, BadValue, LeftHeld, RightHeld, Memory}

@@ -3,7 +3,7 @@ use Rattle.std.specs.Prelude.{◌≡◌, ◌↔◌, ◌⊎◌, ◌≤◌, ◌*�
 use Rattle.bimap_base.specs.Holding.{Holding, IsFull}
 use Rattle.bimap.specs.declared.call.Call.{Call}
 use Rattle.bimap.specs.declared.call.Call.TheVariants.{Retain}
-use Rattle.bimap_base.specs.Growth.{Adds}
+use Rattle.bimap_any.specs.Growth.{Adds}
 use Rattle.bimap.specs.History.{Entry, Puts, Touches}
 
 -- the test may be called on the key of a `Retain` and each member of S

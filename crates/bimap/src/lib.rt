@@ -9,14 +9,16 @@ mod runs;
 mod undone;
 pub mod value;
 
+pub use bimap_any::{
+    Bijection, Interning, Inverse, contains_pair, extend_with, from_iter_with,
+    get_by_left_or_insert_with, get_by_right_or_insert, put, replace_left, replace_right,
+    swap_partners,
+};
 pub use bimap_base::{
-    Bijection, ExtendStopped, Interning, ItemRefused, NoMemory, NoRoom, NotInserted,
-    NotInsertedWith, NotInverted, NotReplaced, NotSwapped, OnHeld, OrderQuery, Overwritten, Policy,
-    Query, UndoStopped, contains_pair, extend_with, from_iter_with, get_by_left_or_insert_with,
-    get_by_right_or_insert, put, replace_left, replace_right, swap_partners,
+    ExtendStopped, ItemRefused, NoMemory, NoRoom, NotInserted, NotInsertedWith, NotInverted,
+    NotReplaced, NotSwapped, OnHeld, OrderQuery, Overwritten, Policy, Query, UndoStopped,
 };
 pub use bimap_index::{Index, Lookup};
-pub use bimap_inverse::Inverse;
 pub use bimap_kinds::{
     BiBTreeHashMap, BiBTreeMap, BiHashBTreeMap, BiHashMap, BiInsertionOrderMap, BijectiveMap,
     WalkedIndex,

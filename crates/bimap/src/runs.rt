@@ -6,7 +6,8 @@ ghost use Rattle.bimap.specs.History.{IsNoRoom, IsRight, IsHistory, IsWholeHisto
 ghost use Rattle.bimap.specs.Step.{MayRetain, IsStep, IsRoomAfterCall};
 
 use crate::call::{Call, Reply, RunRefused};
-use bimap_base::{Bijection, NoRoom, NotInserted, NotInsertedWith};
+use bimap_any::Bijection;
+use bimap_base::{NoRoom, NotInserted, NotInsertedWith};
 use std::alloc::Global;
 
 /// Performs one call and returns its reply.

@@ -3,7 +3,8 @@ ghost use Rattle.std.specs.Prelude.{◌≡◌, List, Contains, IsOk, OnOk, IfErr
 ghost use Rattle.bimap_base.specs.Sets.{IsSameSet};
 ghost use Rattle.bimap.specs.Trail.{Leads, LeadsWithin, IsStopped, IsRoomAfterUndoing};
 
-use bimap_base::{Bijection, Overwritten};
+use bimap_any::Bijection;
+use bimap_base::Overwritten;
 use thiserror::Error;
 
 /// Out of memory for putting two pairs back. The entries that are not undone are handed back in order, that one last.

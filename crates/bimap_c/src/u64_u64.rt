@@ -8,7 +8,7 @@ ghost use Rattle.bimap_c.specs.U64U64.{row, shown, IsFilledBy, GetsByLeft, GetsB
 use crate::calls::{policy, refused};
 use crate::status::{DONE, NO_MEMORY, NOT_FOUND, REFUSED};
 use bimap::{Bijection, NotInserted};
-use bimap_base::extend;
+use bimap_any::extend;
 
 /// A left and its right.
 #[repr(C)]

@@ -6,7 +6,7 @@ use Rattle.std.proofs.lemmas.Fn.{FoldsTo-push}
 use denote.Param.Members.{Mut}
 use denote.Ref.{Bor}
 use Rattle.bimap_base.specs.Kept.{TestedAt, TestsInOrder}
-use Rattle.bimap_base.proofs.Testing.{tests_push, true_push, false_push}
+use Rattle.bimap_any.proofs.Testing.{tests_push, true_push, false_push}
 use Rattle.bimap_core.specs.Partition.{answered_false, answered, IsPartition}
 
 module _ {F L R : Type 0} (g : Mut F (Bor L × (Bor R × Unit {0})) Bool) where

@@ -4,7 +4,7 @@ use Rattle.std.specs.Prelude.{Result, Ok, Err, OnOk, OnErr, max}
 use Rattle.bimap_base.specs.declared.refusal.NoMemory.{NoMemory}
 use Rattle.bimap_base.specs.Slots.{pair_at}
 use Rattle.bimap_base.specs.Places.{pairs_in}
-use Rattle.bimap_base.specs.Capacity.{IsReservation}
+use Rattle.bimap_any.specs.Capacity.{IsReservation}
 use Rattle.bimap_core.proofs.Places.{pairs_kept}
 use Rattle.bimap_core.specs.Store.{holding_of}
 

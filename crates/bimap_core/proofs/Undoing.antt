@@ -12,7 +12,7 @@ use Rattle.bimap_base.specs.Slots.{pair_at, pair_count}
 use Rattle.bimap_base.specs.Undoing.{IsUndoable, IsUndone}
 use Rattle.bimap_base.specs.declared.overwritten.Overwritten.{Overwritten}
 use Rattle.bimap_base.specs.declared.overwritten.Overwritten.TheVariants.{Neither, Both}
-use Rattle.bimap_base.proofs.Fits.{NamesOne}
+use Rattle.bimap_any.proofs.Fits.{NamesOne}
 use Rattle.bimap_base.proofs.Room.{room_stays, room_made}
 use Rattle.bimap_core.specs.Store.{holding_of, IsAloneAt}
 use Rattle.bimap_core.proofs.Places.{held_at, place_of, live_within, pairs_kept, length-pairs_in}

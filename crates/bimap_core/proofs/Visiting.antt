@@ -10,7 +10,7 @@ use denote.Ref.{Bor}
 use Rattle.bimap_base.specs.Kept.{TestedAt}
 use Rattle.bimap_base.specs.Places.{pairs_in}
 use Rattle.bimap_base.specs.Slots.{pair_at}
-use Rattle.bimap_base.specs.Visited.{VisitsInOrder, MayVisit, IsVisited}
+use Rattle.bimap_any.specs.Visited.{VisitsInOrder, MayVisit, IsVisited}
 use Rattle.bimap_base.proofs.Compaction.{pairs_in-append}
 use Rattle.bimap_core.proofs.Retaining.{pairs_in-none, head_at, none_left}
 

@@ -1,6 +1,6 @@
 -- What a removal by rank leaves of a store and of the places of an index.
 use Rattle.std.specs.Prelude.{◌≡◌, ℕ, suc, ◌++◌, List, Option, length, take, drop, slice_get, IfSome}
-use Rattle.bimap_base.specs.Exchange.{IsWithoutPair}
+use Rattle.bimap_any.specs.Exchange.{IsWithoutPair}
 use Rattle.bimap_base.specs.PairsAt.{pairs_at}
 use Rattle.bimap_base.specs.Places.{pairs_in}
 

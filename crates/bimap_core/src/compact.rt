@@ -1,6 +1,6 @@
 //! Exact shrinks. They know places, and what the indexes are to list of them.
 ghost use Rattle.std.specs.Prelude.{◌≡◌, ◌+◌, ◌*◌, ◌≤◌, length, OnOk, OnErr};
-ghost use Rattle.bimap_base.specs.Capacity.{IsShrink};
+ghost use Rattle.bimap_any.specs.Capacity.{IsShrink};
 ghost use Rattle.bimap_base.specs.PairsAt.{pairs_at};
 ghost use Rattle.bimap_base.specs.Places.{pairs_in};
 ghost use Rattle.bimap_base.specs.Slots.{pair_count};

@@ -2,7 +2,7 @@
 ghost use Rattle.std.specs.Prelude.{◌≡◌, Some, IfSome, IfNone};
 ghost use Rattle.bimap_base.specs.Kept.{MayTestPair, TestedAt};
 ghost use Rattle.bimap_base.specs.Slots.{pair_at};
-ghost use Rattle.bimap_base.specs.Visited.{MayVisit, IsVisited};
+ghost use Rattle.bimap_any.specs.Visited.{MayVisit, IsVisited};
 
 use crate::table::Table;
 use bimap_index::Index;

@@ -1,6 +1,6 @@
 //! The room of a table.
 ghost use Rattle.std.specs.Prelude.{◌≡◌, [], length};
-ghost use Rattle.bimap_base.specs.Capacity.{IsReservation};
+ghost use Rattle.bimap_any.specs.Capacity.{IsReservation};
 ghost use Rattle.bimap_base.specs.Slots.{pair_at};
 
 use crate::table::Table;

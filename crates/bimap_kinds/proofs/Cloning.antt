@@ -2,7 +2,7 @@
 use Rattle.std.proofs.Common.{◌≡◌, List, [], ◌∷◌, ◌++◌, sym, ap, subst, ◌∙◌, append-nil, append_assoc}
 use Rattle.std.specs.List.{AllZip}
 use Rattle.std.proofs.lemmas.List.Elements.{AllZip-push}
-use Rattle.bimap_base.specs.Copies.{IsPairClone}
+use Rattle.bimap_any.specs.Copies.{IsPairClone}
 
 module _ {L R : Type 0} (is_clone_left : L → L → Type 0) (is_clone_right : R → R → Type 0) where
   abbrev IsClone : L × R → L × R → Type 0

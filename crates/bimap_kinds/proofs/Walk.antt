@@ -13,17 +13,17 @@ use Rattle.std.specs.Cmp.{IsEquivalence, IsTotalOrder}
 use Rattle.std.specs.Ordering.{eq_by_cmp}
 use Rattle.std.specs.declared.cmp.Ordering.{Ordering}
 use Rattle.std.specs.declared.cmp.Ordering.TheVariants.{Less}
-use Rattle.bimap_base.specs.Capacity.{IsReservation, IsShrink}
-use Rattle.bimap_base.specs.Exchange.{IsWithoutPair}
+use Rattle.bimap_any.specs.Capacity.{IsReservation, IsShrink}
+use Rattle.bimap_any.specs.Exchange.{IsWithoutPair}
 use Rattle.bimap_base.specs.Holding.{Holding, IsRetention}
 use Rattle.bimap_base.specs.Kept.{TestedAt, TestsInOrder, answered_true, MayTest, MayTestInOrder}
-use Rattle.bimap_base.specs.Visited.{MayVisit, IsVisited}
+use Rattle.bimap_any.specs.Visited.{MayVisit, IsVisited}
 use Rattle.bimap_base.specs.declared.refusal.NoMemory.{NoMemory}
 use Rattle.bimap_base.specs.PairsAt.{pairs_at}
 use Rattle.bimap_base.specs.Places.{pairs_in}
 use Rattle.bimap_base.specs.Sets.{IsApart}
 use Rattle.bimap_base.specs.Slots.{pair_at, left_at, right_at, IsLive}
-use Rattle.bimap_base.proofs.HoldingsAlike.{AreAlike}
+use Rattle.bimap_any.proofs.HoldingsAlike.{AreAlike}
 use Rattle.bimap_base.proofs.Walk.{IsWalk, walked, long_walked, fits_walked, listed_long, pairs_walked}
 use Rattle.bimap_index.specs.ByOrder.{ListsByOrder}
 use Rattle.bimap_core.proofs.Ascending.{order_walk, order_ascends}

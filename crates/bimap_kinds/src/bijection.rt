@@ -6,9 +6,8 @@ ghost use Rattle.bimap_base.specs.Undoing.{IsUndoable};
 ghost use Rattle.bimap_kinds.specs.Held.{holding};
 
 use crate::map::BijectiveMap;
-use bimap_base::{
-    Bijection, Interning, NoMemory, NotInserted, NotInsertedWith, Overwritten, Policy, UndoStopped,
-};
+use bimap_any::{Bijection, Interning};
+use bimap_base::{NoMemory, NotInserted, NotInsertedWith, Overwritten, Policy, UndoStopped};
 use bimap_index::Index;
 
 impl<L: Eq + Drop, R: Eq + Drop, I: Index<L>, J: Index<R>> Bijection<L, R>

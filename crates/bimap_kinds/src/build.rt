@@ -1,7 +1,7 @@
 //! Many pairs inserted at once. It doesn't know how one is.
 ghost use Rattle.std.specs.Prelude.{[], OnOk, IfOk, IfErr};
 ghost use Rattle.std.specs.Iterator.{IsFiniteIterable};
-ghost use Rattle.bimap_base.specs.Extension.{IsExtension, IsExtensionStopped};
+ghost use Rattle.bimap_any.specs.Extension.{IsExtension, IsExtensionStopped};
 ghost use Rattle.bimap_base.specs.Holding.{Holding};
 ghost use Rattle.bimap_base.specs.Positions.{ComeInOrder, FollowInOrder};
 
@@ -38,7 +38,7 @@ impl<L: Eq + Drop, R: Eq + Drop, I: Index<L>, J: Index<R>> BijectiveMap<L, R, I,
             (holding self.new)) × ComeInOrder (holding self.old).pairs stop.items
             (holding self.new).pairs) }
     {
-        bimap_base::extend(self, items)
+        bimap_any::extend(self, items)
     }
 }
 
@@ -68,6 +68,6 @@ impl<L: Eq + Drop, R: Eq + Drop, I: EmptyIndex<L> + Drop, J: EmptyIndex<R> + Dro
         ensures position { I.appends → IfOk result (λ bimap. FollowInOrder (A.into_iter_gives items)
             A.IntoIter.next_gives [] (holding bimap).pairs) }
     {
-        bimap_base::from_iter(BijectiveMap::empty(alloc), items)
+        bimap_any::from_iter(BijectiveMap::empty(alloc), items)
     }
 }

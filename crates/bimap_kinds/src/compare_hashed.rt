@@ -1,7 +1,7 @@
 //! Equality of a bimap whose walk has no order of values. It knows walks and look-ups, and no place.
 ghost use Rattle.std.specs.Prelude.{◌≡◌, ◌↔◌, IsTrue, Contains};
-ghost use Rattle.bimap_base.specs.Same.{same, HasEqual};
-ghost use Rattle.bimap_base.proofs.SameSets.{same_per, same_equiv};
+ghost use Rattle.bimap_any.specs.Same.{same, HasEqual};
+ghost use Rattle.bimap_any.proofs.SameSets.{same_per, same_equiv};
 ghost use Rattle.bimap_kinds.specs.Held.{holding};
 
 use crate::map::BijectiveMap;

@@ -4,9 +4,9 @@ ghost use Rattle.std.specs.Prelude.{◌≡◌, ◌++◌, Some, refl};
 ghost use Rattle.std.specs.Cmp.Lexicographic.{pointwise};
 ghost use Rattle.std.specs.Hash as fed;
 ghost use Rattle.std.specs.List.{flat_map, fold};
-ghost use Rattle.bimap_base.specs.Same.{same, pair_eq, pair_cmp, lexicographic};
-ghost use Rattle.bimap_base.proofs.SameSets.{same_per, same_equiv};
-ghost use Rattle.bimap_base.proofs.SameAscending.{held_total, held_ties, held_po, held_alike};
+ghost use Rattle.bimap_any.specs.Same.{same, pair_eq, pair_cmp, lexicographic};
+ghost use Rattle.bimap_any.proofs.SameSets.{same_per, same_equiv};
+ghost use Rattle.bimap_any.proofs.SameAscending.{held_total, held_ties, held_po, held_alike};
 ghost use Rattle.bimap_kinds.specs.Held.{holding};
 
 use crate::map::BijectiveMap;

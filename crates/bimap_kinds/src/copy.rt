@@ -1,7 +1,7 @@
 //! A copy of the whole.
 ghost use Rattle.std.specs.Prelude.{◌≡◌, IfOk};
 ghost use Rattle.std.specs.List.{AllZip};
-ghost use Rattle.bimap_base.specs.Copies.{AreClonesEqual, IsCopy, IsPairClone};
+ghost use Rattle.bimap_any.specs.Copies.{AreClonesEqual, IsCopy, IsPairClone};
 
 use crate::map::BijectiveMap;
 use crate::walked_index::WalkedIndex;

@@ -3,7 +3,7 @@ ghost use Rattle.std.specs.Prelude.{◌≡◌, suc, ◌+◌, ◌-◌, ◌*◌, �
 ghost use Rattle.std.specs.Ordering.{is_lt};
 ghost use Rattle.std.specs.Map.Iter.{TakesFirst, TakesLast, deref_pair};
 ghost use Rattle.bimap_base.specs.Digits.{most_height};
-ghost use Rattle.bimap_base.specs.Exchange.{IsWithoutPair};
+ghost use Rattle.bimap_any.specs.Exchange.{IsWithoutPair};
 
 use crate::map::BijectiveMap;
 use bimap_base::{ByOrder, Count, LeftSide, Meter, OrderQuery, RightSide};

@@ -1,7 +1,7 @@
 //! Bimaps of two hashed sides with builders handed in.
 ghost use Rattle.std.specs.Prelude.{◌≡◌, [], IfOk, IfErr, IsOk};
 ghost use Rattle.std.specs.Iterator.{IsFiniteIterable};
-ghost use Rattle.bimap_base.specs.Extension.{IsExtension, IsExtensionStopped};
+ghost use Rattle.bimap_any.specs.Extension.{IsExtension, IsExtensionStopped};
 ghost use Rattle.bimap_base.specs.Holding.{Holding};
 
 use crate::map::{BiHashMap, BijectiveMap};
@@ -78,6 +78,6 @@ impl<L: Eq + Hash, R: Eq + Hash, LS: BuildHasher, RS: BuildHasher> BiHashMap<L, 
             e last) }
     {
         let empty = BiHashMap::with_hashers(alloc, left_builder, right_builder);
-        bimap_base::from_iter(empty, items)
+        bimap_any::from_iter(empty, items)
     }
 }

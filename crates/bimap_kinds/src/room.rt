@@ -1,5 +1,5 @@
 //! The capacity of a bimap, made exact to the place.
-ghost use Rattle.bimap_base.specs.Capacity.{IsReservation, IsShrink};
+ghost use Rattle.bimap_any.specs.Capacity.{IsReservation, IsShrink};
 
 use crate::map::BijectiveMap;
 use bimap_base::{Count, NoMemory};

@@ -1,11 +1,11 @@
 //! Whether the pairs of a bimap are among those of another, of whatever kind. It knows walks and look-ups, and no place.
 ghost use Rattle.std.specs.Prelude.{◌↔◌, IsTrue, Contains};
-ghost use Rattle.bimap_base.specs.Same.{HasEqual, IsSame};
+ghost use Rattle.bimap_any.specs.Same.{HasEqual, IsSame};
 ghost use Rattle.bimap_kinds.specs.Held.{holding};
 
 use crate::map::BijectiveMap;
 use crate::walked_index::WalkedIndex;
-use bimap_base::{Bijection, contains_pair};
+use bimap_any::{Bijection, contains_pair};
 use bimap_index::Index;
 
 impl<L: Eq + Drop, R: Eq + Drop, I: WalkedIndex<L>, J: Index<R>> BijectiveMap<L, R, I, J> {

@@ -5,7 +5,8 @@ ghost use Rattle.bimap_base.specs.Positions.{StandsUndone};
 ghost use Rattle.bimap_base.specs.Undoing.{IsUndoable};
 
 use crate::map::BijectiveMap;
-use bimap_base::{Bijection, Count, Overwritten, UndoStopped};
+use bimap_any::Bijection;
+use bimap_base::{Count, Overwritten, UndoStopped};
 use bimap_index::Index;
 
 impl<L: Eq + Drop, R: Eq + Drop, I: Index<L>, J: Index<R>> BijectiveMap<L, R, I, J> {

@@ -1,9 +1,9 @@
 //! What no run of the program shows: reads that fail in mid-stream, flushes counted, each request for memory refused.
 use crate::serve::{Ending, serve};
-use test_support::MemoryLimit;
 use std::alloc::{AllocError, Global};
 use std::io::{self, BufReader, BufWriter, Error, ErrorKind, Read, Write};
 use std::test::Fail;
+use test_support::MemoryLimit;
 
 /// Gives its chunks, one a read, and then fails. An empty one is the end of the input.
 #[derive(Drop)]

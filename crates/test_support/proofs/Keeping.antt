@@ -8,7 +8,7 @@ use denote.Ref.{Bor}
 use Rattle.bimap_base.specs.Sets.{IsApart}
 use Rattle.bimap_base.specs.Kept.{TestedAt, TestsInOrder, answered_true}
 use Rattle.bimap_base.proofs.Members.{head_in, more_in, cases_in}
-use Rattle.bimap_base.proofs.Testing.{tests_push, true_push, false_push}
+use Rattle.bimap_any.proofs.Testing.{tests_push, true_push, false_push}
 use Rattle.bimap_base.proofs.Apart.{apart_head, apart_tail, apart_more, apart_none}
 
 module _ {F L R : Type 0} (g : Mut F (Bor L × (Bor R × Unit {0})) Bool) where

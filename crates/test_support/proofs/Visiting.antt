@@ -8,7 +8,7 @@ use Rattle.std.proofs.lemmas.List.Sorted.{IsPermutation-refl}
 use denote.Param.Members.{Mut}
 use denote.Ref.{Bor}
 use Rattle.bimap_base.specs.Kept.{TestedAt, MayTestPair}
-use Rattle.bimap_base.specs.Visited.{VisitsInOrder, MayVisit, IsVisited}
+use Rattle.bimap_any.specs.Visited.{VisitsInOrder, MayVisit, IsVisited}
 use Rattle.test_support.proofs.Keeping.{pair_at}
 
 module _ {F L R : Type 0} (g : Mut F (Bor L × (Bor R × Unit {0})) (Unit {0})) where

@@ -1,6 +1,6 @@
 //! How a test makes a bimap of any kind.
 ghost use Rattle.std.specs.Prelude.{◌≡◌, []};
-ghost use Rattle.bimap_base.specs.Capacity.{IsShrink};
+ghost use Rattle.bimap_any.specs.Capacity.{IsShrink};
 
 use bimap::{Bijection, BijectiveMap, ExtendStopped, NoMemory};
 use bimap_index::{CompactedIndex, EmptyIndex};

@@ -9,9 +9,8 @@ ghost use Rattle.test_support.specs.Plain.{shown};
 mod changes;
 mod scan;
 
-use bimap_base::{
-    Bijection, Interning, NoMemory, NotInsertedWith, Overwritten, Policy, UndoStopped,
-};
+use bimap_any::{Bijection, Interning};
+use bimap_base::{NoMemory, NotInsertedWith, Overwritten, Policy, UndoStopped};
 use std::alloc::Global;
 
 /// Pairs in a vector, whose capacity is the room.

@@ -8,8 +8,8 @@ use crate::word::Word;
 use crate::{hashed_left, insertion_left, ordered_left, right};
 use bimap::btree::Count;
 use bimap::{BiBTreeHashMap, BiBTreeMap, BiHashBTreeMap, BiHashMap, BiInsertionOrderMap};
-use test_support::{Counter, Crowded};
 use std::alloc::AllocError;
+use test_support::{Counter, Crowded};
 
 impl ShellKind for BiBTreeMap<Word, Word> {
     fn call(

@@ -4,8 +4,8 @@ use crate::kinds::{has_ordered_left, has_ordered_right};
 use crate::request::{On, Request};
 use crate::word::Word;
 use bimap::Bijection;
-use test_support::{CopyKind, at_zero};
 use std::alloc::AllocError;
+use test_support::{CopyKind, at_zero};
 
 // How many searches by left and by right the bound of a call counts.
 fn searches(call: &str) -> (u64, u64) {

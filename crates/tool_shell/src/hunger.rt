@@ -4,9 +4,8 @@ use crate::request::{Memory, Request};
 use crate::session::Session;
 use crate::word::Word;
 use bimap::NoMemory;
-use test_support::CopyKind;
-use test_support::MemoryLimit;
 use std::alloc::AllocError;
+use test_support::{CopyKind, MemoryLimit};
 
 /// How much may be said while nothing can be allocated.
 const SAID: usize = 1 << 16;

@@ -4,8 +4,8 @@ use crate::request::Request;
 use crate::session::Session;
 use crate::word::Word;
 use bimap::{extend_with, from_iter_with};
-use test_support::CopyKind;
 use std::alloc::AllocError;
+use test_support::CopyKind;
 
 /// Makes the call, if it is one of these.
 pub fn call<B: CopyKind<Word, Word> + ShellKind>(

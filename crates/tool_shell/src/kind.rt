@@ -3,10 +3,10 @@ use crate::request::Request;
 use crate::word::Word;
 use bimap::btree::Count;
 use bimap::{BijectiveMap, NoMemory, NotInverted, WalkedIndex};
-use test_support::Counter;
 use bimap_index::{CopiedIndex, Index};
 use std::alloc::AllocError;
 use std::fmt::Debug;
+use test_support::Counter;
 
 /// What the shell shows of a kind.
 pub trait Shown: Sized {

@@ -4,8 +4,8 @@ use crate::request::{On, Request};
 use crate::session::Session;
 use crate::word::Word;
 use bimap::{BiBTreeHashMap, BiBTreeMap, BiHashBTreeMap, BiHashMap, BiInsertionOrderMap};
-use test_support::{Crowded, Zero};
 use std::alloc::AllocError;
+use test_support::{Crowded, Zero};
 use tool_shell_json::{JsonCall, json_call};
 
 /// How a line and an answer name the kinds.

@@ -3,10 +3,10 @@ use crate::kind::{ShellKind, say};
 use crate::request::Request;
 use crate::session::Session;
 use crate::word::Word;
-use test_support::CopyKind;
 use bimap_undo::Undoable;
 use std::alloc::AllocError;
 use std::mem;
+use test_support::CopyKind;
 
 // A change, which is recorded.
 fn changed<B: CopyKind<Word, Word> + ShellKind>(

@@ -5,12 +5,12 @@ use crate::kind::{Words, say};
 use crate::request::Request;
 use crate::word::Word;
 use bimap::btree::Count;
-use test_support::Counter;
 use bimap_index::{CopiedIndex, HashIndex};
 use bimap_tree::Ordered;
 use std::alloc::AllocError;
 use std::hash::BuildHasher;
 use std::ops::RangeBounds;
+use test_support::Counter;
 
 fn walk<I: CopiedIndex<Word> + Drop>(
     bimap: &Words<I, Ordered>,

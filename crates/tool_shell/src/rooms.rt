@@ -4,9 +4,9 @@ use crate::request::Request;
 use crate::session::Session;
 use crate::word::Word;
 use bimap::Bijection;
-use test_support::CopyKind;
 use std::alloc::AllocError;
 use std::mem;
+use test_support::CopyKind;
 
 fn room<B: CopyKind<Word, Word> + ShellKind>(
     session: &mut Session<B>,

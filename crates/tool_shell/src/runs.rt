@@ -3,9 +3,9 @@ use crate::kind::say;
 use crate::request::Request;
 use crate::word::Word;
 use bimap::{Bijection, RunRefused, perform, run, undo_run};
-use test_support::insert_all;
 use std::alloc::{AllocError, Global};
 use std::mem;
+use test_support::insert_all;
 
 // Inserts the pairs, and undoes the insertions from the last to the first.
 fn undone<B: Bijection<Word, Word>>(

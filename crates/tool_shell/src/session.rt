@@ -4,10 +4,10 @@ use crate::request::{On, Request};
 use crate::word::Word;
 use crate::{counted, items, look, marks, put, rooms, runs};
 use bimap::{Bijection, Inverse};
-use test_support::CopyKind;
 use bimap_undo::Undoable;
 use std::alloc::{AllocError, Global};
 use std::fmt::Debug;
+use test_support::CopyKind;
 
 /// The bimap, another one beside it, and one with a record.
 #[derive(Drop)]

@@ -8,7 +8,8 @@ ghost use Rattle.bimap.specs.JsonObjects.{FollowEntries};
 
 use crate::value::object::{JsonFault, read_into_with};
 use crate::value::sides::{JsonKey, JsonValue};
-use bimap_base::{Bijection, Policy};
+use bimap_any::Bijection;
+use bimap_base::Policy;
 use json::Scratch;
 use serde_json::Value;
 use std::alloc::Global;

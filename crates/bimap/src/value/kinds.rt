@@ -1,7 +1,7 @@
 //! Each kind of bimap as a JSON object and back. It doesn't know how a side is written.
 ghost use Rattle.std.specs.Prelude.{◌≡◌, Contains, IfErr, IfOk, OnOk};
 ghost use Rattle.serde_json.specs.View.{view};
-ghost use Rattle.bimap_base.specs.Same.{IsSame};
+ghost use Rattle.bimap_any.specs.Same.{IsSame};
 ghost use Rattle.bimap_kinds.specs.Held.{holding};
 ghost use Rattle.bimap.specs.JsonObjects.{IsObjectOf, IsEntryOf, EachReadsBack, ReadsObject};
 

@@ -3,11 +3,12 @@ ghost use Rattle.std.specs.Prelude.{◌≡◌, ◌↔◌, List, [], Contains, If
 ghost use Rattle.std.specs.Iterator.{Drains, IsFiniteIterable};
 ghost use denote.Ref.{Bor};
 ghost use Rattle.serde_json.specs.View.{view};
-ghost use Rattle.bimap_base.specs.Same.{IsSame};
+ghost use Rattle.bimap_any.specs.Same.{IsSame};
 ghost use Rattle.bimap.specs.JsonObjects.{IsObjectOf, IsEntryOf, IsLastEntryOf, EachReadsBack, FollowEntries, ReadsObject, ReadsObjectUnder, shown_pairs};
 
 use crate::value::sides::{JsonKey, JsonValue, ReadFault};
-use bimap_base::{Bijection, NoMemory, NotInsertedWith, OnHeld, Policy};
+use bimap_any::Bijection;
+use bimap_base::{NoMemory, NotInsertedWith, OnHeld, Policy};
 use serde_json::{Map, Value};
 use std::alloc::Global;
 use std::mem;

@@ -6,11 +6,10 @@ use bimap::{
     from_iter_with, get_by_left_or_insert_with, get_by_right_or_insert, perform, put, replace_left,
     replace_right, run, swap_partners, undo_run,
 };
-use test_support::insert_all;
-use test_support::MemoryLimit;
 use std::alloc::Global;
 use std::process::Abort;
 use std::test::Fail;
+use test_support::{MemoryLimit, insert_all};
 
 fn sum_of<B: Bijection<char, u32>>(seats: &B) -> u32 {
     let mut sum = 0u32;

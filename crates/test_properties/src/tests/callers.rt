@@ -1,7 +1,7 @@
 //! What a caller writes with walks and `==`, with what it then knows.
 ghost use Rattle.std.specs.Prelude.{◌≡◌, IfOk, map, nat_eq, reverse};
 ghost use Rattle.std.specs.Map.{keys_of, values_of};
-ghost use Rattle.bimap_base.specs.Same.{same};
+ghost use Rattle.bimap_any.specs.Same.{same};
 ghost use Rattle.bimap_kinds.specs.Held.{holding};
 ghost use Rattle.bimap_kinds.specs.Held.{by_right};
 

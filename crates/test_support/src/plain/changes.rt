@@ -2,7 +2,7 @@
 ghost use Rattle.std.specs.Prelude.{◌≡◌, ◌≤◌, ◌<◌, ◌+◌, ◌*◌, ◌⊎◌, max, Contains, OnOk, OnErr, vec_len, vec_capacity};
 ghost use Rattle.bimap_base.specs.Sets.{IsApart};
 ghost use Rattle.bimap_base.specs.Answer.{IsAnswer, named_count};
-ghost use Rattle.bimap_base.specs.Capacity.{IsReservation};
+ghost use Rattle.bimap_any.specs.Capacity.{IsReservation};
 ghost use Rattle.bimap_base.specs.Holding.{IsInsertion, IsInsertionUnder, IsUndoing};
 ghost use Rattle.bimap_base.specs.Kept.{MayTest, MayTestPair, TestedAt, IsKept};
 ghost use Rattle.bimap_base.specs.Undoing.{IsUndoable};

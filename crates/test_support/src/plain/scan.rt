@@ -1,7 +1,7 @@
 //! What looks through pairs one by one, and takes one out.
 ghost use Rattle.std.specs.Prelude.{◌≡◌, true, Contains, MatchOption, MatchBool, position};
 ghost use Rattle.bimap_base.specs.Kept.{MayTestPair, TestedAt};
-ghost use Rattle.bimap_base.specs.Visited.{MayVisit, IsVisited};
+ghost use Rattle.bimap_any.specs.Visited.{MayVisit, IsVisited};
 ghost use Rattle.bimap_base.specs.Sets.{IsApart, HasLeft, LacksLeft, HasRight, LacksRight};
 ghost use Rattle.test_support.specs.Plain.{IsTaken};
 

@@ -1,11 +1,11 @@
 use Rattle.std.proofs.Common.{rules, ◌≡◌, true, false, refl, true≢false, Contains}
 use Rattle.bimap_base.specs.Answer.{overwrites}
-use Rattle.bimap_base.proofs.Survivors.{put_touches}
+use Rattle.bimap_any.proofs.Survivors.{put_touches}
 use Rattle.bimap.specs.declared.call.Call.TheVariants.{Insert, InsertNoOverwrite, InsertWith}
 use Rattle.bimap.specs.declared.call.Reply.TheVariants.{Inserted, Put}
 use Rattle.bimap.specs.History.{Puts}
 use Rattle.bimap.specs.Test.{Answers}
-use Rattle.bimap_base.proofs.Growing.{answer_overwrites, room_after}
+use Rattle.bimap_any.proofs.Growing.{answer_overwrites, room_after}
 use Rattle.bimap.proofs.Tested.{MayTest_by, IsKept-by, may_call, answers_as}
 use Rattle.bimap.proofs.Histories.{right_contains_left, right_contains_right, step_retain}
 use Rattle.bimap.proofs.runs.perform.Goals as goal

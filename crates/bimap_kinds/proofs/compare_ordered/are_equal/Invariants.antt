@@ -1,6 +1,6 @@
 use Rattle.std.proofs.Common.{◌≡◌}
 use Rattle.std.specs.Cmp.Lexicographic.{pointwise}
-use Rattle.bimap_base.specs.Same.{pair_eq}
+use Rattle.bimap_any.specs.Same.{pair_eq}
 use Rattle.bimap_kinds.proofs.compare_ordered.are_equal.Given as goal
 
 abbrev pub invariant-loop-pair : goal.invariant-loop-pair

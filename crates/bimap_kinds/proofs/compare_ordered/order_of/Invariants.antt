@@ -1,5 +1,5 @@
 use Rattle.std.proofs.Common.{◌≡◌}
-use Rattle.bimap_base.specs.Same.{lexicographic}
+use Rattle.bimap_any.specs.Same.{lexicographic}
 use Rattle.bimap_kinds.proofs.compare_ordered.order_of.Given as goal
 
 abbrev pub invariant-loop-pair : goal.invariant-loop-pair

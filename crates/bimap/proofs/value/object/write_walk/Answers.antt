@@ -4,7 +4,7 @@ use Rattle.serde_json.specs.Data.{put}
 use Rattle.serde_json.specs.Find.{as_object}
 use Rattle.serde_json.specs.View.{members_view}
 use Rattle.bimap_base.proofs.Members.{none_in}
-use Rattle.bimap_base.proofs.Survivors.{Survives_none}
+use Rattle.bimap_any.proofs.Survivors.{Survives_none}
 use Rattle.bimap.specs.JsonObjects.{Entry, entries_of, IsWrittenAs, TakesKey, IsLastEntryOf, EachReadsBack, shown_pairs}
 use Rattle.bimap.proofs.JsonEntries.{map_ascends, has_entries}
 use Rattle.bimap.proofs.JsonWriting.{shown_push, each_push, entries_push}

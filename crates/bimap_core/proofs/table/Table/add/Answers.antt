@@ -1,7 +1,7 @@
 use Rattle.bimap_base.proofs.Counts.{none_named}
 use Rattle.std.specs.Prelude.{Contains}
 use Rattle.bimap_base.specs.Places.{pairs_in}
-use Rattle.bimap_base.proofs.Positions.{stands_last}
+use Rattle.bimap_any.proofs.Positions.{stands_last}
 use Rattle.bimap_core.proofs.table.Table.add.Goals as goal
 
 pub returns-in-Ok-clause-position : goal.returns-in-Ok-clause-position

@@ -2,7 +2,7 @@ use Rattle.std.proofs.Common.{◌∙◌, sym, subst, inl, inr, refl, None, true�
 use Rattle.bimap_base.specs.PairsAt.{pairs_at}
 use Rattle.bimap_base.specs.Positions.{StandsFor}
 use Rattle.bimap_base.specs.declared.overwritten.Overwritten.TheVariants.{Both}
-use Rattle.bimap_base.proofs.Fits.{names_one}
+use Rattle.bimap_any.proofs.Fits.{names_one}
 use Rattle.bimap_core.proofs.Places.{key_lacking}
 use Rattle.bimap_core.proofs.Inserted.{on_err}
 use Rattle.bimap_core.proofs.Undoing.{alone_named, alone_grown, alone_beside, undone_neither, undone_one, undone_both, undo_refused}

@@ -1,4 +1,4 @@
-use Rattle.bimap_base.specs.Same.{lexicographic}
+use Rattle.bimap_any.specs.Same.{lexicographic}
 use Rattle.std.proofs.Common.{◌∙◌}
 use Rattle.bimap_kinds.proofs.compare_ordered.BijectiveMapOrderedOrd.cmp.Goals as goal
 

@@ -1,7 +1,7 @@
 use Rattle.std.proofs.Common.{sym, ◌∙◌}
 use Rattle.std.specs.Cmp.Lexicographic.{pointwise}
-use Rattle.bimap_base.specs.Same.{pair_eq}
-use Rattle.bimap_base.proofs.SameAscending.{same_is_pointwise}
+use Rattle.bimap_any.specs.Same.{pair_eq}
+use Rattle.bimap_any.proofs.SameAscending.{same_is_pointwise}
 use Rattle.bimap_kinds.specs.Held.{holding}
 use Rattle.bimap_kinds.proofs.compare_ordered.BijectiveMapOrderedPartialEq.eq.Goals as goal
 

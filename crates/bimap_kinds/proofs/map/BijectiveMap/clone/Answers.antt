@@ -1,8 +1,8 @@
 use Rattle.std.proofs.Common.{◌∷◌, [], arith, ap, length, refl, sym, subst, ◌∙◌, Contains}
 use Rattle.bimap_base.specs.Places.{pairs_in}
 use Rattle.bimap_base.specs.Sets.{NoneShares}
-use Rattle.bimap_base.proofs.Copying.{IsCopiedUpTo, apart_clone, copied_all, copied_more, copied_none}
-use Rattle.bimap_base.proofs.CopiesAlike.{copy_alike}
+use Rattle.bimap_any.proofs.Copying.{IsCopiedUpTo, apart_clone, copied_all, copied_more, copied_none}
+use Rattle.bimap_any.proofs.CopiesAlike.{copy_alike}
 use Rattle.bimap_kinds.specs.Held.{holding}
 use Rattle.bimap_kinds.specs.HeldTable.{held}
 use Rattle.bimap_kinds.proofs.Cloning.{along_all, along_more, along_none}

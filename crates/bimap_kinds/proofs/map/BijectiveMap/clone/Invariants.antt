@@ -1,7 +1,7 @@
 use Rattle.std.proofs.Common.{◌≡◌, ◌≤◌, ◌+◌, length}
 use Rattle.bimap_base.specs.PairsAt.{pairs_at}
 use Rattle.bimap_base.specs.Places.{pairs_in}
-use Rattle.bimap_base.proofs.Copying.{IsCopiedUpTo}
+use Rattle.bimap_any.proofs.Copying.{IsCopiedUpTo}
 use Rattle.bimap_kinds.specs.Held.{holding}
 use Rattle.bimap_kinds.proofs.Cloning.{IsClonedAlong}
 use Rattle.bimap_kinds.proofs.map.BijectiveMap.clone.Given as goal

@@ -1,5 +1,5 @@
 use Rattle.std.proofs.Common.{rules}
-use Rattle.bimap_base.proofs.HoldingsAlike.{found_alike}
+use Rattle.bimap_any.proofs.HoldingsAlike.{found_alike}
 use Rattle.bimap_kinds.proofs.Walk.{table_alike}
 use Rattle.bimap_kinds.proofs.map.BijectiveMap.get_by_left_metered.Goals as goal
 

@@ -1,5 +1,5 @@
 use Rattle.std.proofs.Common.{rules}
-use Rattle.bimap_base.proofs.HoldingsAlike.{interning_alike}
+use Rattle.bimap_any.proofs.HoldingsAlike.{interning_alike}
 use Rattle.bimap_kinds.proofs.Walk.{table_alike, right_walk, table_facts, held_same, held_unchanged}
 use Rattle.bimap_kinds.proofs.map.BijectiveMap.get_by_left_or_insert_metered.Goals as goal
 

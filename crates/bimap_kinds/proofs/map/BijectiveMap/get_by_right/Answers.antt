@@ -1,4 +1,4 @@
-use Rattle.bimap_base.proofs.HoldingsAlike.{found_alike}
+use Rattle.bimap_any.proofs.HoldingsAlike.{found_alike}
 use Rattle.bimap_kinds.proofs.Walk.{table_alike}
 use Rattle.bimap_kinds.proofs.map.BijectiveMap.get_by_right.Goals as goal
 

@@ -1,6 +1,6 @@
 use Rattle.std.proofs.Common.{sym, ◌∙◌}
 use Rattle.std.proofs.lemmas.Bool.{false≢true}
-use Rattle.bimap_base.proofs.Meeting.{decided_by_right, lacking_left}
+use Rattle.bimap_any.proofs.Meeting.{decided_by_right, lacking_left}
 use Rattle.bimap_kinds.specs.Held.{holding}
 use Rattle.bimap_kinds.proofs.map.BijectiveMap.has_equal.Goals as goal
 

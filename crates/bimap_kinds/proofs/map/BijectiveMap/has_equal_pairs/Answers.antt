@@ -1,6 +1,6 @@
 use Rattle.std.proofs.Common.{refl, sym, ◌∙◌, subst}
 use Rattle.std.proofs.lemmas.Bool.{false≢true}
-use Rattle.bimap_base.proofs.Meeting.{IsMetUpTo, met_more, met_all, unmet, unlike_long}
+use Rattle.bimap_any.proofs.Meeting.{IsMetUpTo, met_more, met_all, unmet, unlike_long}
 use Rattle.bimap_kinds.specs.Held.{holding}
 use Rattle.bimap_kinds.proofs.map.BijectiveMap.has_equal_pairs.Goals as goal
 

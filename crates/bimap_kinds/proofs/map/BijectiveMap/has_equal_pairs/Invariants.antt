@@ -1,5 +1,5 @@
 use Rattle.std.proofs.Common.{length}
-use Rattle.bimap_base.proofs.Meeting.{IsMetUpTo}
+use Rattle.bimap_any.proofs.Meeting.{IsMetUpTo}
 use Rattle.bimap_kinds.specs.Held.{holding}
 use Rattle.bimap_kinds.proofs.map.BijectiveMap.has_equal_pairs.Given as goal
 

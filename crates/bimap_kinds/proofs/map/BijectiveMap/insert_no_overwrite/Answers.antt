@@ -2,7 +2,7 @@ use Rattle.std.proofs.Common.{arith, refl, subst, Contains}
 use Rattle.std.proofs.lemmas.Bool.{or_left, or_right, or_from}
 use Rattle.bimap_base.specs.Sets.{NoneShares}
 use Rattle.bimap_base.proofs.Counts.{none_named}
-use Rattle.bimap_base.proofs.Positions.{stands_last}
+use Rattle.bimap_any.proofs.Positions.{stands_last}
 use Rattle.bimap_kinds.specs.Held.{holding}
 use Rattle.bimap_kinds.proofs.map.BijectiveMap.insert_no_overwrite.Goals as goal
 

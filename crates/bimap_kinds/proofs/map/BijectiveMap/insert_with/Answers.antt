@@ -1,4 +1,4 @@
-use Rattle.bimap_base.proofs.HoldingsAlike.{insertion_alike}
+use Rattle.bimap_any.proofs.HoldingsAlike.{insertion_alike}
 use Rattle.bimap_kinds.proofs.Walk.{table_alike, right_walk, table_facts, held_unchanged}
 use Rattle.bimap_kinds.proofs.map.BijectiveMap.insert_with.Goals as goal
 

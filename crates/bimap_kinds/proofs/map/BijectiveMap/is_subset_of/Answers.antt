@@ -4,7 +4,7 @@ use Rattle.std.specs.Prelude.{Contains}
 use Rattle.std.proofs.lemmas.Bool.{false≢true}
 use Rattle.std.proofs.lemmas.List.Elements.{Contains-append_right}
 use Rattle.bimap_base.proofs.Members.{head_in}
-use Rattle.bimap_base.proofs.Meeting.{IsMetUpTo, met_more}
+use Rattle.bimap_any.proofs.Meeting.{IsMetUpTo, met_more}
 use Rattle.bimap_kinds.specs.Held.{holding}
 use Rattle.bimap_kinds.proofs.map.BijectiveMap.is_subset_of.Goals as goal
 

@@ -1,4 +1,4 @@
-use Rattle.bimap_base.proofs.Meeting.{IsMetUpTo}
+use Rattle.bimap_any.proofs.Meeting.{IsMetUpTo}
 use Rattle.bimap_kinds.specs.Held.{holding}
 use Rattle.bimap_kinds.proofs.map.BijectiveMap.is_subset_of.Given as goal
 

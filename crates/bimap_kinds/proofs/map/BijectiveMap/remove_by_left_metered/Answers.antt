@@ -1,5 +1,5 @@
 use Rattle.std.proofs.Common.{rules}
-use Rattle.bimap_base.proofs.HoldingsAlike.{removal_alike}
+use Rattle.bimap_any.proofs.HoldingsAlike.{removal_alike}
 use Rattle.bimap_kinds.proofs.Walk.{table_alike, right_walk, table_facts}
 use Rattle.bimap_kinds.proofs.map.BijectiveMap.remove_by_left_metered.Goals as goal
 

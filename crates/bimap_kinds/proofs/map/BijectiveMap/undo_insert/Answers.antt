@@ -1,7 +1,7 @@
 use Rattle.std.proofs.Common.{Contains}
 use Rattle.bimap_base.specs.Places.{pairs_in}
-use Rattle.bimap_base.proofs.HoldingsAlike.{undoing_alike}
-use Rattle.bimap_base.proofs.SetsAlike.{IsUndoable-same, turned}
+use Rattle.bimap_any.proofs.HoldingsAlike.{undoing_alike}
+use Rattle.bimap_any.proofs.SetsAlike.{IsUndoable-same, turned}
 use Rattle.bimap_kinds.specs.HeldTable.{held}
 use Rattle.bimap_kinds.proofs.Walk.{table_alike, right_walk, table_facts, held_unchanged}
 use Rattle.bimap_kinds.proofs.map.BijectiveMap.undo_insert.Goals as goal

@@ -2,7 +2,7 @@ use Rattle.std.proofs.Common.{◌≡◌, true, List, length, sym, ap, ◌∙◌,
 use Rattle.bimap_base.specs.Sets.{IsWithoutLeft}
 use Rattle.bimap_base.specs.Answer.{IsBoth, named_count}
 use Rattle.bimap_base.specs.Undoing.{IsUndone}
-use Rattle.bimap_base.proofs.Fits.{names_one}
+use Rattle.bimap_any.proofs.Fits.{names_one}
 use Rattle.bimap_base.proofs.Room.{room_stays}
 use Rattle.test_support.proofs.Undone.{one_back, two_back, one_apart, two_apart}
 use Rattle.test_support.proofs.plain.changes.undo.Goals as goal

@@ -1,5 +1,5 @@
 use Rattle.std.proofs.Common.{take}
-use Rattle.bimap_base.specs.Visited.{VisitsInOrder}
+use Rattle.bimap_any.specs.Visited.{VisitsInOrder}
 use Rattle.test_support.proofs.plain.scan.visit.Given as goal
 
 abbrev pub invariant-loop-i : goal.invariant-loop-i

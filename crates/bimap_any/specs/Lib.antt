@@ -1,0 +1,13 @@
+pub mod Survivors
+pub mod Visited
+pub mod Fitting
+pub mod InterningByRight
+pub mod Capacity
+pub mod Same
+pub mod Copies
+pub mod Exchange
+pub mod Put
+pub mod Growth
+pub mod Extension
+pub mod Exchanged
+pub mod Added

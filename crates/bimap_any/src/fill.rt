@@ -1,0 +1,149 @@
+//! Many pairs inserted into any bimap. It doesn't know how a bimap keeps them.
+ghost use Rattle.std.specs.Prelude.{◌≡◌, [], OnOk, IfOk, IfErr};
+ghost use Rattle.std.specs.Iterator.{IsFiniteIterable};
+ghost use Rattle.bimap_any.specs.Extension.{IsExtension, IsExtensionStopped, IsExtensionUnder, IsExtensionStoppedUnder};
+ghost use Rattle.bimap_base.specs.Holding.{Holding};
+ghost use Rattle.bimap_base.specs.Positions.{ComeInOrder, FollowInOrder};
+
+use crate::bijection::Bijection;
+use bimap_base::{ExtendStopped, ItemRefused, NotInsertedWith, OnHeld, Policy};
+use std::mem;
+
+/// Inserts each item in order, which overwrites what it shares a value with.
+///
+/// Each costs an `insert`, and nothing is reserved ahead. An `Err` hands back the item that was out of memory: those
+/// before it stay, and no more are asked for.
+pub fn extend<L: Eq + Drop, R: Eq + Drop, B: Bijection<L, R>, I: IntoIterator<Item = (L, R)>>(
+    bimap: &mut B,
+    items: I,
+) -> Result<(), ExtendStopped<L, R>>
+    requires ends { IsFiniteIterable I.into_iter_gives I.IntoIter.can_next
+        I.IntoIter.remaining items }
+    ensures extended { OnOk result (IsExtension L.eq R.eq
+        (I.into_iter_gives items) I.IntoIter.next_gives (B.holding bimap.old)
+        (B.holding bimap.new)) }
+    ensures stopped { IfErr result (λ e. IsExtensionStopped L.eq R.eq
+        (I.into_iter_gives items) I.IntoIter.next_gives (B.holding bimap.old) e
+        (B.holding bimap.new)) }
+    ensures position { B.appends → OnOk result (FollowInOrder (I.into_iter_gives items)
+        I.IntoIter.next_gives (B.holding bimap.old).pairs (B.holding bimap.new).pairs) }
+    ensures position_stopped { B.appends → IfErr result (λ e. (stop : IsExtensionStopped L.eq R.eq
+        (I.into_iter_gives items) I.IntoIter.next_gives (B.holding bimap.old) e
+        (B.holding bimap.new)) × ComeInOrder (B.holding bimap.old).pairs stop.items
+        (B.holding bimap.new).pairs) }
+    ensures lenders { B.lenders bimap.new ≡ B.lenders bimap.old }
+{
+    let policy = Policy {
+        left: OnHeld::Overwrite,
+        right: OnHeld::Overwrite,
+    };
+    match extend_with(bimap, items, policy) {
+        Ok(()) => Ok(()),
+        Err(ItemRefused { taken, why }) => match why {
+            NotInsertedWith::Memory(left, right) => Err(ExtendStopped { taken, left, right }),
+            NotInsertedWith::LeftHeld(_, _) => unreachable!(),
+            NotInsertedWith::RightHeld(_, _) => unreachable!(),
+        },
+    }
+}
+
+/// Inserts each item in order, where the policy lets it overwrite what it shares a value with, up to the first that is
+/// refused.
+///
+/// Each costs an `insert_with`, and nothing is reserved ahead. An `Err` hands back the refused item: those before it
+/// stay, and no more are asked for.
+///
+///     // each left and each right once: the item 2 has the right of the item 0
+///     let once = Policy { left: OnHeld::Refuse, right: OnHeld::Refuse };
+///     let refused = extend_with(&mut seats, [('a', 1), ('b', 2), ('c', 1), ('d', 4)], once);
+///     // Err(ItemRefused { taken: 2, why: NotInsertedWith::RightHeld('c', 1) }); ('a', 1) and ('b', 2) are in
+pub fn extend_with<L: Eq + Drop, R: Eq + Drop, B: Bijection<L, R>, I: IntoIterator<Item = (L, R)>>(
+    bimap: &mut B,
+    items: I,
+    policy: Policy,
+) -> Result<(), ItemRefused<L, R>>
+    requires ends { IsFiniteIterable I.into_iter_gives I.IntoIter.can_next
+        I.IntoIter.remaining items }
+    ensures extended { OnOk result (IsExtensionUnder L.eq R.eq
+        (I.into_iter_gives items) I.IntoIter.next_gives (B.holding bimap.old) policy
+        (B.holding bimap.new)) }
+    ensures stopped { IfErr result (λ e. IsExtensionStoppedUnder L.eq R.eq
+        (I.into_iter_gives items) I.IntoIter.next_gives (B.holding bimap.old) policy e
+        (B.holding bimap.new)) }
+    ensures position { B.appends → OnOk result (FollowInOrder (I.into_iter_gives items)
+        I.IntoIter.next_gives (B.holding bimap.old).pairs (B.holding bimap.new).pairs) }
+    ensures position_stopped { B.appends → IfErr result (λ e. (stop : IsExtensionStoppedUnder L.eq
+        R.eq (I.into_iter_gives items) I.IntoIter.next_gives (B.holding bimap.old) policy e
+        (B.holding bimap.new)) × ComeInOrder (B.holding bimap.old).pairs stop.items
+        (B.holding bimap.new).pairs) }
+    ensures lenders { B.lenders bimap.new ≡ B.lenders bimap.old }
+{
+    let mut taken = 0usize;
+    for (left, right) in items {
+        match bimap.insert_with(left, right, policy) {
+            Ok(answer) => {
+                mem::drop(answer);
+                taken = taken.saturating_add(1);
+            }
+            Err(why) => {
+                return Err(ItemRefused { taken, why });
+            }
+        }
+    }
+    Ok(())
+}
+
+/// Inserts each item in order into an empty bimap, as [`extend`] does, and returns it. An `Err` drops it.
+pub fn from_iter<
+    L: Eq + Drop,
+    R: Eq + Drop,
+    B: Bijection<L, R> + Drop,
+    I: IntoIterator<Item = (L, R)>,
+>(empty: B, items: I) -> Result<B, ExtendStopped<L, R>>
+    requires empty { (B.holding empty).pairs ≡ [] }
+    requires ends { IsFiniteIterable I.into_iter_gives I.IntoIter.can_next
+        I.IntoIter.remaining items }
+    ensures extended { IfOk result (λ bimap. IsExtension L.eq R.eq
+        (I.into_iter_gives items) I.IntoIter.next_gives (B.holding empty) (B.holding bimap)) }
+    ensures stopped { IfErr result (λ e. (last : Holding L R) × IsExtensionStopped L.eq R.eq
+        (I.into_iter_gives items) I.IntoIter.next_gives (B.holding empty) e last) }
+    ensures position { B.appends → IfOk result (λ bimap. FollowInOrder (I.into_iter_gives items)
+        I.IntoIter.next_gives [] (B.holding bimap).pairs) }
+    ensures lenders { IfOk result (λ bimap. B.lenders bimap ≡ B.lenders empty) }
+{
+    let mut bimap = empty;
+    match extend(&mut bimap, items) {
+        Ok(()) => Ok(bimap),
+        Err(stopped) => Err(stopped),
+    }
+}
+
+/// Inserts each item in order into an empty bimap, as [`extend_with`] does, and returns it. An `Err` drops it.
+///
+///     // each left and each right once
+///     let once = Policy { left: OnHeld::Refuse, right: OnHeld::Refuse };
+///     let seats = from_iter_with(BiBTreeMap::new(alloc), [('a', 1), ('b', 2)], once)?;
+pub fn from_iter_with<
+    L: Eq + Drop,
+    R: Eq + Drop,
+    B: Bijection<L, R> + Drop,
+    I: IntoIterator<Item = (L, R)>,
+>(empty: B, items: I, policy: Policy) -> Result<B, ItemRefused<L, R>>
+    requires empty { (B.holding empty).pairs ≡ [] }
+    requires ends { IsFiniteIterable I.into_iter_gives I.IntoIter.can_next
+        I.IntoIter.remaining items }
+    ensures extended { IfOk result (λ bimap. IsExtensionUnder L.eq R.eq
+        (I.into_iter_gives items) I.IntoIter.next_gives (B.holding empty) policy
+        (B.holding bimap)) }
+    ensures stopped { IfErr result (λ e. (last : Holding L R) × IsExtensionStoppedUnder L.eq R.eq
+        (I.into_iter_gives items) I.IntoIter.next_gives (B.holding empty) policy e last) }
+    ensures position { B.appends → IfOk result (λ bimap. FollowInOrder (I.into_iter_gives items)
+        I.IntoIter.next_gives [] (B.holding bimap).pairs) }
+    ensures lenders { IfOk result (λ bimap. B.lenders bimap ≡ B.lenders empty) }
+{
+    let mut made = empty;
+    match extend_with(&mut made, items, policy) {
+        Ok(()) => Ok(made),
+        Err(refused) => Err(refused),
+    }
+}

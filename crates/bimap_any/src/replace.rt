@@ -1,0 +1,66 @@
+//! One value of a pair replaced, in any bimap. It doesn't know how a bimap keeps its pairs.
+ghost use Rattle.std.specs.Prelude.{◌≡◌, IfOk};
+ghost use Rattle.bimap_any.specs.Exchange.{IsReplacementOfLeft, IsReplacementOfRight};
+ghost use Rattle.bimap_base.specs.Positions.{ComesLastWith};
+
+use crate::bijection::Bijection;
+use bimap_base::NotReplaced;
+
+// A replacement on one side: how the bimap is asked, what it answers of a pair, and the pair that is put instead.
+macro_rules! replaced {
+    ($bimap:ident, $from:ident => $to:ident; $contains:ident, $remove:ident; $left:ident, $right:ident => $old:ident, $new_left:ident, $new_right:ident) => {{
+        if !$bimap.$contains($from) {
+            return Err(NotReplaced::Missing($to));
+        }
+        if $to != *$from && $bimap.$contains(&$to) {
+            return Err(NotReplaced::Held($to));
+        }
+        match $bimap.$remove($from) {
+            Some(($left, $right)) => match $bimap.insert($new_left, $new_right) {
+                Ok(_) => Ok($old),
+                Err(_) => unreachable!(),
+            },
+            None => unreachable!(),
+        }
+    }};
+}
+
+/// Replaces the left of a pair and returns the old one, also where the new one equals it.
+///
+/// It costs two look-ups, a removal and an insertion, and is never out of memory; the capacity stays. An `Err` hands
+/// the new left back: the bimap doesn't contain the old one, or another pair has the new one. In insertion order the pair
+/// goes to the end.
+///
+///     // a user gets another name, and keeps the number
+///     let old = replace_left(&mut users, &"ann", "anna")?;
+pub fn replace_left<L: Eq + Drop, R: Eq + Drop, B: Bijection<L, R>>(
+    bimap: &mut B,
+    from: &L,
+    to: L,
+) -> Result<L, NotReplaced<L>>
+    ensures answer { IsReplacementOfLeft L.eq (B.holding bimap.old) from.now to result
+        (B.holding bimap.new) }
+    ensures position { B.appends → IfOk result (λ taken. ComesLastWith (λ (l : L) (r : R). (l, r))
+        (B.holding bimap.old).pairs taken to (B.holding bimap.new).pairs) }
+    ensures lenders { B.lenders bimap.new ≡ B.lenders bimap.old }
+{
+    replaced!(bimap, from => to; contains_left, remove_by_left; left, right => left, to, right)
+}
+
+/// Replaces the right of a pair and returns the old one, as [`replace_left`] does a left.
+///
+///     // a user moves to another seat
+///     let old = replace_right(&mut seats, &12, 31)?;
+pub fn replace_right<L: Eq + Drop, R: Eq + Drop, B: Bijection<L, R>>(
+    bimap: &mut B,
+    from: &R,
+    to: R,
+) -> Result<R, NotReplaced<R>>
+    ensures answer { IsReplacementOfRight R.eq (B.holding bimap.old) from.now to result
+        (B.holding bimap.new) }
+    ensures position { B.appends → IfOk result (λ taken. ComesLastWith (λ (r : R) (l : L). (l, r))
+        (B.holding bimap.old).pairs taken to (B.holding bimap.new).pairs) }
+    ensures lenders { B.lenders bimap.new ≡ B.lenders bimap.old }
+{
+    replaced!(bimap, from => to; contains_right, remove_by_right; left, right => right, left, to)
+}

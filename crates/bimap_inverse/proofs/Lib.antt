@@ -1,4 +1,0 @@
-pub mod Sides
-pub mod Inserted
-pub mod Undone
-pub mod Called

@@ -1,5 +1,0 @@
-use Rattle.bimap_inverse.proofs.Sides.{partner_inverse}
-use Rattle.bimap_inverse.proofs.view.InverseBijection.get_by_left.Goals as goal
-
-pub returns : goal.returns
-returns g c = partner_inverse c.get_by_right.ensures

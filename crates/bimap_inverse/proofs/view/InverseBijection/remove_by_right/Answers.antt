@@ -1,5 +1,0 @@
-use Rattle.bimap_inverse.proofs.Sides.{removal_inverse}
-use Rattle.bimap_inverse.proofs.view.InverseBijection.remove_by_right.Goals as goal
-
-pub returns-clause-answer : goal.returns-clause-answer
-returns-clause-answer g c = rw c.exchange_pair.ensures (removal_inverse c.remove_by_left.ensures.answer)

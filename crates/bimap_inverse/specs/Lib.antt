@@ -1,2 +1,0 @@
-pub mod Exchanged
-pub mod Added
