@@ -1,4 +1,5 @@
--- What a caller derives of the ends of an order: that nothing is held; by right who stands there, and that no number is beyond.
+-- What a caller can derive about the ends of an order: when nothing is contained, which pair is at an end, and that no
+-- number is beyond it.
 use Rattle.std.proofs.Common.{◌≡◌, ◌∙◌, ℕ, ◌+◌, ◌-◌, ◌<◌, ◌≤◌, ◌⊎◌, inl, inr, false, nat_eq, Option, Some, None, IfNone, List, [], ◌∷◌, length, slice_get, get_or, refl, sym, ap, arith}
 use Rattle.std.specs.Prelude.{Contains}
 use Rattle.std.specs.Borrow.{Bor}
@@ -18,12 +19,13 @@ module _ {L R : Type 0} where
   none_at [] rank within at = refl
   none_at (p ∷ sorted) rank within at = absurd (let i : None ≡ Some (get_or (p ∷ sorted) rank p) = at ∙ slice_get-get_or (p ∷ sorted) rank p (omega arith) in cc)
 
-  -- where the first or the last is none, nothing is held. `sorted` is what is held, by the left or by the right
+  -- If there is no first or no last pair, nothing is contained.
+  -- `sorted` is the contained pairs in the order of their lefts or of their rights.
   pub none_held : (held sorted : List (L × R)) (rank : ℕ) (end : Option (Bor L × Bor R)) → option_map deref_pair end ≡ slice_get sorted rank → rank ≤ length sorted - 1 → length sorted ≡ length held → IfNone end (held ≡ [])
   none_held held sorted rank (Some p) at within long = tt
   none_held held sorted rank None at within long = nil_from_length held (sym long ∙ none_at sorted rank within at)
 
--- the pair of a rank is held
+-- The pair at a rank is contained.
 pub rank_is_held : {L R : Type 0} (order : R → R → Ordering) (held sorted : List (L × R)) (l : L) (r : R) (rank : ℕ) → IsByRight order held sorted → Some (l, r) ≡ slice_get sorted rank → Contains held (l, r)
 rank_is_held order held sorted l r rank sorts at = (sorts.same (l, r)).1 (rank, slice_get_within sorted rank (l, r) (sym at), get_or_from_slice_get sorted rank (l, r) (l, r) (sym at))
 
@@ -35,7 +37,7 @@ module _ {L : Type 0} (held sorted : List (L × ℕ)) (sorts : IsByRight nat_cmp
     below : (i j : ℕ) (d : L × ℕ) → i < j → j < length sorted → (get_or sorted i d).1 < (get_or sorted j d).1
     below i j d before inside = ranked _ _ Less (sym (sorts.ascends i j d before inside))
 
-    -- each number held stands before it, there or after it
+    -- Each contained number is before this rank, at it or after it.
     by_rank : (q : L × ℕ) → Contains held q → (i : ℕ) × (i < length sorted) × (((i ≡ rank) × (q.1 ≡ r)) ⊎ (((i < rank) × (q.1 < r)) ⊎ ((rank < i) × (r < q.1))))
     by_rank q held =
         let m = (sorts.same q).0 held in
@@ -50,23 +52,23 @@ module _ {L : Type 0} (held sorted : List (L × ℕ)) (sorts : IsByRight nat_cmp
           ],
         )
 
-  -- no number is below the first
+  -- No number is below the first one.
   pub first_is_least : (l : L) (r : ℕ) → Some (l, r) ≡ slice_get sorted 0 → (q : L × ℕ) → Contains held q → r ≤ q.1
   first_is_least l r at q held = let w = by_rank l r 0 at q held in elim w.2 [ inl e ↦ omega (arith, e.1) | inr (inl b) ↦ absurd (omega (arith, b.0)) | inr (inr b) ↦ omega (arith, b.1) ]
 
-  -- none is above the last
+  -- No number is above the last one.
   pub last_is_greatest : (l : L) (r : ℕ) → Some (l, r) ≡ slice_get sorted (length sorted - 1) → (q : L × ℕ) → Contains held q → q.1 ≤ r
   last_is_greatest l r at q held = let w = by_rank l r (length sorted - 1) at q held in elim w.2 [ inl e ↦ omega (arith, e.1) | inr (inl b) ↦ omega (arith, b.1) | inr (inr b) ↦ absurd (omega (arith, w.1, b.0)) ]
 
-  -- the number after the last is above all
+  -- The number after the last one is above all numbers.
   pub next_is_above : (l : L) (r : ℕ) → Some (l, r) ≡ slice_get sorted (length sorted - 1) → (q : L × ℕ) → Contains held q → q.1 < r + 1
   next_is_above l r at q held = omega (arith, last_is_greatest l r at q held)
 
-  -- and so it is free
+  -- The number after the last one is free.
   pub after_last : (l : L) (r : ℕ) → Some (l, r) ≡ slice_get sorted (length sorted - 1) → (q : L × ℕ) → Contains held q → nat_eq q.1 (r + 1) ≡ false
   after_last l r at q held = ne_eqb q.1 (r + 1) (λ e. omega (arith, next_is_above l r at q held, e))
 
-  -- where nothing is last each number is free
+  -- If there is no last pair, each number is free.
   pub none_last : None ≡ slice_get sorted (length sorted - 1) → (q : L × ℕ) → Contains held q → (r : ℕ) → nat_eq q.1 r ≡ false
   none_last at q held r =
       let m = (sorts.same q).0 held in

@@ -19,7 +19,7 @@ use Rattle.bimap.specs.Step.{MayRetain, IsStep, IsRoomAfterCall}
 use Rattle.bimap_any.proofs.Growing.{out_of_room_along, outgrows_first, outgrows_second, room_push}
 
 module _ {L R : Type 0} (same_left : L → L → Bool) (same_right : R → R → Bool) (S T : L × R → Type 0) (to : (p : L × R) → S p → T p) (from : (p : L × R) → T p → S p) where
-  -- a reply that is right for a set is right for one with the same members
+  -- A reply that is right for a set is right for any set with the same members.
   pub IsRight_along : {K : Type 0} (e : Entry L R K) → IsRight same_left same_right S e → IsRight same_left same_right T e
   IsRight_along (Insert l r, Inserted a) h = IsAnswer-same S T (λ p. (to p, from p)) same_left same_right (l, r) a h
   IsRight_along (Insert l r, NoRoom l' r') h = (h.0, h.1, λ q m. h.2 q (from q m))
@@ -43,7 +43,8 @@ module _ {L R : Type 0} (same_left : L → L → Bool) (same_right : R → R →
   IsRight_along (call, reply) h = absurd h
 
 module _ {L R : Type 0} (same_left : L → L → Bool) (same_right : R → R → Bool) (S : L × R → Type 0) where
-  -- a look at a side is right where it is true exactly if the side is held
+  -- The reply of `contains_left` is right if it is `true` exactly when the left is contained.
+  -- The same goes for `contains_right`.
   pub right_contains_left : (K : Type 0) (l : L) (held : Bool) → (held ≡ true) ↔ HasLeft same_left S l → IsRight {K = K} same_left same_right S (ContainsLeft l, Holds held)
   right_contains_left K l true h = h.0 refl
   right_contains_left K l false h = lacking S (λ p. same_left p.0 l) h
@@ -56,7 +57,7 @@ module _ {L R K : Type 0} (same_left : L → L → Bool) (same_right : R → R �
   pub step_retain : (S T : L × R → Type 0) (k : K) → ((p : L × R) → T p ↔ (S p × (Test k p false → ⊥))) → IsStep same_left same_right Test S (Retain k, Done) T
   step_retain S T k h p = (λ t. inr ((h p).0 t), λ t. elim t [ inl e ↦ absurd e | inr e ↦ (h p).1 e ])
 
-  -- nothing has happened
+  -- The empty history.
   pub IsHistory_none : (old : Holding L R) → IsHistory same_left same_right Test old [] old
   IsHistory_none old = record {
     legal = λ before e later q. not_split before later e q;
@@ -67,7 +68,7 @@ module _ {L R K : Type 0} (same_left : L → L → Bool) (same_right : R → R �
   }
 
   module _ (first second third : Holding L R) (g h : List (Entry L R K)) (one : IsHistory same_left same_right Test first g second) (two : IsHistory same_left same_right Test second h third) where
-    -- what survives a part of the second history survives the first and that part
+    -- A pair survives a part of the second history exactly if it survives the first history followed by that part.
     through : (before : List (Entry L R K)) (p : L × R) → IsSurvivor same_left same_right Test (Contains second.pairs) before p ↔ IsSurvivor same_left same_right Test (Contains first.pairs) (g ++ before) p
     through before p =
         let along = Survives_along Puts (Touches same_left same_right Test) (Contains second.pairs) (λ q. IsSurvivor same_left same_right Test (Contains first.pairs) g q) before p (one.survivors p) in
@@ -102,7 +103,7 @@ module _ {L R K : Type 0} (same_left : L → L → Bool) (same_right : R → R �
           | inr o ↦ inr (outgrows_second same_left same_right Puts (IsSurvivor same_left same_right Test (Contains first.pairs)) (IsSurvivor same_left same_right Test (Contains second.pairs)) g h first.room second.room third.room through one.not_lower o)
         ]
 
-    -- two histories, one after the other
+    -- Two histories, one after the other.
     pub IsHistory_append : IsHistory same_left same_right Test first (g ++ h) third
     IsHistory_append = record {
       legal = legal_both;
@@ -112,7 +113,7 @@ module _ {L R K : Type 0} (same_left : L → L → Bool) (same_right : R → R �
       room = room_both;
     }
 
-  -- a history of one call
+  -- A history of one call.
   module _ (old new : Holding L R) (e : Entry L R K) (right : IsRight same_left same_right (Contains old.pairs) e) (step : IsStep same_left same_right Test (Contains old.pairs) e (Contains new.pairs)) (full : IsNoRoom e → old.room ≤ length old.pairs) (apart : IsApart same_left same_right old.pairs) (not_lower : old.room ≤ new.room) (room : IsRoomAfterCall same_left same_right old e new) where
     unchanged : (p : L × R) → Contains old.pairs p ↔ IsSurvivor same_left same_right Test (Contains old.pairs) [] p
     unchanged = Survives_none Puts (Touches same_left same_right Test) (Contains old.pairs)
@@ -135,7 +136,7 @@ module _ {L R K : Type 0} (same_left : L → L → Bool) (same_right : R → R �
       room = room_push same_left same_right Puts (IsSurvivor same_left same_right Test (Contains old.pairs)) old new [] e old.room apart unchanged (omega arith) (inl refl) room;
     }
 
-  -- a history that begins with no pair
+  -- A history that begins with no pair.
   module _ (old new : Holding L R) (h : List (Entry L R K)) (none : old.pairs ≡ []) (led : IsHistory same_left same_right Test old h new) where
     standing : (before : List (Entry L R K)) (p : L × R) → IsSurvivor same_left same_right Test (Contains old.pairs) before p → IsStanding same_left same_right Test before p
     standing before p (inl s) = none_in p (subst (λ (ps : List (L × R)). Contains ps p) none s.0)
@@ -173,12 +174,12 @@ module _ {L R K : Type 0} where
   handed_first done left p (inr (inl m)) = inr (inl (Contains-append_left done left _ m))
   handed_first done left p (inr (inr m)) = inr (inr (m.0, Contains-append_left done left _ m.1))
 
-  -- what is held was held at first, or some call handed it in
+  -- A contained pair was contained at first, or some call inserted it.
   pub handed_from : (same_left : L → L → Bool) (same_right : R → R → Bool) (Test : K → L × R → Bool → Type 0) (S : L × R → Type 0) (cs : List (Call L R K)) (rs : List (Reply L R)) (p : L × R) → IsSurvivor same_left same_right Test S (zip cs rs) p → S p ⊎ IsHandedIn cs p
   handed_from same_left same_right Test S cs rs p (inl s) = inl s.0
   handed_from same_left same_right Test S cs rs p (inr s) = inr (handed_put cs s.entry p s.puts (entry_call cs rs s.before s.entry s.later s.split))
 
-  -- the next call may be made
+  -- The next call may be made.
   pub MayRetain_next : (Decided : K → L × R → Type 0) (S T : L × R → Type 0) (calls done left : List (Call L R K)) (c : Call L R K) → ((k : K) (p : L × R) → Contains calls (Retain k) → S p ⊎ IsHandedIn calls p → Decided k p) → calls ≡ done ++ c ∷ left → ((p : L × R) → T p → S p ⊎ IsHandedIn done p) → MayRetain Decided T c
   MayRetain_next D S T calls done left c h q t = λ k p e m.
       h k p (subst (λ (cs : List (Call L R K)). Contains cs (Retain k)) (sym q) (Contains-append_right done (c ∷ left) (Retain k) (subst (Contains (c ∷ left)) e (head_in c left))))

@@ -4,7 +4,7 @@ use Rattle.std.specs.Prelude.{IsTrue}
 use Rattle.json.specs.Lex.{tokens, lex, punctuate}
 use Rattle.json.specs.Reads.{opens}
 
--- a text whose reading wanted memory is not empty
+-- If reading a text ran out of memory, the text is not empty.
 pub not_empty : (text : List ℕ) (room : ℕ) → IsTrue (opens (tokens text)) ⊎ (room < length text) → 0 < length text
 unfolding lex punctuate
 not_empty [] room (inl opened) = absurd (cc opened)

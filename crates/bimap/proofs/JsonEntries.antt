@@ -1,4 +1,4 @@
--- The entries of an object: that they ascend, and what an insertion does to them.
+-- The entries of an object: that their keys ascend, and what an insertion does to them.
 use Rattle.std.proofs.Common.{◌≡◌, ◌↔◌, ◌⊎◌, inl, inr, ℕ, List, [], ◌∷◌, ◌++◌, map, refl, sym, ap, subst, ◌∙◌, Ordering, Less, Equal, Greater, String, Global, string_cmp, string_bytes, Some}
 use Rattle.std.specs.Prelude.{Contains}
 use Rattle.std.specs.List.{AllByRecursion}
@@ -16,14 +16,14 @@ use Rattle.serde_json.specs.declared.value.Value.{Value}
 use Rattle.bimap_base.proofs.Members.{head_in, more_in, cases_in, none_in}
 use Rattle.bimap.specs.JsonObjects.{Entry, entries_of, Ascends, HasEntries}
 
--- k is below each of these keys
+-- The key `k` is below each of these keys.
 abbrev pub IsBelow : List ℕ → List Entry → Type 0
 IsBelow k entries = AllByRecursion (λ l. slice_cmp nat_cmp k l ≡ Less) (map (λ e. e.0) entries)
 
 same_text : (k : List ℕ) → slice_cmp nat_cmp k k ≡ Equal
 same_text k = tied_itself nat_list_cmp_total k
 
--- nothing is below itself
+-- No key is below itself.
 not_below : (k l : List ℕ) → slice_cmp nat_cmp k l ≡ Less → l ≡ k → ⊥
 not_below k l is e = let t = same_text k in let f = ap (slice_cmp nat_cmp k) e in absurd (cc)
 
@@ -41,7 +41,7 @@ below_each k (f ∷ fs) e below c =
 pub other_key : (k : List ℕ) (entries : List Entry) (e : Entry) → IsBelow k entries → Contains entries e → e.0 ≡ k → ⊥
 other_key k entries e below c same = not_below k e.0 (below_each k entries e below c) same
 
--- what is found under a key is an entry
+-- What is found under a key is an entry.
 found : (k : List ℕ) (d : Data) (ms : Members) → get_member k ms ≡ Some d → Contains (entries_of ms) (k, d)
 found k d no_members is = absurd (cc)
 found k d (member l e ms) is = by (slice_cmp nat_cmp k l) refl is (found k d ms)
@@ -53,7 +53,7 @@ found k d (member l e ms) is = by (slice_cmp nat_cmp k l) refl is (found k d ms)
         subst (Contains ((l, e) ∷ entries_of ms)) (λ i. (sym (exact_bytes k l o) i, value i)) (head_in (l, e) (entries_of ms))
     by Greater o is rest = more_in (l, e) (entries_of ms) (k, d) (rest is)
 
--- and of entries that ascend, each is found
+-- If the keys of the entries ascend, each entry is found.
 is_found : (ms : Members) → Ascends (entries_of ms) → (x : Entry) → Contains (entries_of ms) x → get_member x.0 ms ≡ Some x.1
 unfolding IsStrictlySortedBy
 is_found no_members up x c = none_in x c
@@ -65,7 +65,7 @@ is_found (member l e ms) up x c =
           ap (λ o. match_ordering o (get_member x.0 ms) (Some e) (get_member x.0 ms)) above ∙ is_found ms up.1 x later
     ]
 
--- what the entries are after a put: the new one, and those with other keys
+-- The entries after a put are the new one and those with other keys.
 pub put_entries : (k : List ℕ) (d : Data) (ms : Members) → Ascends (entries_of ms) → Ascends (entries_of (put k d ms)) → (x : Entry) → Contains (entries_of (put k d ms)) x ↔ ((x ≡ (k, d)) ⊎ (Contains (entries_of ms) x × (x.0 ≡ k → ⊥)))
 put_entries k d ms up after x = (λ c. by (slice_cmp nat_cmp x.0 k) refl (is_found (put k d ms) after x c), from)
   where
@@ -85,7 +85,7 @@ put_entries k d ms up after x = (λ c. by (slice_cmp nat_cmp x.0 k) refl (is_fou
     from (inl same) = subst (Contains (entries_of (put k d ms))) (sym same) (found k d (put k d ms) (get_member-put k d ms))
     from (inr old) = found x.0 x.1 (put k d ms) (get_member-put_other x.0 k d ms old.1 ∙ is_found ms up x old.0)
 
--- the keys of a map ascend, and so do the entries that it stands for
+-- The keys of a map ascend, and so do the entries that the map stands for.
 
 map_below : (k : String Global) (es : List (String Global × Value)) → AllByRecursion (λ l. string_cmp k l ≡ Less) (keys_of es) → IsBelow (string_bytes k) (entries_of (members_view es))
 map_below k [] below = tt
@@ -107,7 +107,7 @@ map_has value es all is same up = record {
 pub has_entries : (value : Data) (es : List (String Global × Value)) → as_object value ≡ Some (members_view es) → Ascends (entries_of (members_view es)) → HasEntries value (entries_of (members_view es))
 has_entries value es is up = record { members = members_view es; is_object = is; are = refl; ascends = up }
 
--- of entries that ascend, one is below those after it
+-- If the keys ascend, each entry is below the entries after it.
 pub below_later : (before : List Entry) (e : Entry) (later : List Entry) → Ascends (before ++ e ∷ later) → IsBelow e.0 later
 unfolding IsStrictlySortedBy
 below_later [] e later up = up.0

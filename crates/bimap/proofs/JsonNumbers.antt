@@ -48,7 +48,7 @@ module _ (bits : ℕ) (le : 2 ^ bits ≤ 2 ^ 64) where
         | inr failed ↦ cc (parse-decimal bits n s (Err failed.0) t.1 (omega (arith, t.1, le)) t.0 failed.1.0)
       ]
 
--- a signed number's range, as the specs have it and as a proof knows it
+-- The range of a signed number, as the specs define it and as a proof knows it.
 within : (bits : ℕ) (z : ℤ) → mag z < 2 ^ bits → IsWithin bits z
 within bits (pos n) h = h
 within bits (negsuc n) h = h
@@ -105,5 +105,5 @@ module _ (w : Width) (le : 2 ^ hbits w ≤ 2 ^ 63) where
             cc (parse-signed_decimal w z s (Err failed.0) (record { sfits = f }) (omega (arith, f, le)) t.0 failed.1.0)
       ]
 
--- what the contracts of each type rest on
+-- The lemmas on which the contracts of each type rest.
 pub ruleset number_laws = (unsigned_text_back, unsigned_back, unsigned_read, signed_text_back, signed_back)

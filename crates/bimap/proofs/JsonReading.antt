@@ -1,4 +1,4 @@
--- The entries of an object, read one after the other.
+-- The entries of an object, read one after another.
 use Rattle.std.proofs.Common.{◌≡◌, ◌≢◌, ◌↔◌, ◌⊎◌, inl, ℕ, ◌+◌, ◌≤◌, Bool, List, [], ◌∷◌, ◌++◌, length, refl, sym, ap, subst, ◌∙◌, append_assoc, append-nil, arith}
 use Rattle.std.specs.Prelude.{Contains, Result, Ok, Err}
 use Rattle.std.proofs.lemmas.List.{length_push}
@@ -29,7 +29,8 @@ module _ {L R : Type 0} (reads_key : List ℕ → L → Type 0) (reads : Data �
   read_more (f ∷ before) [] e p each one = absurd each
   read_more (f ∷ before) (q ∷ pairs) e p each one = (each.0, read_more before pairs e p each.1 one)
 
-  -- of all entries these are left, and the others read as the pairs in order, if there is a pair for each
+  -- The entries in `left` are still to be read.
+  -- If there is a pair for each of the other entries, these entries read as the pairs in order.
   pub record IsReadInOrder (all left : List Entry) (held : List (L × R)) : Type 0 where
     pub before : List Entry
     pub split : all ≡ before ++ left
@@ -59,7 +60,8 @@ module _ {L R : Type 0} (reads_key : List ℕ → L → Type 0) (reads : Data �
   in_order_done value all held has r = record { entries = r.before; has = subst (HasEntries value) (r.split ∙ append-nil r.before) has; in_turn = r.in_turn }
 
   module _ (same_left : L → L → Bool) (same_right : R → R → Bool) (policy : Policy) where
-    -- so many entries of all were read as pairs, whose survivors are held, and these are left
+    -- The first `at` entries were read as pairs, and the map contains their survivors.
+    -- The entries in `left` are still to be read.
     pub record IsReading (all left : List Entry) (places : ℕ) (held : Holding L R) (at : ℕ) : Type 0 where
       pub before : List Entry
       pub split : all ≡ before ++ left
@@ -126,14 +128,14 @@ module _ {L R : Type 0} (reads_key : List ℕ → L → Type 0) (reads : Data �
       allowed = r.allowed;
     }
 
-    -- why the policy kept a pair out, told of the survivors of the entries before it
+    -- The reason why the policy refused a pair, expressed by the survivors of the entries before it.
     pub left_kept : (S T : L × R → Type 0) (NoPlace : Type 0) (p : L × R) (l : L) (r : R) → ((q : L × R) → S q ↔ T q) → IsRefusalUnder same_left same_right S NoPlace p policy (LeftKept l r) → IsRefusalUnder same_left same_right T ⊥ p policy (LeftKept p.0 p.1)
     left_kept S T NoPlace p l r same w = (refl, w.1, (w.2.0, (same w.2.0).0 w.2.1, w.2.2))
 
     pub right_kept : (S T : L × R → Type 0) (NoPlace : Type 0) (p : L × R) (l : L) (r : R) → ((q : L × R) → S q ↔ T q) → IsRefusalUnder same_left same_right S NoPlace p policy (RightKept l r) → IsRefusalUnder same_left same_right T ⊥ p policy (RightKept p.0 p.1)
     right_kept S T NoPlace p l r same w = (refl, λ refuses q m. w.1 refuses q ((same q).1 m), w.2, (w.3.0, (same w.3.0).0 w.3.1, w.3.2))
 
-    -- told without the policy
+    -- The same statement without the policy.
     stopped_any : (value : Data) (at : ℕ) (P : Entry → Type 0) → StopsUnder reads_key reads same_left same_right value policy at (λ S e. P e) → StopsAt reads_key reads value at P
     stopped_any value at P s = record {
       before = s.before;
@@ -146,7 +148,7 @@ module _ {L R : Type 0} (reads_key : List ℕ → L → Type 0) (reads : Data �
       stops = s.stops;
     }
 
-    -- a reading under a policy that keeps nothing
+    -- Reading under a policy that keeps nothing.
     pub read_any : {B : Type 0} (holding : B → Holding L R) (places : ℕ) (value : Data) → policy.left ≢ Refuse → policy.right ≢ Refuse → (result : Result B JsonFault) → ReadsObjectUnder reads_key reads same_left same_right holding places value policy result → ReadsObject reads_key reads same_left same_right holding places value result
     read_any holding places value left right (Ok b) h = h.is_read
     read_any holding places value left right (Err NotJson) h = h

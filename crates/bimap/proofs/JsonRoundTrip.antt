@@ -1,4 +1,4 @@
--- What was written of a bimap reads back as an equal one.
+-- What was written of a map reads back as an equal map.
 use Rattle.std.proofs.Common.{◌≡◌, inl, inr, ℕ, ◌≤◌, ◌||◌, ◌&&◌, Bool, true, false, List, [], ◌∷◌, ◌++◌, length, get_or, Some, None, Result, Ok, Err, IfOk, IfErr, refl, sym, ap, subst, ◌∙◌, arith, true≢false}
 use Rattle.std.specs.Prelude.{Contains}
 use Rattle.std.specs.Cmp.{IsEquivalence, and_equiv, on_equiv, first_so, second_so}
@@ -18,7 +18,7 @@ use Rattle.bimap.proofs.JsonWriting.{IsSplit, split_member, middle_in}
 use Rattle.bimap.specs.declared.value.object.JsonFault.{JsonFault}
 use Rattle.bimap.specs.declared.value.object.JsonFault.TheVariants.{NotJson, NameTwice, NotAnObject, BadKey, BadValue, LeftHeld, RightHeld, Memory}
 
--- an object has one list of entries
+-- An object has only one list of entries.
 has_unique : (value : Data) (es fs : List Entry) → HasEntries value es → HasEntries value fs → es ≡ fs
 has_unique value es fs a b =
     let members : Some a.members ≡ Some b.members = sym a.is_object ∙ b.is_object in
@@ -26,7 +26,7 @@ has_unique value es fs a b =
     a.are ∙ ap entries_of one ∙ sym b.are
 
 module _ {L R : Type 0} (key : List ℕ → L → Type 0) (val : Data → R → Type 0) where
-  -- the pair that an entry in the middle reads as
+  -- The pair as which an entry in the middle of the list reads.
   record IsReadAt (e : Entry) (later : List Entry) (pairs : List (L × R)) : Type 0 where
     before : List (L × R)
     pair : L × R
@@ -43,7 +43,7 @@ module _ {L R : Type 0} (key : List ℕ → L → Type 0) (val : Data → R → 
       let r = read_at before e later pairs each.1 in
       record { before = p ∷ r.before; pair = r.pair; after = r.after; is = ap (λ l. p ∷ l) r.is; reads = r.reads; rest = r.rest }
 
-  -- each pair was read of some entry
+  -- Each pair was read from some entry.
   read_from : (es : List Entry) (pairs : List (L × R)) → EachReadsAs key val es pairs → (p : L × R) → Contains pairs p → (e : Entry) × Contains es e × ReadsAs key val e p
   read_from es [] each p c = none_in p c
   read_from [] (q ∷ pairs) each p c = absurd each
@@ -61,7 +61,8 @@ module _ {L R : Type 0} (same_left : L → L → Bool) (same_right : R → R →
   pairs : IsEquivalence (pair_eq same_left same_right)
   pairs = and_equiv (on_equiv (λ p. p.0) left_laws) (on_equiv (λ p. p.1) right_laws)
 
-  -- of pairs that are apart, where each has an equal one in the other list, there are no more
+  -- No two pairs of a list share a value, and each has an equal pair in the other list.
+  -- Then the first list is no longer than the second.
   no_more : (ps qs : List (L × R)) → IsApart same_left same_right ps → ((p : L × R) → Contains ps p → HasEqual same_left same_right (Contains qs) p) → length ps ≤ length qs
   no_more ps qs apart each =
       length-le_from_is_member pairs ps qs (IsDistinct-from_apart (pair_eq same_left same_right) ps (λ i j d before inside. unlike (same_left (get_or ps i d).0 (get_or ps j d).0) (same_right (get_or ps i d).1 (get_or ps j d).1) (apart i j d before inside)))
@@ -70,12 +71,12 @@ module _ {L R : Type 0} (same_left : L → L → Bool) (same_right : R → R →
       let w = each p.0 p.1 in
       any_in (pair_eq same_left same_right q) qs w.0 w.1 (pairs.congr q p.0 w.0 p.2 ∙ w.2))
 
-  -- of two pairs that are equal one shares a value where the other does
+  -- If two pairs are equal, one shares a value with a third pair exactly if the other does.
   shares_like : (p q r : L × R) → pair_eq same_left same_right p q ≡ true → shares same_left same_right p r ≡ shares same_left same_right q r
   shares_like p q r e i = left_laws.congr p.0 q.0 r.0 (first_so (same_left p.0 q.0) (same_right p.1 q.1) e) i || right_laws.congr p.1 q.1 r.1 (second_so (same_left p.0 q.0) (same_right p.1 q.1) e) i
 
   module _ (writes_key : L → List ℕ) (writes : R → Data) (key : List ℕ → L → Type 0) (val : Data → R → Type 0) (ps : List (L × R)) (apart : IsApart same_left same_right ps) (each : EachReadsBack writes_key writes key val same_left same_right ps) where
-    -- what an entry reads as is equal to the pair that it was written of
+    -- An entry reads as a pair that is equal to the one from which it was written.
     alike : (e : Entry) (p q : L × R) → Contains ps p → IsWrittenAs writes_key writes p e → ReadsAs key val e q → pair_eq same_left same_right q p ≡ true
     alike e p q c w r =
         let b = each p c in
@@ -134,7 +135,7 @@ module _ {L R : Type 0} (same_left : L → L → Bool) (same_right : R → R →
         reread_same : IsApart same_left same_right new.pairs → IsSame same_left same_right ps new.pairs
         reread_same other = (omega (arith, no_more ps new.pairs apart forth, no_more new.pairs ps other back), forth)
 
-      -- an entry at which a reading stops was written of some pair
+      -- An entry at which reading stops was written from some pair.
       stopped_at : (at : ℕ) (P : Entry → Type 0) (s : StopsAt key val value at P) → IsEntryOf writes_key writes (Contains ps) s.entry
       stopped_at at P s = (object.exactly s.entry).0 (subst (λ l. Contains l s.entry) (has_unique value (s.before ++ s.entry ∷ s.rest) object.entries s.has object.has) (middle_in s.before s.entry s.rest))
 

@@ -1,4 +1,4 @@
--- What the texts of characters, strings and truths read as.
+-- What the texts of characters, strings and `bool`s read as.
 use Rattle.std.proofs.Common.{◌≡◌, ℕ, ◌<◌, ◌^◌, ◌&&◌, List, [], ◌∷◌, Bool, true, false, nat_eq, Some, Result, Ok, Err, refl, sym, ap, ◌∙◌, length, get_or, append-nil, arith, String, string_bytes, Global}
 use Rattle.std.specs.Bool.{beq}
 use Rattle.std.specs.Char.{encode_utf8, IsScalar}
@@ -37,15 +37,15 @@ back_string s = record { as_value = s; reads = refl; only = λ k e. (bytes_decid
 pub back_string_json : (s : String Global) → ReadsBack string_eq (IsStringValue (string (string_bytes s))) s
 back_string_json s = record { as_value = s; reads = refl; only = λ k e. (bytes_decides (string_bytes k) (string_bytes s)).1 (sym (some_inj _ _ e)) }
 
--- a list of these bytes, in no memory
+-- A vector of these bytes, for statements alone.
 abbrev pub bytes_of : Global → (bytes : List ℕ) → length bytes < 2 ^ 63 → Vec ℕ
 bytes_of alloc bytes short = record { ptr = null_ptr; len = length bytes; cap = length bytes; alloc = alloc; items = bytes; ok = (refl, omega arith); small = short }
 
--- a text is that of some string
+-- Each text is that of some string.
 pub reads_string : (alloc : Global) (text : List ℕ) → length text < 2 ^ 63 → IsUtf8 text → ReadsSomething (IsStringText text)
 reads_string alloc text short utf8 = (record { bytes = bytes_of alloc text short; ok = ∣ utf8 ∣₁ }, refl)
 
--- what is read of the text of a JSON text is read of the value
+-- What is true of reading the text of a JSON value is true of reading the value.
 pub read_text_of : (value : Data) (text : List ℕ) (r : Result (String Global) ReadFault) → Some text ≡ as_str value → Reads (IsStringText text) r → Reads (IsStringValue value) r
 read_text_of value text (Ok s) is read = sym is ∙ ap Some (sym read)
 read_text_of value text (Err Bad) is none = λ s t. none s (sym (some_inj text (string_bytes s) (is ∙ t)))

@@ -1,4 +1,4 @@
--- What a walk over a list of pairs shows, and what is written of it.
+-- What iteration over a list of pairs shows, and what is written of it.
 use Rattle.std.proofs.Common.{◌≡◌, ℕ, Bool, List, [], ◌∷◌, map, Result, Ok, Err, IfOk, OnOk, refl, sym, ap, subst, ◌∙◌}
 use Rattle.std.specs.Prelude.{Contains}
 use Rattle.std.specs.Cmp.{IsEquivalence}
@@ -16,12 +16,12 @@ shown_map : {L R : Type 0} (items : List (Bor L × Bor R)) → map deref_pair it
 shown_map [] = refl
 shown_map (x ∷ items) = ap (λ ps. (x.0.now, x.1.now) ∷ ps) (shown_map items)
 
--- a walk over the pairs shows them all
+-- Iteration over the pairs shows all of them.
 pub shown_all : {L R : Type 0} (pairs : List (L × R)) (items : List (Bor L × Bor R)) → Drains (TakesFirst deref_pair) pairs items → shown_pairs items ≡ pairs
 shown_all pairs items drains = sym (shown_map items) ∙ items_from_drains items (drains.1.0, drains.1.1, λ _. (drains.0, drains.1.2)) (YieldsList-from_rest pairs refl)
 
 module _ {L R : Type 0} (key : L → List ℕ) (val : R → Data) (reads_key : List ℕ → L → Type 0) (reads : Data → R → Type 0) (same_left : L → L → Bool) (same_right : R → R → Bool) (laws : IsEquivalence same_left) where
-  -- of pairs that are apart, each entry is that of some pair
+  -- If no two pairs share a value, each entry is the one of some pair.
   object_of : (pairs : List (L × R)) (value : Data) → IsApart same_left same_right pairs → EachReadsBack key val reads_key reads same_left same_right pairs → IsObjectOf (IsLastEntryOf key val pairs) value → IsObjectOf (IsEntryOf key val (Contains pairs)) value
   object_of pairs value apart each object =
       let exactly = exactly_written key val same_left same_right laws reads_key reads pairs apart each in
@@ -31,7 +31,7 @@ module _ {L R : Type 0} (key : L → List ℕ) (val : R → Data) (reads_key : L
         exactly = λ e. (λ m. (exactly e).0 ((object.exactly e).0 m), λ s. (object.exactly e).1 ((exactly e).1 s));
       }
 
-  -- so it is of a walk over them
+  -- The same is true of what iteration over the pairs writes.
   pub walk_written : {V E : Type 0} (shown : V → Data) (walk pairs : List (L × R)) → walk ≡ pairs → IsApart same_left same_right pairs → (r : Result V E)
       → IfOk r (λ v. (it : List (L × R)) × (items : List (Bor L × Bor R)) × (it ≡ walk) × Drains (TakesFirst deref_pair) it items × IsObjectOf (IsLastEntryOf key val (shown_pairs items)) (shown v) × EachReadsBack key val reads_key reads same_left same_right (shown_pairs items))
       → IfOk r (λ v. IsObjectOf (IsEntryOf key val (Contains pairs)) (shown v)) × OnOk r (EachReadsBack key val reads_key reads same_left same_right pairs)

@@ -18,7 +18,7 @@ pub shown_push : {L R : Type 0} (xs : List (Bor L × Bor R)) (left : Bor L) (rig
 shown_push [] left right = refl
 shown_push (x ∷ xs) left right = ap (λ ps. (x.0.now, x.1.now) ∷ ps) (shown_push xs left right)
 
--- a member of a list splits it
+-- A member of a list splits it.
 pub record IsSplit {X : Type 0} (xs : List X) (x : X) : Type 0 where
   pub before : List X
   pub later : List X
@@ -44,13 +44,13 @@ module _ {L R X : Type 0} (key : L → X) (val : R → Data) (reads_key : X → 
       ]
 
 module _ {L R : Type 0} (key : L → List ℕ) (val : R → Data) where
-  -- the entries after one more pair
+  -- The entries after one more pair was written.
   pub entries_push : (ps : List (L × R)) (p : L × R) (old new : Members) → new ≡ put (key p.0) (val p.1) old → Ascends (entries_of old) → Ascends (entries_of new) → ((e : Entry) → Contains (entries_of old) e ↔ IsLastEntryOf key val ps e) → (e : Entry) → Contains (entries_of new) e ↔ IsLastEntryOf key val (ps ++ p ∷ []) e
   entries_push ps p old new is up after are =
       survivors_push (IsWrittenAs key val) (TakesKey key val) (λ e. ⊥) (Contains (entries_of old)) (Contains (entries_of new)) ps p are
       (subst (λ ms. (e : Entry) → Contains (entries_of ms) e ↔ ((e ≡ (key p.0, val p.1)) ⊎ (Contains (entries_of old) e × (e.0 ≡ key p.0 → ⊥)))) (sym is) (put_entries (key p.0) (val p.1) old up (subst (λ ms. Ascends (entries_of ms)) is after)))
 
-  -- no two pairs that are apart have one key
+  -- No two pairs that share no value are written under the same key.
 
   module _ (same_left : L → L → Bool) (same_right : R → R → Bool) (laws : IsEquivalence same_left) (reads_key : List ℕ → L → Type 0) (reads : Data → R → Type 0) where
     pub same_key : (p q : L × R) → ReadsBack same_left (reads_key (key p.0)) p.0 → ReadsBack same_left (reads_key (key q.0)) q.0 → key p.0 ≡ key q.0 → same_left p.0 q.0 ≡ true

@@ -1,4 +1,5 @@
--- What a caller derives of the pairs held: which are there, which stay, what is free, and that a value has one partner.
+-- What a caller can derive about the contained pairs: which are there, which stay, what is free, and that a value has
+-- one partner.
 use Rattle.std.proofs.Common.{◌≡◌, ◌||◌, Bool, true, false, Option, Some, None, IfSome, inl, inr, refl, sym, ap, subst, ◌∙◌, true≢false}
 use Rattle.std.specs.Prelude.{Contains, List, option_copied}
 use Rattle.std.specs.Borrow.{Bor}
@@ -14,44 +15,44 @@ or_false true y e f = e
 or_false false y e f = f
 
 module _ {L R : Type 0} (same_left : L → L → Bool) (same_right : R → R → Bool) (S : L × R → Type 0) (p : L × R) (T : L × R → Type 0) where
-  -- a pair that was put in is there
+  -- An inserted pair is contained.
   pub put_is_held : IsWithPut same_left same_right S p T → T p
   put_is_held put = (put p).1 (inl refl)
 
-  -- a pair of before that shares no value with it is still there
+  -- An earlier pair that shares no value with the inserted one is still contained.
   pub other_stays : IsWithPut same_left same_right S p T → (q : L × R) → S q → shares same_left same_right q p ≡ false → T q
   other_stays put q was apart = (put q).1 (inr (was, apart))
 
-  -- where none shares a value with it, all pairs of before are
+  -- If no pair shares a value with the inserted one, all earlier pairs are still contained.
   pub all_stay : IsWithPut same_left same_right S p T → NoneShares same_left same_right S p → (q : L × R) → S q → T q
   all_stay put none q was = other_stays put q was (none q was)
 
 module _ {L R : Type 0} (same_left : L → L → Bool) (same_right : R → R → Bool) (S : L × R → Type 0) (l : L) (r : R) where
-  -- no pair shares a value with two that are both free
+  -- If a left and a right are both free, no pair shares a value with the pair of the two.
   pub none_shares : LacksLeft same_left S l → LacksRight same_right S r → (q : L × R) → S q → shares same_left same_right q (l, r) ≡ false
   none_shares lefts rights q s = or_false (same_left q.0 l) (same_right q.1 r) (lefts q s) (rights q s)
 
--- a pair without the value that was replaced stays: once for both sides, of which `part` is one
+-- A pair that does not have the replaced value stays. The argument `part` is the side, so the lemma serves both sides.
 pub others_stay : {L R K M : Type 0} (part : L × R → K) (pair : K → M → L × R) (same : K → K → Bool) (S : L × R → Type 0) (from to taken : K) (T : L × R → Type 0) → ((k : K) (m : M) → part (pair k m) ≡ k) → IsPartReplaced part pair same S from to taken T → (p : L × R) → S p → same (part p) from ≡ false → T p
 others_stay part pair same S from to taken T is r p s e = (r.exchanged.exchanged p).1 (inr (s, λ q. true≢false (sym r.by_part ∙ ap (λ k. same k from) (sym (is taken r.other)) ∙ ap (λ z. same (part z) from) (sym q) ∙ e)))
 
 module _ {L R : Type 0} (same_left : L → L → Bool) (same_right : R → R → Bool) (lefts : IsEquivalence same_left) (rights : IsEquivalence same_right) where
-  -- two pairs with equal lefts are one
+  -- Two pairs with equal lefts are the same pair.
   pub one_by_left : (held : List (L × R)) (p q : L × R) → IsApart same_left same_right held → Contains held p → Contains held q → same_left p.0 q.0 ≡ true → p ≡ q
   one_by_left held p q apart m n e = apart_unique same_left same_right lefts rights held p q apart m n (or_left (same_left p.0 q.0) (same_right p.1 q.1) e)
 
-  -- two pairs with equal rights are one
+  -- Two pairs with equal rights are the same pair.
   pub one_by_right : (held : List (L × R)) (p q : L × R) → IsApart same_left same_right held → Contains held p → Contains held q → same_right p.1 q.1 ≡ true → p ≡ q
   one_by_right held p q apart m n e = apart_unique same_left same_right lefts rights held p q apart m n (or_right (same_left p.0 q.0) (same_right p.1 q.1) e)
 
-  -- the partner of an equal left is found
+  -- A look-up finds the partner of an equal left.
   pub found_by_left : (held : Holding L R) (key l : L) (r : R) (found : Option (Bor R)) → IsApart same_left same_right held.pairs → Contains held.pairs (l, r) → same_left l key ≡ true → IsFoundByLeft same_left held key found → option_copied found ≡ Some r
   found_by_left held key l r None apart is e h = absurd (true≢false (sym e ∙ h.none (l, r) is))
   found_by_left held key l r (Some b) apart is e h =
       let one = one_by_left held.pairs (h.found.0, b.now) (l, r) apart h.found.1 is (lefts.symm h.found.0 l ∙ lefts.congr l key h.found.0 e ∙ lefts.symm key h.found.0 ∙ h.found.2) in
       ap (λ (p : L × R). Some p.1) one
 
-  -- the partner of an equal right is found
+  -- A look-up finds the partner of an equal right.
   pub found_by_right : (held : Holding L R) (key r : R) (l : L) (found : Option (Bor L)) → IsApart same_left same_right held.pairs → Contains held.pairs (l, r) → same_right r key ≡ true → IsFoundByRight same_right held key found → option_copied found ≡ Some l
   found_by_right held key r l None apart is e h = absurd (true≢false (sym e ∙ h.none (l, r) is))
   found_by_right held key r l (Some b) apart is e h =
@@ -59,12 +60,12 @@ module _ {L R : Type 0} (same_left : L → L → Bool) (same_right : R → R →
       ap (λ (p : L × R). Some p.0) one
 
 module _ {L R : Type 0} where
-  -- where equal lefts are the same, as numbers are, what is found is held under the very left
+  -- If equal lefts are identical, as numbers are, the found right is contained with exactly this left.
   pub held_under_left : (same_left : L → L → Bool) → ((a b : L) → same_left a b ≡ true → a ≡ b) → (held : Holding L R) (key : L) (found : Option (Bor R)) → IsFoundByLeft same_left held key found → IfSome found (λ right. Contains held.pairs (key, right.now))
   held_under_left same_left same held key None h = tt
   held_under_left same_left same held key (Some b) h = subst (λ (l : L). Contains held.pairs (l, b.now)) (same h.found.0 key h.found.2) h.found.1
 
-  -- where equal rights are the same, what is found is held with the very right
+  -- If equal rights are identical, the found left is contained with exactly this right.
   pub held_with_right : (same_right : R → R → Bool) → ((a b : R) → same_right a b ≡ true → a ≡ b) → (held : Holding L R) (key : R) (found : Option (Bor L)) → IsFoundByRight same_right held key found → IfSome found (λ left. Contains held.pairs (left.now, key))
   held_with_right same_right same held key None h = tt
   held_with_right same_right same held key (Some b) h = subst (λ (r : R). Contains held.pairs (b.now, r)) (same h.found.0 key h.found.2) h.found.1

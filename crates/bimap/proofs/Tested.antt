@@ -1,4 +1,4 @@
--- A closure that is called at each pair, and keeps its state.
+-- A closure that is called on each pair and keeps its state.
 use Rattle.std.proofs.Common.{◌≡◌, ◌↔◌, ◌⊎◌, inl, inr, Bool, true, false, List, [], ◌∷◌, ◌++◌, refl, sym, ap, ◌∙◌, subst}
 use Rattle.std.specs.Prelude.{Contains}
 use Rattle.std.proofs.lemmas.List.Sorted.{Contains-permutation, IsPermutation-sym}
@@ -16,7 +16,7 @@ module _ {F L R : Type 0} (g : Mut F (Bor L × (Bor R × Unit {0})) Bool) (I : F
   kept_along (p ∷ ps) [] s t i e = absurd e
   kept_along (p ∷ ps) (b ∷ bs) s t i e = kept_along ps bs e.0 t (keeps s _ b e.0 i e.1.called) e.2
 
-  -- a closure may test each pair held, if it may from each state that its calls keep
+  -- A closure may test each contained pair if it may do so in each state that its calls preserve.
   pub MayTest_by : (held : List (L × R)) (f : F) → I f → ((s : F) (l : Bor L) (r : Bor R) → I s → Contains held (l.now, r.now) → g.pre s (l, (r, tt))) → MayTest g f held
   MayTest_by held f i asks = record {
     at = λ ps bs later l r rest all e.
@@ -58,7 +58,7 @@ module _ {F L R : Type 0} (g : Mut F (Bor L × (Bor R × Unit {0})) Bool) (I : F
           | inr w ↦ answered_to ps bs e.0 t (keeps s _ false e.0 i e.1.called) e.2 q w
         ]
 
-    -- what is kept are the pairs at which the test does not answer false
+    -- The kept pairs are those on which the test does not return `false`.
     pub IsKept-by : (f : F) (held left : List (L × R)) → I f → IsKept g f held left → ((p : L × R) → Contains held p → Test p true → Test p false → ⊥) → (p : L × R) → Contains left p ↔ (Contains held p × (Test p false → ⊥))
     IsKept-by f held left i k one p = (
       λ m. let n = answered_from k.order k.answers f k.last i k.calls p ((k.kept p).0 m) in

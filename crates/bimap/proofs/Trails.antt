@@ -1,4 +1,4 @@
--- A trail whose last insertion is taken back.
+-- A trail whose last insertion is undone.
 use Rattle.std.proofs.Common.{◌≡◌, ◌⊎◌, inl, inr, ℕ, suc, ◌+◌, ◌<◌, ◌≤◌, Bool, List, [], ◌∷◌, ◌++◌, length, refl, ◌∙◌, arith}
 use Rattle.std.specs.Prelude.{Contains}
 use Rattle.std.specs.Cmp.{IsEquivalence}
@@ -17,12 +17,12 @@ module _ {L R : Type 0} (same_left : L → L → Bool) (same_right : R → R →
   inserting_along : (A B C : List (L × R)) (left : L) (answer : Overwritten L R) → IsInserting same_left same_right A left answer B → IsSameSet (Contains B) (Contains C) → IsInserting same_left same_right A left answer C
   inserting_along A B C left answer i s = record { pair = i.pair; by_left = i.by_left; is_answer = i.is_answer; put = λ q. (λ m. (i.put q).0 ((s q).1 m), λ m. (s q).0 ((i.put q).1 m)) }
 
-  -- a trail through sets of no more than room pairs
+  -- A trail through sets of no more than `room` pairs.
   pub record Trail (room : ℕ) (A : List (L × R)) (entries : List (L × Overwritten L R)) (S : List (L × R)) : Type 0 where
     pub trail : IsTrail same_left same_right A entries S
     pub within : IsWithin same_left same_right room A entries S trail
 
-  -- the last insertion of a trail, and what led to it
+  -- The last insertion of a trail, and the trail before it.
   pub record Popped (room : ℕ) (A : List (L × R)) (entries : List (L × Overwritten L R)) (left : L) (answer : Overwritten L R) (S : List (L × R)) : Type 0 where
     pub before : List (L × R)
     pub apart : IsApart same_left same_right before
@@ -69,11 +69,11 @@ module _ {L R : Type 0} (same_left : L → L → Bool) (same_right : R → R →
   trail_push A [] S T left answer h a i = (T, a, inserting_from A S T left answer h i, λ q. (λ m. m, λ m. m))
   trail_push A ((l, o) ∷ entries) S T left answer h a i = (h.0, h.1, h.2, trail_push h.0 entries S T left answer h.3 a i)
 
-  -- nothing was inserted
+  -- Nothing was inserted.
   pub leads_none : (S : List (L × R)) → IsApart same_left same_right S → Leads same_left same_right S [] S
   leads_none S a = record { apart = a; trail = λ q. (λ m. m, λ m. m) }
 
-  -- one more insertion
+  -- One more insertion.
   pub leads_push : (first : List (L × R)) (entries : List (L × Overwritten L R)) (S T : List (L × R)) (left : L) (right : R) (answer : Overwritten L R) → Leads same_left same_right first entries S → IsApart same_left same_right T → IsAnswer same_left same_right (Contains S) (left, right) answer → IsWithPut same_left same_right (Contains S) (left, right) (Contains T) → Leads same_left same_right first (entries ++ (left, answer) ∷ []) T
   leads_push first entries S T left right answer h a is put =
       record { apart = h.apart; trail = trail_push first entries S T left answer h.trail a (record { pair = (left, right); by_left = lefts.refl left; is_answer = is; put = put }) }
@@ -82,7 +82,7 @@ module _ {L R : Type 0} (same_left : L → L → Bool) (same_right : R → R →
   within_more room more A [] S trail h w = tt
   within_more room more A ((l, o) ∷ entries) S trail h w = (omega (arith, h, w.0), within_more room more trail.0 entries S trail.3 h w.1)
 
-  -- the sets of a trail have some greatest length
+  -- The sets of a trail have a greatest length.
   some_room : (A : List (L × R)) (entries : List (L × Overwritten L R)) (S : List (L × R)) (trail : IsTrail same_left same_right A entries S) → (room : ℕ) × IsWithin same_left same_right room A entries S trail
   some_room A [] S trail = (0, tt)
   some_room A ((l, o) ∷ entries) S trail =
@@ -93,7 +93,7 @@ module _ {L R : Type 0} (same_left : L → L → Bool) (same_right : R → R →
   roomy A entries S trail = let w = some_room A entries S trail in (w.0, record { trail = trail; within = w.1 })
 
   module _ (entries : List (L × Overwritten L R)) (left : L) (answer : Overwritten L R) (S : List (L × R)) (first : List (L × R)) where
-    -- the last insertion may be undone
+    -- The last insertion may be undone.
     pub leads_undoable : Leads same_left same_right first (entries ++ (left, answer) ∷ []) S → IsUndoable same_left same_right (Contains S) left answer
     leads_undoable h =
         let t = roomy first (entries ++ (left, answer) ∷ []) S h.trail in
@@ -105,7 +105,7 @@ module _ {L R : Type 0} (same_left : L → L → Bool) (same_right : R → R →
         let w = trail_pop room first entries left answer S a t in
         trail_along room first entries w.before T w.led (undone_same same_left same_right lefts rights w.before S left answer w.apart w.last (Contains T) u)
 
-    -- the other insertions led to what is held after it is undone
+    -- After the last insertion is undone, the other insertions lead to the contained pairs.
     pub leads_pop : (T : List (L × R)) → Leads same_left same_right first (entries ++ (left, answer) ∷ []) S → IsUndone same_left same_right (Contains S) left answer (Contains T) → Leads same_left same_right first entries T
     leads_pop T h u =
         let t = roomy first (entries ++ (left, answer) ∷ []) S h.trail in
@@ -116,7 +116,7 @@ module _ {L R : Type 0} (same_left : L → L → Bool) (same_right : R → R →
         let w = pop_led room T h.apart (record { trail = h.trail; within = h.within }) u in
         record { apart = h.apart; trail = w.trail; within = w.within }
 
-    -- where the answer names two pairs, fewer pairs are held than there is room for
+    -- If the last insertion overwrote two pairs, there are fewer pairs than places.
     pub leads_within_spare : (room : ℕ) → LeadsWithin same_left same_right room first (entries ++ (left, answer) ∷ []) S → IsApart same_left same_right S → IsBoth answer → suc (length S) ≤ room
     leads_within_spare room h held both =
         let w = trail_pop room first entries left answer S h.apart (record { trail = h.trail; within = h.within }) in
@@ -134,7 +134,7 @@ both_or_not (Left l r) = inr (λ b. b)
 both_or_not (Right l r) = inr (λ b. b)
 both_or_not (Pair l r) = inr (λ b. b)
 
--- an answer names two pairs at most
+-- An insertion overwrites at most two pairs.
 pub two_at_most : {L R : Type 0} (answer : Overwritten L R) → named_count answer ≤ 2
 two_at_most (Both p q) = omega arith
 two_at_most Neither = omega arith
@@ -142,7 +142,7 @@ two_at_most (Left l r) = omega arith
 two_at_most (Right l r) = omega arith
 two_at_most (Pair l r) = omega arith
 
--- the room, one undoing on, where no more are held than these entries wanted
+-- The room after one more undoing, if there are no more pairs than these entries needed.
 pub room_undone : {L R : Type 0} (old held new : Holding L R) (entries : List (L × Overwritten L R)) {InPlace : Type 0} → length held.pairs < length old.pairs + length entries → IsRoomAfterUndoing old entries held → IsRoomAfter held InPlace new → IsRoomAfterUndoing old entries new
 room_undone old held new entries short so_far room = record {
   not_lower = omega (arith, so_far.not_lower, room.not_lower);

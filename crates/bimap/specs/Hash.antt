@@ -1,2 +1,2 @@
--- What a contract sees of a bimap with a hashed left: its pairs, each once, and the number of its places.
+-- What a contract sees of a map with a hashed left: its pairs, each once, and its capacity as `room`.
 pub use Rattle.bimap_kinds.specs.Held.{holding}

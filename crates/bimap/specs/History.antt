@@ -1,4 +1,4 @@
--- A history: calls with their replies, in order, after a set of pairs.
+-- A history: calls with their replies, in order, after a first set of pairs.
 use Rattle.std.specs.Prelude.{◌≡◌, ◌↔◌, ◌⊎◌, ℕ, ◌≤◌, Bool, true, false, Some, None, List, ◌∷◌, ◌++◌, Contains}
 use Rattle.bimap_base.specs.Sets.{shares, NoneShares, SomeShares, HasLeft, LacksLeft, HasRight, LacksRight}
 use Rattle.bimap_base.specs.Answer.{IsAnswer, IsAllowed}
@@ -11,24 +11,24 @@ use Rattle.bimap.specs.declared.call.Reply.{Reply}
 use Rattle.bimap.specs.declared.call.Reply.TheVariants.{Inserted, NoRoom, Put, Occupied, LeftHeld, RightHeld, Removed, Holds, Done}
 use Rattle.bimap_any.specs.Growth.{IsOutOfRoom, Outgrows}
 
--- a call with its reply
+-- A call with its reply.
 abbrev pub Entry : (L R K : Type 0) → Type 0
 Entry L R K = Call L R K × Reply L R
 
--- the entry puts the pair p
+-- The entry inserts the pair `p`.
 abbrev pub Puts : {L R K : Type 0} → Entry L R K → L × R → Type 0
 Puts (Insert left right, Inserted answer) p = p ≡ (left, right)
 Puts (InsertNoOverwrite left right, Put) p = p ≡ (left, right)
 Puts (InsertWith left right policy, Inserted answer) p = p ≡ (left, right)
 Puts (call, reply) p = ⊥
 
--- the entry answers want of memory
+-- The reply is that the call ran out of memory.
 abbrev pub IsNoRoom : {L R K : Type 0} → Entry L R K → Type 0
 IsNoRoom (call, NoRoom l r) = Unit {0}
 IsNoRoom (call, reply) = ⊥
 
 module _ {L R K : Type 0} (same_left : L → L → Bool) (same_right : R → R → Bool) where
-  -- the reply is right where S is held before the call. What a refusal names is the pair of the call
+  -- The reply is right if `S` is the set of contained pairs before the call. A refusal gives back the pair of the call.
   abbrev pub IsRight : (L × R → Type 0) → Entry L R K → Type 0
   IsRight S (Insert left right, Inserted answer) = IsAnswer same_left same_right S (left, right) answer
   IsRight S (Insert left right, NoRoom l r) = (l ≡ left) × (r ≡ right) × NoneShares same_left same_right S (left, right)
@@ -52,9 +52,9 @@ module _ {L R K : Type 0} (same_left : L → L → Bool) (same_right : R → R �
   IsRight S (Clear, Done) = Unit {0}
   IsRight S (call, reply) = ⊥
 
--- `Test k p b`: the test answers b on the key k and the pair p
+-- `Test k p b` means that the test returns `b` on the key `k` and the pair `p`.
 module _ {L R K : Type 0} (same_left : L → L → Bool) (same_right : R → R → Bool) (Test : K → L × R → Bool → Type 0) where
-  -- the entry touches the pair p
+  -- The entry touches the pair `p`: it overwrites the pair, removes it, or would do so if the pair were contained.
   abbrev pub Touches : Entry L R K → L × R → Type 0
   Touches (Insert left right, Inserted answer) p = shares same_left same_right p (left, right) ≡ true
   Touches (InsertNoOverwrite left right, Put) p = shares same_left same_right p (left, right) ≡ true
@@ -65,24 +65,26 @@ module _ {L R K : Type 0} (same_left : L → L → Bool) (same_right : R → R �
   Touches (Clear, reply) p = Unit {0}
   Touches (call, reply) p = ⊥
 
-  -- p was in S and no entry touches it, or some entry puts it and no later one touches it
+  -- Either `p` was in `S` and no entry touches it, or some entry inserts it and no later entry touches it.
   abbrev pub IsSurvivor : (L × R → Type 0) → List (Entry L R K) → L × R → Type 0
   IsSurvivor S history p = Survives Puts Touches S history p
 
-  -- each reply is right for the survivors of S and the entries before it
+  -- Each reply is right for the survivors of `S` and of the entries before it.
   abbrev pub IsLegal : (L × R → Type 0) → List (Entry L R K) → Type 0
   IsLegal S history =
       (before : List (Entry L R K)) (entry : Entry L R K) (later : List (Entry L R K)) →
       history ≡ before ++ entry ∷ later → IsRight same_left same_right (IsSurvivor S before) entry
 
-  -- want of memory is answered only where as many pairs are held as there were places at first
+  -- A call runs out of memory only if the map contains at least as many pairs as it had places at first.
   abbrev pub NeedsRoom : (L × R → Type 0) → ℕ → List (Entry L R K) → Type 0
   NeedsRoom S room history =
       (before : List (Entry L R K)) (entry : Entry L R K) (later : List (Entry L R K)) →
       history ≡ before ++ entry ∷ later → IsNoRoom entry → IsOutOfRoom same_left same_right (IsSurvivor S before) room
 
-  -- the history leads from old to new: its replies are right, and what is held are the survivors. The room never falls, and
-  -- stays unless the history outgrows it
+  -- The history leads from `old` to `new`.
+  -- Its replies are right, and the contained pairs are the survivors.
+  -- The room never shrinks.
+  -- It stays the same unless the history outgrows it.
   pub record IsHistory (old : Holding L R) (history : List (Entry L R K)) (new : Holding L R) : Type 0 where
     pub legal : IsLegal (Contains old.pairs) history
     pub survivors : (p : L × R) → Contains new.pairs p ↔ IsSurvivor (Contains old.pairs) history p
@@ -90,11 +92,13 @@ module _ {L R K : Type 0} (same_left : L → L → Bool) (same_right : R → R �
     pub not_lower : old.room ≤ new.room
     pub room : (new.room ≡ old.room) ⊎ Outgrows same_left same_right Puts (IsSurvivor (Contains old.pairs)) history old.room new.room
 
-  -- p is the pair of a successful insertion of the history, and no later call touches it
+  -- `p` is the pair of a successful insertion of the history, and no later call touches it.
   abbrev pub IsStanding : List (Entry L R K) → L × R → Type 0
   IsStanding history p = IsPutToStay Puts Touches history p
 
-  -- what began with no pair: each reply is right for the pairs that stand before it, and those that stand in the end are held
+  -- The history began with no pair.
+  -- Each reply is right for the pairs that stand before it.
+  -- The contained pairs are those that stand in the end.
   pub record IsWholeHistory (history : List (Entry L R K)) (new : Holding L R) : Type 0 where
     pub legal : (before : List (Entry L R K)) (entry : Entry L R K) (later : List (Entry L R K)) →
         history ≡ before ++ entry ∷ later → IsRight same_left same_right (IsStanding before) entry

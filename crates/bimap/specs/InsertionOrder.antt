@@ -1,2 +1,2 @@
--- What a contract sees of a bimap in the order of insertion: its pairs, each once and in that order, and the number of its places.
+-- What a contract sees of a map in insertion order: its pairs, each once and in that order, and its capacity as `room`.
 pub use Rattle.bimap_kinds.specs.Held.{holding}

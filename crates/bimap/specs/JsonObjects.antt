@@ -1,4 +1,4 @@
--- The object of a set of pairs, and the bimap of an object.
+-- The JSON object of a set of pairs, and the map of a JSON object.
 use Rattle.std.specs.Prelude.{◌≡◌, ◌↔◌, ◌⊎◌, ℕ, ◌≤◌, Bool, List, [], ◌∷◌, ◌++◌, Some, None, Result, Ok, Err, length, map, Contains}
 use Rattle.std.specs.List.Sorted.{IsStrictlySortedBy}
 use Rattle.std.specs.Cmp.Lexicographic.{slice_cmp}
@@ -17,67 +17,68 @@ use Rattle.bimap.specs.JsonReading.{ReadsSomething, ReadsNothing, ReadsBack}
 use Rattle.bimap.specs.declared.value.object.JsonFault.{JsonFault}
 use Rattle.bimap.specs.declared.value.object.JsonFault.TheVariants.{NotAnObject, BadKey, BadValue, LeftHeld, RightHeld, Memory}
 
--- a key text with its value
+-- A key text with its value.
 abbrev pub Entry : Type 0
 Entry = List ℕ × Data
 
--- the entries of an object's members
+-- The entries of an object's members.
 abbrev pub entries_of : Members → List Entry
 entries_of no_members = []
 entries_of (member k d ms) = (k, d) ∷ entries_of ms
 
--- the keys ascend in the order of their bytes
+-- The keys ascend in the order of their bytes.
 abbrev pub Ascends : List Entry → Type 0
 Ascends entries = IsStrictlySortedBy (slice_cmp nat_cmp) (map (λ e. e.0) entries)
 
--- the value is an object, and these are its entries in the order of their keys' bytes
+-- The value is an object. These are its entries, in the order of the bytes of their keys.
 pub record HasEntries (value : Data) (entries : List Entry) : Type 0 where
   pub members : Members
   pub is_object : as_object value ≡ Some members
   pub are : entries ≡ entries_of members
   pub ascends : Ascends entries
 
--- the value is an object, and its entries are the members of S
+-- The value is an object. Its entries are the members of `S`.
 pub record IsObjectOf (S : Entry → Type 0) (value : Data) : Type 0 where
   pub entries : List Entry
   pub has : HasEntries value entries
   pub exactly : (e : Entry) → Contains entries e ↔ S e
 
 module _ {L R : Type 0} (writes_key : L → List ℕ) (writes : R → Data) where
-  -- the pair is written as the entry
+  -- The pair is written as this entry.
   abbrev pub IsWrittenAs : L × R → Entry → Type 0
   IsWrittenAs p e = e ≡ (writes_key p.0, writes p.1)
 
-  -- a member of S is written as the entry
+  -- A member of `S` is written as this entry.
   abbrev pub IsEntryOf : (L × R → Type 0) → Entry → Type 0
   IsEntryOf S e = (p : L × R) × S p × IsWrittenAs p e
 
-  -- the pair is written under the key of the entry
+  -- The pair is written under the key of this entry.
   abbrev pub TakesKey : L × R → Entry → Type 0
   TakesKey p e = e.0 ≡ writes_key p.0
 
-  -- the entry is what some pair of the list is written as, and no later one is written under its key
+  -- Some pair of the list is written as this entry, and no later pair is written under its key.
   abbrev pub IsLastEntryOf : List (L × R) → Entry → Type 0
   IsLastEntryOf pairs e = Survives IsWrittenAs TakesKey (λ s. ⊥) pairs e
 
--- what is written of each pair of the list, a left as an X, reads as a pair that is equal to it on both sides
+-- Each pair of the list reads back: what is written of it reads as an equal left and an equal right.
+-- A left is written as an `X`.
 abbrev pub EachReadsBack : {L R X : Type 0} → (L → X) → (R → Data) → (X → L → Type 0) → (Data → R → Type 0) → (L → L → Bool) → (R → R → Bool) → List (L × R) → Type 0
 EachReadsBack {L} {R} writes_left writes reads_left reads same_left same_right pairs =
     (p : L × R) → Contains pairs p → ReadsBack same_left (reads_left (writes_left p.0)) p.0 × ReadsBack same_right (reads (writes p.1)) p.1
 
 module _ {L R : Type 0} (reads_key : List ℕ → L → Type 0) (reads : Data → R → Type 0) where
-  -- the entry reads as the pair
+  -- The entry reads as the pair.
   abbrev pub ReadsAs : Entry → L × R → Type 0
   ReadsAs e p = reads_key e.0 p.0 × reads e.1 p.1
 
-  -- each entry reads as its pair, in order
+  -- Each entry reads as the pair at its position.
   abbrev pub EachReadsAs : List Entry → List (L × R) → Type 0
   EachReadsAs [] [] = Unit {0}
   EachReadsAs [] (p ∷ pairs) = ⊥
   EachReadsAs (e ∷ entries) [] = ⊥
   EachReadsAs (e ∷ entries) (p ∷ pairs) = ReadsAs e p × EachReadsAs entries pairs
 
-  -- so many entries of an object read as pairs, and the next one has P
+  -- The first `at` entries of an object read as pairs. The next entry has the property `P`.
   pub record StopsAt (value : Data) (at : ℕ) (P : Entry → Type 0) : Type 0 where
     pub before : List Entry
     pub entry : Entry
@@ -88,15 +89,17 @@ module _ {L R : Type 0} (reads_key : List ℕ → L → Type 0) (reads : Data �
     pub read : EachReadsAs before pairs
     pub stops : P entry
 
-  -- if the bimap has a pair for each entry of the object, each entry reads as the pair at its position
+  -- If the map has as many pairs as the object has entries, each entry reads as the pair at its position.
   pub record FollowEntries (value : Data) (new : List (L × R)) : Type 0 where
     pub entries : List Entry
     pub has : HasEntries value entries
     pub in_turn : length new ≡ length entries → EachReadsAs entries new
 
   module _ (same_left : L → L → Bool) (same_right : R → R → Bool) where
-    -- all entries of the object read as pairs, and exactly the survivors of these are held. The room is never below so many
-    -- places, and it is that unless the pairs outgrow it
+    -- All entries of the object read as pairs.
+    -- The map contains exactly the survivors of these pairs.
+    -- Its room is at least `places`.
+    -- It is exactly `places` unless the pairs outgrow it.
     pub record IsReadInto (value : Data) (places : ℕ) (new : Holding L R) : Type 0 where
       pub entries : List Entry
       pub has : HasEntries value entries
@@ -107,8 +110,9 @@ module _ {L R : Type 0} (reads_key : List ℕ → L → Type 0) (reads : Data �
       pub room : (new.room ≡ places)
           ⊎ Outgrows same_left same_right PutsItself (Survives PutsItself (TouchesSharing same_left same_right) (Contains [])) pairs places new.room
 
-    -- what the reading into a bimap of no pairs and so many places answers. The first faulty entry is named, and of it the
-    -- key first. A reading runs out of memory only at an entry whose key is a left
+    -- What reading an object into an empty map with this many places returns.
+    -- An error names the first faulty entry, and checks its key before its value.
+    -- Reading runs out of memory only at an entry whose key reads as a left.
     abbrev pub ReadsObject : {B : Type 0} → (B → Holding L R) → ℕ → Data → Result B JsonFault → Type 0
     ReadsObject holding places value (Ok b) = IsReadInto value places (holding b)
     ReadsObject holding places value (Err NotAnObject) = as_object value ≡ None
@@ -117,12 +121,13 @@ module _ {L R : Type 0} (reads_key : List ℕ → L → Type 0) (reads : Data �
     ReadsObject holding places value (Err Memory) = (at : ℕ) × StopsAt value at (λ e. ReadsSomething (reads_key e.0))
     ReadsObject holding places value (Err _) = ⊥
 
-    -- and the policy let each of them in
+    -- In addition, the policy allowed each of these insertions.
     pub record IsReadIntoUnder (value : Data) (places : ℕ) (policy : Policy) (new : Holding L R) : Type 0 where
       pub is_read : IsReadInto value places new
       pub allowed : AreAllowed same_left same_right (Contains []) is_read.pairs policy
 
-    -- so many entries of an object read as pairs that the policy let in, and the next one has P, told of their survivors
+    -- The first `at` entries of an object read as pairs that the policy allowed.
+    -- The next entry has the property `P`, given the survivors of these pairs.
     pub record StopsUnder (value : Data) (policy : Policy) (at : ℕ) (P : (L × R → Type 0) → Entry → Type 0) : Type 0 where
       pub before : List Entry
       pub entry : Entry
@@ -134,9 +139,10 @@ module _ {L R : Type 0} (reads_key : List ℕ → L → Type 0) (reads : Data �
       pub allowed : AreAllowed same_left same_right (Contains []) pairs policy
       pub stops : P (Survives PutsItself (TouchesSharing same_left same_right) (Contains []) pairs) entry
 
-    -- what the reading into such a bimap under a policy answers. The first faulty entry is named: its key is asked first,
-    -- then its value, then whether the policy lets the pair in. A reading runs out of memory only at an entry whose key is a
-    -- left
+    -- What reading an object under a policy into such a map returns.
+    -- An error names the first faulty entry.
+    -- It checks the key first, then the value, then whether the policy allows the pair.
+    -- Reading runs out of memory only at an entry whose key reads as a left.
     abbrev pub ReadsObjectUnder : {B : Type 0} → (B → Holding L R) → ℕ → Data → Policy → Result B JsonFault → Type 0
     ReadsObjectUnder holding places value policy (Ok b) = IsReadIntoUnder value places policy (holding b)
     ReadsObjectUnder holding places value policy (Err NotAnObject) = as_object value ≡ None
@@ -149,7 +155,7 @@ module _ {L R : Type 0} (reads_key : List ℕ → L → Type 0) (reads : Data �
     ReadsObjectUnder holding places value policy (Err Memory) = (at : ℕ) × StopsUnder value policy at (λ S e. ReadsSomething (reads_key e.0))
     ReadsObjectUnder holding places value policy (Err _) = ⊥
 
--- what references to the sides show
+-- The pairs that the references show.
 abbrev pub shown_pairs : {L R : Type 0} → List (Bor L × Bor R) → List (L × R)
 shown_pairs [] = []
 shown_pairs (x ∷ xs) = (x.0.now, x.1.now) ∷ shown_pairs xs

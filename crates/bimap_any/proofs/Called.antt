@@ -1,4 +1,4 @@
--- A closure that calls another with its arguments exchanged.
+-- A closure that calls another one with its arguments exchanged.
 use Rattle.std.proofs.Common.{◌≡◌, ◌++◌, Bool, true, false, List, [], ◌∷◌, map, refl, sym, ap, subst, Contains}
 use Rattle.std.specs.List.Sorted.{IsPermutation}
 use Rattle.std.proofs.lemmas.List.{map-append}
@@ -12,18 +12,18 @@ use Rattle.bimap_any.specs.Visited.{VisitsInOrder, MayVisit, IsVisited}
 use Rattle.bimap_base.proofs.Inverse.{inverse_in, in_inverse}
 use Rattle.bimap_any.specs.Exchanged.{inverse_holding}
 
--- a call of g' is one of g, with the arguments exchanged
+-- A call of `g'` is a call of `g` with the arguments exchanged.
 abbrev pub Exchanges : {F F' L R A : Type 0} → Mut F (Bor R × (Bor L × Unit {0})) A → Mut F' (Bor L × (Bor R × Unit {0})) A → (F' → F) → Type 0
 Exchanges {F} {F'} {L} {R} {A} g g' inner = (s : F') (l : Bor L) (r : Bor R) (a : A) (t : F') → Called g' s (l, (r, tt)) a t → Called g (inner s) (r, (l, tt)) a (inner t)
 
--- and may be made where that may
+-- The call of `g'` may be made if the call of `g` may be made.
 abbrev pub Asks : {F F' L R A : Type 0} → Mut F (Bor R × (Bor L × Unit {0})) A → Mut F' (Bor L × (Bor R × Unit {0})) A → (F' → F) → Type 0
 Asks {F} {F'} {L} {R} {A} g g' inner = (s : F') (l : Bor L) (r : Bor R) → g.pre (inner s) (r, (l, tt)) → g'.pre s (l, (r, tt))
 
 tested : {F F' L R A : Type 0} (g : Mut F (Bor R × (Bor L × Unit {0})) A) (g' : Mut F' (Bor L × (Bor R × Unit {0})) A) (inner : F' → F) → Exchanges g g' inner → (s : F') (p : L × R) (a : A) (t : F') → TestedAt g' s p a t → TestedAt g (inner s) (inverse_pair p) a (inner t)
 tested g g' inner gives s p a t h = record { left = h.right; right = h.left; shows_left = h.shows_right; shows_right = h.shows_left; called = gives s h.left h.right a t h.called }
 
--- each pair of a list with one of the others before it, in the order of the exchanged ones
+-- The pairs are split at one pair, in the order of the exchanged pairs.
 moved_inverse : {L R : Type 0} (held ps : List (L × R)) (p : L × R) (rest : List (L × R)) → IsPermutation held (ps ++ p ∷ rest) → IsPermutation (map inverse_pair held) (map inverse_pair ps ++ inverse_pair p ∷ map inverse_pair rest)
 moved_inverse held ps p rest moved = subst (IsPermutation (map inverse_pair held)) (map-append inverse_pair ps (p ∷ rest)) (IsPermutation-map inverse_pair held (ps ++ p ∷ rest) moved)
 

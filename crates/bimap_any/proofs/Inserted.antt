@@ -1,4 +1,4 @@
--- What an insertion answers and leaves, said of the bimap with its sides exchanged.
+-- What an insertion returns and leaves, expressed for the map with its sides exchanged.
 use Rattle.std.proofs.Common.{◌≡◌, ◌↔◌, ◌∙◌, ◌<◌, Bool, length, map, refl, sym, ap, inl, inr, arith, Contains}
 use Rattle.std.specs.Prelude.{Ok, Err}
 use Rattle.std.proofs.Math.Bool.{or_comm}
@@ -18,7 +18,7 @@ use Rattle.bimap_base.proofs.Inverse.{inverse_in, in_inverse}
 use Rattle.bimap_any.specs.Added.{IsAdded}
 use Rattle.bimap_any.specs.Exchanged.{inverse_holding, inverse_answer}
 
--- the policy of the one side for the other
+-- The same policy for the map with its sides exchanged.
 abbrev pub inverse_policy : Policy → Policy
 inverse_policy policy = record { left = policy.right; right = policy.left }
 
@@ -30,7 +30,7 @@ counted_inverse (Pair l r) = refl
 counted_inverse (Both p q) = refl
 
 module _ {L R : Type 0} (same_left : L → L → Bool) (same_right : R → R → Bool) where
-  -- two pairs share a value exactly where they do with their sides exchanged
+  -- Two pairs share a value exactly if they share one with their sides exchanged.
   shares_inverse : (p q : R × L) → shares same_right same_left p q ≡ shares same_left same_right (inverse_pair p) (inverse_pair q)
   shares_inverse p q = or_comm (same_right p.0 q.0) (same_left p.1 q.1)
 
@@ -100,7 +100,7 @@ module _ {L R : Type 0} {same_left : L → L → Bool} {same_right : R → R →
     room = room_inverse (inverse_some same_left same_right (Contains old.pairs) (Contains (map inverse_pair old.pairs)) (members old) pair) h.room;
   }
 
-  -- a refusal for a reason that holds of the exchanged sides
+  -- The call was refused, and the reason is true of the exchanged sides.
   refused_inverse : {policy : Policy} {e : NotInsertedWith L R} {e' : NotInsertedWith R L} → IsInsertionUnder same_left same_right old pair policy (Err e) new → IsRefusalUnder same_right same_left (Contains (map inverse_pair old.pairs)) (IsFull (inverse_holding old)) (inverse_pair pair) (inverse_policy policy) e' → IsInsertionUnder same_right same_left (inverse_holding old) (inverse_pair pair) (inverse_policy policy) (Err e') (inverse_holding new)
   refused_inverse h refusal = record {
     allowed = tt;
@@ -119,7 +119,7 @@ module _ {L R : Type 0} {same_left : L → L → Bool} {same_right : R → R →
     pub right_held : IsInsertionUnder same_left same_right old pair policy (Err (RightHeld l r)) new → IsInsertionUnder same_right same_left (inverse_holding old) (inverse_pair pair) (inverse_policy policy) (Err (LeftHeld r l)) (inverse_holding new)
     right_held h = let (q, m, e) = h.refused.3 in refused_inverse h (ap inverse_pair h.refused.0, h.refused.2, (inverse_pair q, in_inverse old.pairs (inverse_pair q) m, e))
 
-    -- where the left is held, the right may be too
+    -- If the left is contained, the right may be contained too.
     module _ (h : IsInsertionUnder same_left same_right old pair policy (Err (LeftHeld l r)) new) where
       pub both_held : policy.right ≡ Refuse → HasRight same_right (Contains old.pairs) pair.1 → IsInsertionUnder same_right same_left (inverse_holding old) (inverse_pair pair) (inverse_policy policy) (Err (LeftHeld r l)) (inverse_holding new)
       both_held e has = refused_inverse h (ap inverse_pair h.refused.0, e, (inverse_pair has.0, in_inverse old.pairs (inverse_pair has.0) has.1, has.2))
@@ -129,7 +129,7 @@ module _ {L R : Type 0} {same_left : L → L → Bool} {same_right : R → R →
           let has = h.refused.2 in
           refused_inverse h (ap inverse_pair h.refused.0, λ e q c. lacks e (inverse_pair q) (inverse_in old.pairs q c), h.refused.1, (inverse_pair has.0, in_inverse old.pairs (inverse_pair has.0) has.1, has.2))
 
-  -- a pair that shares no value with any was put in
+  -- A pair was inserted that shares no value with another one.
   pub added_inverse : {answer : Overwritten L R} → length old.pairs < old.room → NoneShares same_right same_left (Contains (map inverse_pair old.pairs)) (inverse_pair pair) → IsInsertion same_left same_right old pair (Ok answer) new → IsAdded (inverse_holding old) (inverse_pair pair) (inverse_holding new)
   added_inverse {answer} free alone h =
       let none : NoneShares same_left same_right (Contains old.pairs) pair = λ q m. sym (shares_inverse same_left same_right (inverse_pair q) (inverse_pair pair)) ∙ alone (inverse_pair q) (in_inverse old.pairs (inverse_pair q) m) in

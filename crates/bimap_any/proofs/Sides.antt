@@ -1,4 +1,4 @@
--- What is said of a bimap, said of it with its sides exchanged.
+-- Statements about a map, expressed for the map with its sides exchanged.
 use Rattle.std.proofs.Common.{◌≡◌, ◌∙◌, ◌+◌, Bool, true, false, length, map, Option, Some, None, sym, ap, Contains}
 use Rattle.std.specs.Prelude.{IfSome, IfNone, MatchOption, option_map}
 use Rattle.std.specs.Borrow.{Bor}

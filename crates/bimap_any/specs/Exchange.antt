@@ -17,7 +17,10 @@ pub record IsExchanged {L R : Type 0} (S : L × R → Type 0) (pair other : L ×
   pub member : S pair
   pub exchanged : (q : L × R) → T q ↔ ((q ≡ other) ⊎ (S q × (q ≢ pair)))
 
--- a value of one part of a pair in the place of another: `pair` makes a pair of this part and the other one
+-- A value on one side of a pair replaces another one.
+-- The argument `part` is the side.
+-- `pair` makes a pair of a value of this side and a value of the other side.
+-- This makes the definitions below serve both sides.
 module _ {L R K M : Type 0} (part : L × R → K) (pair : K → M → L × R) (same : K → K → Bool) where
   -- the pair that had `from`, and `taken` exactly, is there with `to`
   pub record IsPartReplaced (S : L × R → Type 0) (from to taken : K) (T : L × R → Type 0) : Type 0 where

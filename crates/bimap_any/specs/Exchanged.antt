@@ -1,4 +1,4 @@
--- What a bimap holds and answers, with its sides exchanged.
+-- What a map contains and what its calls return, with the sides exchanged.
 use Rattle.std.specs.Prelude.{map}
 use Rattle.bimap_base.specs.Holding.{Holding}
 use Rattle.bimap_base.specs.Inverse.{inverse_pair}
@@ -6,11 +6,11 @@ use Rattle.bimap_base.specs.declared.overwritten.Overwritten.{Overwritten}
 use Rattle.bimap_base.specs.declared.overwritten.Overwritten.TheVariants.{Neither, Left, Right, Pair, Both}
 
 module _ {L R : Type 0} where
-  -- the same pairs with their sides exchanged, and the same room
+  -- The same pairs with their sides exchanged, and the same room.
   abbrev pub inverse_holding : Holding L R → Holding R L
   inverse_holding held = record { pairs = map inverse_pair held.pairs; room = held.room }
 
-  -- the same pairs with their sides exchanged, by side
+  -- The same overwritten pairs with their sides exchanged. `Left` becomes `Right`, and `Right` becomes `Left`.
   abbrev pub inverse_answer : Overwritten L R → Overwritten R L
   inverse_answer Neither = Neither
   inverse_answer (Left l r) = Right r l

@@ -1,4 +1,4 @@
--- The walk of a store by an ordered side, and what one removal leaves of it.
+-- Iteration over a store by an ordered side, and what one removal leaves of it.
 use Rattle.std.proofs.Common.{◌≡◌, ◌≢◌, ◌↔◌, ◌∙◌, ℕ, ◌<◌, Bool, List, ◌∷◌, ◌++◌, length, get_or, slice_get, take, drop, suc, ◌≤◌, inl, inr, Option, Some, None, is_some, refl, sym, ap, subst, arith, true≢false, Contains, drop-cons}
 use Rattle.std.specs.Prelude.{slice_set}
 use Rattle.std.specs.List.{All, AllPairs}
@@ -27,19 +27,19 @@ module _ {P K : Type 0} (key : P → K) {order : K → K → Ordering} {same : K
   settled : ListsByOrder order places (λ place. option_map key (pair_at slots place))
   settled = order_settled order same total agrees places (λ place. option_map key (pair_at slots place)) listing
 
-  -- an ordered index lists the places of a walk
+  -- An ordered index lists the places of an iteration.
   pub order_walk : IsWalk slots places
   order_walk = walk_of key slots places (order_listed order same total agrees places _ settled) (order_distinct order same total agrees places _ settled)
 
-  -- the keys of its pairs ascend
+  -- The keys of its pairs ascend.
   pub order_ascends : AllPairs (λ p q. order (key p) (key q) ≡ Less) (pairs_at slots places)
   order_ascends = pairs_walked slots places order_walk (λ a b. (k l : K) → option_map key (pair_at slots a) ≡ Some k → option_map key (pair_at slots b) ≡ Some l → order k l ≡ Less) (λ p q. order (key p) (key q) ≡ Less) (λ a b p q s i j. s (key p) (key q) (ap (option_map key) i) (ap (option_map key) j)) (order_in_order order same total agrees places _ settled)
 
--- a walk lists as many places as are live
+-- The number of listed places is the number of pairs.
 pub count_listed : {P : Type 0} (slots : List (Option P)) (places : List ℕ) → IsWalk slots places → length places ≡ pair_count slots
 count_listed slots places walk = sym (long_at slots places (λ place. (walk.live place).0)) ∙ count_walked slots places walk
 
--- there is a pair at each listed place
+-- There is a pair at each listed place.
 pub live_listed : {P : Type 0} (slots : List (Option P)) (places : List ℕ) → All (IsLive slots) places → (place : ℕ) → Contains places place → IsLive slots place
 live_listed slots places all place c = subst (IsLive slots) c.2 (all c.0 place c.1)
 
@@ -50,11 +50,11 @@ module _ {P : Type 0} (slots : List (Option P)) (places : List ℕ) (live : (pla
     | inr past ↦ past
   ])
 
-  -- no pair has a rank from the length on
+  -- If no place has this rank, no pair has it.
   pub none_at_rank : (rank : ℕ) → slice_get places rank ≡ None → slice_get (pairs_at slots places) rank ≡ None
   none_at_rank rank is = slice_get_past (pairs_at slots places) rank (past_rank rank is)
 
-  -- so none is taken out there
+  -- If no place has this rank, nothing is removed.
   pub all_kept : (rank : ℕ) → slice_get places rank ≡ None → pairs_at slots places ≡ take rank (pairs_at slots places) ++ drop (suc rank) (pairs_at slots places)
   all_kept rank is =
       let past = past_rank rank is in
@@ -67,7 +67,7 @@ module _ {P : Type 0} (slots : List (Option P)) (places : List ℕ) (live : (pla
     at_rank : get_or places rank place ≡ place
     at_rank = get_or_from_slice_get places rank place place is
 
-    -- there is a pair at the place of a rank
+    -- There is a pair at the place of a rank.
     pub live_at_rank : IsLive slots place
     live_at_rank = live place (rank, within, at_rank)
 
@@ -75,7 +75,7 @@ module _ {P : Type 0} (slots : List (Option P)) (places : List ℕ) (live : (pla
     rank_live = some_at (pair_at slots place) live_at_rank
 
     module _ (p : P) (has : pair_at slots place ≡ Some p) where
-      -- it is the pair of that rank
+      -- The pair at the place is the pair with that rank.
       pub pair_at_rank : p ≡ get_or (pairs_at slots places) rank p
       pair_at_rank =
           let read = read_at slots places live rank place p within in
@@ -88,7 +88,7 @@ module _ {P : Type 0} (slots : List (Option P)) (places : List ℕ) (live : (pla
       pub some_at_rank : slice_get (pairs_at slots places) rank ≡ Some p
       some_at_rank = slice_get-get_or (pairs_at slots places) rank p inside ∙ ap Some (sym pair_at_rank)
 
-      -- the pairs before it and after it
+      -- The pairs before it, the pair, and the pairs after it are all pairs.
       pub parted_at_rank : pairs_at slots places ≡ take rank (pairs_at slots places) ++ p ∷ drop (suc rank) (pairs_at slots places)
       parted_at_rank = sym (take-append-drop rank (pairs_at slots places)) ∙ ap (λ xs. take rank (pairs_at slots places) ++ xs) (drop-cons (pairs_at slots places) rank p inside ∙ ap (λ q. q ∷ drop (suc rank) (pairs_at slots places)) (sym pair_at_rank))
 
@@ -107,7 +107,7 @@ module _ {L R K : Type 0} {same_left : L → L → Bool} {same_right : R → R �
   off : (a : ℕ) → a ≢ place → pair_at slots' a ≡ pair_at slots a
   off a away = ap (λ z. pair_at z a) now ∙ get_or-set_other slots place a None None away
 
-  -- the pairs that are left are the others
+  -- The remaining pairs are the others.
   others : (q : L × R) → Contains (pairs_at slots' places') q ↔ (Contains (pairs_at slots places) q × (q ≢ p))
   others q = (
     λ c.
@@ -122,11 +122,11 @@ module _ {L R K : Type 0} {same_left : L → L → Bool} {same_right : R → R �
         listed_at slots' places' a.0 q ((walk'.live a.0).1 (ap is_some here)) here,
   )
 
-  -- no two keys are each below the other
+  -- No two keys are each below the other.
   strict : (x y : L × R) → order (key x) (key y) ≡ Less → order (key y) (key x) ≡ Less → ⊥
   strict x y e f = let h = total.antisymm (key x) (key y) in let k : ordering_reverse (order (key y) (key x)) ≡ Greater = ap ordering_reverse f in absurd (cc)
 
-  -- they stand in the order in which they stood
+  -- The remaining pairs keep their order.
   pub walked_without : (before after : List (L × R)) → pairs_at slots places ≡ before ++ p ∷ after → pairs_at slots' places' ≡ before ++ after
   walked_without before after is =
       one_out (λ p q. order (key p) (key q) ≡ Less) strict before p after (pairs_at slots' places')
@@ -134,7 +134,7 @@ module _ {L R K : Type 0} {same_left : L → L → Bool} {same_right : R → R �
       (order_ascends key total agrees slots' places' listing')
       (λ q. subst (λ xs. Contains (pairs_at slots' places') q ↔ (Contains xs q × (q ≢ p))) is (others q))
 
-  -- the store has the pairs without the one
+  -- The store has the pairs without the removed one.
   pub store_without : IsWithoutPair (pairs_in slots) p (pairs_in slots')
   store_without =
       record {
@@ -148,7 +148,7 @@ module _ {L R K : Type 0} {same_left : L → L → Bool} {same_right : R → R �
   live : (place : ℕ) → Contains places place → IsLive slots place
   live place = (walk.live place).0
 
-  -- the pair of a rank was taken out
+  -- The pair with this rank was removed.
   pub taken_ranked : (rank : ℕ) → slice_get places rank ≡ Some place → IsTakenAtRank slots places rank (Some p) slots' places'
   taken_ranked rank at = record {
     pair = sym (some_at_rank slots places live rank place at p was);
@@ -157,7 +157,7 @@ module _ {L R K : Type 0} {same_left : L → L → Bool} {same_right : R → R �
     room = ap length now ∙ length-set slots place None;
   }
 
--- from the length on, none was
+-- If no place has this rank, no pair was removed.
 pub none_taken : {L R : Type 0} (slots : List (Option (L × R))) (places : List ℕ) → IsWalk slots places → (rank : ℕ) → slice_get places rank ≡ None → IsTakenAtRank slots places rank None slots places
 none_taken slots places walk rank is =
     let live : (place : ℕ) → Contains places place → IsLive slots place = λ place. (walk.live place).0 in

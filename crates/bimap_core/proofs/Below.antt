@@ -1,4 +1,4 @@
--- How many keys of a list of places are below a query.
+-- How many keys of a list of places are below what is looked up.
 use Rattle.std.proofs.Common.{◌≡◌, ℕ, ◌+◌, ◌∙◌, List, [], ◌∷◌, Option, Some, None, zero-add, refl, sym, ap}
 use Rattle.std.specs.List.{count_by}
 use Rattle.std.specs.Option.{option_map}
@@ -12,7 +12,7 @@ use Rattle.bimap_base.specs.Slots.{pair_at}
 use Rattle.bimap_tree.specs.Order.{count_below}
 
 module _ {P K Q : Type 0} (key : P → K) (to : K → Q → Ordering) (slots : List (Option P)) (query : Q) where
-  -- as many places are below as pairs
+  -- The number of places below is the number of pairs below.
   pub count_pairs : (places : List ℕ) → count_below (λ p. standing to (option_map key (pair_at slots p)) (Some query)) places ≡ count_by (λ p. is_lt (to (key p) query)) (pairs_at slots places)
   count_pairs [] = refl
   count_pairs (x ∷ xs) = by (pair_at slots x) refl (count_pairs xs)

@@ -12,14 +12,14 @@ module _ {P : Type 0} (slots slots' : List (Option P)) (place : ℕ) where
       let counted : pair_count (slice_set slots place o) + cond (is_some (pair_at slots place)) 1 0 ≡ pair_count slots + cond (is_some o) 1 0 = sum_by-set (λ o. cond (is_some o) 1 0) slots place o None inside in
       omega (arith, counted, length-pairs_in slots, length-pairs_in slots', ap pair_count now)
 
-  -- a pair in the place of another
+  -- A pair overwrites another one.
   pub count_over : (p new : P) → pair_at slots place ≡ Some p → slots' ≡ slice_set slots place (Some new) → length (pairs_in slots') ≡ length (pairs_in slots)
   count_over p new was now = omega (arith, rw was at written (Some new) (live_within slots place p was) now)
 
-  -- a pair in a free place
+  -- A pair is put into a free place.
   pub count_new : (new : P) → place < length slots → pair_at slots place ≡ None → slots' ≡ slice_set slots place (Some new) → length (pairs_in slots') ≡ length (pairs_in slots) + 1
   count_new new inside free now = omega (arith, rw free at written (Some new) inside now)
 
-  -- a pair taken out
+  -- A pair is removed.
   pub count_out : (p : P) → pair_at slots place ≡ Some p → slots' ≡ slice_set slots place None → length (pairs_in slots') + 1 ≡ length (pairs_in slots)
   count_out p was now = omega (arith, rw was at written None (live_within slots place p was) now)

@@ -12,7 +12,7 @@ use Rattle.bimap_core.proofs.Parting.{IsParted, begun, of_same, next, stays, goe
 use Rattle.bimap_core.proofs.Retaining.{same_pair, none_left}
 use Rattle.bimap_core.proofs.Positions.{next_at_rank, out_between}
 
--- what follows a prefix of a list begins with the element there
+-- What follows a prefix of a list begins with the element at that position.
 at_end : {P : Type 0} (xs ys : List P) (k : ℕ) (p : P) → k ≡ length xs → k < length (xs ++ ys) → p ≡ get_or (xs ++ ys) k p → (zs : List P) × (ys ≡ p ∷ zs)
 at_end [] [] k p e h is = absurd (omega arith)
 at_end [] (y ∷ ys) zero p e h is = (ys, ap (λ z. z ∷ ys) (sym is))
@@ -21,8 +21,10 @@ at_end (x ∷ xs) ys zero p e h is = absurd (omega arith)
 at_end (x ∷ xs) ys (suc k) p e h is = at_end xs ys k p (omega arith) (omega arith) is
 
 module _ {F L R S : Type 0} (g : Mut F (Bor L × (Bor R × Unit {0})) Bool) (has_room : S → ℕ → Type 0) (receives : S → L × R → S → Type 0) (goes : Bool) where
-  -- the pairs `old` were tested up to `rest`: f is the closure now, `items` the pairs that are left, `count` of these were
-  -- kept, and `to` is the outlet
+  -- The pairs of `old` before `rest` were tested.
+  -- `f` is the closure now, and `to` is the outlet now.
+  -- `items` are the pairs that are left.
+  -- `count` of them were kept after a test.
   pub record IsTestedUpTo (first f : F) (from to : S) (old items : List (L × R)) (count : ℕ) : Type 0 where
     pub tested : List (L × R)
     pub kept : List (L × R)
@@ -36,7 +38,7 @@ module _ {F L R S : Type 0} (g : Mut F (Bor L × (Bor R × Unit {0})) Bool) (has
   start f from old room = record { tested = []; kept = []; rest = old; all = refl; left = refl; long = refl; parted = begun g has_room receives goes f from old room }
 
   module _ (first f : F) (from to : S) (old items : List (L × R)) (count : ℕ) (so_far : IsTestedUpTo first f from to old items count) (p : L × R) (is : p ≡ get_or items count p) (inside : count < length items) where
-    -- it is the turn of this pair
+    -- This pair is the next one to be tested.
     position : (tail : List (L × R)) × (so_far.rest ≡ p ∷ tail)
     position = at_end so_far.kept so_far.rest count p so_far.long (subst (λ xs. count < length xs) so_far.left inside) (subst (λ xs. p ≡ get_or xs count p) so_far.left is)
 
@@ -49,7 +51,7 @@ module _ {F L R S : Type 0} (g : Mut F (Bor L × (Bor R × Unit {0})) Bool) (has
     all_now : old ≡ so_far.tested ++ p ∷ position.0
     all_now = so_far.all ∙ ap (λ xs. so_far.tested ++ xs) position.1
 
-    -- the closure may be called at it
+    -- The closure may be called on this pair.
     pub may : MayTestInOrder g first old → MayTestPair g f p
     may test left right l r = test.at so_far.tested so_far.parted.answers f left right position.0 (all_now ∙ ap (λ q. so_far.tested ++ q ∷ position.0) (sym (same_pair p left.now right.now l r))) so_far.parted.calls
 
@@ -79,7 +81,7 @@ module _ {F L R S : Type 0} (g : Mut F (Bor L × (Bor R × Unit {0})) Bool) (has
         parted = goes_out g has_room receives goes first f from to _ _ _ p now t h to' received fewer;
       }
 
-  -- so many places of a walk were tested, and `next` is the one after those that were kept
+  -- The first `tests` places of an iteration were tested. `next` is the place after those that were kept.
   pub record IsTestedAlong (first f : F) (from to : S) (old items : List (L × R)) (places : List ℕ) (next : Option ℕ) (tests : ℕ) : Type 0 where
     pub rank : ℕ
     pub so_far : IsTestedUpTo first f from to old items rank
@@ -111,7 +113,7 @@ module _ {F L R S : Type 0} (g : Mut F (Bor L × (Bor R × Unit {0})) Bool) (has
       all_tested g has_room receives goes first f from to _ so_far.rest _
       (of_same g has_room receives goes first f from to (sym (so_far.all ∙ behind so_far.tested)) refl (sym (so_far.left ∙ behind so_far.kept)) so_far.parted)
 
-  -- the same of equal lists
+  -- The same statement about equal lists.
   pub as_listed : (f : F) (from to : S) (old old' left left' : List (L × R)) → old ≡ old' → left ≡ left' → IsPartition g receives goes f old' left' from to → IsPartition g receives goes f old left from to
   as_listed f from to old old' left left' e d h = rw (e, d) h
 

@@ -1,4 +1,4 @@
--- What each arm of an interning answers and leaves.
+-- What each branch of `get_by_left_or_insert` returns and leaves.
 use Rattle.std.proofs.Common.{◌≡◌, ℕ, ◌<◌, true, false, Bool, List, length, Option, Some, None, IsSome, refl, sym, ap, subst, ◌∙◌, inl, inr, arith, true≢false}
 use Rattle.std.specs.Prelude.{Contains, Ok, Err, slice_set}
 use Rattle.std.specs.Option.{is_some}
@@ -20,11 +20,11 @@ nothing None e = refl
 nothing (Some x) e = absurd (true≢false e)
 
 module _ {L R : Type 0} (same_left : L → L → Bool) (same_right : R → R → Bool) (slots : List (Option (L × R))) (l : L) (r : R) where
-  -- a left can't be held and lacking
+  -- A left cannot be both contained and missing.
   pub not_both : {P : Type 0} → HasLeft same_left (Contains (pairs_in slots)) l → LacksLeft same_left (Contains (pairs_in slots)) l → P
   not_both has lacks = absurd (true≢false (sym has.2 ∙ lacks has.0 has.1))
 
-  -- an equal left is held
+  -- A pair with an equal left is contained.
   pub found_held : (place : ℕ) (p : L × R) → pair_at slots place ≡ Some p → same_left p.0 l ≡ true → IsInterning same_left same_right (holding_of slots) (l, r) (Ok p.1) (holding_of slots)
   found_held place p was equal =
       let has : HasLeft same_left (Contains (pairs_in slots)) l = (p, held_at slots place p was, equal) in
@@ -44,11 +44,11 @@ module _ {L R : Type 0} (same_left : L → L → Bool) (same_right : R → R →
     lacking : LacksLeft same_left (Contains (pairs_in slots)) l
     lacking = key_lacking (λ p. p.0) same_left slots l by_left at_left no_left
 
-    -- so nothing need be said of where one is held
+    -- The left is missing, so nothing has to be shown for the case that it is contained.
     pub lacks_held : {P : Type 0} → HasLeft same_left (Contains (pairs_in slots)) l → P
     lacks_held has = not_both has lacking
 
-    -- another pair has the right
+    -- Another pair has the right.
     pub refused_occupied : IsSome by_right → IsInterning same_left same_right (holding_of slots) (l, r) (Err (Occupied l r)) (holding_of slots)
     refused_occupied some =
         let h = right_held same_left same_right slots r by_right at_right some in
@@ -64,7 +64,7 @@ module _ {L R : Type 0} (same_left : L → L → Bool) (same_right : R → R →
           room = room_stays _ _ _ refl;
         }
 
-    -- nothing shares, and there was no memory
+    -- No pair shares a value with the new one, and the call ran out of memory.
     pub refused_for_memory : (slots' : List (Option (L × R))) → by_right ≡ None → pair_count slots ≡ length slots → slots' ≡ slots → IsInterning same_left same_right (holding_of slots) (l, r) (Err (Memory l r)) (holding_of slots')
     refused_for_memory slots' no_right full same = record {
       answer = tt;
@@ -78,7 +78,7 @@ module _ {L R : Type 0} (same_left : L → L → Bool) (same_right : R → R →
       room = room_stays _ _ _ (ap length same);
     }
 
-    -- nothing shares
+    -- No pair shares a value with the new one, and it was inserted.
     pub interned_new : (equal_left : IsEquivalence same_left) (equal_right : IsEquivalence same_right) (grown slots' : List (Option (L × R))) (place : ℕ) → by_right ≡ None → ((q : ℕ) → pair_at grown q ≡ pair_at slots q) → IsRoomAfter (holding_of slots) ⊥ (holding_of grown)
         → place < length grown → pair_at grown place ≡ None → slots' ≡ slice_set grown place (Some (l, r)) → IsInterning same_left same_right (holding_of slots) (l, r) (Ok r) (holding_of slots')
     interned_new equal_left equal_right grown slots' place no_right kept room inside free now =

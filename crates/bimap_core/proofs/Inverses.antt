@@ -1,4 +1,4 @@
--- A store with the sides of its pairs exchanged, beside its indexes.
+-- A store with the sides of its pairs exchanged, and its indexes.
 use mathlib.Core.HLevel.{is_prop→PathP}
 use Rattle.std.proofs.Common.{◌≡◌, ◌≤◌, Bool, List, length, map, Option, Some, None, refl, sym, ap, subst, ◌∙◌}
 use Rattle.std.specs.Option.{option_map}
@@ -12,7 +12,7 @@ use Rattle.bimap_index.proofs.Compaction.{keys_at, keys_in}
 use Rattle.bimap_core.specs.declared.table.Table.{Table}
 
 module _ {L R : Type 0} where
-  -- the keys of a side are those of the other before
+  -- The keys of a side are the keys that the other side had before.
   pub left_of_inverse : (slots : List (Option (L × R))) → right_at slots ≡ left_at (map (option_map inverse_pair) slots)
   left_of_inverse slots = λ i place. (by (pair_at slots place) ∙ ap (option_map (λ p. p.0)) (keys_at inverse_pair slots place)) i
     where
@@ -30,7 +30,7 @@ module _ {L R : Type 0} where
   pub apart_in_inverse : (same_left : L → L → Bool) (same_right : R → R → Bool) (slots : List (Option (L × R))) → IsApart same_left same_right (pairs_in slots) → IsApart same_right same_left (pairs_in (map (option_map inverse_pair) slots))
   apart_in_inverse same_left same_right slots apart = subst (IsApart same_right same_left) (sym (keys_in inverse_pair slots)) (apart_inverse same_left same_right (pairs_in slots) apart)
 
--- a table is its plain fields
+-- Two tables with the same plain fields are equal.
 pub same_table : {L R I J LeftSpot LeftSearch RightSpot RightSearch : Type 0} {left_eq : _} {right_eq : _} {left : _} {right : _} (t u : Table L R I J LeftSpot LeftSearch RightSpot RightSearch left_eq right_eq left right) → t.pairs ≡ u.pairs → t.left ≡ u.left → t.right ≡ u.right → t.is_left_first ≡ u.is_left_first → t ≡ u
 same_table {left_eq = left_eq} {right_eq = right_eq} {left = left} {right = right} t u e f g h = λ i. record {
   pairs = e i;

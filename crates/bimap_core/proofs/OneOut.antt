@@ -1,4 +1,4 @@
--- Lists that ascend, and one from which an element was taken out.
+-- Ascending lists, and one from which an element was removed.
 use Rattle.std.proofs.Common.{◌≡◌, ◌≢◌, ◌↔◌, List, ◌∷◌, ◌++◌, get_or, sym, subst, Contains}
 use Rattle.std.specs.List.{AllPairs}
 use Rattle.bimap_index.specs.SameLists.{same_ascending}
@@ -11,7 +11,7 @@ module _ {X : Type 0} (Below : X → X → Type 0) (strict : (x y : X) → Below
       let itself : Below x x = subst (Below x) (sym e) (up i j d before inside) in
       strict x x itself itself
 
-  -- an ascending list that has the others is the list without the one
+  -- An ascending list that contains all other elements is the list without the one element.
   pub one_out : (a : List X) (x : X) (b ys : List X) → AllPairs Below (a ++ x ∷ b) → AllPairs Below ys → ((q : X) → Contains ys q ↔ (Contains (a ++ x ∷ b) q × (q ≢ x))) → ys ≡ a ++ b
   one_out a x b ys up up' others =
       same_ascending Below strict ys (a ++ b) up' (all_without Below a x b up) (λ q. (

@@ -1,4 +1,4 @@
--- Pairs that are tested one after another, of which those that are answered so go to an outlet.
+-- Pairs that are tested one after another. Those with one result go to an outlet.
 use Rattle.std.proofs.Common.{◌≡◌, ℕ, ◌+◌, ◌≤◌, Bool, true, false, List, [], ◌∷◌, ◌++◌, length, refl, sym, ap, ◌∙◌, subst, arith}
 use Rattle.std.specs.Prelude.{not}
 use Rattle.std.specs.List.{FoldsTo}
@@ -24,7 +24,7 @@ module _ {F L R : Type 0} (g : Mut F (Bor L × (Bor R × Unit {0})) Bool) where
   false_same f (q ∷ ps) (true ∷ bs) m p h = false_same h.0 ps bs m p h.2
   false_same f (q ∷ ps) (false ∷ bs) m p h = ap (λ xs. q ∷ xs) (false_same h.0 ps bs m p h.2)
 
-  -- an answer adds its pair to those answered so, and leaves the others
+  -- A result adds its pair to the pairs with that result, and leaves the other pairs as they are.
   more : (b : Bool) (f : F) (ps : List (L × R)) (bs : List Bool) (m : F) (p : L × R) → TestsInOrder g f ps bs m → answered g b (ps ++ p ∷ []) (bs ++ b ∷ []) ≡ answered g b ps bs ++ p ∷ []
   more true f ps bs m p h = true_push g f ps bs m p h
   more false f ps bs m p h = false_more f ps bs m p h
@@ -42,8 +42,9 @@ module _ {F L R : Type 0} (g : Mut F (Bor L × (Bor R × Unit {0})) Bool) where
   none false = refl
 
   module _ {S : Type 0} (has_room : S → ℕ → Type 0) (receives : S → L × R → S → Type 0) (goes : Bool) where
-    -- f is the closure after it was called at the pairs tested. Those that went are in the outlet, which has room for the
-    -- rest, and the others were kept
+    -- `f` is the closure after it was called on the tested pairs.
+    -- The removed pairs are in the outlet, which has room for the rest.
+    -- The other pairs were kept.
     pub record IsParted (first f : F) (from to : S) (tested rest kept : List (L × R)) : Type 0 where
       pub answers : List Bool
       pub calls : TestsInOrder g first tested answers f
@@ -54,13 +55,13 @@ module _ {F L R : Type 0} (g : Mut F (Bor L × (Bor R × Unit {0})) Bool) where
     pub begun : (f : F) (from : S) (rest : List (L × R)) → ((n : ℕ) → n ≤ length rest → has_room from n) → IsParted f f from from [] rest []
     begun f from rest room = record { answers = []; calls = refl; gone = subst (λ xs. FoldsTo receives from xs from) (sym (none goes)) refl; left = sym (none (not goes)); room = room }
 
-    -- the same of equal lists
+    -- The same statement about equal lists.
     pub of_same : (first f : F) (from to : S) {tested tested' rest rest' kept kept' : List (L × R)} → tested ≡ tested' → rest ≡ rest' → kept ≡ kept' → IsParted first f from to tested rest kept → IsParted first f from to tested' rest' kept'
     of_same first f from to {tested} {tested'} {rest} {rest'} {kept} {kept'} t r k h =
         subst (λ z. IsParted first f from to z rest' kept') t (subst (λ z. IsParted first f from to tested z kept') r (subst (λ z. IsParted first f from to tested rest z) k h))
 
     module _ (first f : F) (from to : S) (tested rest kept : List (L × R)) (p : L × R) (h : IsParted first f from to tested (p ∷ rest) kept) where
-      -- the outlet has room for the next pair
+      -- The outlet has room for the next pair.
       pub next : has_room to 1
       next = h.room 1 (omega arith)
 

@@ -1,4 +1,4 @@
--- Lists with the same elements, none twice, and the pairs of a walk as those of the store in another order.
+-- Lists of distinct elements with the same elements. The pairs of an iteration are those of the store in another order.
 use Rattle.std.proofs.Common.{◌≡◌, ◌≢◌, ◌⊎◌, ◌↔◌, ℕ, Bool, List, [], ◌∷◌, ◌++◌, get_or, Option, sym, ap, subst, ◌∙◌, inl, inr, true≢false, Contains}
 use Rattle.std.specs.List.{AllPairs}
 use Rattle.std.specs.List.Sorted.{IsPermutation}
@@ -44,7 +44,7 @@ module _ {X : Type 0} where
     | inr d ↦ elim (cases_in x b p d) [ inl e ↦ absurd (away (sym e)) | inr f ↦ Contains-append_right a b p f ]
   ]
 
-  -- what holds of each two elements holds of each two of the others
+  -- What is true of any two elements stays true after one element is removed.
   pub all_without : (S : X → X → Type 0) (a : List X) (x : X) (b : List X) → AllPairs S (a ++ x ∷ b) → AllPairs S (a ++ b)
   all_without S [] x b all = AllPairs-tail S x b all
   all_without S (y ∷ a) x b all =
@@ -52,7 +52,7 @@ module _ {X : Type 0} where
       (λ k d l. AllPairs-head S y (a ++ x ∷ b) all (get_or (a ++ b) k d) (with_it a b x (get_or (a ++ b) k d) (k, l, get_or_default (a ++ b) k (get_or (a ++ b) k d) d l)))
       (all_without S a x b (AllPairs-tail S y (a ++ x ∷ b) all))
 
-  -- lists with no element twice and the same elements are the same but for the order
+  -- Lists of distinct elements with the same elements differ only in their order.
   pub permuted : (xs ys : List X) → AllPairs (λ p q. p ≢ q) xs → AllPairs (λ p q. p ≢ q) ys → ((p : X) → Contains xs p ↔ Contains ys p) → IsPermutation xs ys
   permuted [] [] apart apart' same = IsPermutation-refl []
   permuted [] (y ∷ ys) apart apart' same = none_in y ((same y).1 (head_in y ys))
@@ -71,17 +71,17 @@ module _ {X : Type 0} where
       back p (inl e) away = absurd (away (sym e))
       back p (inr c) away = c
 
--- pairs of which no two share a value are each there once
+-- If no two pairs share a value, the pairs are distinct.
 pub distinct : {L R : Type 0} (same_left : L → L → Bool) (same_right : R → R → Bool) → IsEquivalence same_left → (pairs : List (L × R)) → IsApart same_left same_right pairs → AllPairs (λ p q. p ≢ q) pairs
 distinct same_left same_right equal pairs all i j d before inside e =
     let p = get_or pairs i d in
     true≢false (sym (left_of_two (same_left p.0 p.0) (same_right p.1 p.1) (equal.refl p.0)) ∙ ap (shares same_left same_right p) e ∙ all i j d before inside)
 
 module _ {L R : Type 0} {same_left : L → L → Bool} {same_right : R → R → Bool} (equal_left : IsEquivalence same_left) (equal_right : IsEquivalence same_right) (slots : List (Option (L × R))) (places : List ℕ) (walk : IsWalk slots places) (apart : IsApart same_left same_right (pairs_in slots)) where
-  -- no two pairs that a walk gives share a value
+  -- No two pairs of an iteration share a value.
   pub walk_apart : IsApart same_left same_right (pairs_at slots places)
   walk_apart = apart_walked same_left same_right slots places walk (apart_at_places same_left same_right equal_left equal_right slots apart)
 
-  -- they are those of the store in another order
+  -- The pairs of an iteration are those of the store in another order.
   pub walk_permuted : IsPermutation (pairs_at slots places) (pairs_in slots)
   walk_permuted = permuted (pairs_at slots places) (pairs_in slots) (distinct same_left same_right equal_left (pairs_at slots places) walk_apart) (distinct same_left same_right equal_left (pairs_in slots) apart) (λ p. let w = walked slots places walk p in (w.1, w.0))

@@ -1,4 +1,5 @@
--- The pairs of a walk where one place is written, and the places are linked in turn.
+-- The pairs of an iteration after one place is written, if the index lists places in the order in which they were
+-- linked.
 use Rattle.std.proofs.Common.{◌≡◌, ◌≢◌, ◌↔◌, ℕ, zero, suc, ◌+◌, ◌<◌, Bool, List, [], ◌∷◌, ◌++◌, length, true, false, Option, Some, None, is_some, IsSome, refl, sym, ap, subst, ◌∙◌, ◌⊎◌, inl, inr, add-one, arith, true≢false, Contains}
 use Rattle.std.specs.Prelude.{slice_get, slice_set, IfSome, IsSomeAnd, MatchOption}
 use Rattle.std.specs.List.{AllPairs}
@@ -20,7 +21,7 @@ use Rattle.bimap_index.specs.ByInsertion.{ListsByInsertion}
 use Rattle.bimap_index.specs.HashLaws.{hash_settled, hash_listed, hash_distinct, hash_by_place, pairs_by_place}
 use Rattle.bimap_index.specs.InsertionLaws.{insertion_settled}
 
--- what a list has stands between others
+-- If a list contains an element, the element has a position between the elements before it and after it.
 parted : {X : Type 0} (xs : List X) (x : X) → Contains xs x → (before : List X) × (after : List X) × (xs ≡ before ++ x ∷ after)
 parted [] x c = none_in x c
 parted (y ∷ ys) x c =
@@ -29,7 +30,7 @@ parted (y ∷ ys) x c =
       | inr d ↦ let r = parted ys x d in (y ∷ r.0, r.1, ap (λ zs. y ∷ zs) r.2)
     ]
 
--- and none of the others is it
+-- If the elements are distinct, the element is not among those before it or after it.
 around : {X : Type 0} (before after : List X) (x : X) → AllPairs (λ a b. a ≢ b) (before ++ x ∷ after) → (Contains before x → ⊥) × (Contains after x → ⊥)
 around [] after x distinct = (λ c. none_in x c, λ c. AllPairs-head (λ a b. a ≢ b) x after distinct x c refl)
 around (y ∷ ys) after x distinct =
@@ -62,11 +63,11 @@ module _ {X : Type 0} (x : X) where
     there : AllPairs (λ p q. p ≢ q) (out.before ++ x ∷ out.after)
     there = subst (AllPairs (λ p q. p ≢ q)) out.stood distinct
 
-    -- of distinct elements one stands between the same others however the list is parted at it
+    -- If the elements are distinct, all ways to part the list at one element leave the same other elements.
     pub out_between : (before after : List X) → old ≡ before ++ x ∷ after → new ≡ before ++ after
     out_between before after is = out.left ∙ same_around out.before out.after before after there (sym out.stood ∙ is)
 
-    -- what came after it is at its rank now
+    -- The element after the removed one now has the rank of the removed one.
     pub next_at_rank : (rank : ℕ) → slice_get old rank ≡ Some x → slice_get old (rank + 1) ≡ slice_get new rank
     next_at_rank rank is =
         ap (λ k. slice_get old k) (add-one rank) ∙ ap (λ xs. slice_get xs (suc rank)) out.stood
@@ -77,7 +78,7 @@ module _ {P : Type 0} (slots : List (Option P)) (place : ℕ) where
   abbrev written : Option P → List (Option P)
   written x = slice_set slots place x
 
-  -- at other places it shows what stood there
+  -- Iteration shows at all other places what was there before.
   shown : (x : Option P) (places : List ℕ) → (Contains places place → ⊥) → pairs_at (written x) places ≡ pairs_at slots places
   shown x [] absent = refl
   shown x (q ∷ qs) absent =
@@ -91,7 +92,7 @@ module _ {P : Type 0} (slots : List (Option P)) (place : ℕ) where
   one : (slots : List (Option P)) (p : P) (places : List ℕ) → pair_at slots place ≡ Some p → pairs_at slots (place ∷ places) ≡ p ∷ pairs_at slots places
   one slots p places is = rw is refl
 
-  -- a place that was linked last shows its pair last
+  -- If a place was linked last, its pair is the last one.
   pub shown_last : (p : P) (places places' : List ℕ) → place < length slots → (Contains places place → ⊥) → places' ≡ places ++ place ∷ [] → pairs_at (written (Some p)) places' ≡ pairs_at slots places ++ p ∷ []
   shown_last p places places' inside absent last =
       ap (pairs_at (written (Some p))) last ∙ filter_map-append (pair_at (written (Some p))) places (place ∷ [])
@@ -103,7 +104,7 @@ module _ {P : Type 0} (slots : List (Option P)) (place : ℕ) where
     stood_between before after stood =
         ap (pairs_at slots) stood ∙ filter_map-append (pair_at slots) before (place ∷ after) ∙ ap (λ ps. pairs_at slots before ++ ps) (one slots q after is)
 
-    -- a pair that is written over another stands where it stood
+    -- A pair that overwrites another one gets its position.
     pub shown_instead : (p : P) (places' : List ℕ) → Contains places place → places' ≡ places → IsReplaced (pairs_at slots places) q p (pairs_at (written (Some p)) places')
     shown_instead p places' has same =
         let r = parted places place has in
@@ -117,7 +118,7 @@ module _ {P : Type 0} (slots : List (Option P)) (place : ℕ) where
               ∙ ap (λ ps. pairs_at slots r.0 ++ ps) (one (written (Some p)) p r.1 (get_or-set_same slots place (Some p) None (live_within slots place q is)) ∙ ap (λ ps. p ∷ ps) (shown (Some p) r.1 off.1));
         }
 
-    -- without the place the others are shown
+    -- Without the place, iteration shows the other pairs.
     pub shown_without : (x : Option P) (rest : List ℕ) → IsTakenOut places place rest → IsTakenOut (pairs_at slots places) q (pairs_at (written x) rest)
     shown_without x rest out =
         let off = around out.before out.after place (subst (AllPairs (λ a b. a ≢ b)) out.stood distinct) in
@@ -135,7 +136,7 @@ module _ {P : Type 0} (slots : List (Option P)) (place : ℕ) where
         let off = around out.before out.after place (subst (AllPairs (λ a b. a ≢ b)) out.stood distinct) in
         elim (Contains-append_cases out.before out.after place (subst (λ ps. Contains ps place) out.left c)) [ inl d ↦ off.0 d | inr d ↦ off.1 d ]
 
-    -- a place that was linked anew shows its new pair last
+    -- If a place was relinked, its new pair is the last one.
     pub shown_anew : (p : P) (places' : List ℕ) → ComesLast places place place places' → ComesLast (pairs_at slots places) q p (pairs_at (written (Some p)) places')
     shown_anew p places' moved =
         record {
@@ -144,15 +145,15 @@ module _ {P : Type 0} (slots : List (Option P)) (place : ℕ) where
           last = shown_last p moved.rest places' (live_within slots place q is) (absent_after moved.rest moved.out) moved.last;
         }
 
--- a free place is not listed
+-- A free place is not listed.
 pub free_absent : {P : Type 0} (slots : List (Option P)) (places : List ℕ) → IsWalk slots places → (place : ℕ) → pair_at slots place ≡ None → Contains places place → ⊥
 free_absent slots places walk place free c = true≢false (sym ((walk.live place).0 c) ∙ ap is_some free)
 
--- a place with a pair is
+-- A place with a pair is listed.
 pub live_listed : {P : Type 0} (slots : List (Option P)) (places : List ℕ) → IsWalk slots places → (place : ℕ) (p : P) → pair_at slots place ≡ Some p → Contains places place
 live_listed slots places walk place p is = (walk.live place).1 (ap is_some is)
 
--- an index lists the places of a walk
+-- An index lists the places of an iteration.
 pub the_walk : {P K X : Type 0} (key : P → K) (IsListing : X → (ℕ → Option K) → Type 0) (places : X → List ℕ)
     → ((index : X) (f : ℕ → Option K) → IsListing index f → (p : ℕ) → Contains (places index) p ↔ IsSome (f p))
     → ((index : X) (f : ℕ → Option K) → IsListing index f → AllPairs (λ a b. a ≢ b) (places index))
@@ -162,14 +163,14 @@ the_walk key IsListing places listed distinct settled slots index listing =
     let lists = settled index (λ place. option_map key (pair_at slots place)) listing in
     walk_of key slots (places index) (listed index _ lists) (distinct index _ lists)
 
--- an index in the order of insertion lists those of its list
+-- An index in insertion order lists the places of its list.
 pub insertion_walk : {P K X : Type 0} (key : P → K) (same : K → K → Bool) (IsListing : X → (ℕ → Option K) → Type 0) → ((index : X) (f : ℕ → Option K) → ∥ IsListing index f ∥₁ → IsListing index f)
     → (slots : List (Option P)) (index : X) (places : List ℕ) → ∥ ListsByInsertion IsListing index places (λ place. option_map key (pair_at slots place)) ∥₁ → IsWalk slots places
 insertion_walk key same IsListing settled slots index places h =
     let listing = insertion_settled same IsListing settled index places (λ place. option_map key (pair_at slots place)) h in
     walk_of key slots places listing.lists listing.distinct
 
--- a walk by hash goes by place
+-- Iteration by a hashed index goes by place.
 pub hash_walk : {P K : Type 0} (key : P → K) {same : K → K → Bool} {number : K → ℕ} (slots : List (Option P)) (numbers : List (Option ℕ)) → ∥ ListsByHash same number numbers (λ place. option_map key (pair_at slots place)) ∥₁ → pairs_at slots (places_from 0 numbers) ≡ pairs_in slots
 hash_walk {P} {K} key {same} {number} slots numbers h =
     let side : ℕ → Option K = λ place. option_map key (pair_at slots place) in
@@ -177,7 +178,7 @@ hash_walk {P} {K} key {same} {number} slots numbers h =
     let walk = walk_of key slots (places_from 0 numbers) (hash_listed same number numbers side listing) (hash_distinct same number numbers side listing) in
     pairs_by_place slots (places_from 0 numbers) (hash_by_place same number numbers side listing) walk.live
 
--- places that kept their pairs, walked in the same order
+-- If the places kept their pairs and their order, iteration shows the same pairs.
 pub pairs_kept : {P : Type 0} (old new : List (Option P)) (places places' : List ℕ) → ((place : ℕ) → pair_at new place ≡ pair_at old place) → places' ≡ places → pairs_at new places' ≡ pairs_at old places
 pairs_kept {P} old new places places' kept same = ap (pairs_at new) same ∙ each places
   where
@@ -189,7 +190,10 @@ pairs_kept {P} old new places places' kept same = ap (pairs_at new) same ∙ eac
         by None e rest = rw (kept p, e) rest
         by (Some x) e rest = rw (kept p, e) (ap (λ xs. x ∷ xs) rest)
 
--- a place has a spot for its new left just where that is unequal: there it comes last, and else it stands where it stood
+-- A place has a spot exactly if its new left is unequal to the old one.
+-- With a spot, the place comes last.
+-- Without a spot, it keeps its position.
+-- The equality of the lefts therefore decides where the place stands.
 pub renewed : {L R Spot Shown : Type 0} (same : L → L → Bool) (slots : List (Option (L × R))) (place : ℕ) (pair : L × R) → pair_at slots place ≡ Some pair → (left : L) (is_for : Spot → Type 0) (spot : Option Spot) (shown : Option Shown) → is_some shown ≡ is_some spot
     → MatchOption spot (IsSomeAnd (left_at slots place) (λ k. same k left ≡ true)) is_for → IfSome spot (λ _. IsSomeAnd (left_at slots place) (λ k. same k left ≡ false))
     → (Stands Comes : Type 0) → MatchOption shown Stands (λ _. Comes) → (same pair.0 left ≡ true → Stands) × (same pair.0 left ≡ false → Comes)
@@ -203,7 +207,7 @@ renewed same slots place pair is left is_for None (Some b) e equal new Stands Co
 renewed same slots place pair is left is_for (Some s) None e equal new Stands Comes h = absurd (true≢false (sym e))
 
 module _ {L R : Type 0} (same : L → L → Bool) (old new : List (L × R)) (taken : L × R) where
-  -- of an answer of one pair it stands for the one that is taken out
+  -- If the answer contains one pair, this pair takes the position of the pair that is removed.
   pub stands_one : (answer : Overwritten L R) (l : L) (r : R) → (answer ≡ Left l r) ⊎ ((answer ≡ Right l r) ⊎ (answer ≡ Pair l r)) → StandsFor same old taken (l, r) new → StandsUndone same old taken answer new
   stands_one answer l r (inl e) stands = rw e stands
   stands_one answer l r (inr (inl e)) stands = rw e stands

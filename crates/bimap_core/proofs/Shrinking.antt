@@ -1,4 +1,4 @@
--- A store whose pairs are moved to the first places, beside its indexes.
+-- A store whose pairs are moved to the first places, and its indexes.
 use Rattle.std.proofs.Common.{◌≡◌, ◌≢◌, ◌↔◌, ℕ, zero, suc, ◌≤◌, List, [], ◌∷◌, ◌++◌, length, map, replicate, Bool, true, Option, Some, None, IsSome, refl, sym, ap, subst, ◌∙◌, ◌||◌, arith}
 use Rattle.std.specs.List.{AllPairs, Contains}
 use Rattle.std.specs.Option.{option_map}
@@ -19,21 +19,21 @@ module _ {P : Type 0} where
   compacted_first [] (suc k) = compacted_first [] k
   compacted_first (p ∷ ps) k = ap (λ z. p ∷ z) (compacted_first ps k)
 
-  -- it has the same pairs
+  -- The compacted store has the same pairs.
   pub pairs_compacted : (ps : List P) (to : ℕ) → pairs_in (compacted ps to) ≡ ps
   pairs_compacted ps to = compacted_first ps _
 
   module _ (slots : List (Option P)) (to : ℕ) (fits : pair_count slots ≤ to) where
-    -- and so many places
+    -- The compacted store has this number of places.
     pub long_compacted : length (compacted (pairs_in slots) to) ≡ to
     long_compacted = length-compacted (pairs_in slots) to (omega (arith, fits, counted_in slots))
 
-    -- an index lists no more
+    -- An index lists no more places than that.
     pub places_fit : {K : Type 0} (key : P → K) (places : List ℕ) → ((place : ℕ) → Contains places place ↔ IsSome (option_map key (pair_at slots place))) → AllPairs (λ a b. a ≢ b) places → length places ≤ to
     places_fit key places listed distinct = omega (arith, fits, counted_in slots, listed_long slots places (walk_of key slots places listed distinct))
 
 module _ {P K : Type 0} (key : P → K) where
-  -- the keys of a walk are those of its pairs
+  -- The keys of an iteration are the keys of its pairs.
   pub keys_walked : (slots : List (Option P)) (places : List ℕ) → pairs_at (map (option_map key) slots) places ≡ map key (pairs_at slots places)
   keys_walked slots [] = refl
   keys_walked slots (q ∷ qs) = by (pair_at slots q) refl (keys_walked slots qs)
@@ -42,7 +42,7 @@ module _ {P K : Type 0} (key : P → K) where
       by None e rest = let at : pair_at (map (option_map key) slots) q ≡ None = sym (keys_at key slots q) ∙ ap (option_map key) e in rw (at, e) rest
       by (Some x) e rest = let at : pair_at (map (option_map key) slots) q ≡ Some (key x) = sym (keys_at key slots q) ∙ ap (option_map key) e in rw (at, e) (ap (λ z. key x ∷ z) rest)
 
-  -- lists of pairs that their keys tell, with the same keys, are the same
+  -- If a key determines its pair, two lists of pairs with the same keys are the same.
   same_by_key : (ps qs : List P) → ((p q : P) → Contains ps p → Contains qs q → key p ≡ key q → p ≡ q) → map key ps ≡ map key qs → ps ≡ qs
   same_by_key [] [] told e = refl
   same_by_key [] (q ∷ qs) told e = absurd (cc)
@@ -52,7 +52,8 @@ module _ {P K : Type 0} (key : P → K) where
       let tail : map key ps ≡ map key qs = cc in
       ap (λ z. z ∷ ps) (told p q (head_in p ps) (head_in q qs) head) ∙ ap (λ z. q ∷ z) (same_by_key ps qs (λ a b c d. told a b (more_in p ps a c) (more_in q qs b d)) tail)
 
--- where the keys of a store whose pairs moved are walked in the order in which they were, so are the pairs
+-- If pairs moved and iteration visits their keys in the same order as before, it visits the pairs in the same order
+-- too.
 pub walk_kept : {L R X : Type 0} {same_left : L → L → Bool} {same_right : R → R → Bool} → IsEquivalence same_left → IsEquivalence same_right → (IsListing : X → (ℕ → Option L) → Type 0) (places : X → List ℕ)
     → (slots slots' : List (Option (L × R))) (index index' : X)
     → ((keys moved : List (Option L)) → IsListing index (pair_at keys) → IsListing index' (pair_at moved) → pairs_in moved ≡ pairs_in keys → pairs_at moved (places index') ≡ pairs_at keys (places index))

@@ -1,4 +1,4 @@
--- What an undoing leaves, from the place of the pair that is taken out.
+-- What undoing an insertion leaves, given the place of the pair that is removed.
 use Rattle.std.proofs.Common.{◌≡◌, ◌≢◌, ◌↔◌, ◌⊎◌, ℕ, ◌+◌, ◌<◌, ◌≤◌, Bool, false, List, length, Option, Some, None, refl, sym, ap, subst, ◌∙◌, inl, inr, arith, true≢false}
 use Rattle.std.specs.Prelude.{Contains, Ok, Err, slice_set}
 use Rattle.std.specs.Cmp.{IsEquivalence}
@@ -27,7 +27,7 @@ module _ {P : Type 0} (slots : List (Option P)) (place : ℕ) (inside : place < 
   written : (new : P) → pair_at (slice_set slots place (Some new)) place ≡ Some new
   written new = get_or-set_same slots place (Some new) None inside
 
-  -- a pair that is put at a place is held, with those of the other places
+  -- After a pair is put at a place, the store contains this pair and those of the other places.
   pub held_set : (new q : P) → Contains (pairs_in (slice_set slots place (Some new))) q ↔ ((q ≡ new) ⊎ Contains (pairs_in (slice_set slots place None)) q)
   held_set new q = (
     λ c. let a = place_of (slice_set slots place (Some new)) q c in
@@ -44,7 +44,7 @@ module _ {P : Type 0} (slots : List (Option P)) (place : ℕ) (inside : place < 
     ],
   )
 
--- a free place that is freed changes nothing
+-- Freeing a free place changes nothing.
 freed_same : {P : Type 0} (slots : List (Option P)) (place : ℕ) → place < length slots → pair_at slots place ≡ None → pairs_in (slice_set slots place None) ≡ pairs_in slots
 freed_same slots place inside free =
     pairs_kept slots (slice_set slots place None) (λ q. elim (cases_eq q place) [
@@ -52,7 +52,8 @@ freed_same slots place inside free =
       | inr away ↦ get_or-set_other slots place q None None away
     ])
 
--- two pairs are put, one at a place and the other where then there is none
+-- Two pairs are put, one at a place and one at another free place.
+-- The store then contains both, and the pairs of the other places.
 pub held_both : {P : Type 0} (slots : List (Option P)) (place other : ℕ) (first second : P) → place < length slots → other < length (slice_set slots place (Some first)) → pair_at (slice_set slots place (Some first)) other ≡ None
     → (q : P) → Contains (pairs_in (slice_set (slice_set slots place (Some first)) other (Some second))) q ↔ (((q ≡ first) ⊎ (q ≡ second)) ⊎ Contains (pairs_in (slice_set slots place None)) q)
 held_both slots place other first second inside within free q =
@@ -72,7 +73,7 @@ held_both slots place other first second inside within free q =
       ],
     )
 
--- the same pairs stand at the same places
+-- If each place has the same pair in both stores, then so do the stores without one place.
 same_taken : {P : Type 0} (slots grown : List (Option P)) (place : ℕ) → place < length slots → length slots ≤ length grown → ((q : ℕ) → pair_at grown q ≡ pair_at slots q) → pairs_in (slice_set grown place None) ≡ pairs_in (slice_set slots place None)
 same_taken slots grown place inside longer kept =
     pairs_kept (slice_set slots place None) (slice_set grown place None) (λ q. elim (cases_eq q place) [
@@ -81,11 +82,12 @@ same_taken slots grown place inside longer kept =
     ])
 
 module _ {L R : Type 0} (same_left : L → L → Bool) (same_right : R → R → Bool) where
-  -- alone at a place, also where there are more places
+  -- A pair that is alone at a place stays so after the store grew.
   pub alone_grown : (slots grown : List (Option (L × R))) (place : ℕ) (pair : L × R) → ((q : ℕ) → pair_at grown q ≡ pair_at slots q) → IsAloneAt same_left same_right slots place pair → IsAloneAt same_left same_right grown place pair
   alone_grown slots grown place pair kept alone other p away i = alone other p away (sym (kept other) ∙ i)
 
-  -- alone elsewhere too, where the pair that is put at the place shares nothing with it
+  -- A pair is alone at a place, and another pair is put there with which it shares no value.
+  -- Then it is alone at any other place too.
   pub alone_beside : (slots : List (Option (L × R))) (place other : ℕ) (was first second : L × R) → pair_at slots place ≡ Some was → shares same_left same_right first second ≡ false → IsAloneAt same_left same_right slots place second → IsAloneAt same_left same_right (slice_set slots place (Some first)) other second
   alone_beside slots place other was first second there apart alone q p away i =
       elim (cases_eq q place) [
@@ -101,7 +103,7 @@ module _ {L R : Type 0} (same_left : L → L → Bool) (same_right : R → R →
     there : IsFoundAt (λ p. p.0) same_left slots left (Some place)
     there = subst (IsFoundAt (λ p. p.0) same_left slots left) found at
 
-    -- a pair of the answer is alone at the place
+    -- A pair of the answer is alone at the place.
     pub alone_named : (answer : Overwritten L R) → IsUndoable same_left same_right (Contains (pairs_in slots)) left answer → (q : L × R) → IsNamed answer q → IsAloneAt same_left same_right slots place q
     alone_named answer u q named other s away i =
         false_from_ne_true (shares same_left same_right s q) (λ e.
@@ -130,13 +132,13 @@ module _ {L R : Type 0} (same_left : L → L → Bool) (same_right : R → R →
         room = room;
       }
 
-    -- nothing is put in
+    -- No pair is put back.
     pub undone_neither : (p : L × R) (slots' : List (Option (L × R))) → pair_at slots place ≡ Some p → slots' ≡ slice_set slots place None → IsUndoing same_left same_right (holding_of slots) left Neither (Ok p) (holding_of slots')
     undone_neither p slots' was now =
         let long : length slots' ≡ length slots = ap length now ∙ length-set slots place None in
         undoing_by p was Neither slots' (λ q. (λ c. inr (subst (λ z. Contains (pairs_in z) q) now c), λ m. elim m [ inl n ↦ absurd n | inr d ↦ subst (λ z. Contains (pairs_in z) q) (sym now) d ])) (omega (arith, count_out slots slots' place p was now)) (room_stays _ _ _ long)
 
-    -- one pair is put in
+    -- One pair is put back.
     pub undone_one : (answer : Overwritten L R) (p new : L × R) (slots' : List (Option (L × R))) → NamesOne answer new → pair_at slots place ≡ Some p → slots' ≡ slice_set slots place (Some new) → IsUndoing same_left same_right (holding_of slots) left answer (Ok p) (holding_of slots')
     undone_one answer p new slots' one was now =
         let long : length slots' ≡ length slots = ap length now ∙ length-set slots place (Some new) in
@@ -147,7 +149,7 @@ module _ {L R : Type 0} (same_left : L → L → Bool) (same_right : R → R →
           λ m. subst (λ z. Contains (pairs_in z) q) (sym now) (h.1 (elim m [ inl n ↦ inl (one.only q n) | inr d ↦ inr d ])),
         )) (omega (arith, count_over slots slots' place p new was now, one.one)) (room_stays _ _ _ long)
 
-    -- two pairs are put in, the first at the place
+    -- Two pairs are put back, the first one at the place.
     pub undone_both : (p first second : L × R) (grown slots' : List (Option (L × R))) (other : ℕ) → pair_at grown place ≡ Some p → ((q : ℕ) → pair_at grown q ≡ pair_at slots q) → IsRoomAfter (holding_of slots) ⊥ (holding_of grown)
         → other < length (slice_set grown place (Some first)) → pair_at (slice_set grown place (Some first)) other ≡ None → slots' ≡ slice_set (slice_set grown place (Some first)) other (Some second)
         → IsUndoing same_left same_right (holding_of slots) left (Both first second) (Ok p) (holding_of slots')
@@ -163,7 +165,7 @@ module _ {L R : Type 0} (same_left : L → L → Bool) (same_right : R → R →
         )) (omega (arith, count_over grown (slice_set grown place (Some first)) place p first was refl, count_new (slice_set grown place (Some first)) slots' other second within free now, ap length (pairs_kept slots grown kept))) (room_made _ (holding_of grown) _ _ long (λ n. n tt) room)
 
 module _ {L R : Type 0} (same_left : L → L → Bool) (same_right : R → R → Bool) where
-  -- there was no memory
+  -- The call ran out of memory.
   pub undo_refused : (slots slots' : List (Option (L × R))) (left : L) (first second : L × R) → pair_count slots ≡ length slots → slots' ≡ slots → IsUndoing same_left same_right (holding_of slots) left (Both first second) (Err (record { answer = Both first second })) (holding_of slots')
   undo_refused slots slots' left first second full same = record {
     taken = tt;

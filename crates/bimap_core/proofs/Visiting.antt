@@ -15,7 +15,7 @@ use Rattle.bimap_base.proofs.Compaction.{pairs_in-append}
 use Rattle.bimap_core.proofs.Retaining.{pairs_in-none, head_at, none_left}
 
 module _ {F L R : Type 0} (g : Mut F (Bor L × (Bor R × Unit {0})) (Unit {0})) where
-  -- the places below `place` were visited, and f is the closure now
+  -- The places below `place` were visited. `f` is the closure now.
   pub record IsVisitedBelow (first f : F) (slots : List (Option (L × R))) (place : ℕ) : Type 0 where
     pub seen : List (Option (L × R))
     pub rest : List (Option (L × R))
@@ -32,14 +32,14 @@ module _ {F L R : Type 0} (g : Mut F (Bor L × (Bor R × Unit {0})) (Unit {0})) 
         let s = head_at so_far.seen so_far.rest place so_far.long (subst (λ z. place < length z) so_far.all inside) in
         (s.0, s.1 ∙ ap (λ z. pair_at z place ∷ s.0) (sym so_far.all))
 
-    -- the closure may be called at the pair of this place
+    -- The closure may be called on the pair at this place.
     pub may : MayVisit g first (pairs_in slots) → (l : Bor L) (r : Bor R) → pair_at slots place ≡ Some (l.now, r.now) → g.pre f (l, (r, tt))
     may visit l r is =
         visit.at (pairs_in so_far.seen) f l r (pairs_in split.0)
         (subst (IsPermutation (pairs_in slots)) (ap pairs_in (so_far.all ∙ ap (λ z. so_far.seen ++ z) (split.1 ∙ ap (λ z. z ∷ split.0) is)) ∙ pairs_in-append so_far.seen (Some (l.now, r.now) ∷ split.0)) (IsPermutation-refl (pairs_in slots)))
         so_far.calls
 
-    -- one more place was visited
+    -- One more place was visited.
     pub goes_on : (f' : F) → IfSome (pair_at slots place) (λ p. TestedAt g f p tt f') → IfNone (pair_at slots place) (f' ≡ f) → IsVisitedBelow first f' slots (place + 1)
     goes_on f' some none = record {
       seen = so_far.seen ++ pair_at slots place ∷ [];
@@ -53,7 +53,7 @@ module _ {F L R : Type 0} (g : Mut F (Bor L × (Bor R × Unit {0})) (Unit {0})) 
         by None some none = subst (λ z. VisitsInOrder g first z f') (sym (pairs_in-none so_far.seen)) (subst (VisitsInOrder g first (pairs_in so_far.seen)) (sym none) so_far.calls)
         by (Some p) some none = subst (λ z. VisitsInOrder g first z f') (sym (pairs_in-append so_far.seen (Some p ∷ []))) (FoldsTo-push (λ state p next. TestedAt g state p tt next) first (pairs_in so_far.seen) f p f' so_far.calls some)
 
-  -- at the end each pair was visited
+  -- At the end, each pair was visited.
   pub ended : (first f : F) (slots : List (Option (L × R))) (place : ℕ) → IsVisitedBelow first f slots place → length slots ≤ place → IsVisited g first (pairs_in slots)
   ended first f slots place so_far end =
       let none = none_left so_far.seen so_far.rest (omega (arith, ap length so_far.all, so_far.long)) in

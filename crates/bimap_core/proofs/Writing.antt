@@ -1,4 +1,4 @@
--- What a table says of its store and its indexes, after a write at one place.
+-- What a table guarantees about its store and its indexes after a write at one place.
 use Rattle.std.proofs.Common.{◌≡◌, ◌≢◌, ℕ, ◌<◌, ◌≤◌, Bool, true, false, List, length, Option, Some, None, arith}
 use Rattle.std.specs.Prelude.{IsSomeAnd, MatchBool, MatchOption, is_some, slice_set}
 use Rattle.std.specs.Cmp.{IsEquivalence}
@@ -12,7 +12,7 @@ use Rattle.bimap_core.proofs.Linking.{keys_in, alike_put, taken_without, may_ove
 use Rattle.bimap_core.proofs.Places.{fits_in, live_within, apart_set, apart_taken}
 
 module _ {L R : Type 0} where
-  -- of this store, two facts of its indexes, and the numbers of their cells
+  -- The invariants of a table: those of this store, one fact for each index, and enough cells in each index.
   abbrev pub AreFacts : (L → L → Bool) → (R → R → Bool) → List (Option (L × R)) → Type 0 → Type 0 → ℕ → ℕ → Type 0
   AreFacts same_left same_right slots LeftLists RightLists left_cells right_cells = record {
     left_listing : ∥ LeftLists ∥₁;
@@ -34,7 +34,7 @@ module _ {L R : Type 0} where
       fits = fits_in (slice_set slots place (Some pair));
     }
 
-  -- the same where the pair of a place is taken out, of which both indexes were left without
+  -- The invariants after the pair of a place was removed from the store and from both indexes.
   pub facts_taken : {same_left : L → L → Bool} {same_right : R → R → Bool} → IsEquivalence same_left → IsEquivalence same_right → (slots : List (Option (L × R))) (place : ℕ) (p : L × R) → pair_at slots place ≡ Some p → IsApart same_left same_right (pairs_in slots) → (LeftLists : (ℕ → Option L) → Type 0) (RightLists : (ℕ → Option R) → Type 0) → ((f : ℕ → Option L) → IsWithout f (keys_in (λ p. p.0) slots) place → LeftLists f) → ((f : ℕ → Option R) → IsWithout f (keys_in (λ p. p.1) slots) place → RightLists f)
       → (left_cells right_cells : ℕ) → length slots ≤ left_cells → length slots ≤ right_cells → AreFacts same_left same_right (slice_set slots place None) (LeftLists (keys_in (λ p. p.0) (slice_set slots place None))) (RightLists (keys_in (λ p. p.1) (slice_set slots place None))) left_cells right_cells
   facts_taken {same_left} {same_right} lefts rights slots place p was apart LeftLists RightLists left right left_cells right_cells in_left in_right =
@@ -48,7 +48,9 @@ module _ {L R : Type 0} where
         fits = fits_in (slice_set slots place None);
       }
 
--- what a listing again asks, where a pair was written over: of a spot of a new key, that it may be listed there; else, that the index still lists the side
+-- What `relist` requires after a pair was overwritten.
+-- With a spot of a new key, the place may be listed.
+-- Without a spot, the index still lists the side.
 pub may_relist : {P K X Spot : Type 0} (key : P → K) {same : K → K → Bool} → IsEquivalence same → {IsListing : X → (ℕ → Option K) → Type 0} → ((index : X) (f g : ℕ → Option K) → ((p : ℕ) → IsAlike same (f p) (g p)) → IsListing index f → IsListing index g) → (IsFor : X → K → Spot → Type 0) (was now : X) (slots : List (Option P)) (place : ℕ) (old p : P) (spot : Option Spot)
     → pair_at slots place ≡ Some old → ((other : ℕ) (q : P) → other ≢ place → pair_at slots other ≡ Some q → same (key q) (key p) ≡ false) → MatchOption spot (IsSomeAnd (pair_at slots place) (λ q. same (key q) (key p) ≡ true)) (IsFor was (key p))
     → ((k : K) (s : Spot) → IsFor was k s → IsFor now k s) → MatchBool (is_some spot) ((f : ℕ → Option K) → IsWithout f (keys_in key slots) place → IsListing now f) (IsListing now (keys_in key slots))

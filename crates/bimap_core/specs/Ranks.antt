@@ -4,7 +4,7 @@ use Rattle.bimap_any.specs.Exchange.{IsWithoutPair}
 use Rattle.bimap_base.specs.PairsAt.{pairs_at}
 use Rattle.bimap_base.specs.Places.{pairs_in}
 
--- the pair of this rank among those at the places is taken out, where there is one, and the others keep their order
+-- The pair at this rank among the pairs at the places is removed, if there is one. The other pairs keep their order.
 pub record IsTakenAtRank {L R : Type 0} (slots : List (Option (L × R))) (places : List ℕ) (rank : ℕ) (result : Option (L × R)) (slots' : List (Option (L × R))) (places' : List ℕ) : Type 0 where
   pub pair : result ≡ slice_get (pairs_at slots places) rank
   pub rest : pairs_at slots' places' ≡ take rank (pairs_at slots places) ++ drop (suc rank) (pairs_at slots places)

@@ -1,4 +1,4 @@
-//! Exact shrinks. They know places, and what the indexes are to list of them.
+//! Exact shrinking. This module knows the places, and which of them each index will list.
 ghost use Rattle.std.specs.Prelude.{◌≡◌, ◌+◌, ◌*◌, ◌≤◌, length, OnOk, OnErr};
 ghost use Rattle.bimap_any.specs.Capacity.{IsShrink};
 ghost use Rattle.bimap_base.specs.PairsAt.{pairs_at};
@@ -12,8 +12,8 @@ use bimap_index::CompactedIndex;
 impl<L: Eq, R: Eq, I: CompactedIndex<L>, J: CompactedIndex<R>> Table<L, R, I, J> {
     ghost use Rattle.bimap_core.specs.Store.{holding_of};
 
-    /// Makes the room `least`, exactly, or the length where that is more. It never adds to it: where it would, nothing
-    /// changes and no memory is taken. A refusal changes nothing.
+    /// Shrinks the room to exactly `least`, or to the number of pairs if that is larger. The room never grows. If it
+    /// would not shrink, nothing changes and nothing is allocated. If it runs out of memory, nothing changes.
     pub fn shrink_to<M: Meter>(&mut self, least: usize, meter: &mut M) -> Result<(), NoMemory>
     where
         L: Drop,
@@ -39,8 +39,8 @@ impl<L: Eq, R: Eq, I: CompactedIndex<L>, J: CompactedIndex<R>> Table<L, R, I, J>
         self.compact(to, meter)
     }
 
-    // Makes exactly so many places, and moves the pairs to the first of them. What the indexes adopt and the store are made
-    // anew before anything changes, so a refusal changes nothing.
+    // Shrinks the table to exactly this many places, and moves the pairs to the first ones. It allocates everything
+    // before it changes anything. If it runs out of memory, nothing changes.
     fn compact<M: Meter>(&mut self, to: usize, meter: &mut M) -> Result<(), NoMemory>
     where
         L: Drop,

@@ -1,4 +1,5 @@
-//! What a copy of the whole is made of: a table of as much room, and pairs that are put in. It knows no walk.
+//! The parts of copying a table: an empty table with as much room, and the insertion of a pair. This module knows no
+//! order of iteration.
 ghost use Rattle.std.specs.Prelude.{◌≡◌, ◌+◌, ◌<◌, ◌≤◌, ◌++◌, ◌∷◌, [], length, Contains, IfOk, OnOk};
 ghost use Rattle.bimap_base.specs.PairsAt.{pairs_at};
 ghost use Rattle.bimap_base.specs.Places.{pairs_in};
@@ -16,8 +17,8 @@ where
     I: CopiedIndex<L> + Drop,
     J: CopiedIndex<R> + Drop,
 {
-    /// A table without pairs and of the same room, with indexes that find as these do. It takes memory for the whole room at
-    /// once. Where some is refused, there is none.
+    /// Returns a table without pairs and with the same room. Its indexes find keys as the indexes of this table do. It
+    /// allocates the whole room at once. If it runs out of memory, it makes no table.
     pub fn hollow(&self) -> Result<Self, NoMemory>
         ensures pairs { IfOk result (λ copy. pairs_in copy.pairs ≡ []) }
         ensures room { IfOk result (λ copy. length copy.pairs ≡ length self.now.pairs) }
@@ -30,7 +31,7 @@ where
         Ok(copy)
     }
 
-    /// Puts a pair in, and drops those that share a value with it.
+    /// Inserts a pair, and drops the pairs that share a value with it.
     pub fn add<M: Meter>(&mut self, left: L, right: R, meter: &mut M) -> Result<(), NoMemory>
         ensures put { OnOk result (IsWithPut L.eq R.eq (Contains (pairs_in self.old.pairs))
             (left, right) (Contains (pairs_in self.new.pairs))) }

@@ -10,7 +10,7 @@ use bimap_index::Index;
 impl<L: Eq, R: Eq, I: Index<L>, J: Index<R>> Table<L, R, I, J> {
     ghost use Rattle.bimap_core.specs.Store.{holding_of};
 
-    // Calls the closure on the pair of a place, if it has one.
+    // Calls the closure on the pair at this place, if there is one.
     fn visit_at<F: FnMut(&L, &R)>(&self, place: usize, f: &mut F)
         requires may { (p : _) → pair_at self.now.pairs place ≡ Some p →
             MayTestPair F.FnMut f.old p }
@@ -26,7 +26,7 @@ impl<L: Eq, R: Eq, I: Index<L>, J: Index<R>> Table<L, R, I, J> {
 
     /// Calls the closure once on each pair, in the order of the places.
     ///
-    /// It takes no memory. Time is in proportion to the capacity.
+    /// Never allocates. Takes time proportional to the room.
     pub fn for_each<F: FnMut(&L, &R)>(&self, mut f: F)
         requires may { MayVisit F.FnMut f (holding_of self.now.pairs).pairs }
         ensures { IsVisited F.FnMut f (holding_of self.now.pairs).pairs }

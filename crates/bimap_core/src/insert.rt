@@ -1,4 +1,4 @@
-//! Insertions. Each key is searched once, and the answer is decided before anything changes.
+//! Insertions. Each key is searched once. What the call returns is decided before anything changes.
 ghost use Rattle.std.specs.Prelude.{◌≡◌, ◌+◌, ◌*◌, ◌≤◌, None, IsSome, MatchBool, IfOk, OnErr, length};
 ghost use Rattle.bimap_base.specs.Holding.{IsInsertionUnder};
 ghost use Rattle.bimap_base.specs.PairsAt.{pairs_at};
@@ -8,7 +8,7 @@ use crate::table::Table;
 use bimap_base::{Meter, NotInsertedWith, OnHeld, Overwritten, Policy};
 use bimap_index::Index;
 
-// Whether a value is held, and the policy keeps it.
+// Returns whether the value is contained and the policy keeps it.
 fn keeps(held: Option<usize>, side: OnHeld) -> bool
     ensures { MatchBool result (IsSome held × (side ≡ OnHeld.Refuse))
         (side ≡ OnHeld.Refuse → held ≡ None) }
@@ -19,9 +19,10 @@ fn keeps(held: Option<usize>, side: OnHeld) -> bool
 impl<L: Eq, R: Eq, I: Index<L>, J: Index<R>> Table<L, R, I, J> {
     ghost use Rattle.bimap_core.specs.Store.{holding_of};
 
-    /// Inserts a pair where the policy lets it overwrite what it shares a value with.
+    /// Inserts a pair if the policy allows it to overwrite the pairs with which it shares a value. Returns the
+    /// overwritten pairs.
     ///
-    /// It takes memory only where it strikes none and no place is free. An `Err` hands the pair back, and nothing has
+    /// It allocates only if it overwrites no pair and no place is free. An `Err` gives the pair back, and nothing has
     /// changed.
     pub fn insert_with<M: Meter>(
         &mut self,

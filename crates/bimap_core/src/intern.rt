@@ -1,5 +1,5 @@
-//! The partner of a left, which is put in where there is none. Each key is searched once, and nothing changes before the
-//! answer is decided.
+//! Returning the partner of a left, and inserting it if there is none. Each key is searched once. What the call returns
+//! is decided before anything changes.
 ghost use Rattle.std.specs.Prelude.{◌≡◌, ◌+◌, ◌*◌, ◌≤◌, ◌++◌, ◌∷◌, [], OnOk, OnErr, Contains, length};
 ghost use Rattle.bimap_base.specs.Holding.{IsInterning};
 ghost use Rattle.bimap_base.specs.PairsAt.{pairs_at};
@@ -13,10 +13,11 @@ use bimap_index::Index;
 impl<L: Eq + Drop, R: Copy + Eq + Drop, I: Index<L>, J: Index<R>> Table<L, R, I, J> {
     ghost use Rattle.bimap_core.specs.Store.{holding_of};
 
-    /// The right held for an equal left, where nothing changes; else the pair is put in, and its right answered.
+    /// Returns the right of the pair with an equal left, and changes nothing. If there is no such pair, inserts the new
+    /// pair and returns its right.
     ///
-    /// It takes memory only where no equal left is held and no place is free. An `Err` hands the pair back, and nothing
-    /// has changed.
+    /// It allocates only if it inserts a pair and no place is free. An `Err` gives the pair back, and nothing has
+    /// changed.
     pub fn get_by_left_or_insert<M: Meter>(
         &mut self,
         left: L,

@@ -7,8 +7,9 @@ use bimap_base::NotInverted;
 use bimap_index::Index;
 
 impl<L: Eq + Drop, R: Eq + Drop, I: Index<L>, J: Index<R>> Table<L, R, I, J> {
-    /// The table with the sides of each pair exchanged, at the same places. The indexes are the old ones: that of the rights
-    /// lists the lefts. It looks at no value, takes memory for as many places, and on a refusal hands the very table back.
+    /// Returns the table with the sides of each pair exchanged. Each pair keeps its place. The indexes stay as they
+    /// are: the index of the rights becomes the index of the lefts. It looks at no value. It allocates a store with as
+    /// many places. If it runs out of memory, it gives this table back.
     pub fn into_inverse(self) -> Result<Table<R, L, J, I>, NotInverted<Self>>
         ensures pairs { IfOk result (λ inverse.
             inverse.pairs ≡ map (option_map inverse_pair) self.pairs) }

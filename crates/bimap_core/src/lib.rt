@@ -1,4 +1,5 @@
-//! A bimap over any two indexes: the store, one index for each side, and what they keep together.
+//! A bijective map over any two indexes: the store of pairs, one index for each side, and the calls that keep them in
+//! step.
 #![tactic(auto)]
 
 mod compact;

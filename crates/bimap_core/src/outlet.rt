@@ -1,12 +1,12 @@
-//! Where the pairs go that a call takes out.
+//! What receives the pairs that a call removes.
 ghost use Rattle.std.specs.Prelude.{◌≡◌, ◌+◌, ◌≤◌, ◌++◌, ◌∷◌, [], ℕ, ⊤, vec_len, vec_capacity};
 
-/// What is handed the pairs that a call takes out. It asks for no memory.
+/// A receiver of the pairs that a call removes. Receiving never allocates.
 pub trait Outlet<T> {
-    /// It may be handed so many more.
+    /// The outlet can receive this many more values.
     ghost has_room: { Self → ℕ → Type 0 };
 
-    /// It was handed a value, and what it is then.
+    /// The first outlet received the value, and became the second.
     ghost receives: { Self → T → Self → Type 0 };
 
     /// Takes over a value.
@@ -16,7 +16,7 @@ pub trait Outlet<T> {
         ensures rest { (more : ℕ) → has_room self.old (1 + more) → has_room self.new more };
 }
 
-/// It drops what it is handed.
+/// An outlet that drops every value.
 #[derive(Drop)]
 pub struct Dropped;
 

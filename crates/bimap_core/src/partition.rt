@@ -1,4 +1,4 @@
-//! Pairs taken out by the answers of a closure, in the order of the places.
+//! Taking pairs out by the result of a closure, in the order of the places.
 ghost use Rattle.std.specs.Prelude.{◌≡◌, ◌≤◌, ℕ, length, false, not, Some, IfSome, IfNone, if◌then◌else◌};
 ghost use Rattle.bimap_base.specs.Kept.{MayTestInOrder, MayTestPair, TestedAt};
 ghost use Rattle.bimap_base.specs.Places.{pairs_in};
@@ -11,7 +11,8 @@ use bimap_base::Meter;
 use bimap_index::Index;
 
 impl<L: Eq, R: Eq, I: Index<L>, J: Index<R>> Table<L, R, I, J> {
-    // Calls the closure on the pair of a place, if it has one, and answers whether it is to go: whether `goes` came back.
+    // Calls the closure on the pair at this place, if there is one. Returns whether the pair is to be removed, which is
+    // whether the closure returned `goes`.
     pub(crate) fn goes_at<F: FnMut(&L, &R) -> bool>(
         &self,
         place: usize,
@@ -30,10 +31,10 @@ impl<L: Eq, R: Eq, I: Index<L>, J: Index<R>> Table<L, R, I, J> {
         }
     }
 
-    /// Calls the closure once on each pair, in the order of the places, and takes out those on which it answers `goes`.
+    /// Calls the closure once on each pair, in the order of the places. Removes the pairs on which the closure returns
+    /// `goes`, and gives them to the outlet.
     ///
-    /// It takes no memory, and the room stays. Time is in proportion to the capacity, and that of a removal more for each
-    /// pair that is taken out.
+    /// Never allocates. The room stays. The time is proportional to the room, plus one removal for each removed pair.
     pub fn partition<F: FnMut(&L, &R) -> bool, S: Outlet<(L, R)>, M: Meter>(
         &mut self,
         goes: bool,

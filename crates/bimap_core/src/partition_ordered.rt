@@ -1,4 +1,4 @@
-//! The same in the order of a walk, by each index.
+//! Taking pairs out by the result of a closure, in the order of iteration. Each kind of index does it in its own way.
 ghost use Rattle.std.specs.Prelude.{◌≡◌, ◌≤◌, ℕ, length};
 ghost use Rattle.bimap_base.specs.Kept.{MayTestInOrder};
 ghost use Rattle.bimap_base.specs.PairsAt.{pairs_at};
@@ -11,12 +11,13 @@ use bimap_index::{HashIndex, Index, InsertionOrder};
 use bimap_tree::{Batch, Ordered};
 use std::hash::{BuildHasher, Hash};
 
-/// An index of lefts by which a table is parted in the order of a walk.
+/// An index of the lefts that can take pairs out of a table in the order of iteration.
 pub trait PartedIndex<K: Eq>: Index<K> {
-    /// Calls the closure once on each pair, in the order of a walk by left, and takes out those on which it answers `goes`.
+    /// Calls the closure once on each pair, in the order of iteration by left. Removes the pairs on which the closure
+    /// returns `goes`, and gives them to the outlet.
     ///
-    /// It takes no memory, and the room stays. Time is that of the walk, and for each pair that is taken out that of a
-    /// removal and of a search more.
+    /// Never allocates. The room stays. The time is that of an iteration, plus one removal and one search for each
+    /// removed pair.
     fn partition_ordered<R: Eq, J: Index<R>, F: FnMut(&K, &R) -> bool, S: Outlet<(K, R)>, M: Meter>(
         table: &mut Table<K, R, Self, J>,
         goes: bool,

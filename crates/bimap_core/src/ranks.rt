@@ -1,4 +1,5 @@
-//! Pairs by their rank on an ordered side, which is how many values of that side are below theirs.
+//! Pairs by their rank on an ordered side. The rank of a pair is the number of values of that side that are below its
+//! own.
 ghost use Rattle.std.specs.Prelude.{◌≡◌, ◌+◌, ◌*◌, ◌≤◌, All, length, slice_get, option_map};
 ghost use Rattle.bimap_base.specs.Digits.{most_height};
 ghost use Rattle.bimap_base.specs.PairsAt.{pairs_at};
@@ -9,7 +10,7 @@ use bimap_base::{Meter, Pairs};
 use bimap_index::Index;
 use bimap_tree::Ordered;
 
-// The place at a rank, or `None` from the length on.
+// Returns the place at this rank, or `None` if the rank is not below the length.
 fn place_at<M: Meter>(index: &Ordered, rank: usize, meter: &mut M) -> Option<usize>
     ensures place { result ≡ slice_get index.now.places rank }
     ensures comparisons { M.comparisons meter.new ≡ M.comparisons meter.old }
@@ -23,7 +24,7 @@ fn place_at<M: Meter>(index: &Ordered, rank: usize, meter: &mut M) -> Option<usi
     }
 }
 
-/// The pair at a rank of the places that an index lists, or `None` from the length on.
+/// Returns the pair at this rank among the places that the index lists, or `None` if the rank is not below the length.
 pub fn pair_at_rank<'a, L, R, M: Meter>(
     pairs: &'a Pairs<L, R>,
     index: &Ordered,
@@ -44,8 +45,8 @@ pub fn pair_at_rank<'a, L, R, M: Meter>(
 impl<L: Ord, R: Eq, J: Index<R>> Table<L, R, Ordered, J> {
     ghost use Rattle.bimap_core.specs.Ranks.{IsTakenAtRank};
 
-    /// Takes out the pair with exactly so many lefts below its left, or answers `None` from the length on. It takes no
-    /// memory.
+    /// Removes the pair at this rank of the lefts and returns it, or returns `None` if the rank is not below the
+    /// length. Never allocates.
     pub fn take_at_left_rank<M: Meter>(&mut self, rank: usize, meter: &mut M) -> Option<(L, R)>
         ensures taken { IsTakenAtRank self.old.pairs self.old.left.places rank result self.new.pairs
             self.new.left.places }
@@ -64,7 +65,8 @@ impl<L: Ord, R: Eq, J: Index<R>> Table<L, R, Ordered, J> {
 impl<L: Eq, R: Ord, I: Index<L>> Table<L, R, I, Ordered> {
     ghost use Rattle.bimap_core.specs.Ranks.{IsTakenAtRank};
 
-    /// The same with exactly so many rights below its right.
+    /// Removes the pair at this rank of the rights and returns it, or returns `None` if the rank is not below the
+    /// length. Never allocates.
     pub fn take_at_right_rank<M: Meter>(&mut self, rank: usize, meter: &mut M) -> Option<(L, R)>
         ensures taken { IsTakenAtRank self.old.pairs self.old.right.places rank result
             self.new.pairs self.new.right.places }

@@ -1,4 +1,4 @@
-//! Removals. They take no memory.
+//! Removals. They never allocate.
 ghost use Rattle.std.specs.Prelude.{◌≡◌, ◌+◌, ◌*◌, ◌≤◌, length, MatchOption};
 ghost use Rattle.bimap_base.specs.Holding.{IsRemovalByLeft, IsRemovalByRight};
 ghost use Rattle.bimap_base.specs.PairsAt.{pairs_at};
@@ -11,7 +11,7 @@ use bimap_index::{Index, Lookup};
 impl<L: Eq, R: Eq, I: Index<L>, J: Index<R>> Table<L, R, I, J> {
     ghost use Rattle.bimap_core.specs.Store.{holding_of};
 
-    /// Takes out the pair of a left, or answers `None` where it is not held. The room stays.
+    /// Removes the pair with this left and returns it, or returns `None` if the left is not contained. The room stays.
     pub fn remove_by_left<Q: Query<L>, M: Meter>(
         &mut self,
         left: Q,
@@ -38,7 +38,8 @@ impl<L: Eq, R: Eq, I: Index<L>, J: Index<R>> Table<L, R, I, J> {
         Some(self.pairs.take(place))
     }
 
-    /// Takes out the pair of a right, or answers `None` where it is not held. The room stays.
+    /// Removes the pair with this right and returns it, or returns `None` if the right is not contained. The room
+    /// stays.
     pub fn remove_by_right<Q: Query<R>, M: Meter>(
         &mut self,
         right: Q,

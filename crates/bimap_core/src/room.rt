@@ -1,4 +1,4 @@
-//! The room of a table.
+//! The room of a table: how many pairs it has places for.
 ghost use Rattle.std.specs.Prelude.{◌≡◌, [], length};
 ghost use Rattle.bimap_any.specs.Capacity.{IsReservation};
 ghost use Rattle.bimap_base.specs.Slots.{pair_at};
@@ -10,8 +10,8 @@ use bimap_index::Index;
 impl<L: Eq, R: Eq, I: Index<L>, J: Index<R>> Table<L, R, I, J> {
     ghost use Rattle.bimap_core.specs.Store.{holding_of};
 
-    /// Makes places for so many more pairs, exactly. Where they are there, nothing changes and no memory is taken. A refusal
-    /// changes nothing, but an index may keep the cells that it got.
+    /// Makes room for exactly this many more pairs. If the room is there already, nothing changes and nothing is
+    /// allocated. If it runs out of memory, nothing changes, except that an index may keep the cells that it got.
     pub fn reserve(&mut self, more: usize) -> Result<(), NoMemory>
         ensures answer { IsReservation (holding_of self.old.pairs) more result
             (holding_of self.new.pairs) }

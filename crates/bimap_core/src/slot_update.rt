@@ -1,4 +1,4 @@
-//! One index beside a place whose pair is written over. It is changed only where the key is new.
+//! What one index does when the pair at a place is overwritten. The index changes only if the key is new.
 ghost use Rattle.std.specs.Prelude.{◌≡◌, ◌<◌, ◌≤◌, ◌+◌, ◌*◌, ◌++◌, ◌∷◌, [], ℕ, Option, IsSome, IsSomeAnd, IfSome, MatchBool, MatchOption, is_some, true, false, length, if◌then◌else◌};
 ghost use Rattle.bimap_index.specs.Listed.{IsWithout, MayLink};
 ghost use Rattle.bimap_base.specs.Positions.{IsTakenOut};
@@ -6,7 +6,7 @@ ghost use Rattle.bimap_base.specs.Positions.{IsTakenOut};
 use bimap_base::{Meter, Side};
 use bimap_index::Index;
 
-// A spot of the key where it is new at a place: where it isn't equal to the key that the place has.
+// Returns a spot of the key if the key is new at this place. Returns `None` if the place already has an equal key.
 pub(crate) fn renew<K: Eq, I: Index<K>, S: Side<K>, M: Meter>(
     index: &I,
     side: S,
@@ -32,7 +32,7 @@ pub(crate) fn renew<K: Eq, I: Index<K>, S: Side<K>, M: Meter>(
     }
 }
 
-// Takes the place off the list.
+// Removes the place from the list if its key will be new.
 pub(crate) fn unlist<K: Eq, I: Index<K>, S: Side<K>, M: Meter>(
     index: &mut I,
     is_new: bool,
@@ -62,7 +62,7 @@ pub(crate) fn unlist<K: Eq, I: Index<K>, S: Side<K>, M: Meter>(
     }
 }
 
-// Lists the place again, by a spot of its key, where the key is new.
+// Lists the place again by a spot of its key, if there is a spot. There is one if the key is new.
 pub(crate) fn relist<K: Eq, I: Index<K>, S: Side<K>, M: Meter>(
     index: &mut I,
     side: S,

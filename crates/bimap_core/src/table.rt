@@ -10,29 +10,29 @@ use bimap_base::{LeftSide, Meter, Pairs, Query, RightSide};
 use bimap_index::{Index, Lookup};
 use std::alloc::Global;
 
-/// Pairs, each found by its left and by its right. No two of them share a value.
+/// Pairs, each of which can be found by its left and by its right. No two pairs share a value.
 #[derive(Drop)]
 pub struct Table<L: Eq, R: Eq, I: Index<L>, J: Index<R>> {
     pub pairs: Pairs<L, R>,
     pub left: I,
     pub right: J,
-    // Whether the last insertion was decided by its left: it met the very pair, or was refused. So most likely is the next
-    // one, which then searches its left first.
+    // Whether the left decided the last insertion. It did if the policy kept the pair with an equal left, or if one
+    // pair contained both values. The left then probably decides the next insertion too, which searches it first.
     pub(crate) is_left_first: bool,
     ghost left_listing: { ∥ I.is_listing left (left_at pairs) ∥₁ },
     ghost right_listing: { ∥ J.is_listing right (right_at pairs) ∥₁ },
     ghost left_cells: { length pairs ≤ I.cells left },
     ghost right_cells: { length pairs ≤ J.cells right },
-    /// No two of the pairs held share a value.
+    /// No two of the contained pairs share a value.
     pub ghost apart: { IsApart L.eq R.eq (pairs_in pairs) } by { Prim.hlevel props },
-    /// There is a place for each pair held.
+    /// There is a place for each contained pair.
     pub ghost fits: { length (pairs_in pairs) ≤ length pairs },
 }
 
 impl<L: Eq, R: Eq, I: Index<L>, J: Index<R>> Table<L, R, I, J> {
     ghost use Rattle.bimap_core.specs.Store.{holding_of};
 
-    /// The table of these indexes, which list nothing.
+    /// Returns a table with these two indexes, which list nothing yet. Never allocates.
     pub fn new(alloc: Global, left: I, right: J) -> Self
         requires left { I.is_listing left (λ _. None) }
         requires right { J.is_listing right (λ _. None) }
@@ -46,21 +46,21 @@ impl<L: Eq, R: Eq, I: Index<L>, J: Index<R>> Table<L, R, I, J> {
         }
     }
 
-    /// The number of pairs.
+    /// Returns the number of pairs.
     pub fn len(&self) -> usize
         ensures { result ≡ length (holding_of self.now.pairs).pairs }
     {
         self.pairs.len()
     }
 
-    /// The number of places for pairs.
+    /// Returns the number of places for pairs.
     pub fn room(&self) -> usize
         ensures { result ≡ (holding_of self.now.pairs).room }
     {
         self.pairs.places()
     }
 
-    /// The partner of a left, or `None` where it is not held.
+    /// Returns the partner of a left, or `None` if the left is not contained.
     pub fn get_by_left<Q: Query<L>, M: Meter>(&self, left: Q, meter: &mut M) -> Option<&R>
     where
         I: Lookup<L, Q>,
@@ -75,7 +75,7 @@ impl<L: Eq, R: Eq, I: Index<L>, J: Index<R>> Table<L, R, I, J> {
         Some(right)
     }
 
-    /// The partner of a right, or `None` where it is not held.
+    /// Returns the partner of a right, or `None` if the right is not contained.
     pub fn get_by_right<Q: Query<R>, M: Meter>(&self, right: Q, meter: &mut M) -> Option<&L>
     where
         J: Lookup<R, Q>,
@@ -92,8 +92,8 @@ impl<L: Eq, R: Eq, I: Index<L>, J: Index<R>> Table<L, R, I, J> {
         Some(left)
     }
 
-    // A search of each side, that of the other going on while one waits for memory, until one has come to its end. Where
-    // the left most likely decides alone, both are still to begin.
+    // Returns a search of each side. It alternates the steps of the two searches until one is at its end. The processor
+    // then waits for the memory of both at the same time. If the left will probably decide, neither search has begun.
     pub(crate) fn descend<M: Meter>(
         &self,
         left: &L,
@@ -140,7 +140,8 @@ impl<L: Eq, R: Eq, I: Index<L>, J: Index<R>> Table<L, R, I, J> {
         (to_left, to_right)
     }
 
-    // The place of an equal left, and a spot for the left, from where the search has come.
+    // Takes the search to its end and returns the place with an equal left, if there is one. Writes a spot for the
+    // left.
     pub(crate) fn finish_left<M: Meter>(
         &self,
         search: I::Search,
@@ -162,7 +163,9 @@ impl<L: Eq, R: Eq, I: Index<L>, J: Index<R>> Table<L, R, I, J> {
             .finish(LeftSide::new(&self.pairs), left, search, spot, meter)
     }
 
-    // The same for a right, where the place of the equal left, if any, is known: its right is asked first.
+    // Takes the search to its end and returns the place with an equal right, if there is one. Writes a spot for the
+    // right. `by_left` is the place with an equal left, if there is one. If the right at that place is equal, there is
+    // no search, and no spot is written.
     pub(crate) fn finish_right<M: Meter>(
         &self,
         by_left: Option<usize>,

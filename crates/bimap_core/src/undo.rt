@@ -1,4 +1,4 @@
-//! Taking insertions back. It does not ask whether that may be done.
+//! Undoing insertions. This module does not check whether an insertion may be undone.
 ghost use Rattle.std.specs.Prelude.{◌≡◌, ◌<◌, ◌≤◌, ◌+◌, ◌*◌, ◌++◌, ◌∷◌, [], ℕ, length, Some, None, IfOk, OnErr, Contains, slice_set};
 ghost use Rattle.bimap_base.specs.Holding.{IsUndoing};
 ghost use Rattle.bimap_base.specs.PairsAt.{pairs_at};
@@ -15,10 +15,10 @@ use bimap_index::Index;
 impl<L: Eq, R: Eq, I: Index<L>, J: Index<R>> Table<L, R, I, J> {
     ghost use Rattle.bimap_core.specs.Store.{holding_of, IsAloneAt};
 
-    /// Takes out the pair of a left and answers it, and holds the pairs of the answer instead.
+    /// Removes the pair with this left and returns it. Puts the overwritten pairs back that `answer` contains.
     ///
-    /// Only where the answer is `Both` and no place is free does it take memory. An `Err` hands the answer back, and
-    /// nothing has changed. Time is that of an insertion.
+    /// It allocates only if `answer` is `Both` and no place is free. An `Err` gives `answer` back, and nothing has
+    /// changed. It takes as long as an insertion.
     pub fn undo_insert<M: Meter>(
         &mut self,
         left: &L,
@@ -56,7 +56,7 @@ impl<L: Eq, R: Eq, I: Index<L>, J: Index<R>> Table<L, R, I, J> {
         }
     }
 
-    // The place of an equal left.
+    // Returns the place with an equal left, if there is one.
     fn left_place<M: Meter>(&self, left: &L, meter: &mut M) -> Option<usize>
         ensures found { IsFoundAt (λ p. p.0) L.eq self.now.pairs left.now result }
         ensures comparisons { M.comparisons meter.new ≤ M.comparisons meter.old
@@ -67,7 +67,8 @@ impl<L: Eq, R: Eq, I: Index<L>, J: Index<R>> Table<L, R, I, J> {
         self.left.find(LeftSide::new(&self.pairs), left, meter)
     }
 
-    // Puts a pair in the place of another, whatever its values. An index whose key is equal is not relinked.
+    // Puts a pair in the place of another one, which it returns. It finds out which values are new. An index whose key
+    // is equal stays as it is.
     fn replace<M: Meter>(&mut self, place: usize, left: L, right: R, meter: &mut M) -> (L, R)
         requires live { IsLive self.old.pairs place }
         requires alone { IsAloneAt L.eq R.eq self.old.pairs place (left, right) }
@@ -92,7 +93,7 @@ impl<L: Eq, R: Eq, I: Index<L>, J: Index<R>> Table<L, R, I, J> {
         self.swap(place, left, right, spots, meter)
     }
 
-    // Puts a pair that shares with none into a free place, and answers which.
+    // Puts a pair into a free place and returns that place. The pair shares no value with another one.
     fn put_new<M: Meter>(&mut self, left: L, right: R, meter: &mut M) -> usize
         requires free { pair_count self.old.pairs < length self.old.pairs }
         requires alone { (place : ℕ) → pair_at self.old.pairs place ≡ None →

@@ -1,4 +1,4 @@
-//! Writes at one place: the store and what changes of the indexes, together. It decides nothing.
+//! Changes at one place, in the store and in both indexes together. This module decides nothing.
 ghost use Rattle.std.specs.Prelude.{◌≡◌, ◌<◌, ◌≤◌, ◌+◌, ◌*◌, ◌++◌, ◌∷◌, [], ℕ, true, length, Some, None, IsSomeAnd, MatchOption, is_some, OnOk, OnErr, max, slice_set, if◌then◌else◌};
 ghost use Rattle.bimap_base.specs.Holding.{IsRoomAfter};
 ghost use Rattle.bimap_base.specs.Slots.{pair_at, left_at, right_at, IsLive, pair_count};
@@ -12,8 +12,9 @@ use bimap_index::Index;
 impl<L: Eq, R: Eq, I: Index<L>, J: Index<R>> Table<L, R, I, J> {
     ghost use Rattle.bimap_core.specs.Store.{holding_of, IsAloneAt};
 
-    // Puts a pair in the place of another. An index is changed only where its key is new, by the spot of that key: where
-    // there is no spot, it is equal.
+    // Puts a pair in the place of another one, which it returns. A side has a spot if its key is new. Its index then
+    // removes the place and lists it again by that spot. A side without a spot has an equal key, and its index stays as
+    // it is.
     pub(crate) fn swap<'a, M: Meter>(
         &mut self,
         place: usize,
@@ -59,7 +60,7 @@ impl<L: Eq, R: Eq, I: Index<L>, J: Index<R>> Table<L, R, I, J> {
         old
     }
 
-    // Takes out a pair.
+    // Removes the pair at this place and returns it.
     pub(crate) fn take<M: Meter>(&mut self, place: usize, meter: &mut M) -> (L, R)
         requires live { IsLive self.old.pairs place }
         ensures was { pair_at self.old.pairs place ≡ Some result }
@@ -82,7 +83,8 @@ impl<L: Eq, R: Eq, I: Index<L>, J: Index<R>> Table<L, R, I, J> {
         self.pairs.take(place)
     }
 
-    // Puts a pair that shares with none into a free place, along the spots of its values, and answers which.
+    // Puts a pair into a free place and returns that place. The pair shares no value with another one. Each index links
+    // the place at the spot of its value.
     pub(crate) fn put<M: Meter>(
         &mut self,
         left: L,
@@ -114,7 +116,8 @@ impl<L: Eq, R: Eq, I: Index<L>, J: Index<R>> Table<L, R, I, J> {
         place
     }
 
-    // Makes places up to a number, and cells for them. A refusal may leave more cells.
+    // Grows the store to at least `to` places, with a cell for each place in both indexes. If it runs out of memory, an
+    // index may have more cells than before.
     pub(crate) fn grow(&mut self, to: usize) -> Result<(), NoMemory>
         ensures ok { OnOk result (length self.new.pairs ≡ max to (length self.old.pairs)) }
         ensures grows { length self.old.pairs ≤ length self.new.pairs }
@@ -135,7 +138,7 @@ impl<L: Eq, R: Eq, I: Index<L>, J: Index<R>> Table<L, R, I, J> {
         self.pairs.grow(to)
     }
 
-    // Makes sure that a place is free. The places double, from four on.
+    // Makes sure that a place is free. A full table doubles its places, to at least four.
     pub(crate) fn make_room(&mut self) -> Result<(), NoMemory>
         ensures ok { OnOk result (pair_count self.new.pairs < length self.new.pairs) }
         ensures room { IsRoomAfter (holding_of self.old.pairs) ⊥ (holding_of self.new.pairs) }

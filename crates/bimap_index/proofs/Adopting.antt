@@ -1,4 +1,4 @@
--- An ordered index that lists a compacted side anew, place by place.
+-- An ordered index that lists a compacted side again, place by place.
 use Rattle.std.proofs.Common.{◌≡◌, ◌≢◌, ◌↔◌, ℕ, suc, ◌+◌, ◌*◌, ◌-◌, ◌<◌, ◌≤◌, Bool, List, [], length, Option, Some, is_some, IsSome, refl, sym, ap, subst, ◌∙◌, inl, inr, arith, Contains}
 use Rattle.std.specs.declared.cmp.Ordering.{Ordering}
 use Rattle.std.specs.declared.cmp.Ordering.TheVariants.{Equal}
@@ -19,7 +19,7 @@ use Rattle.bimap_tree.proofs.Ascending.{only_one, own_key}
 use Rattle.bimap_index.proofs.Ascending.{equal_is}
 use Rattle.bimap_index.proofs.Compaction.{live_in, rank_of, compacted_apart}
 
--- the first so many places are listed, and no other
+-- The places below this number are listed, and no others.
 pub record IsListedUpTo {K : Type 0} (order : K → K → Ordering) (f : ℕ → Option K) (place : ℕ) (places : List ℕ) : Type 0 where
   pub up : Ascends f order places
   pub first : (p : ℕ) → Contains places p ↔ p < place
@@ -44,7 +44,7 @@ module _ {K : Type 0} (order : K → K → Ordering) (g : ℕ → Option K) wher
         long = omega (arith, long, listed.long);
       }
 
--- what each of so many calls costs at most, all of them cost so many times
+-- If each call costs at most `most`, all calls together cost at most their number times `most`.
 pub costs : (start before after calls each most : ℕ) → before ≤ start + calls * most → after ≤ before + each → each ≤ most → after ≤ start + (calls + 1) * most
 costs start before after calls each most so_far more least =
     let e : (calls + 1) * most ≡ calls * most + most = ap (λ n. n * most) (let h : calls + 1 ≡ suc calls = omega arith in h) ∙ suc-mul calls most in
@@ -55,11 +55,11 @@ module _ {K : Type 0} (order : K → K → Ordering) (same : K → K → Bool) (
   abbrev keys : List K
   keys = pairs_in side.keys
 
-  -- as many keys are there as places were listed
+  -- The number of listed places is the number of keys.
   as_many : length places ≡ length keys
   as_many = listed_long side.keys places (order_walk_of order same total agrees places side.keys (subst (ListsByOrder order places) (λ i place. side.before place i) listing))
 
-  -- the first so many places have a key, and no other
+  -- The places below the number of keys have a key, and no others.
   pub compacted_live : (place : ℕ) → place < length places → IsSome (g place)
   compacted_live place inside = subst IsSome (sym (side.after place)) (live_in keys (to - length keys) place (omega (arith, inside, as_many)))
 
@@ -69,7 +69,7 @@ module _ {K : Type 0} (order : K → K → Ordering) (same : K → K → Bool) (
       let r = rank_of keys (to - length keys) place k.0 (sym (side.after place) ∙ k.1) in
       omega (arith, r.0, as_many)
 
-  -- no two of them are equal
+  -- No two of these keys are equal.
   pub compacted_unequal : (place p : ℕ) (k : K) → p < place → g place ≡ Some k → standing order (g p) (Some k) ≡ Equal → ⊥
   compacted_unequal place p k before is e =
       let s = equal_is order (g p) k e in
@@ -78,6 +78,6 @@ module _ {K : Type 0} (order : K → K → Ordering) (same : K → K → Bool) (
       unequal : (a b : ℕ) (k l : K) → a ≢ b → f a ≡ Some k → f b ≡ Some l → order k l ≡ Equal → ⊥
       unequal a b k l away first second tie = away (only_one f order order (follows_itself total) places listing.up l a b (listing.lists a (ap is_some first)) (listing.lists b (ap is_some second)) (rw first tie) (own_key f order total b l second))
 
-  -- so the whole side is listed
+  -- All places of the side are then listed.
   pub all_listed : (new : List ℕ) → IsListedUpTo order g (length places) new → ListsByOrder order new g
   all_listed new listed = record { up = listed.up; lists = λ place live. (listed.first place).1 (compacted_within place live) }

@@ -20,18 +20,18 @@ use Rattle.bimap_index.specs.Listed.{IsFoundBy, IsWithout, MayLink}
 use Rattle.bimap_index.specs.ByOrder.{ListsByOrder}
 use Rattle.bimap_index.specs.OrderLaws.{equal_from, live_listed}
 
--- a search of a list of fewer places is no longer
+-- A search among fewer places takes no more comparisons.
 pub effort_least : (n m : ℕ) → n ≤ m → most_height n ≤ most_height m
 effort_least n m fewer = omega (arith, bits-least n (bits m) (omega (arith, fewer, bits-enough m)))
 
--- nor is one of a list from which one place was taken
+-- The same is true after one place was taken out.
 pub effort_fewer : (n m : ℕ) → n + 1 ≡ m → most_height n ≤ most_height m
 effort_fewer n m fewer = effort_least n m (omega (arith, fewer))
 
 listed_there : (places : List ℕ) (i : ℕ) → i < length places → Contains places (get_or places i 0)
 listed_there places i inside = (i, inside, get_or_default places i (get_or places i 0) 0 inside)
 
--- what isn't equal is less or greater
+-- An ordering that is not `Equal` is `Less` or `Greater`.
 pub not_equal : (o : Ordering) → (o ≡ Equal → ⊥) → false ≡ is_eq o
 not_equal Less never = refl
 not_equal Equal never = absurd (never refl)
@@ -42,17 +42,17 @@ not_true true never = absurd (never refl)
 not_true false _ = refl
 
 module _ {K Q : Type 0} (to : K → Q → Ordering) where
-  -- a key that stands equal is there
+  -- If a place stands equal to a key, the place has a key that compares as equal.
   pub equal_is : (o : Option K) (key : Q) → standing to o (Some key) ≡ Equal → (k : K) × (o ≡ Some k) × (to k key ≡ Equal)
   equal_is None key e = absurd (cc)
   equal_is (Some k) key e = (k, refl, e)
 
 module _ {K Q : Type 0} (order : K → K → Ordering) (to : K → Q → Ordering) (follows : Follows order to) (same : K → Q → Bool) (agrees : (q : Q) (x : K) → same x q ≡ is_eq (to x q)) where
-  -- the key of a place that is the same as another stands equal to it
+  -- If the key of a place is the same as another key, the place stands equal to that key.
   stands : (o : Option K) (k : K) (key : Q) → o ≡ Some k → same k key ≡ true → standing to o (Some key) ≡ Equal
   stands o k key is e = rw is ((Equal-is (to k key)).0 (sym (agrees key k) ∙ e))
 
-  -- what was sought and found
+  -- What an ordered search finds is what `IsFoundBy` demands.
   pub found_by_order : (places : List ℕ) (f : ℕ → Option K) (key : Q) (r : Option ℕ) → ListsByOrder order places f
       → IfSome r (λ p. Contains places p × (standing to (f p) (Some key) ≡ Equal))
       → IfNone r ((p : ℕ) → Contains places p → standing to (f p) (Some key) ≡ Equal → ⊥) → IsFoundBy f same key r
@@ -70,7 +70,7 @@ module _ {K Q : Type 0} (order : K → K → Ordering) (to : K → Q → Orderin
       }
 
 module _ {K : Type 0} (order : K → K → Ordering) (same : K → K → Bool) (total : IsTotalOrder order) (agrees : (x y : K) → same x y ≡ eq_by_cmp order x y) where
-  -- the keys of the listed places are as before
+  -- If the keys of the listed places are as before, they still ascend.
   ascends_same : (f g : ℕ → Option K) (places : List ℕ) → ((p : ℕ) → Contains places p → g p ≡ f p) → Ascends f order places → Ascends g order places
   ascends_same f g places kept up =
       record {
@@ -81,16 +81,16 @@ module _ {K : Type 0} (order : K → K → Ordering) (same : K → K → Bool) (
             up.rises i j k l before inside (sym e ∙ first) (sym h ∙ second);
       }
 
-  -- one place whose key compares as equal
+  -- A place whose key compares as equal is the place with an equal key.
   pub known_by_order : (places : List ℕ) (f : ℕ → Option K) (key : K) (place : ℕ) → ListsByOrder order places f → IsSome (f place) → standing order (f place) (Some key) ≡ Equal → IsFoundBy f same key (Some place)
   known_by_order places f key place listing live e = found_by_order order order (follows_itself total) same (λ q x. agrees x q) places f key (Some place) listing (listing.lists place live, e) tt
 
-  -- a key is the same just where it compares as equal
+  -- A key is the same exactly if it compares as equal.
   pub same_by_order : (o : Option K) (key : K) (answer : Bool) → answer ≡ is_eq (standing order o (Some key)) → IfSome o (λ k. answer ≡ same k key)
   same_by_order None key answer e = tt
   same_by_order (Some k) key answer e = e ∙ sym (agrees k key)
 
-  -- a search compares at least once where a place is listed
+  -- If a place is listed, the bound of a search is at least one comparison.
   pub effort_some : (places : List ℕ) (f : ℕ → Option K) (place : ℕ) → ListsByOrder order places f → IsSome (f place) → 1 ≤ most_height (length places)
   effort_some places f place listing live = let c = listing.lists place live in by_bits (bits (length places)) (bits-enough (length places)) (omega (arith, c.1))
     where
@@ -98,7 +98,7 @@ module _ {K : Type 0} (order : K → K → Ordering) (same : K → K → Bool) (
       by_bits zero e some = absurd (omega (arith, some, e))
       by_bits (suc k) e some = omega arith
 
-  -- a place is listed
+  -- The lemmas for listing one more place.
   module _ (index : IndexView) (g : ℕ → Option K) (place : ℕ) (key : K) (m : MayLink (λ o. ListsByOrder order (IndexView.places o)) same index g place key) where
     pub link_off : Contains index.places place → ⊥
     link_off there = true≢false (sym (live_listed order same total agrees m.f index.places place m.listing.up there) ∙ ap is_some m.without.free)
@@ -128,7 +128,7 @@ module _ {K : Type 0} (order : K → K → Ordering) (same : K → K → Bool) (
           ];
         }
 
-  -- a place was taken off
+  -- The index still lists the side after a place was taken off.
   pub unlinked : (old new : List ℕ) (f g : ℕ → Option K) (place : ℕ) → ListsByOrder order old g → Drops old place new → Ascends g order new → IsWithout f g place → ListsByOrder order new f
   unlinked old new f g place listing drops up without =
       record {

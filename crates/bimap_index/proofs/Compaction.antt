@@ -1,4 +1,4 @@
--- A side whose keys are moved to the first places, and a hashed index of it.
+-- A side whose keys are moved to the first places, and a hashed index of this side.
 use Rattle.std.proofs.Common.{get_or, ◌≡◌, ◌≢◌, ℕ, zero, suc, ◌<◌, ◌≤◌, ◌-◌, ◌++◌, Bool, false, List, [], ◌∷◌, length, map, replicate, Option, Some, None, IsSome, refl, sym, ap, subst, ◌∙◌, inl, inr, arith}
 use Rattle.std.specs.Prelude.{Result, Ok, Err, IfOk}
 use Rattle.std.specs.Option.{option_map}
@@ -16,13 +16,13 @@ use Rattle.bimap_index.specs.Listed.{IsCompactedSide}
 use Rattle.bimap_index.specs.ByHash.{ListsByHash, places_from}
 
 module _ {P : Type 0} where
-  -- as many places have something as stands in them
+  -- The number of places that have something is the number of things in the slots.
   pub length-places_from : (slots : List (Option P)) (first : ℕ) → length (places_from first slots) ≡ length (pairs_in slots)
   length-places_from [] first = refl
   length-places_from (None ∷ slots) first = length-places_from slots (suc first)
   length-places_from (Some x ∷ slots) first = ap suc (length-places_from slots (suc first))
 
-  -- what holds of each two by their places holds of each two in their order
+  -- What is true of any two things by their places is true of any two by their order in the list.
   in_turn : (R : P → P → Type 0) (slots : List (Option P)) → ((a b : ℕ) (p q : P) → a < b → pair_at slots a ≡ Some p → pair_at slots b ≡ Some q → R p q) → AllPairs R (pairs_in slots)
   in_turn R [] h = λ i j d before inside. absurd (omega (arith, inside))
   in_turn R (None ∷ slots) h = in_turn R slots (λ a b p q e. h (suc a) (suc b) p q (omega (arith, e)))
@@ -36,13 +36,13 @@ module _ {P : Type 0} where
   none_at (suc k) zero = refl
   none_at (suc k) (suc place) = none_at k place
 
-  -- in a compacted list what stands at a place is the one of that rank
+  -- In a compacted list, the thing at a place is the thing with that rank.
   pub rank_of : (ps : List P) (k place : ℕ) (p : P) → pair_at (map Some ps ++ replicate k None) place ≡ Some p → (place < length ps) × (get_or ps place p ≡ p)
   rank_of [] k place p is = let none = none_at k place in absurd (cc)
   rank_of (x ∷ ps) k zero p is = (omega arith, (cc))
   rank_of (x ∷ ps) k (suc place) p is = let r = rank_of ps k place p is in (omega (arith, r.0), r.1)
 
-  -- and the first places have something
+  -- In a compacted list, each of the first places has something.
   pub live_in : (ps : List P) (k place : ℕ) → place < length ps → IsSome (pair_at (map Some ps ++ replicate k None) place)
   live_in [] k place inside = absurd (omega (arith, inside))
   live_in (x ∷ ps) k zero inside = refl
@@ -64,7 +64,7 @@ module _ {P K : Type 0} (key : P → K) where
   keys_first (x ∷ ps) k m zero = refl
   keys_first (x ∷ ps) k m (suc place) = keys_first ps k m place
 
-  -- a store that is compacted has compacted sides
+  -- A compacted store has compacted sides.
   pub compacted_side : (slots : List (Option P)) (to : ℕ) → IsCompactedSide (λ place. option_map key (pair_at slots place)) (λ place. option_map key (pair_at (compacted (pairs_in slots) to) place)) to
   compacted_side slots to =
       record {
@@ -79,7 +79,7 @@ module _ {K : Type 0} (number : K → ℕ) where
   free_at None e = refl
   free_at (Some k) e = absurd (cc)
 
-  -- an index tells the numbers of the keys, in their order
+  -- The listed hash numbers are those of the keys, in the same order.
   numbers_in : (keys : List (Option K)) (numbers : List (Option ℕ)) → ((place : ℕ) → number_at numbers place ≡ option_map number (pair_at keys place)) → pairs_in numbers ≡ map number (pairs_in keys)
   numbers_in [] numbers h = nothing_in numbers h
   numbers_in (x ∷ keys) [] h = sym (ap (map number) (nothing_in (x ∷ keys) (λ place. free_at (pair_at (x ∷ keys) place) (sym (h place)))))
@@ -89,7 +89,7 @@ module _ {K : Type 0} (number : K → ℕ) where
       by None y e rest = ap (λ z. pairs_in (z ∷ numbers)) e ∙ rest
       by (Some k) y e rest = ap (λ z. pairs_in (z ∷ numbers)) e ∙ ap (λ z. number k ∷ z) rest
 
--- what holds of the keys of each two places holds of them where they are moved to
+-- A symmetric relation between the keys of any two places is true of these keys after they are moved.
 pub compacted_apart : {K : Type 0} {f g : ℕ → Option K} {to : ℕ} → IsCompactedSide f g to → (R : K → K → Type 0) → ((k l : K) → R k l → R l k) → ((a b : ℕ) (k l : K) → a ≢ b → f a ≡ Some k → f b ≡ Some l → R k l) → (a b : ℕ) (k l : K) → a ≢ b → g a ≡ Some k → g b ≡ Some l → R k l
 compacted_apart {K} {f} {g} {to} side R turned apart a b k l away first second =
     let here = rank_of keys (to - length keys) a k (sym (side.after a) ∙ first) in
@@ -108,7 +108,7 @@ compacted_apart {K} {f} {g} {to} side R turned apart a b k l away first second =
         let y : get_or keys b k ≡ l = get_or_default keys b k l second.0 ∙ second.1 in
         subst (R k) y (subst (λ z. R z (get_or keys b k)) first.1 (all a b k less second.0))
 
--- the moved numbers are listed for the moved keys
+-- After the compaction, the moved hash numbers list the moved keys.
 pub hash_compacted : {K : Type 0} (same : K → K → Bool) (number : K → ℕ) → IsEquivalence same → (numbers new : List (Option ℕ)) (f g : ℕ → Option K) (to : ℕ) → ListsByHash same number numbers f → IsCompactedSide f g to → new ≡ compacted (pairs_in numbers) to → ListsByHash same number new g
 hash_compacted {K} same number equal numbers new f g to listing side now =
     subst (λ z. ListsByHash same number z g) (sym now) record {
@@ -127,7 +127,7 @@ hash_compacted {K} same number equal numbers new f g to listing side now =
 pub cells_compacted : (numbers new : List (Option ℕ)) (to : ℕ) → length (pairs_in numbers) ≤ to → new ≡ compacted (pairs_in numbers) to → length new ≡ to
 cells_compacted numbers new to fits now = ap length now ∙ length-compacted (pairs_in numbers) to fits
 
--- what was made fits
+-- If a call returns `made`, its result comes with any fact that is already proved.
 pub made_fits : {X E : Type 0} (r : Result X E) (made : X) (fits : Type 0) → fits → IfOk r (λ x. x ≡ made) → IfOk r (λ x. fits × (x ≡ made))
 made_fits (Ok x) made fits enough is = (enough, is)
 made_fits (Err e) made fits enough is = tt

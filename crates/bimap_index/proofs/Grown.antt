@@ -3,7 +3,7 @@ use Rattle.std.proofs.Common.{◌≡◌, ℕ, zero, suc, ◌-◌, ◌++◌, List
 use Rattle.std.specs.Prelude.{Result, Ok, Err, OnOk, OnErr}
 use Rattle.bimap_index.specs.ByHash.{places_from}
 
--- cells that were added list nothing
+-- Added cells list nothing.
 places_filled : (numbers : List (Option ℕ)) (first k : ℕ) → places_from first (numbers ++ replicate k None) ≡ places_from first numbers
 places_filled [] first zero = refl
 places_filled [] first (suc k) = places_filled [] (suc first) k

@@ -1,4 +1,4 @@
--- What a hashed index finds by a query.
+-- What a look-up in a hashed index finds.
 use Rattle.std.proofs.Common.{◌≡◌, ℕ, Bool, true, false, List, Option, Some, None, refl, sym, ap, subst, ◌∙◌}
 use Rattle.std.specs.Prelude.{IfSome, IfNone, IsSomeAnd, IsTrue, option_map}
 use Rattle.bimap_chain.specs.Chains.{Matches}

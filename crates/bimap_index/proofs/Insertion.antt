@@ -1,4 +1,4 @@
--- How an index in the order of insertion keeps listing a side.
+-- How an index in insertion order keeps listing a side.
 use Rattle.std.proofs.Common.{◌≡◌, ◌≢◌, ◌↔◌, ℕ, zero, suc, ◌≤◌, cond, take, drop, eqb, List, [], ◌∷◌, ◌++◌, length, Option, Some, None, is_some, IsSome, refl, sym, ap, subst, ◌∙◌, inl, inr, arith, true≢false, Contains}
 use Rattle.std.specs.Prelude.{IsSomeAnd, slice_get}
 use Rattle.std.specs.Cmp.{nat_eq_equiv}
@@ -14,7 +14,7 @@ use Rattle.bimap_index.specs.ByInsertion.{ListsByInsertion}
 use Rattle.bimap_index.specs.Listed.{IsWithout}
 use Rattle.bimap_base.specs.Positions.{IsTakenOut}
 
--- places that differ, each of them one of others, are no more than those
+-- If the places of one list are distinct and all in another list, the first list is no longer than the second.
 no_longer : (xs ys : List ℕ) → AllPairs (λ a b. a ≢ b) xs → ((p : ℕ) → Contains xs p → Contains ys p) → length xs ≤ length ys
 no_longer xs ys distinct within =
     length-le_from_is_member nat_eq_equiv xs ys (IsDistinct-from_AllPairs Decides-eqb xs distinct) (λ q is.
@@ -24,7 +24,7 @@ no_longer xs ys distinct within =
 module _ {X K : Type 0} (IsListing : X → (ℕ → Option K) → Type 0) (places : X → List ℕ)
     (listed : (index : X) (f : ℕ → Option K) → IsListing index f → (p : ℕ) → Contains (places index) p ↔ IsSome (f p))
     (distinct : (index : X) (f : ℕ → Option K) → IsListing index f → AllPairs (λ a b. a ≢ b) (places index)) where
-  -- the list is as long as the index's own
+  -- The list is as long as the list of the index within.
   pub as_long : (index : X) (list : List ℕ) (f : ℕ → Option K) → ListsByInsertion IsListing index list f → length list ≡ length (places index)
   as_long index list f listing =
       let theirs = listed index f listing.found in
@@ -37,19 +37,19 @@ split [] k x is = cc
 split (y ∷ ys) zero x is = let e : y ≡ x = cc in ap (λ z. z ∷ ys) e
 split (y ∷ ys) (suc k) x is = ap (λ zs. y ∷ zs) (split ys k x is)
 
--- what passes a test is there
+-- An option whose content passes a test is `Some`.
 pub some_with : {X : Type 0} (P : X → Type 0) (o : Option X) → IsSomeAnd o P → IsSome o
 some_with P None passes = absurd passes
 some_with P (Some x) passes = refl
 
--- a removal from where the place stood
+-- A removal at each position of the place takes the place out of the list.
 pub taken_out : (old new : List ℕ) (place : ℕ) → Contains old place → ((k : ℕ) → slice_get old k ≡ Some place → new ≡ remove old k) → IsTakenOut old place new
 taken_out old new place c removed =
     let is : slice_get old c.0 ≡ Some place = slice_get-get_or old c.0 place c.1 ∙ ap Some c.2 in
     record { before = take c.0 old; after = drop (suc c.0) old; stood = split old c.0 place is; left = removed c.0 is }
 
 module _ {X K : Type 0} (IsListing : X → (ℕ → Option K) → Type 0) (f g : ℕ → Option K) (place : ℕ) (without : IsWithout f g place) (old new : X) (list list' : List ℕ) where
-  -- the place was appended
+  -- The list still has the places of the side after the place was appended.
   pub appended : (key : K) → g place ≡ Some key → ListsByInsertion IsListing old list f → IsListing new g → list' ≡ list ++ place ∷ [] → AllPairs (λ a b. a ≢ b) list' → ListsByInsertion IsListing new list' g
   appended key is listing found longer distinct =
       record {
@@ -67,7 +67,7 @@ module _ {X K : Type 0} (IsListing : X → (ℕ → Option K) → Type 0) (f g :
         distinct = distinct;
       }
 
-  -- the place was taken out
+  -- The list still has the places of the side after the place was taken out.
   pub dropped : ListsByInsertion IsListing old list g → IsListing new f → Drops list place list' → AllPairs (λ a b. a ≢ b) list' → ListsByInsertion IsListing new list' f
   dropped listing found drops distinct =
       record {
@@ -81,7 +81,7 @@ module _ {X K : Type 0} (IsListing : X → (ℕ → Option K) → Type 0) (f g :
         distinct = distinct;
       }
 
--- a side without the place
+-- The side without this place.
 abbrev pub side_without : {K : Type 0} → (ℕ → Option K) → ℕ → ℕ → Option K
 side_without g place q = cond (eqb q place) None (g q)
 

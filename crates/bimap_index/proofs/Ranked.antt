@@ -1,4 +1,4 @@
--- An index in the order of insertion whose places move to the first ones: each to its rank.
+-- An index in insertion order whose places move to the first ones. Each place moves to its rank.
 use Rattle.std.proofs.Common.{◌≡◌, ◌≢◌, ◌↔◌, ℕ, zero, suc, ◌<◌, ◌-◌, List, [], ◌∷◌, length, Option, Some, None, IsSome, refl, sym, ap, subst, ◌∙◌, inl, inr, arith, true≢false, get_or, Contains}
 use Rattle.std.specs.Prelude.{slice_get}
 use Rattle.std.specs.List.{AllPairs, AllZip}
@@ -17,14 +17,14 @@ use Rattle.bimap_index.specs.Listed.{IsCompactedSide}
 use Rattle.bimap_index.proofs.Compaction.{live_in, rank_of}
 
 module _ {K : Type 0} where
-  -- where the first places have keys, each stands at its place among them
+  -- If each of the first places has a key, a place's number is its position among the keys.
   dense : (keys : List (Option K)) (n : ℕ) → ((r : ℕ) → r < n → IsSome (pair_at keys r)) → (r : ℕ) → r < n → pair_at keys r ≡ slice_get (pairs_in keys) r
   dense [] n live r inside = absurd (true≢false (sym (live r inside)))
   dense (None ∷ keys) n live r inside = absurd (true≢false (sym (live 0 (omega (arith, inside)))))
   dense (Some k ∷ keys) n live zero inside = refl
   dense (Some k ∷ keys) n live (suc r) inside = dense keys (n - 1) (λ s less. live (suc s) (omega (arith, less))) r (omega (arith, inside))
 
-  -- the key of a listed place is the one of a walk at its turn
+  -- The key of the listed place at a position is the key that iteration visits at that position.
   by_insertion : (keys : List (Option K)) (places : List ℕ) → ((p : ℕ) → Contains places p → IsSome (pair_at keys p)) → (r p : ℕ) → slice_get places r ≡ Some p → slice_get (pairs_at keys places) r ≡ pair_at keys p
   by_insertion keys [] live r p is = cc
   by_insertion keys (q ∷ qs) live r p is = by (pair_at keys q) refl (live q (head_in q qs)) r is (λ s. by_insertion keys qs (λ p c. live p (more_in q qs p c)) s p)
@@ -34,7 +34,7 @@ module _ {K : Type 0} where
       by (Some k) e some zero is rest = let same : q ≡ p = cc in rw e (sym (ap (pair_at keys) (sym same) ∙ e))
       by (Some k) e some (suc r) is rest = rw e (rest r is)
 
-  -- places with the same keys, one by one, are walked alike
+  -- If the places of two lists have the same keys, one by one, then iteration visits the same keys.
   each_alike : (moved keys : List (Option K)) (R : ℕ → ℕ → Type 0) → ((p r : ℕ) → R p r → pair_at moved r ≡ pair_at keys p) → (places ranks : List ℕ) → AllZip R places ranks → pairs_at moved ranks ≡ pairs_at keys places
   each_alike moved keys R alike [] [] zip = refl
   each_alike moved keys R alike [] (r ∷ rs) zip = absurd zip
@@ -46,7 +46,7 @@ module _ {K : Type 0} where
       by (Some k) e same rest = rw (same, e) (ap (λ ks. k ∷ ks) rest)
 
 module _ (places ranks : List ℕ) (are : AreRanks places ranks) where
-  -- a listed rank is that of a place
+  -- A listed rank is the rank of a place.
   rank_within : (r : ℕ) → Contains ranks r → r < length are.sorted
   rank_within r = by places ranks are.stand
     where
@@ -60,7 +60,7 @@ module _ (places ranks : List ℕ) (are : AreRanks places ranks) where
             | inr d ↦ by ps ss zip.1 d
           ]
 
-  -- and each rank is listed
+  -- Each rank of a place is listed.
   rank_listed : (r : ℕ) → r < length are.sorted → Contains ranks r
   rank_listed r inside = by places ranks are.stand ((are.same p).0 (r, inside, get_or_default are.sorted r p 0 inside))
     where
@@ -99,7 +99,7 @@ module _ (places ranks : List ℕ) (are : AreRanks places ranks) where
     key_of : (r p : ℕ) → slice_get are.sorted r ≡ Some p → slice_get (pairs_in keys) r ≡ pair_at keys p
     key_of r p is = ap (λ ks. slice_get ks r) (sym in_turn) ∙ by_insertion keys are.sorted (λ p. (sorted_listed p).0) r p is
 
-    -- the ranks are walked as the places were
+    -- Iteration by the ranks visits the keys in the same order as iteration by the places.
     pub ranked_alike : (moved : List (Option K)) → ((r : ℕ) → Contains ranks r ↔ IsSome (pair_at moved r)) → pairs_in moved ≡ pairs_in keys → pairs_at moved ranks ≡ pairs_at keys places
     ranked_alike moved there same =
         each_alike moved keys (λ p r. slice_get are.sorted r ≡ Some p)
@@ -109,7 +109,7 @@ module _ (places ranks : List ℕ) (are : AreRanks places ranks) where
     as_many : length are.sorted ≡ length (pairs_in keys)
     as_many = sym (long_at keys are.sorted (λ p. (sorted_listed p).0)) ∙ ap length in_turn
 
-    -- and are those of the compacted side
+    -- The listed ranks are the places of the compacted side that have a key.
     pub ranks_listed : (f g : ℕ → Option K) (to : ℕ) (side : IsCompactedSide f g to) → side.keys ≡ keys → (r : ℕ) → Contains ranks r ↔ IsSome (g r)
     ranks_listed f g to side is r =
         let n : length are.sorted ≡ length (pairs_in side.keys) = as_many ∙ ap (λ ks. length (pairs_in ks)) (sym is) in (
@@ -120,7 +120,7 @@ module _ (places ranks : List ℕ) (are : AreRanks places ranks) where
               rank_listed r (omega (arith, within.0, n)),
         )
 
--- an index that adopts a compacted side lists it in the order in which it was listed
+-- An index that adopts a compacted side lists it in the order in which it was listed before.
 pub insertion_compacted : {X K : Type 0} (IsListing : X → (ℕ → Option K) → Type 0) (old new : X) (places ranks : List ℕ) (f g : ℕ → Option K) (to : ℕ) → ListsByInsertion IsListing old places f → IsCompactedSide f g to → AreRanks places ranks → IsListing new g → AllPairs (λ a b. a ≢ b) ranks → ListsByInsertion IsListing new ranks g
 insertion_compacted IsListing old new places ranks f g to listing side are found distinct =
     record {

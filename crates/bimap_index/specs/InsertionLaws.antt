@@ -1,4 +1,4 @@
--- Why the laws of an index hold of one in the order of insertion.
+-- Why the laws of an index are true of one in insertion order.
 use Rattle.std.specs.Prelude.{◌≡◌, ℕ, Bool, List, Option, Some, None, is_some}
 use Rattle.std.proofs.Common.{refl, sym, ◌∙◌}
 use Rattle.std.proofs.Math.Logic.{∥∥₁_elim, ∥∥₁_map}
@@ -14,7 +14,7 @@ module _ {X K : Type 0} (same : K → K → Bool) (IsListing : X → (ℕ → Op
   as_some (Some k) None a = absurd a
   as_some (Some k) (Some l) a = refl
 
-  -- equal keys are listed alike
+  -- The same places are listed after keys are exchanged for equal ones.
   pub insertion_respects : ((index : X) (f g : ℕ → Option K) → ((p : ℕ) → IsAlike same (f p) (g p)) → IsListing index f → IsListing index g) → (index : X) (places : List ℕ) (f g : ℕ → Option K) → ((p : ℕ) → IsAlike same (f p) (g p)) → ListsByInsertion IsListing index places f → ListsByInsertion IsListing index places g
   insertion_respects respects index places f g alike listing =
       record {
@@ -23,7 +23,7 @@ module _ {X K : Type 0} (same : K → K → Bool) (IsListing : X → (ℕ → Op
         distinct = listing.distinct;
       }
 
-  -- that it lists a side has one proof
+  -- There is at most one proof that the index lists a side.
   pub insertion_settled : ((index : X) (f : ℕ → Option K) → ∥ IsListing index f ∥₁ → IsListing index f) → (index : X) (places : List ℕ) (f : ℕ → Option K) → ∥ ListsByInsertion IsListing index places f ∥₁ → ListsByInsertion IsListing index places f
   insertion_settled settled index places f h =
       record {

@@ -1,4 +1,4 @@
--- Why the laws of an index hold of an ordered one.
+-- Why the laws of an index are true of an ordered one.
 use Rattle.std.specs.Prelude.{◌≡◌, ◌≢◌, ◌↔◌, ◌⊎◌, ℕ, Bool, true, List, [], ◌∷◌, Option, Some, None, IsSome}
 use Rattle.std.proofs.Common.{get_or, refl, sym, ap, subst, ◌∙◌, inl, inr, arith, true≢false}
 use Rattle.std.specs.List.{AllPairs, Contains}
@@ -21,7 +21,7 @@ use Rattle.bimap_index.specs.Listed.{IsAlike}
 use Rattle.bimap_index.specs.ByOrder.{ListsByOrder}
 use Rattle.bimap_index.specs.SameLists.{same_ascending}
 
--- whether a list of numbers has one can be found out
+-- It is decidable whether a list of numbers contains a number.
 pub contains_from : (xs : List ℕ) (x : ℕ) → ∥ Contains xs x ∥₁ → Contains xs x
 contains_from [] x c = absurd (∥∥₁_elim c (λ a b. absurd a) (none_in x))
 contains_from (y ∷ ys) x c =
@@ -38,7 +38,7 @@ module _ {K : Type 0} (order : K → K → Ordering) (same : K → K → Bool) (
   pub equal_from : (x y : K) → order x y ≡ Equal → same x y ≡ true
   equal_from x y e = agrees x y ∙ (Equal-is (order x y)).1 e
 
-  -- equal keys compare as equal
+  -- Equal keys compare as equal.
   pub equal_to : (x y : K) → same x y ≡ true → order x y ≡ Equal
   equal_to x y e = (Equal-is (order x y)).0 (sym (agrees x y) ∙ e)
 
@@ -46,13 +46,13 @@ module _ {K : Type 0} (order : K → K → Ordering) (same : K → K → Bool) (
   some_of None some = absurd (true≢false (sym some))
   some_of (Some k) some = (k, refl)
 
-  -- a listed place has a key
+  -- A listed place has a key.
   pub live_listed : (f : ℕ → Option K) (places : List ℕ) (p : ℕ) → Ascends f order places → Contains places p → IsSome (f p)
   live_listed f places p up listed =
       let here : get_or places listed.0 0 ≡ p = get_or_default places listed.0 0 p listed.1 ∙ listed.2 in
       subst (λ q. IsSome (f q)) here (up.live listed.0 listed.1)
 
-  -- equal keys are listed alike
+  -- The same places are listed after keys are exchanged for equal ones.
   pub order_respects : (places : List ℕ) (f g : ℕ → Option K) → ((p : ℕ) → IsAlike same (f p) (g p)) → ListsByOrder order places f → ListsByOrder order places g
   order_respects places f g alike listing =
       record {
@@ -83,11 +83,11 @@ module _ {K : Type 0} (order : K → K → Ordering) (same : K → K → Bool) (
       back (Some k) None x a e = absurd a
       back (Some k) (Some l) x a e = let s : l ≡ x = cc in (k, refl, equal_to k x (subst (λ z. same k z ≡ true) s a))
 
-  -- the listed places are those that have a key, each once, and the keys ascend
+  -- The listed places are exactly those that have a key.
   pub order_listed : (places : List ℕ) (f : ℕ → Option K) → ListsByOrder order places f → (p : ℕ) → Contains places p ↔ IsSome (f p)
   order_listed places f listing p = (live_listed f places p listing.up, listing.lists p)
 
-  -- no place is listed twice
+  -- No place is listed twice.
   pub order_distinct : (places : List ℕ) (f : ℕ → Option K) → ListsByOrder order places f → AllPairs (λ a b. a ≢ b) places
   order_distinct places f listing i j d before inside e =
       let k = some_of (f (get_or places i 0)) (listing.up.live i (omega arith)) in
@@ -96,12 +96,12 @@ module _ {K : Type 0} (order : K → K → Ordering) (same : K → K → Bool) (
       let itself = tied_itself total k.0 in
       absurd (cc)
 
-  -- and their keys ascend
+  -- The keys of the listed places ascend.
   pub order_in_order : (places : List ℕ) (f : ℕ → Option K) → ListsByOrder order places f → AllPairs (λ a b. (k l : K) → f a ≡ Some k → f b ≡ Some l → order k l ≡ Less) places
   order_in_order places f listing i j d before inside k l first second =
       listing.up.rises i j k l before inside (ap f (get_or_default places i 0 d (omega arith)) ∙ first) (ap f (get_or_default places j 0 d inside) ∙ second)
 
-  -- that it lists a side has one proof
+  -- There is at most one proof that the index lists a side.
   pub order_settled : (places : List ℕ) (f : ℕ → Option K) → ∥ ListsByOrder order places f ∥₁ → ListsByOrder order places f
   order_settled places f h =
       record {
@@ -112,7 +112,7 @@ module _ {K : Type 0} (order : K → K → Ordering) (same : K → K → Bool) (
         lists = λ place live. contains_from places place (∥∥₁_map h (λ k. k.lists place live));
       }
 
-  -- its places are those of a walk, which goes over the keys as they ascend
+  -- The places are those of an iteration, which visits each place that has a key once.
   pub order_walk_of : (places : List ℕ) (keys : List (Option K)) → ListsByOrder order places (pair_at keys) → IsWalk keys places
   order_walk_of places keys listing = record { live = order_listed places (pair_at keys) listing; distinct = order_distinct places (pair_at keys) listing }
 
@@ -120,11 +120,11 @@ module _ {K : Type 0} (order : K → K → Ordering) (same : K → K → Bool) (
   ascending_of places keys listing =
       pairs_walked keys places (order_walk_of places keys listing) (λ a b. (k l : K) → pair_at keys a ≡ Some k → pair_at keys b ≡ Some l → order k l ≡ Less) (λ k l. order k l ≡ Less) (λ a b k l less i j. less k l i j) (order_in_order places (pair_at keys) listing)
 
-  -- no two keys are each below the other
+  -- No two keys are each below the other.
   strict : (k l : K) → order k l ≡ Less → order l k ≡ Less → ⊥
   strict k l e f = let h = total.antisymm k l in let r : ordering_reverse (order l k) ≡ Greater = ap ordering_reverse f in absurd (cc)
 
-  -- two of the same keys are walked alike
+  -- Two ordered indexes of the same keys iterate alike.
   pub order_walks_alike : (places places' : List ℕ) (keys keys' : List (Option K)) → ListsByOrder order places (pair_at keys) → ListsByOrder order places' (pair_at keys') → pairs_in keys' ≡ pairs_in keys → pairs_at keys' places' ≡ pairs_at keys places
   order_walks_alike places places' keys keys' listing listing' alike =
       same_ascending (λ k l. order k l ≡ Less) strict (pairs_at keys' places') (pairs_at keys places) (ascending_of places' keys' listing') (ascending_of places keys listing) (λ k.

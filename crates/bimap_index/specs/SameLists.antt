@@ -1,11 +1,12 @@
--- Lists that ascend by one order: with the same elements they are the same.
+-- Two lists that ascend by the same order and have the same elements are equal.
 use Rattle.std.specs.Prelude.{◌≡◌, ◌↔◌, ◌⊎◌, List, [], ◌∷◌}
 use Rattle.std.proofs.Common.{sym, ap, subst, ◌∙◌, refl, inl, inr}
 use Rattle.std.specs.List.{AllPairs, Contains}
 use Rattle.bimap_base.proofs.Members.{head_in, more_in, cases_in, none_in, AllPairs-head, AllPairs-tail}
 
 module _ {X : Type 0} (Below : X → X → Type 0) (strict : (x y : X) → Below x y → Below y x → ⊥) where
-  -- where the heads are equal, the elements of one tail are in the other
+  -- Two lists have equal heads, and each element of the first list is in the second one.
+  -- Then each element of the first tail is in the second tail.
   tail_in : (x y : X) (xs ys : List X) → AllPairs Below (x ∷ xs) → x ≡ y → (q : X) → (Contains (x ∷ xs) q → Contains (y ∷ ys) q) → Contains xs q → Contains ys q
   tail_in x y xs ys up e q within c = by (cases_in y ys q (within (more_in x xs q c)))
     where
@@ -13,7 +14,7 @@ module _ {X : Type 0} (Below : X → X → Type 0) (strict : (x y : X) → Below
       by (inl same) = let itself : Below x x = subst (Below x) (sym (e ∙ same)) (AllPairs-head Below x xs up q c) in absurd (strict x x itself itself)
       by (inr d) = d
 
-  -- ascending lists with the same elements are equal
+  -- Ascending lists with the same elements are equal.
   pub same_ascending : (xs ys : List X) → AllPairs Below xs → AllPairs Below ys → ((q : X) → Contains xs q ↔ Contains ys q) → xs ≡ ys
   same_ascending [] [] up up' same = refl
   same_ascending [] (y ∷ ys) up up' same = none_in y ((same y).1 (head_in y ys))

@@ -1,4 +1,4 @@
-//! Indexes made from nothing, from another one, and for a store that was compacted.
+//! Traits to make an index: an empty one, a copy, and one for a store that was compacted.
 ghost use Rattle.std.specs.Prelude.{◌≡◌, ◌≤◌, ◌+◌, ◌*◌, ℕ, List, Option, None, IfOk, IfErr, length};
 ghost use Rattle.bimap_base.specs.PairsAt.{pairs_at};
 ghost use Rattle.bimap_base.specs.Places.{pairs_in};
@@ -9,27 +9,29 @@ use crate::index::Index;
 use bimap_base::{Meter, NoMemory, Side};
 use std::alloc::Global;
 
-/// An index that is made from nothing.
+/// An index that can be made without another index.
 pub trait EmptyIndex<K: Eq>: Index<K> {
-    /// An index that lists no place and has no cells. It takes no memory.
+    /// Returns an index that lists no place and has no cells. Never allocates.
     fn empty(alloc: Global) -> Self
         ensures listing { Self.is_listing result (λ _. None) }
         ensures cells { Self.cells result ≡ 0 };
 }
 
-/// The index of a side for which none is named: the ordered one, or the hashed one with the default builder.
+/// The index that a map has on a side by default. It is `Ordered` or a `HashIndex` with the default hash builder, alone
+/// or inside an `InsertionOrder`.
 pub trait DefaultIndex<K: Eq>: EmptyIndex<K> {}
 
-/// An index that is made like another one.
+/// An index that can be made like another one.
 pub trait CopiedIndex<K: Eq>: Index<K> {
-    /// The second finds keys as a copy of the first does: by clones of what it finds them by.
+    /// The second index finds keys as a copy of the first one does. Its hash builder is a clone of the first one's, if
+    /// there is one.
     ghost finds_as: { Self → Self → Type 0 };
 
-    /// Its copy asks for no memory.
+    /// Copying this index never runs out of memory.
     ghost is_infallible: { Self → Type 0 };
 
-    /// An index that lists no place and has no cells, and finds keys as this one does. It takes no memory but what a clone
-    /// of the way to find takes, and where that is refused there is none.
+    /// Returns an index that lists no place and has no cells, and that finds keys as this index does. It allocates only
+    /// what cloning the hash builder allocates. If the hash builder cannot be cloned, there is no index.
     fn copied(&self, alloc: Global) -> Result<Self, NoMemory>
         ensures listing { IfOk result (λ index. Self.is_listing index (λ _. None)) }
         ensures cells { IfOk result (λ index. Self.cells index ≡ 0) }
@@ -39,24 +41,25 @@ pub trait CopiedIndex<K: Eq>: Index<K> {
 
 /// An index that can follow a store whose pairs are moved to its first places.
 ///
-/// `compacted` takes all memory and changes nothing, and `adopt` takes none: so a store and two indexes are compacted together,
-/// or not at all.
+/// `compacted` allocates everything that is needed and changes nothing. `adopt` never allocates. This makes it possible
+/// to compact a store and two indexes together, or none of them.
 pub trait CompactedIndex<K: Eq>: Index<K> {
-    /// What the index adopts.
+    /// What `compacted` prepares and `adopt` takes over.
     type Compacted: Drop;
 
-    /// It is what the index adopts of a store compacted to so many places.
+    /// The value is what the index takes over if the store is compacted to this number of places.
     ghost is_compacted: { Self → ℕ → Self.Compacted → Type 0 };
 
-    /// What the index is to adopt of a store compacted to `to` places. It looks at no key, and takes time in proportion to
-    /// the cells, but for a list that has an order of its own. A refusal makes nothing.
+    /// Returns what the index takes over when the store is compacted to `to` places. It looks at no key. Its time is
+    /// proportional to the number of cells, except that `InsertionOrder` also sorts its places. If it runs out of
+    /// memory, it makes nothing.
     fn compacted(&self, alloc: Global, to: usize) -> Result<Self::Compacted, NoMemory>
         requires listing { (f : ℕ → Option K) × Self.is_listing self.now f }
         requires room { length (Self.places self.now) ≤ to }
         ensures { IfOk result (λ compacted. is_compacted self.now to compacted) };
 
-    /// Lists the places of the compacted side, in place of what it lists, and a walk goes over the keys in the order in which
-    /// it did. It takes no memory.
+    /// Lists the places of the compacted side, and forgets the places listed before. The index still iterates over the
+    /// keys in the same order. Never allocates.
     fn adopt<S: Side<K>, M: Meter>(&mut self, compacted: Self::Compacted, side: S, meter: &mut M)
         requires from { (to : ℕ) × (f : ℕ → Option K) × is_compacted self.old to compacted
             × Self.is_listing self.old f × IsCompactedSide f (S.key_at side) to }

@@ -1,4 +1,4 @@
-//! A hashed index of a side, with its builder. It knows numbers and places, and no chain.
+//! A hashed index of a side, with its hash builder. This module knows hash numbers and places, and not the chains.
 ghost use Rattle.std.specs.Prelude.{◌≡◌, ◌+◌, ◌≤◌, ◌%◌, ⊤, ℕ, Option, [], length, IfSome, IfNone};
 ghost use Rattle.std.specs.declared.cmp.Ordering.TheVariants.{Less};
 ghost use Rattle.std.specs.List.{fold};
@@ -16,7 +16,7 @@ use bimap_chain::Hashed;
 use std::alloc::Global;
 use std::hash::{BuildHasher, BuildHasherDefault, FoldHasher, Hash};
 
-/// A hashed index and the builder that numbers its keys.
+/// A hashed index and the hash builder that hashes its keys.
 #[derive(Drop)]
 pub struct HashIndex<B> {
     hashed: Hashed,
@@ -24,7 +24,7 @@ pub struct HashIndex<B> {
 }
 
 impl<B> HashIndex<B> {
-    /// An index that lists no place, with this builder. It takes no memory.
+    /// Returns an index that lists no place and has this hash builder. Never allocates.
     pub fn new(alloc: Global, builder: B) -> Self
         ensures hashed { result.hashed ≡ [] }
         ensures builder { result.builder ≡ builder }
@@ -37,7 +37,7 @@ impl<B> HashIndex<B> {
 }
 
 impl<B: BuildHasher> HashIndex<B> {
-    // The place whose key the query asks for. It counts nothing.
+    // Returns the place whose key the look-up asks for, if there is one. Counts nothing on the meter.
     #[inline(always)]
     pub(crate) fn find_hashed<K: Eq + Hash, S: Side<K>, Q: HashQuery<K>, M: Meter>(
         &self,
@@ -54,7 +54,8 @@ impl<B: BuildHasher> HashIndex<B> {
         self.hashed.find(&ByHash::new(side, &self.builder), query)
     }
 
-    // Takes the place whose key the query asks for off the list, and answers it. It counts nothing.
+    // Removes the place whose key the look-up asks for from the list and returns it, if there is one. Counts nothing on
+    // the meter.
     #[inline(always)]
     pub(crate) fn unlink_hashed<K: Eq + Hash, S: Side<K>, Q: HashQuery<K>, M: Meter>(
         &mut self,
@@ -81,7 +82,7 @@ impl<B: BuildHasher> HashIndex<B> {
 impl<K: Eq + Hash, B: BuildHasher> Index<K> for HashIndex<B> {
     type Spot = u32;
 
-    // A search along a chain goes to its end at once.
+    // The search along a chain has no steps: `finish` does all of it.
     type Search = ();
 
     ghost is_listing = { λ h. ListsByHash K.eq

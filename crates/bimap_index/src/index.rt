@@ -1,4 +1,4 @@
-//! What a bimap asks of an index of one side. It knows neither order nor hash.
+//! What a map requires of an index of one side. This module knows neither order nor hash.
 ghost use Rattle.std.specs.Prelude.{◌≡◌, ◌≢◌, ◌↔◌, List, [], ◌∷◌, ◌++◌, length, ◌+◌, ◌*◌, ◌≤◌, ◌<◌, ℕ, Option, None, Some, true, IsOk, IsSome, IfSome, IfNone, OnOk, OnErr};
 ghost use Rattle.std.specs.List.{AllPairs, Contains};
 ghost use Rattle.std.specs.declared.cmp.Ordering.{Ordering};
@@ -10,54 +10,56 @@ use bimap_base::{Meter, NoMemory, Side};
 
 /// The places of a side, found by their keys. No two listed places have equal keys.
 ///
-/// The side is passed to each call that looks at keys, and must be that by which the places are listed. `effort` and
-/// the meter bound the work of an index that compares: one that hashes counts nothing, and its calls take expected
-/// constant time where the hashes spread.
+/// The side is passed to each call that looks at keys. It must be the side by which the places are listed.
+///
+/// `effort` and the meter bound the work of an index that compares keys. An index that hashes keys counts nothing. Its
+/// calls take expected constant time if the hash numbers are well distributed.
 pub trait Index<K: Eq> {
-    /// What a search for a key leaves for a later link.
+    /// What a search for a key leaves for linking a place later.
     type Spot: Drop;
 
-    /// How far a search has come that goes on by steps.
+    /// How far a search that goes on by steps has come.
     type Search: Copy;
 
-    /// The index lists exactly the places that have a key, and no two keys are equal.
+    /// The index lists exactly the places that have a key. No two of these keys are equal.
     ghost is_listing: { Self → (ℕ → Option K) → Type 0 };
 
-    /// The spot is where a place with this key would be linked, until the index changes.
+    /// The spot is where a place with this key would be linked. This is true until a place is linked or unlinked.
     ghost leads: { Self → (ℕ → Option K) → K → Self.Spot → Type 0 };
 
-    /// The spot is of this key. It stays so when the index changes.
+    /// The spot belongs to this key. This stays true when places are unlinked or cells are added.
     ghost is_for: { Self → K → Self.Spot → Type 0 };
 
-    /// The search of this key has come so far, and its spot is written with it.
+    /// The search for this key has come so far, and the spot contains what it noted.
     ghost under_way: { Self → (ℕ → Option K) → K → Self.Search → Self.Spot → Type 0 };
 
-    /// How many comparisons the search may still take.
+    /// The number of comparisons that the search may still take.
     ghost ahead: { Self → Self.Search → ℕ };
 
-    /// The places listed, each once, in the order of a walk.
+    /// The listed places, each once, in the order of iteration.
     ghost places: { Self → List ℕ };
 
-    /// By this the keys of a walk ascend: each is `Less` than a later one. Where a walk has no order, any two are.
+    /// The order by which keys ascend during iteration: each key is `Less` than every later one. If iteration has no
+    /// key order, any two keys are `Less`.
     ghost walk_order: { Self → K → K → Ordering };
 
-    /// A walk goes by the order in which the places were linked.
+    /// Iteration follows the order in which the places were linked.
     ghost appends: { Type 0 };
 
-    /// How many places may be listed.
+    /// The number of places that have a cell. Only places below it can be listed.
     ghost cells: { Self → ℕ };
 
-    /// How many comparisons a search may take, by the number of places listed.
+    /// The number of comparisons that one search may take, given the number of listed places.
     ghost effort: { ℕ → ℕ };
 
-    /// A spot of no key, for `step` and `finish` to write.
+    /// Returns a spot of no key. `step` and `finish` write it.
     fn spot(&self) -> Self::Spot;
 
-    /// A spot of a key, for `relink`. It searches nothing.
+    /// Returns a spot of this key for `relink`. It does not search.
     fn spot_for(&self, key: &K) -> Self::Spot
         ensures { is_for self.now key.now result };
 
-    /// The place with an equal key.
+    /// Returns the place with an equal key, if there is one.
     fn find<S: Side<K>, M: Meter>(&self, side: S, key: &K, meter: &mut M) -> Option<usize>
         requires listing { is_listing self.now (S.key_at side) }
         ensures found { IsFoundBy (S.key_at side) K.eq key.now result }
@@ -66,15 +68,17 @@ pub trait Index<K: Eq> {
         ensures touches { M.touches meter.new ≤ M.touches meter.old
             + effort (length (places self.now)) };
 
-    /// A search that has not begun, for `step` and `finish`. It looks at no key.
+    /// Returns a search that has not begun, for `step` and `finish`. It looks at no key.
     fn start(&self) -> Self::Search
         ensures under_way { (f : ℕ → Option K) (key : K) (spot : Self.Spot) →
             is_listing self.now f → under_way self.now f key result spot }
         ensures ahead { ahead self.now result ≤ effort (length (places self.now)) };
 
-    /// Goes a step on, unless the search is at its end or has no step before it. Answers whether it went.
+    /// Takes the search one step further and returns `true`. Returns `false` if the search is at its end, or if the
+    /// index takes no single steps.
     ///
-    /// Two searches that go on in turn wait for memory together.
+    /// A caller can alternate the steps of two searches. The processor then waits for the memory of both at the same
+    /// time.
     fn step<S: Side<K>, M: Meter>(
         &self,
         side: S,
@@ -95,7 +99,7 @@ pub trait Index<K: Eq> {
         false
     }
 
-    /// Goes on to the end: the place with an equal key, and a spot for the key.
+    /// Takes the search to its end and returns the place with an equal key, if there is one. Writes a spot for the key.
     fn finish<S: Side<K>, M: Meter>(
         &self,
         side: S,
@@ -113,7 +117,7 @@ pub trait Index<K: Eq> {
             + ahead self.now search }
         ensures touches { M.touches meter.new ≤ M.touches meter.old + ahead self.now search };
 
-    /// Whether the key of a place is equal. It searches nothing.
+    /// Returns whether the key of this place equals `key`. It does not search.
     fn is_known<S: Side<K>, M: Meter>(&self, side: S, place: usize, key: &K, meter: &mut M) -> bool
         requires listing { is_listing self.now (S.key_at side) }
         requires live { IsSome (S.key_at side place) }
@@ -123,7 +127,7 @@ pub trait Index<K: Eq> {
             + effort (length (places self.now)) }
         ensures touches { M.touches meter.new ≡ M.touches meter.old };
 
-    /// Lists a place at the spot of its key, with no comparison. It takes no memory.
+    /// Lists a place at the spot of its key, without a comparison. Never allocates.
     fn link<S: Side<K>, M: Meter>(
         &mut self,
         side: S,
@@ -141,7 +145,7 @@ pub trait Index<K: Eq> {
         ensures touches { M.touches meter.new ≤ M.touches meter.old
             + 64 * (effort (length (places self.old)) + 1) };
 
-    /// Lists a place, by a spot of its key that may be older than the last change of the index. It takes no memory.
+    /// Lists a place by a spot of its key. The index may have changed since the spot was made. Never allocates.
     fn relink<S: Side<K>, M: Meter>(
         &mut self,
         side: S,
@@ -160,7 +164,7 @@ pub trait Index<K: Eq> {
         ensures touches { M.touches meter.new ≤ M.touches meter.old
             + 64 * (effort (length (places self.old)) + 1) };
 
-    /// Takes a place off the list. It takes no memory.
+    /// Removes a place from the list. Never allocates.
     fn unlink<S: Side<K>, M: Meter>(&mut self, side: S, place: usize, meter: &mut M)
         requires listing { is_listing self.old (S.key_at side) }
         requires live { IsSome (S.key_at side place) }
@@ -176,7 +180,7 @@ pub trait Index<K: Eq> {
         ensures touches { M.touches meter.new ≤ M.touches meter.old
             + 64 * (effort (length (places self.old)) + 1) };
 
-    /// Takes the place with an equal key off the list, and answers it. Where there is none, nothing changes.
+    /// Removes the place with an equal key from the list and returns it. If there is none, nothing changes.
     fn unlink_key<S: Side<K>, M: Meter>(&mut self, side: S, key: &K, meter: &mut M) -> Option<usize>
         requires listing { is_listing self.old (S.key_at side) }
         ensures found { IsFoundBy (S.key_at side) K.eq key.now result }
@@ -191,7 +195,8 @@ pub trait Index<K: Eq> {
         ensures touches { M.touches meter.new ≤ M.touches meter.old
             + 64 * (effort (length (places self.old)) + 1) };
 
-    /// Makes cells for each place below `to`. It takes memory only where some are missing, and a refusal changes nothing.
+    /// Makes a cell for each place below `to`. It allocates only if some of these cells are missing. If it runs out of
+    /// memory, nothing changes.
     fn grow(&mut self, to: usize) -> Result<(), NoMemory>
         ensures listing { (f : ℕ → Option K) → is_listing self.old f → is_listing self.new f }
         ensures leads { (f : ℕ → Option K) (key : K) (spot : Self.Spot) →
@@ -204,7 +209,7 @@ pub trait Index<K: Eq> {
         ensures enough { to ≤ cells self.old → IsOk result }
         ensures err { OnErr result (self.new ≡ self.old) };
 
-    /// Lists no place any more. The cells stay.
+    /// Removes all places from the list. The cells stay.
     fn clear(&mut self)
         ensures listing { is_listing self.new (λ _. None) }
         ensures cells { cells self.new ≡ cells self.old };
@@ -213,20 +218,20 @@ pub trait Index<K: Eq> {
     ghost listed: { (index : Self) (f : ℕ → Option K) → is_listing index f → (p : ℕ) →
         Contains (places index) p ↔ IsSome (f p) };
 
-    /// None is listed twice.
+    /// No place is listed twice.
     ghost distinct: { (index : Self) (f : ℕ → Option K) → is_listing index f →
         AllPairs (λ a b. a ≢ b) (places index) };
 
-    /// Their keys ascend by the order of a walk.
+    /// The keys of the listed places ascend by `walk_order`.
     ghost in_order: { (index : Self) (f : ℕ → Option K) → is_listing index f →
         AllPairs (λ a b. (k l : K) → f a ≡ Some k → f b ≡ Some l → walk_order index k l ≡ Less)
         (places index) };
 
-    /// The keys may be others that are equal.
+    /// The places stay listed if their keys are exchanged for equal ones.
     ghost respects: { (index : Self) (f g : ℕ → Option K) → ((p : ℕ) → IsAlike K.eq (f p) (g p)) →
         is_listing index f → is_listing index g };
 
-    /// That an index lists a side has one proof.
+    /// There is at most one proof that an index lists a side.
     ghost settled: { (index : Self) (f : ℕ → Option K) → ∥ is_listing index f ∥₁ →
         is_listing index f };
 }

@@ -1,4 +1,5 @@
-//! An index that is walked in the order in which its places were listed. It knows places, and an index that finds them.
+//! An index that iterates in the order in which its places were listed. It consists of a list of places and another
+//! index, which finds them.
 ghost use Rattle.std.specs.Prelude.{◌≡◌, ◌≢◌, ◌≤◌, ◌+◌, ◌*◌, ⊤, ℕ, Option, min, length, refl, IfSome, IfNone};
 ghost use Rattle.std.specs.List.{AllPairs};
 ghost use Rattle.std.specs.declared.cmp.Ordering.TheVariants.{Less};
@@ -15,9 +16,10 @@ use bimap_base::{Meter, NoMemory, Query, Side};
 use bimap_list::LinkedList;
 use std::alloc::Global;
 
-/// An index of any kind, with its places in the order in which they were listed, in eight bytes more a place.
+/// An index of any kind, together with its places in the order in which they were listed. The list takes eight more
+/// bytes for each place, or sixteen if there are 2^32 places or more.
 ///
-/// A place that is linked comes last, one that is relinked too.
+/// A place that is linked goes to the end of the list. So does a place that is relinked.
 #[derive(Drop)]
 pub struct InsertionOrder<I> {
     index: I,
@@ -25,14 +27,14 @@ pub struct InsertionOrder<I> {
 }
 
 impl<I> InsertionOrder<I> {
-    /// Returns the places in the order in which they were listed.
+    /// Returns the list of places, in the order in which they were listed.
     pub fn list(&self) -> &LinkedList
         ensures { result.now ≡ self.now.list }
     {
         &self.list
     }
 
-    /// Returns the places in the order in which they were listed, without the index.
+    /// Returns the list of places, in the order in which they were listed, and drops the index.
     pub fn into_list(self) -> LinkedList
     where
         I: Drop,
@@ -47,7 +49,7 @@ impl<I> InsertionOrder<I> {
 }
 
 impl<I> InsertionOrder<I> {
-    // The place whose key the query asks for.
+    // Returns the place whose key the look-up asks for, if there is one.
     pub(crate) fn find_listed<K: Eq, S: Side<K>, Q: Query<K>, M: Meter>(
         &self,
         side: S,
@@ -67,7 +69,7 @@ impl<I> InsertionOrder<I> {
         self.index.find_by(side, query, meter)
     }
 
-    // Takes the place whose key the query asks for off the list, and answers it.
+    // Removes the place whose key the look-up asks for from the list and returns it, if there is one.
     pub(crate) fn unlink_listed<K: Eq, S: Side<K>, Q: Query<K>, M: Meter>(
         &mut self,
         side: S,
@@ -101,7 +103,7 @@ impl<I> InsertionOrder<I> {
 impl<K: Eq, I: Index<K>> Index<K> for InsertionOrder<I> {
     type Spot = I::Spot;
 
-    // A search goes to its end at once.
+    // The search has no steps: `finish` does all of it.
     type Search = ();
 
     ghost is_listing = { λ o. ListsByInsertion I.is_listing o.index o.list.places };

@@ -1,7 +1,7 @@
-//! What a bimap asks of an index of one side, and the two kinds of index: by order and by hash.
+//! What a map requires of an index of one side, and the three indexes: by order, by hash and by insertion order.
 //!
-//! An index lists places of a store by their keys. It is passed the side, by which it compares or numbers them, and keeps
-//! no key.
+//! An index lists places of a store by their keys. Each call that needs a key is passed the side. The index compares or
+//! hashes the keys through the side, and keeps no key itself.
 #![tactic(auto)]
 
 mod borrowed;

@@ -1,4 +1,4 @@
-//! Look-ups by a query, in an index of any kind.
+//! Look-ups by a `Query`: a reference to a key, or a borrowed form of one.
 ghost use Rattle.std.specs.Prelude.{◌≡◌, ◌+◌, ◌*◌, ◌≤◌, ℕ, Option, length, IfSome, IfNone};
 ghost use Rattle.bimap_index.specs.Listed.{IsFoundBy, IsWithout};
 ghost use Rattle.bimap_base.specs.Positions.{IsTakenOut};
@@ -6,9 +6,10 @@ ghost use Rattle.bimap_base.specs.Positions.{IsTakenOut};
 use crate::index::Index;
 use bimap_base::{Meter, Query, Side};
 
-/// An index that is asked for a key by such a query. Any is by a key.
+/// An index in which a key can be looked up by this type of `Query`. Every index can be searched by a reference to a
+/// key.
 pub trait Lookup<K: Eq, Q: Query<K>>: Index<K> {
-    /// The place whose key the query asks for.
+    /// Returns the place whose key the look-up asks for, if there is one.
     fn find_by<S: Side<K>, M: Meter>(&self, side: S, query: Q, meter: &mut M) -> Option<usize>
         requires listing { Self.is_listing self.now (S.key_at side) }
         ensures found { IsFoundBy (S.key_at side) Q.same query result }
@@ -17,7 +18,8 @@ pub trait Lookup<K: Eq, Q: Query<K>>: Index<K> {
         ensures touches { M.touches meter.new ≤ M.touches meter.old
             + Self.effort (length (Self.places self.now)) };
 
-    /// Takes the place whose key the query asks for off the list, and answers it. Where there is none, nothing changes.
+    /// Removes the place whose key the look-up asks for from the list and returns it. If there is none, nothing
+    /// changes.
     fn unlink_by<S: Side<K>, M: Meter>(&mut self, side: S, query: Q, meter: &mut M) -> Option<usize>
         requires listing { Self.is_listing self.old (S.key_at side) }
         ensures found { IsFoundBy (S.key_at side) Q.same query result }

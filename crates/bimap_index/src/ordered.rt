@@ -1,4 +1,4 @@
-//! The ordered index as an index of a side. It knows places and routes, and no node.
+//! The ordered index as an index of a side. This module knows places and routes, and not the nodes.
 ghost use Rattle.std.specs.Prelude.{◌≡◌, ◌+◌, ◌*◌, ◌≤◌, ⊤, ℕ, Option, [], Some, length, IfSome, IfNone};
 ghost use Rattle.bimap_base.specs.Digits.{most_height};
 ghost use Rattle.bimap_base.specs.Keyed.{standing};
@@ -15,7 +15,7 @@ use bimap_tree::{Descent, Ordered, Route};
 use std::alloc::Global;
 use std::cmp::Ordering;
 
-// The place whose key the query asks for.
+// Returns the place whose key the look-up asks for, if there is one.
 pub(crate) fn find_in_order<K: Ord, S: Side<K>, Q: OrderQuery<K>, M: Meter>(
     index: &Ordered,
     side: S,
@@ -32,7 +32,7 @@ pub(crate) fn find_in_order<K: Ord, S: Side<K>, Q: OrderQuery<K>, M: Meter>(
     index.find(&ByOrder::new(side), query, meter)
 }
 
-// Takes the place whose key the query asks for off the list, and answers it.
+// Removes the place whose key the look-up asks for from the list and returns it, if there is one.
 pub(crate) fn unlink_in_order<K: Ord, S: Side<K>, Q: OrderQuery<K>, M: Meter>(
     index: &mut Ordered,
     side: S,

@@ -1,4 +1,4 @@
--- A copy that is made along a walk.
+-- A copy that is made during an iteration.
 use Rattle.std.proofs.Common.{◌≡◌, List, [], ◌∷◌, ◌++◌, sym, ap, subst, ◌∙◌, append-nil, append_assoc}
 use Rattle.std.specs.List.{AllZip}
 use Rattle.std.proofs.lemmas.List.Elements.{AllZip-push}
@@ -8,7 +8,7 @@ module _ {L R : Type 0} (is_clone_left : L → L → Type 0) (is_clone_right : R
   abbrev IsClone : L × R → L × R → Type 0
   IsClone = IsPairClone is_clone_left is_clone_right
 
-  -- a walk goes over a clone of each pair but the rest, in their order
+  -- The copy iterates over a clone of each pair except the rest, in their order.
   pub record IsClonedAlong (old rest walk : List (L × R)) : Type 0 where
     pub before : List (L × R)
     pub split : old ≡ before ++ rest

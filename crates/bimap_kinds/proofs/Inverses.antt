@@ -1,4 +1,4 @@
--- A bimap turned round, beside what it holds.
+-- A map with its sides exchanged, and the pairs that it contains.
 use mathlib.Core.HLevel.{is_prop→PathP}
 use Rattle.std.proofs.Common.{◌≡◌, ◌≤◌, ◌∙◌, length, map, sym, ap, subst, Contains}
 use Rattle.std.specs.List.{AllPairs}
@@ -17,7 +17,7 @@ use Rattle.bimap_kinds.specs.HeldTable.{held, held_by_right}
 use Rattle.bimap_kinds.specs.declared.map.BijectiveMap.{BijectiveMap}
 
 module _ {L R I J LeftSpot LeftSearch RightSpot RightSearch : Type 0} {left_eq : _} {right_eq : _} {left : _} {right : _} where
-  -- a table whose store has the sides of its pairs exchanged, and the indexes too
+  -- A table whose pairs have their sides exchanged. Its indexes are exchanged too.
   module _ (table : Table L R I J LeftSpot LeftSearch RightSpot RightSearch left_eq right_eq left right) (turned : Table R L J I RightSpot RightSearch LeftSpot LeftSearch right_eq left_eq right left)
       (pairs : turned.pairs ≡ map (option_map inverse_pair) table.pairs) where
     pub walked_by_left : turned.left ≡ table.right → (held turned).pairs ≡ map inverse_pair (held_by_right table)
@@ -43,7 +43,7 @@ module _ {L R I J LeftSpot LeftSearch RightSpot RightSearch : Type 0} {left_eq :
           room = ap length pairs ∙ length-map slots (option_map inverse_pair);
         }
 
-  -- a bimap is its table
+  -- Two maps with the same table are equal.
   pub same_map : (b c : BijectiveMap L R I J LeftSpot LeftSearch RightSpot RightSearch left_eq right_eq left right) → b.table ≡ c.table → b ≡ c
   same_map b c e = λ i. record {
     table = e i;

@@ -1,4 +1,4 @@
--- The last element of a list, taken out.
+-- A list whose last element is removed.
 use Rattle.std.proofs.Common.{◌≡◌, ℕ, ◌<◌, ◌-◌, zero, ◌∙◌, List, [], ◌∷◌, ◌++◌, length, take, drop, suc, slice_get, Option, Some, None, refl, sym, ap, arith, drop-cons}
 use Rattle.std.specs.Map.Iter.{TakesLast}
 use Rattle.std.proofs.lemmas.List.{take-append-drop, drop_all, append-nil}

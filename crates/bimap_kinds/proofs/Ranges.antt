@@ -39,6 +39,6 @@ module _ {K Q : Type 0} (order : K → K → Ordering) (total : IsTotalOrder ord
   past_end (Excluded q) k = at_or_after (key q) k
   past_end Unbounded k = refl
 
-  -- between references to keys there lies what is between the keys
+  -- A range between references to keys contains what the range between the keys contains.
   pub between_keys : (start end : Bound Q) (low high : Bound K) → bound_map key start ≡ low → bound_map key end ≡ high → is_between (λ k q. order k (key q)) start end ≡ range_contains order low high
   between_keys start end low high s e = λ i k. (from_start start k ∙ ap (λ b. is_from_start order b k) s) i && not ((past_end end k ∙ ap (λ b. is_past_end order b k) e) i)

@@ -1,4 +1,5 @@
--- The walk of a table by an index of it, and what is said of the pairs that it gives. Once for both sides: `key` is the side.
+-- Iteration over a table by one of its indexes, and what is true of the pairs that it shows.
+-- The argument `key` is the side, so each lemma serves both sides.
 use Rattle.std.proofs.Common.{◌≡◌, ◌≢◌, ◌↔◌, ◌≤◌, ◌+◌, ◌∙◌, ℕ, Bool, true, false, true≢false, List, [], ◌∷◌, ◌++◌, length, Option, Some, None, IsSome, refl, sym, ap, subst, arith, get_or, Contains, append_assoc}
 use Rattle.std.specs.Prelude.{Result, Ok, Err, OnOk, OnErr, max, min}
 use denote.Param.Members.{Mut}
@@ -35,7 +36,7 @@ use Rattle.bimap_core.specs.declared.table.Table.{Table}
 use Rattle.bimap_kinds.specs.HeldTable.{held, held_by_right}
 use Rattle.bimap_kinds.specs.Sorted.{IsByRight}
 
--- the holding of a store whose pairs are walked by these places
+-- The holding of a store, where iteration visits these places in this order.
 abbrev pub walked_by : {L R : Type 0} → List (Option (L × R)) → List ℕ → Holding L R
 walked_by slots places = record { pairs = pairs_at slots places; room = length slots }
 
@@ -43,18 +44,18 @@ module _ {L R : Type 0} (slots : List (Option (L × R))) (places : List ℕ) (wa
   pub alike : AreAlike (holding_of slots) (walked_by slots places)
   alike = record { members = walked slots places walk; long = long_walked slots places walk; room = refl }
 
-  -- an index lists as many places as a walk gives pairs
+  -- An index lists as many places as iteration shows pairs.
   pub as_many : (places' : List ℕ) → IsWalk slots places' → length places' ≡ length (pairs_at slots places)
   as_many places' walk' = listed_long slots places' walk' ∙ sym (long_walked slots places walk)
 
-  -- each listed place has a pair
+  -- Each listed place has a pair.
   pub all_live : All (IsLive slots) places
   all_live k d inside = (walk.live (get_or places k d)).0 (k, inside, get_or_default places k (get_or places k d) d inside)
 
   pub ordered : (order : L → L → Ordering) → AllPairs (λ a b. (k l : L) → left_at slots a ≡ Some k → left_at slots b ≡ Some l → order k l ≡ Less) places → AllPairs (λ p q. order p.0 q.0 ≡ Less) (pairs_at slots places)
   ordered order all = pairs_walked slots places walk (λ a b. (k l : L) → left_at slots a ≡ Some k → left_at slots b ≡ Some l → order k l ≡ Less) (λ p q. order p.0 q.0 ≡ Less) (λ a b p q s i j. s p.0 q.0 (ap (option_map (λ x. x.0)) i) (ap (option_map (λ x. x.0)) j)) all
 
-  -- the pairs of a store without the one are those of a walk without it
+  -- If a pair is removed from the store, it is removed from the pairs of an iteration.
   pub removing_walked : (slots' : List (Option (L × R))) (places' : List ℕ) → IsWalk slots' places' → (p : L × R) → IsWithoutPair (pairs_in slots) p (pairs_in slots') → IsWithoutPair (pairs_at slots places) p (pairs_at slots' places')
   removing_walked slots' places' walk' p h =
       record {
@@ -62,7 +63,7 @@ module _ {L R : Type 0} (slots : List (Option (L × R))) (places : List ℕ) (wa
         without = λ q. let v = walked slots places walk q in let w = walked slots' places' walk' q in (λ c. let o = (h.without q).0 (w.1 c) in (v.0 o.0, o.1), λ o. w.0 ((h.without q).1 (v.1 o.0, o.1)));
       }
 
-  -- a reservation and a shrink are the same of the pairs in the order of a walk, which stays
+  -- A reservation or a shrink of the store is one of the pairs in the order of iteration, if that order stays.
   module _ (slots' : List (Option (L × R))) (places' : List ℕ) (same : pairs_at slots' places' ≡ pairs_at slots places) where
     same_but_room : (holding_of slots' ≡ holding_of slots) → walked_by slots' places' ≡ walked_by slots places
     same_but_room e i = record { pairs = same i; room = (e i).room }
@@ -87,7 +88,7 @@ module _ {L R : Type 0} (slots : List (Option (L × R))) (places : List ℕ) (wa
           unchanged = on_err_weaker r same_but_room h.unchanged;
         }
 
-  -- where the store has no pair, a walk gives none
+  -- If the store has no pair, iteration shows none.
   pub none_walked : pairs_in slots ≡ [] → pairs_at slots places ≡ []
   none_walked none = by (pairs_at slots places) (long_walked slots places walk ∙ ap length none)
     where
@@ -95,7 +96,7 @@ module _ {L R : Type 0} (slots : List (Option (L × R))) (places : List ℕ) (wa
       by [] e = refl
       by (x ∷ xs) e = absurd (omega (arith, e))
 
--- what `retain` leaves, in the order of a walk
+-- What `retain` leaves, in the order of iteration.
 module _ {F L R : Type 0} (g : Mut F (Bor L × (Bor R × Unit {0})) Bool) {same_left : L → L → Bool} {same_right : R → R → Bool} (equal_left : IsEquivalence same_left) (equal_right : IsEquivalence same_right)
     (slots : List (Option (L × R))) (places : List ℕ) (walk : IsWalk slots places) (apart : IsApart same_left same_right (pairs_in slots)) where
   pub may_test_walked : (f : F) → MayTest g f (pairs_at slots places) → MayTestInOrder g f (pairs_in slots)
@@ -116,7 +117,7 @@ module _ {F L R : Type 0} (g : Mut F (Bor L × (Bor R × Unit {0})) Bool) {same_
         room = room;
       }
 
--- what `for_each` visits, in the order of a walk
+-- What `for_each` visits, in the order of iteration.
 module _ {F L R : Type 0} (g : Mut F (Bor L × (Bor R × Unit {0})) (Unit {0})) {same_left : L → L → Bool} {same_right : R → R → Bool} (equal_left : IsEquivalence same_left) (equal_right : IsEquivalence same_right)
     (slots : List (Option (L × R))) (places : List ℕ) (walk : IsWalk slots places) (apart : IsApart same_left same_right (pairs_in slots)) where
   pub may_visit_walked : (f : F) → MayVisit g f (pairs_at slots places) → MayVisit g f (pairs_in slots)
@@ -132,7 +133,7 @@ module _ {F L R : Type 0} (g : Mut F (Bor L × (Bor R × Unit {0})) (Unit {0})) 
         calls = h.calls;
       }
 
--- what a bimap says of what its table holds
+-- The invariants of a map, expressed by the pairs that its table contains.
 abbrev pub AreFacts : {L R : Type 0} → (L → L → Bool) → (R → R → Bool) → (L → L → Ordering) → Holding L R → List ℕ → List ℕ → Type 0
 AreFacts same_left same_right order holding places places' = record {
   apart : IsApart same_left same_right holding.pairs;
@@ -142,7 +143,7 @@ AreFacts same_left same_right order holding places places' = record {
   rights : length places' ≡ length holding.pairs;
 }
 
--- it has a walk by either index, of which that by the left ascends
+-- The pairs of an iteration by left satisfy these invariants.
 pub facts_walked : {L R : Type 0} {same_left : L → L → Bool} {same_right : R → R → Bool} → IsEquivalence same_left → IsEquivalence same_right → (order : L → L → Ordering) (slots : List (Option (L × R))) (places : List ℕ) → IsWalk slots places → AllPairs (λ p q. order p.0 q.0 ≡ Less) (pairs_at slots places) → (places' : List ℕ) → IsWalk slots places' → IsApart same_left same_right (pairs_in slots) → AreFacts same_left same_right order (walked_by slots places) places places'
 facts_walked lefts rights order slots places walk ascending places' walk' apart = record {
   apart = walk_apart lefts rights slots places walk apart;
@@ -153,7 +154,7 @@ facts_walked lefts rights order slots places walk ascending places' walk' apart 
 }
 
 module _ {L R I J LeftSpot LeftSearch RightSpot RightSearch : Type 0} {left_eq : _} {right_eq : _} {left : _} {right : _} (table : Table L R I J LeftSpot LeftSearch RightSpot RightSearch left_eq right_eq left right) where
-  -- by the laws of the left index
+  -- The same statements, given the laws of the left index.
   module _ (listed : (index : I) (f : ℕ → Option L) → left.is_listing index f → (p : ℕ) → Contains (left.places index) p ↔ IsSome (f p)) (distinct : (index : I) (f : ℕ → Option L) → left.is_listing index f → AllPairs (λ a b. a ≢ b) (left.places index)) (settled : (index : I) (f : ℕ → Option L) → ∥ left.is_listing index f ∥₁ → left.is_listing index f) where
     pub left_walk : IsWalk table.pairs (left.places table.left)
     left_walk = the_walk (λ p. p.0) left.is_listing left.places listed distinct settled table.pairs table.left table.left_listing
@@ -168,11 +169,11 @@ module _ {L R I J LeftSpot LeftSearch RightSpot RightSearch : Type 0} {left_eq :
         facts_walked lefts rights (left.walk_order table.left) table.pairs (left.places table.left) left_walk
         (ordered table.pairs (left.places table.left) left_walk (left.walk_order table.left) (in_order table.left _ (settled table.left _ table.left_listing))) places' walk' table.apart
 
-  -- by those of the right one
+  -- The same statement, given the laws of the right index.
   pub right_walk : ((index : J) (f : ℕ → Option R) → right.is_listing index f → (p : ℕ) → Contains (right.places index) p ↔ IsSome (f p)) → ((index : J) (f : ℕ → Option R) → right.is_listing index f → AllPairs (λ a b. a ≢ b) (right.places index)) → ((index : J) (f : ℕ → Option R) → ∥ right.is_listing index f ∥₁ → right.is_listing index f) → IsWalk table.pairs (right.places table.right)
   right_walk listed distinct settled = the_walk (λ p. p.1) right.is_listing right.places listed distinct settled table.pairs table.right table.right_listing
 
-  -- the walk by an ordered right
+  -- Iteration by an ordered right shows the same pairs in ascending order of their rights.
   pub sorted_walk : {order : R → R → Ordering} {same : R → R → Bool} → IsTotalOrder order → ((x y : R) → same x y ≡ eq_by_cmp order x y) → IsWalk table.pairs (left.places table.left) → ∥ ListsByOrder order (right.places table.right) (right_at table.pairs) ∥₁ → IsByRight order (held table).pairs (held_by_right table)
   unfolding held held_by_right
   sorted_walk {order} {same} total agrees walk h =
@@ -184,7 +185,7 @@ module _ {L R I J LeftSpot LeftSearch RightSpot RightSearch : Type 0} {left_eq :
         count = long_walked slots _ walk' ∙ sym (long_walked slots _ walk);
       }
 
-  -- where the store and the listed places are the same, so is what is held
+  -- If the store and the listed places are the same, so are the contained pairs.
   module _ (after : Table L R I J LeftSpot LeftSearch RightSpot RightSearch left_eq right_eq left right) where
     pub held_same : after.pairs ≡ table.pairs → left.places after.left ≡ left.places table.left → held after ≡ held table
     unfolding held
@@ -194,12 +195,12 @@ module _ {L R I J LeftSpot LeftSearch RightSpot RightSearch : Type 0} {left_eq :
     held_unchanged (Ok x) e f = tt
     held_unchanged (Err x) e f = held_same e f
 
--- a list to which the items were pushed in turn
+-- A list to which all items were pushed, one after another.
 pub pushed : {V X : Type 0} (v : V) (items : V → List X) (xs : List X) (w : V) → FoldsTo (λ a x b. items b ≡ items a ++ x ∷ []) v xs w → items w ≡ items v ++ xs
 pushed v items [] w h = ap items (sym h) ∙ sym (append-nil (items v))
 pushed v items (x ∷ xs) w h = pushed h.0 items xs w h.2 ∙ ap (λ z. z ++ xs) h.1 ∙ append_assoc (items v) (x ∷ []) xs
 
--- where each answer is true, all were answered true
+-- If the closure always returns `true`, it returned `true` on all pairs.
 module _ {F L R : Type 0} (g : Mut F (Bor L × (Bor R × Unit {0})) Bool) (yes : (f : F) (p : L × R) (b : Bool) (f' : F) → TestedAt g f p b f' → b ≡ true) where
   pub all_true : (f : F) (ps : List (L × R)) (bs : List Bool) (last : F) → TestsInOrder g f ps bs last → answered_true g ps bs ≡ ps
   all_true f [] bs last h = refl

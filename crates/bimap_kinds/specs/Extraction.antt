@@ -1,4 +1,4 @@
--- What `extract_into` leaves, by a closure that may have a state.
+-- What `extract_into` leaves. The closure may have a state.
 use Rattle.std.specs.Prelude.{◌≡◌, ◌++◌, Bool, List}
 use denote.Param.Members.{Mut}
 use denote.Ref.{Bor}
@@ -6,8 +6,9 @@ use Rattle.bimap_base.specs.Holding.{Holding}
 use Rattle.bimap_base.specs.Kept.{TestsInOrder, answered_true}
 pub use Rattle.bimap_core.specs.Partition.{answered_false}
 
--- f was called once at each pair held, in their order. Those answered true went to the end of the list, in that order, and
--- those answered false are left
+-- The closure was called once on each contained pair, in their order.
+-- The pairs on which it returned `true` went to the end of the list, in that order.
+-- The pairs on which it returned `false` are left.
 pub record IsExtraction {F L R : Type 0} (g : Mut F (Bor L × (Bor R × Unit {0})) Bool) (old : Holding L R) (f : F) (items : List (L × R)) (new : Holding L R) (items' : List (L × R)) : Type 0 where
   pub answers : List Bool
   pub last : F

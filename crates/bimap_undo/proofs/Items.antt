@@ -1,4 +1,4 @@
--- What is held after items were put in under a policy, in plain facts.
+-- What a map contains after items were inserted under a policy, as plain facts.
 use Rattle.std.proofs.Common.{◌≡◌, ◌↔◌, ◌⊎◌, ◌∙◌, Bool, true, false, List, [], ◌∷◌, ◌++◌, get_or, inl, inr, refl, sym, ap, subst, arith, true≢false, append_assoc, append-nil, length-append}
 use Rattle.std.specs.Prelude.{Contains}
 use Rattle.std.specs.Cmp.{IsEquivalence}
@@ -19,7 +19,7 @@ use Rattle.bimap.proofs.Survivors.{Survives_none, items_push}
 use Rattle.bimap_undo.specs.AllOrNone.{AreHeldAfter}
 
 module _ {X : Type 0} (test : X → Bool) where
-  -- the last element that passes the test
+  -- The last element that passes the test.
   record Last (xs : List X) : Type 0 where
     before : List X
     at : X
@@ -44,12 +44,12 @@ module _ {L R : Type 0} (same_left : L → L → Bool) (same_right : R → R →
   abbrev After : (L × R → Type 0) → List (L × R) → L × R → Type 0
   After S items p = Survives PutsItself (TouchesSharing same_left same_right) S items p
 
-  -- what is held one item on
+  -- What is contained after one more item.
   after_push : (S : L × R → Type 0) (before : List (L × R)) (x p : L × R) → ((p ≡ x) ⊎ (After S before p × (shares same_left same_right p x ≡ false))) ↔ After S (before ++ x ∷ []) p
   after_push S before x p =
       items_push same_left same_right S (After S before) (λ q. (q ≡ x) ⊎ (After S before q × (shares same_left same_right q x ≡ false))) before x (λ q. (λ s. s, λ s. s)) (λ q. (λ s. s, λ s. s)) p
 
-  -- what holds of no items, and of one more that was let in, holds of all
+  -- What is true of no items, and stays true after each allowed item, is true of all items.
   along : (S : L × R → Type 0) (policy : Policy) (P : List (L × R) → Type 0) → ((before : List (L × R)) (x : L × R) → IsAllowed same_left same_right (After S before) x policy → P before → P (before ++ x ∷ [])) → (before later : List (L × R)) → AreAllowed same_left same_right S (before ++ later) policy → P before → P (before ++ later)
   along S policy P step before [] are p = subst P (sym (append-nil before)) p
   along S policy P step before (x ∷ later) are p =
@@ -60,14 +60,14 @@ module _ {L R : Type 0} (same_left : L → L → Bool) (same_right : R → R →
   apart_push ps x apart none =
       all_pairs_push (λ p q. shares same_left same_right p q ≡ false) ps x apart (λ k d inside. none (get_or ps k d) (k, inside, get_or_default ps k (get_or ps k d) d inside))
 
-  -- what is held is an item or was held
+  -- A contained pair is an item or was contained before.
   only : (S : L × R → Type 0) (items : List (L × R)) (p : L × R) → After S items p → Contains items p ⊎ S p
   only S items p (inl s) = inr s.0
   only S items p (inr s) =
       inl (subst (Contains items) (sym s.puts) (subst (λ h. Contains h s.entry) (sym s.split) (Contains-append_right s.before (s.entry ∷ s.later) s.entry (head_in s.entry s.later))))
 
 module _ {L R : Type 0} (same_left : L → L → Bool) (same_right : R → R → Bool) (lefts : IsEquivalence same_left) (rights : IsEquivalence same_right) where
-  -- an item that shares a value with no other is held
+  -- An item that shares a value with no other item is contained.
   lone : (S : L × R → Type 0) (items : List (L × R)) (p : L × R) → Contains items p → ((q : L × R) → Contains items q → shares same_left same_right q p ≡ true → q ≡ p) → After same_left same_right S items p
   lone S items p m alone =
       elim (last (λ q. shares same_left same_right p q) items) [
@@ -84,7 +84,7 @@ module _ {L R : Type 0} (same_left : L → L → Bool) (same_right : R → R →
       ]
 
   module _ (old items : List (L × R)) (policy : Policy) (are : AreAllowed same_left same_right (Contains old) items policy) where
-    -- what is held of a part of the pairs, where an item takes a pair's place only if it has that part too
+    -- Each value of one side stays contained, if an item overwrites a pair only if it has the same value on that side.
     parts_stay : {K : Type 0} (part : L × R → K) (same : K → K → Bool) → IsEquivalence same → ((T : L × R → Type 0) (x q : L × R) → IsAllowed same_left same_right T x policy → T q → shares same_left same_right q x ≡ true → same (part q) (part x) ≡ true) → (p : L × R) → Contains (old ++ items) p → (q : L × R) × After same_left same_right (Contains old) items q × (same (part q) (part p) ≡ true)
     parts_stay part same equal takes =
         along same_left same_right (Contains old) policy (λ h. (p : L × R) → Contains (old ++ h) p → (q : L × R) × After same_left same_right (Contains old) h q × (same (part q) (part p) ≡ true))
@@ -102,7 +102,7 @@ module _ {L R : Type 0} (same_left : L → L → Bool) (same_right : R → R →
         [] items are
         (λ p m. (p, (Survives_none PutsItself (TouchesSharing same_left same_right) (Contains old) p).0 (subst (λ h. Contains h p) (append-nil old) m), equal.refl (part p)))
 
-    -- where both sides are kept, all stay, and no two share a value
+    -- If the policy keeps both sides, all pairs stay and no two share a value.
     all_stay : policy.left ≡ Refuse → policy.right ≡ Refuse → IsApart same_left same_right old → ((p : L × R) → Contains (old ++ items) p → After same_left same_right (Contains old) items p) × IsApart same_left same_right (old ++ items)
     all_stay keeps_left keeps_right apart =
         along same_left same_right (Contains old) policy (λ h. ((p : L × R) → Contains (old ++ h) p → After same_left same_right (Contains old) h p) × IsApart same_left same_right (old ++ h))
@@ -119,7 +119,7 @@ module _ {L R : Type 0} (same_left : L → L → Bool) (same_right : R → R →
         [] items are
         (λ p m. (Survives_none PutsItself (TouchesSharing same_left same_right) (Contains old) p).0 (subst (λ h. Contains h p) (append-nil old) m), subst (IsApart same_left same_right) (sym (append-nil old)) apart)
 
-  -- the plain facts
+  -- The plain facts of `AreHeldAfter`.
   pub held_after : (old : Holding L R) (items : List (L × R)) (policy : Policy) (new : Holding L R) → IsApart same_left same_right old.pairs → IsApart same_left same_right new.pairs → ArePutIn same_left same_right old items policy new → AreHeldAfter same_left same_right old.pairs items policy new.pairs
   held_after old items policy new apart apart_after are =
       let to = λ (p : L × R). (are.survivors p).1 in

@@ -1,4 +1,5 @@
--- What a recorded removal answers and leaves, by its three ends. Once for both sides: `part` is the side.
+-- What a recorded removal returns and leaves, in each of its three cases.
+-- The argument `part` is the side, so each lemma serves both sides.
 use Rattle.std.proofs.Common.{◌≡◌, ◌↔◌, ◌∙◌, ◌+◌, ◌≤◌, Bool, true, false, List, [], ◌∷◌, ◌++◌, length, refl, sym, ap, arith, true≢false, length-append}
 use Rattle.std.specs.Prelude.{Contains, Result, Ok, Err, IsErr}
 use Rattle.bimap.specs.Sets.{IsApart}
@@ -11,7 +12,7 @@ use Rattle.bimap_undo.specs.Marks.{marked, HasMarks, IsRecordedRemoval}
 use Rattle.bimap_undo.proofs.Paths.{keeps_all, keeps_push, marks_push}
 
 module _ {L R K : Type 0} (same_left : L → L → Bool) (same_right : R → R → Bool) (part : L × R → K) (same : K → K → Bool) (old : Holding L R) (entries entries' : List (Entry L R)) (value : K) where
-  -- no pair has the value
+  -- No pair has the value.
   pub absent : ((q : L × R) → Contains old.pairs q → same (part q) value ≡ false) → IsRecordedRemoval same_left same_right part same (marked old entries) value (Ok false) (marked old entries)
   absent lacks = record {
     found = (λ e. absurd (true≢false (sym e)), λ w. absurd (true≢false (sym w.2 ∙ lacks w.0 w.1)));
@@ -25,12 +26,12 @@ module _ {L R K : Type 0} (same_left : L → L → Bool) (same_right : R → R �
     unchanged = tt;
   }
 
-  -- there is no memory for the record
+  -- The record ran out of memory.
   pub refused : (r : Result Bool NoMemory) → IsErr r → (q : L × R) × Contains old.pairs q × (same (part q) value ≡ true) → entries' ≡ entries → IsRecordedRemoval same_left same_right part same (marked old entries) value r (marked old entries')
   refused (Ok b) no_ok has still = absurd cc
   refused (Err e) some has still = record { found = tt; without = tt; recorded = tt; last = tt; kept = tt; count = tt; room = refl; refused = has; unchanged = ap (marked old) still }
 
-  -- the pair is taken out and recorded
+  -- The pair is removed and recorded.
   module _ (removing : (A : List (L × R)) (p : L × R) (B : List (L × R)) → IsApart same_left same_right A → (k : K) → Contains A p → same (part p) k ≡ true → ((q : L × R) → Contains B q ↔ (Contains A q × (same (part q) k ≡ false))) → IsWithoutPair A p B)
       (new : Holding L R) (p : L × R) (apart : IsApart same_left same_right old.pairs) (apart' : IsApart same_left same_right new.pairs) (removed : Contains old.pairs p × (same (part p) value ≡ true)) (without : (q : L × R) → Contains new.pairs q ↔ (Contains old.pairs q × (same (part q) value ≡ false))) (count : length new.pairs + 1 ≡ length old.pairs) (room : new.room ≡ old.room)
       (between : List (Entry L R)) (pushed : entries' ≡ between ++ Removed p.0 p.1 ∷ []) (reserved : between ≡ entries) where

@@ -1,4 +1,4 @@
--- What a recorded replacement answers and leaves. Once for both sides: `part` is the side.
+-- What a recorded replacement returns and leaves. The argument `part` is the side, so each lemma serves both sides.
 use Rattle.std.proofs.Common.{◌≡◌, ◌∙◌, ◌≤◌, Bool, List, [], ◌∷◌, ◌++◌, length, ap, arith, length-append}
 use Rattle.std.specs.Prelude.{Contains, Ok, Err}
 use Rattle.bimap.specs.Sets.{IsApart}
@@ -10,7 +10,7 @@ use Rattle.bimap_undo.specs.Marks.{marked, HasMarks, IsChange, IsNotRecorded, Is
 use Rattle.bimap_undo.proofs.Paths.{keeps_push, marks_push}
 
 module _ {L R K M : Type 0} (same_left : L → L → Bool) (same_right : R → R → Bool) (part : L × R → K) (pair : K → M → L × R) (same : K → K → Bool) (entry : L → K → Entry L R) (old new : Holding L R) (entries entries' : List (Entry L R)) (from to : K) where
-  -- nothing was replaced
+  -- Nothing was replaced.
   pub refused : (why : NotRecorded K) → IsNotRecorded same_left same_right part pair same entry (Contains old.pairs) from to why → new ≡ old → entries' ≡ entries → IsRecordedReplacement same_left same_right part pair same entry (marked old entries) from to (Err why) (marked new entries')
   refused why is still rest = record {
     last = tt;
@@ -22,7 +22,7 @@ module _ {L R K M : Type 0} (same_left : L → L → Bool) (same_right : R → R
     unchanged = ap (λ (held : Holding L R). marked held entries') still ∙ ap (marked old) rest;
   }
 
-  -- the value was replaced, and this recorded
+  -- The value was replaced, and the change was recorded.
   module _ (left : L) (taken : K) (apart : IsApart same_left same_right new.pairs) (replaced : IsPartReplaced part pair same (Contains old.pairs) from to taken (Contains new.pairs)) (change : IsChange same_left same_right old.pairs (entry left taken) new.pairs) (count : length new.pairs ≡ length old.pairs) (room : new.room ≡ old.room) (between : List (Entry L R)) (pushed : entries' ≡ between ++ entry left taken ∷ []) (reserved : between ≡ entries) where
     grown : entries' ≡ entries ++ entry left taken ∷ []
     grown = pushed ∙ ap (λ es. es ++ entry left taken ∷ []) reserved

@@ -1,4 +1,4 @@
--- What holds of each element of a list, or of each two, as its first or its last is taken off.
+-- What is true of each element of a list, or of any two, after the first or the last element is removed.
 use Rattle.std.proofs.Common.{◌≡◌, suc, ◌+◌, List, [], ◌∷◌, ◌++◌, length, get_or, length-append, subst, arith}
 use Rattle.std.specs.List.{All, AllPairs}
 use Rattle.std.proofs.Math.ListN.{get_or-append}

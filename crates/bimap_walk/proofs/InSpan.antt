@@ -53,12 +53,12 @@ module _ {P K : Type 0} (key : P → K) (test : K → Bool) (slots : List (Optio
       by_slot None e rest = rest
       by_slot (Some x) e rest = let f = span.before 0 p (key x) (omega arith) refl (ap (option_map key) e) in rw f rest
 
-  -- the pairs whose key the test lets in are those of the window
+  -- The pairs whose key passes the test are those of the window.
   pub pairs_in_span : (places : List ℕ) (front back : ℕ) → front ≤ back → IsSpan test key_at places front back → filter (λ x. test (key x)) (pairs_at slots places) ≡ pairs_at slots (between front back places)
   pairs_in_span places front back l span =
       span_from front (back - front) places (let e : back ≡ front + (back - front) = omega (arith, l) in rw (sym e) span)
 
--- the same keys have the same span
+-- A span stays the same if the keys stay the same.
 pub span_of_keys : {K : Type 0} (test : K → Bool) (f g : ℕ → Option K) (places : List ℕ) (front back : ℕ) → ((p : ℕ) → f p ≡ g p) → IsSpan test f places front back → IsSpan test g places front back
 span_of_keys test f g places front back same span =
     record {
@@ -67,7 +67,7 @@ span_of_keys test f g places front back same span =
       after = λ i p k l at has. span.after i p k l at (same p ∙ has);
     }
 
--- each place with a key has a pair
+-- Each place with a key has a pair.
 pub live_places : {P K : Type 0} (slots : List (Option P)) (f : ℕ → Option K) (order : K → K → Ordering) (places : List ℕ) → ((p : ℕ) → is_some (f p) ≡ is_some (pair_at slots p)) → Ascends f order places → All (IsLive slots) places
 live_places slots f order places same up k d inside =
     sym (same (get_or places k d)) ∙ subst (λ p. IsSome (f p)) (get_or_default places k 0 d inside) (up.live k inside)

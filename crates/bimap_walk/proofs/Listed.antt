@@ -1,4 +1,4 @@
--- The pairs at a list of places, as its first or its last is taken off.
+-- The pairs at a list of places, after the first or the last place is removed from the list.
 use Rattle.std.proofs.Common.{◌≡◌, ◌≢◌, ℕ, suc, List, [], ◌∷◌, ◌++◌, length, Option, None, Some, is_some, IsSome, refl, sym, ap, ◌∙◌, true≢false}
 use Rattle.std.specs.Prelude.{slice_set}
 use Rattle.std.specs.List.{All, cons_option}
@@ -9,7 +9,7 @@ use Rattle.bimap_base.specs.Slots.{pair_at, IsLive}
 use Rattle.bimap_walk.proofs.Ends.{All-first, All-behind}
 
 module _ {P : Type 0} (slots : List (Option P)) where
-  -- each place has a pair, so there are as many
+  -- If each place has a pair, there are as many pairs as places.
   pub length-pairs_at : (places : List ℕ) → All (IsLive slots) places → length (pairs_at slots places) ≡ length places
   length-pairs_at [] live = refl
   length-pairs_at (p ∷ ps) live =
@@ -26,7 +26,7 @@ module _ {P : Type 0} (slots : List (Option P)) where
     pub pairs_at-last : (x : P) → old ≡ ps ++ p ∷ [] → pair_at slots p ≡ Some x → pairs_at slots old ≡ pairs_at slots ps ++ x ∷ []
     pairs_at-last x e is = ap (pairs_at slots) e ∙ filter_map-append (pair_at slots) ps (p ∷ []) ∙ ap (λ o. pairs_at slots ps ++ cons_option o []) is
 
-  -- the pair at one place is taken out of the store
+  -- The pair at one place is removed from the store.
   module _ (p : ℕ) (new : List (Option P)) (now : new ≡ slice_set slots p None) where
     kept_at : (q : ℕ) → q ≢ p → pair_at new q ≡ pair_at slots q
     kept_at q away = ap (λ xs. pair_at xs q) now ∙ get_or-set_other slots p q None None away

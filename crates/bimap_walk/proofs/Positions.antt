@@ -1,4 +1,4 @@
--- A walk along a linked list.
+-- Iteration along a linked list.
 use Rattle.std.proofs.Common.{◌≡◌, ◌≢◌, ℕ, suc, ◌+◌, ◌-◌, ◌<◌, List, [], ◌∷◌, length, drop, get_or, slice_get, Option, None, Some, sym, ap, subst, ◌∙◌, arith, add-one, inl, inr, length-drop, drop-cons}
 use Rattle.std.specs.List.{AllPairs, Contains}
 use Rattle.std.proofs.lemmas.List.{drop_all, get_or-drop}
@@ -7,14 +7,14 @@ use Rattle.bimap_walk.specs.Positions.{IsListPosition, places_left}
 use Rattle.bimap_walk.specs.declared.by_insertion.ListPosition.{ListPosition}
 
 module _ (places : List ℕ) (position : ListPosition) (positions : IsListPosition places position) where
-  -- those that are left are distinct
+  -- The places that are left are distinct.
   pub position_once : AllPairs (λ a b. a ≢ b) (places_left places position)
   position_once i j d before inside =
       let from = length places - position.left in
       let long = length-drop from places in
       subst (λ y. y ≢ get_or (drop from places) j d) (sym (get_or-drop from places i d)) (subst (λ y. get_or places (from + i) d ≢ y) (sym (get_or-drop from places j d)) (positions.distinct (from + i) (from + j) d (omega (arith, before)) (omega (arith, inside, long))))
 
-  -- the next place is in the list
+  -- The next place is in the list.
   module _ (place : ℕ) (is : position.next ≡ Some place) where
     here : slice_get places (length places - position.left) ≡ Some place
     here = sym positions.next ∙ is
@@ -44,7 +44,7 @@ module _ (places : List ℕ) (position : ListPosition) (positions : IsListPositi
     | inr past ↦ drop_all (length places - position.left) places past.0
   ]
 
--- a walk that has not begun
+-- A cursor before the first place has all places left.
 pub whole_position : (places : List ℕ) (next : Option ℕ) (left : ℕ) → left ≡ length places → next ≡ slice_get places 0 → AllPairs (λ a b. a ≢ b) places → IsListPosition places (record { next = next; left = left }) × (places_left places (record { next = next; left = left }) ≡ places)
 whole_position places next left all first distinct =
     let none : 0 ≡ length places - left = omega (arith, all) in (

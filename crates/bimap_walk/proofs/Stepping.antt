@@ -1,4 +1,4 @@
--- A step of a walk along a list of places.
+-- One step of an iterator along a list of places.
 use Rattle.std.proofs.Common.{◌≡◌, ◌≢◌, ℕ, ◌+◌, ◌≤◌, List, [], ◌∷◌, ◌++◌, length, get_or, Option, None, Some, IsSome, refl, sym, ap, subst, arith, true≢false}
 use Rattle.std.specs.Prelude.{IsSomeAnd, slice_set}
 use Rattle.std.specs.List.{All, AllPairs, between}
@@ -18,11 +18,13 @@ AllPairs-between R xs i j within all a b d before inside =
     subst (λ y. R y (get_or (between i j xs) b d)) (sym (get_or-between xs i j a d (omega (arith, before, inside, long))))
     (subst (R (get_or xs (i + a) d)) (sym (get_or-between xs i j b d (omega (arith, inside, long)))) (all (i + a) (i + b) d (omega (arith, before)) (omega (arith, inside, long, within))))
 
--- the places of a window are distinct
+-- The places of a window are distinct.
 pub window_once : {P : Type 0} (slots : List (Option P)) (places : List ℕ) (window : Window) → IsLiveWindow slots places window → AllPairs (λ a b. a ≢ b) (places_in places window)
 window_once slots places window was = AllPairs-between (λ a b. a ≢ b) places window.front window.back was.ranks.within was.ranks.distinct
 
--- of the places ahead, which are live and distinct, one is ahead no more; the others are enough for the walk to stand
+-- One place of those ahead is passed.
+-- The places ahead are distinct and have pairs.
+-- The other places suffice for the iterator to go on.
 module _ {P : Type 0} (slots : List (Option P)) (old new : List ℕ) (Stands : List (Option P) → Type 0) (stands : (s : List (Option P)) → All (IsLive s) new → Stands s) (once : AllPairs (λ a b. a ≢ b) old) (live : All (IsLive slots) old) where
   none_live : new ≡ [] → All (IsLive slots) new
   none_live e = subst (All (IsLive slots)) (sym e) (λ k d l. absurd (omega (arith, l)))

@@ -1,4 +1,5 @@
-//! Iterators in the order of a linked list of places. They know not what the list is of.
+//! Iterators in the order of a linked list of places. In an index in insertion order this is the insertion order. This
+//! module does not know what the order of the list means.
 ghost use Rattle.std.specs.Prelude.{◌≡◌, ◌≢◌, ◌↔◌, ℕ, length};
 ghost use Rattle.std.specs.List.{AllPairs, Contains};
 ghost use Rattle.std.specs.Map.Iter.{TakesFirst, GivesInOrder};
@@ -11,13 +12,13 @@ use crate::course::Course;
 use bimap_base::Pairs;
 use bimap_list::LinkedList;
 
-/// An iterator over the pairs in the order of a list, each as `(&L, &R)`. A step takes constant time.
+/// An iterator over the pairs in the order of a list. Each item is `(&L, &R)`. A step takes constant time.
 pub type Iter<'a, L, R> = crate::iter::Iter<'a, L, R, LinkedList>;
 
 /// An owning iterator over the pairs in the order of a list.
 pub type IntoIter<L, R> = crate::into_iter::IntoIter<L, R, LinkedList>;
 
-/// The next place of a list, and how many of its places are left.
+/// A cursor in a list: the next place, and how many places are left.
 #[derive(Clone, Copy)]
 pub struct ListPosition {
     next: Option<usize>,
@@ -27,7 +28,7 @@ pub struct ListPosition {
 impl ListPosition {
     ghost use Rattle.bimap_walk.specs.Positions.{IsListPosition};
 
-    // All places of a list of the pairs.
+    // Returns a cursor before the first place of the list. The list has exactly the places with a pair.
     fn whole<L, R>(list: &LinkedList, pairs: &Pairs<L, R>) -> Self
         requires lists { (place : ℕ) → Contains list.now.places place ↔ IsLive pairs.now place }
         requires distinct { AllPairs (λ a b. a ≢ b) list.now.places }
@@ -40,7 +41,7 @@ impl ListPosition {
         }
     }
 
-    // The first place left.
+    // Returns the next place and moves on, or returns `None` if no place is left.
     #[inline(always)]
     fn first(&mut self, list: &LinkedList) -> Option<usize>
         requires position { IsListPosition list.now.places self.old }

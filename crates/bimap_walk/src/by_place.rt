@@ -6,8 +6,8 @@ ghost use Rattle.bimap_base.specs.Places.{pairs_in};
 use crate::places::{ByPlace, PlacesLeft};
 use bimap_base::Pairs;
 
-/// An iterator over the pairs by place, each as `(&L, &R)`. A whole one takes time proportional to the number of
-/// places.
+/// An iterator over the pairs by place. Each item is `(&L, &R)`. A full iteration takes time proportional to the number
+/// of places.
 pub type Iter<'a, L, R> = crate::iter::Iter<'a, L, R, ByPlace>;
 
 /// An iterator over the lefts by place.

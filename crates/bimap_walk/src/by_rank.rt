@@ -1,4 +1,4 @@
-//! Iterators and ranges in the order of an index.
+//! Iterators and ranges in the order of an ordered index.
 ghost use Rattle.std.specs.Prelude.{◌≡◌, ◌≤◌, ◌+◌, ◌*◌, ℕ, length, option_map};
 ghost use Rattle.std.specs.List.{All, filter};
 ghost use Rattle.std.specs.Map.Iter.{ShowsInOrder, ShowsInReverse, GivesInOrder, GivesInReverse, deref_pair};
@@ -14,7 +14,8 @@ use bimap_base::{Keys, Meter, Pairs, Sought};
 use bimap_tree::{Ordered, Span};
 use std::ops::Bound;
 
-/// An iterator over the pairs in the order of an index, each as `(&L, &R)`. A step takes one descent at most.
+/// An iterator over the pairs in ascending order of one side. Each item is `(&L, &R)`. A step takes at most one descent
+/// in the index.
 pub type Iter<'a, L, R> = crate::iter::Iter<'a, L, R, Ordered>;
 
 /// An iterator over the lefts in the order of an index.
@@ -40,9 +41,10 @@ pub fn iter<'a, L, R>(pairs: &'a Pairs<L, R>, index: &'a Ordered) -> Iter<'a, L,
     Iter::new(pairs, index, Window::whole(index))
 }
 
-/// Returns an iterator over the pairs whose projection lies between two ends, in the order of the index that goes by it.
+/// Returns an iterator over the pairs whose left or right lies between two ends. The projection says which of the two.
+/// The index must be ordered by the same one.
 ///
-/// It makes two searches. Where the end lies before the start, there is no pair.
+/// It makes two searches. If the end lies before the start, the iterator shows no pair.
 pub fn range<'a, L, R, P: Projection<L, R>, K: Keys<Key = P::Value>, Q: Sought<K>, M: Meter>(
     pairs: &'a Pairs<L, R>,
     index: &'a Ordered,

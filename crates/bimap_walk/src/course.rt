@@ -1,10 +1,10 @@
-//! What an iterator follows: which place of a store comes next. It knows no pair.
+//! `Course`: which place of a store an iterator visits next. This module knows no pair.
 ghost use Rattle.std.specs.Prelude.{◌≡◌, ◌++◌, ◌∷◌, [], List, Option, length};
 ghost use Rattle.bimap_walk.specs.Courses.{IsStep};
 
 use bimap_base::Pairs;
 
-/// The places of a store in the order of an iterator.
+/// The order in which an iterator visits the places of a store.
 pub trait Course: Drop {
     /// How far an iterator has come.
     type Cursor: Copy;
@@ -12,7 +12,7 @@ pub trait Course: Drop {
     /// The pairs ahead of an iterator, in order.
     ghost ahead: { (P : Type 0) → Self → Self.Cursor → List (Option P) → List P };
 
-    /// An iterator has come so far.
+    /// The cursor is a state of an iterator over this store.
     ghost stands: { (P : Type 0) → Self → Self.Cursor → List (Option P) → Type 0 };
 
     /// Returns how many pairs are ahead, in constant time.
@@ -20,7 +20,7 @@ pub trait Course: Drop {
         requires stands { stands (L × R) self.now cursor.now pairs.now }
         ensures { result ≡ length (ahead (L × R) self.now cursor.now pairs.now) };
 
-    /// Returns the place of the first pair ahead, which is ahead no more.
+    /// Returns the place of the first pair ahead, and moves the cursor past it. Returns `None` if no pair is ahead.
     fn first<L, R>(&self, pairs: &Pairs<L, R>, cursor: &mut Self::Cursor) -> Option<usize>
         requires stands { stands (L × R) self.now cursor.old pairs.now }
         ensures { IsStep (λ p ps. p ∷ ps) (stands (L × R) self.now cursor.new)
@@ -28,9 +28,9 @@ pub trait Course: Drop {
             (ahead (L × R) self.now cursor.old pairs.now) result };
 }
 
-/// A course that also goes from its end.
+/// A course that an iterator can also follow from its end.
 pub trait CourseBack: Course {
-    /// Returns the place of the last pair ahead, which is ahead no more.
+    /// Returns the place of the last pair ahead, and moves the cursor before it. Returns `None` if no pair is ahead.
     fn last<L, R>(&self, pairs: &Pairs<L, R>, cursor: &mut Self::Cursor) -> Option<usize>
         requires stands { Self.stands (L × R) self.now cursor.old pairs.now }
         ensures { IsStep (λ p ps. ps ++ p ∷ []) (Self.stands (L × R) self.now cursor.new)

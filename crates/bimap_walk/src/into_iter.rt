@@ -1,4 +1,4 @@
-//! The pairs of a store along a course, by value. It knows places, and not what leads from one to the next.
+//! The owning iterator along any course. This module knows places, and not how a course finds the next one.
 ghost use Rattle.std.specs.Prelude.{◌≡◌, length, Some, IfSome};
 ghost use Rattle.std.specs.Iterator.{at_most, UpTo};
 ghost use Rattle.std.specs.Iterator.SizeHint.{IsWithinCount};
@@ -8,7 +8,7 @@ use crate::course::{Course, CourseBack};
 use bimap_base::Pairs;
 use std::marker::Model;
 
-/// An owning iterator over the pairs along a course. Dropping it drops those that are left.
+/// An owning iterator over the pairs along a course. Dropping the iterator drops the pairs that are left.
 #[derive(Drop)]
 pub struct IntoIter<L, R, C: Course> {
     pairs: Pairs<L, R>,

@@ -1,4 +1,4 @@
-//! The pairs of a store along a course. It knows places, and not what leads from one to the next.
+//! The borrowing iterator along any course. This module knows places, and not how a course finds the next one.
 ghost use Rattle.std.specs.Prelude.{◌≡◌, length, Some, IfSome, ⊤};
 ghost use Rattle.std.specs.Iterator.{at_most, UpTo};
 ghost use Rattle.std.specs.Iterator.SizeHint.{IsWithinCount};
@@ -9,7 +9,7 @@ use bimap_base::Pairs;
 use std::alloc::AllocError;
 use std::marker::Model;
 
-/// An iterator over the pairs of a store along a course, each as `(&L, &R)`.
+/// An iterator over the pairs of a store along a course. Each item is `(&L, &R)`.
 #[derive(Drop)]
 pub struct Iter<'a, L, R, C: Course> {
     pairs: &'a Pairs<L, R>,

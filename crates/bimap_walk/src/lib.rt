@@ -1,8 +1,9 @@
-//! Iterators over the pairs of a store: by the ranks of an ordered index from both ends, or by place. They know no
-//! bimap.
+//! Iterators over the pairs of a store. `by_rank` iterates in the order of an ordered index. `by_place` iterates in the
+//! order of the places. `by_insertion` iterates in the order of a linked list, which is the insertion order.
 //!
-//! A `Course` leads from place to place, and an iterator goes along it: `Iter`, `Values` and `IntoIter` along any course,
-//! and those that `by_rank` and `by_place` name along one of the two. Each has an exact `len`, and none takes memory.
+//! A `Course` leads from place to place. `Iter`, `Values` and `IntoIter` follow any course, and the three modules name
+//! them for their own course. Only `by_rank` also iterates from the end. Each iterator has an exact `len`. None
+//! allocates. This crate does not know the maps.
 #![tactic(auto)]
 
 pub mod by_insertion;

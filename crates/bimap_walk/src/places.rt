@@ -1,4 +1,4 @@
-//! The course by place: a store's own order. It knows no index.
+//! The course by place, which is the order of the store itself. This module knows no index.
 ghost use Rattle.std.specs.Prelude.{◌≡◌, ◌<◌, length, drop};
 ghost use Rattle.bimap_base.specs.Places.{pairs_in};
 ghost use Rattle.bimap_base.specs.Slots.{IsLive};
@@ -6,11 +6,11 @@ ghost use Rattle.bimap_base.specs.Slots.{IsLive};
 use crate::course::Course;
 use bimap_base::Pairs;
 
-/// The places of a store in their order.
+/// The course that visits the places of a store in ascending order.
 #[derive(Clone, Copy)]
 pub struct ByPlace;
 
-/// The places from one on, and how many of them have a pair.
+/// A cursor in a store: the next place to look at, and how many pairs are left.
 #[derive(Clone, Copy)]
 pub struct PlacesLeft {
     place: usize,
@@ -18,7 +18,7 @@ pub struct PlacesLeft {
 }
 
 impl PlacesLeft {
-    // All places of a store.
+    // Returns a cursor before the first place.
     pub(crate) fn new<L, R>(pairs: &Pairs<L, R>) -> Self
         ensures from { result.place ≡ 0 }
         ensures left { result.left ≡ length (pairs_in pairs.now) }
@@ -30,7 +30,7 @@ impl PlacesLeft {
     }
 }
 
-// The first place with a pair, from a place on.
+// Returns the first place with a pair, from the place `from` on.
 fn live_from<L, R>(pairs: &Pairs<L, R>, from: usize) -> usize
     requires { 0 < length (pairs_in (drop from pairs.now)) }
     ensures live { IsLive pairs.now result }

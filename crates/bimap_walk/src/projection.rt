@@ -1,24 +1,24 @@
-//! The projections of a pair.
+//! The two projections of a pair: its left and its right.
 ghost use Rattle.std.specs.Prelude.{◌≡◌};
 ghost use Rattle.std.specs.Map.Iter.{deref_pair};
 
-/// What an iterator shows of a pair: its left or its right.
+/// What `Values` shows of a pair: its left or its right.
 pub trait Projection<L, R>: Copy {
     type Value;
 
     /// This projection of a pair.
     ghost of: { L × R → Self.Value };
 
-    /// A reference to this projection.
+    /// Returns a reference to this projection.
     fn get<'a>(pair: (&'a L, &'a R)) -> &'a Self::Value
         ensures { result.now ≡ of (deref_pair pair.entry) };
 }
 
-/// The left.
+/// The projection to the left.
 #[derive(Clone, Copy)]
 pub struct LeftProjection;
 
-/// The right.
+/// The projection to the right.
 #[derive(Clone, Copy)]
 pub struct RightProjection;
 

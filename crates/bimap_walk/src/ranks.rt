@@ -1,4 +1,5 @@
-//! The course of an ordered index: by the ranks of its places, from both ends. It knows not which side the index is of.
+//! The course of an ordered index: by the ranks of its places, from both ends. This module does not know which side the
+//! index belongs to.
 ghost use Rattle.std.specs.Prelude.{◌≡◌};
 ghost use Rattle.bimap_base.specs.PairsAt.{pairs_at};
 ghost use Rattle.bimap_walk.specs.Windows.{IsLiveWindow, places_in};

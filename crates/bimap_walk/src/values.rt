@@ -1,4 +1,4 @@
-//! The lefts or the rights of an iterator. It knows no place.
+//! Iterators over the lefts or over the rights. This module knows no place.
 ghost use Rattle.std.specs.Prelude.{◌≡◌, length, map, Some, IfSome, ⊤};
 ghost use Rattle.std.specs.Iterator.{at_most, UpTo};
 ghost use Rattle.std.specs.Iterator.SizeHint.{IsWithinCount};
@@ -10,7 +10,7 @@ use crate::projection::{LeftProjection, Projection, RightProjection};
 use std::alloc::AllocError;
 use std::marker::{Model, PhantomData};
 
-/// An iterator over the lefts or the rights of the pairs along a course.
+/// An iterator over the lefts or over the rights of the pairs along a course.
 #[derive(Drop)]
 pub struct Values<'a, L, R, C: Course, P: Projection<L, R>> {
     pairs: Iter<'a, L, R, C>,
@@ -32,7 +32,7 @@ impl<'a, L, R, C: Course, P: Projection<L, R>> Model for Values<'a, L, R, C, P> 
 }
 
 impl<'a, L, R, C: Course, P: Projection<L, R>> Values<'a, L, R, C, P> {
-    /// Returns an iterator over the lefts or the rights of the pairs that an iterator has left.
+    /// Returns an iterator over the lefts or over the rights of the pairs that `pairs` has left.
     pub fn new(pairs: Iter<'a, L, R, C>) -> Self
         ensures { result ≡ map P.of pairs.entry }
     {

@@ -1,4 +1,4 @@
-//! The places of a window of ranks, one at a time from either end. It knows no pair.
+//! A window of ranks, which gives its places one at a time from either end. This module knows no pair.
 ghost use Rattle.std.specs.Prelude.{◌≡◌, ◌≤◌, length};
 ghost use Rattle.std.specs.List.{between};
 ghost use Rattle.std.specs.Map.Iter.{TakesFirst, TakesLast};
@@ -6,7 +6,7 @@ ghost use Rattle.std.specs.Map.Iter.{TakesFirst, TakesLast};
 use bimap_base::Count;
 use bimap_tree::{Batch, Ordered};
 
-/// The ranks from `front` up to `back`, and the next places of either end.
+/// The ranks from `front` up to `back`, which is excluded. `ahead` and `behind` contain places near the two ends.
 #[derive(Clone, Copy)]
 pub struct Window {
     front: usize,
@@ -24,7 +24,7 @@ impl Window {
         ensures window { IsWindow index.now.places result }
         ensures places { places_in index.now.places result ≡ between front back index.now.places }
     {
-        // So the places are known to be different ones.
+        // This establishes that the listed places are distinct.
         let len = index.len();
         prove!(back <= len);
         let batch = Batch::new(index);
@@ -36,7 +36,7 @@ impl Window {
         }
     }
 
-    // All ranks of an index.
+    // Returns the window of all ranks of an index.
     pub(crate) fn whole(index: &Ordered) -> Self
         ensures window { IsWindow index.now.places result }
         ensures places { places_in index.now.places result ≡ index.now.places }
@@ -44,17 +44,17 @@ impl Window {
         Window::new(index, 0, index.len())
     }
 
-    // The number of places left.
+    // Returns the number of places left.
     pub(crate) fn len(&self, index: &Ordered) -> usize
         requires window { IsWindow index.now.places self.now }
         ensures { result ≡ length (places_in index.now.places self.now) }
     {
-        // The contract alone names it.
+        // Only the contract uses `index`.
         let _ = index;
         self.back - self.front
     }
 
-    // The first place left. One descent serves many calls.
+    // Returns the first place left and removes it from the window. One descent in the index serves many calls.
     #[inline(always)]
     pub(crate) fn first(&mut self, index: &Ordered) -> Option<usize>
         requires window { IsWindow index.now.places self.old }
@@ -71,7 +71,7 @@ impl Window {
         Some(place)
     }
 
-    // The last place left. One descent serves many calls.
+    // Returns the last place left and removes it from the window. One descent in the index serves many calls.
     #[inline(always)]
     pub(crate) fn last(&mut self, index: &Ordered) -> Option<usize>
         requires window { IsWindow index.now.places self.old }

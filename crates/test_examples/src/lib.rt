@@ -1,4 +1,4 @@
-//! The examples that stand at the bimaps' calls, run. `tools/examples` sees that each of them stands here.
+//! The examples in the docs of the maps' calls, as tests. `tools/examples` checks that each example is here.
 #![tactic(auto)]
 
 #[cfg(test)]

@@ -1,4 +1,4 @@
-//! A side of one's own in JSON.
+//! A type of one's own as a side in JSON.
 ghost use Rattle.std.specs.Prelude.{decimal};
 ghost use Rattle.bimap.specs.Data.{number, unsigned};
 ghost use Rattle.bimap.specs.JsonTexts.{IsUnsignedText, IsUnsignedValue};
@@ -7,7 +7,7 @@ use bimap::NoMemory;
 use bimap::value::{JsonKey, JsonValue, ReadFault, Value};
 use std::alloc::Global;
 
-/// A seat, which JSON has as its number.
+/// A seat. JSON shows it as its number.
 #[derive(Clone, Copy, Debug, Drop, Eq, Hash, Ord, PartialEq, PartialOrd)]
 pub struct Seat {
     pub number: u8,

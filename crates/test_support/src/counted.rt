@@ -1,4 +1,4 @@
-//! A number that counts what is asked of it.
+//! A number that counts how often it is compared.
 ghost use Rattle.std.proofs.Common.{rules};
 ghost use Rattle.std.specs.Cmp.{partial_order_from_own_ties};
 ghost use Rattle.std.specs.Cmp.Rules.{comparing, hashing};
@@ -10,7 +10,7 @@ use std::cell::Cell;
 use std::cmp::Ordering;
 use std::hash::{Hash, Hasher};
 
-/// A number whose comparisons are counted, for equality and for order.
+/// A number whose comparisons are counted, both for equality and for order.
 #[derive(Clone, Copy, Drop)]
 pub struct Counted<'a> {
     pub number: u32,
@@ -68,7 +68,7 @@ impl Hash for Counted<'_> {
     }
 }
 
-/// The number, counted in this cell.
+/// Returns the number, which counts its comparisons in this cell.
 pub fn counted_at(number: u32, compared: &Cell<u64>) -> Counted<'_>
     ensures { result.number ≡ number }
 {

@@ -1,4 +1,4 @@
-//! How a test makes a bimap of any kind.
+//! How a test makes a map of any kind.
 ghost use Rattle.std.specs.Prelude.{◌≡◌, []};
 ghost use Rattle.bimap_any.specs.Capacity.{IsShrink};
 
@@ -6,27 +6,27 @@ use bimap::{Bijection, BijectiveMap, ExtendStopped, NoMemory};
 use bimap_index::{CompactedIndex, EmptyIndex};
 use std::alloc::Global;
 
-/// A kind of bimap, which tests make.
+/// A kind of map that tests can make.
 pub trait Kind<L: Eq + Drop, R: Eq + Drop>: Bijection<L, R> + Drop {
-    /// The empty bimap. It takes no memory.
+    /// Returns an empty map. Never allocates.
     fn empty(alloc: Global) -> Self
         ensures { (Self.holding result).pairs ≡ [] };
 
-    /// Makes the capacity so low, by its own call.
+    /// Shrinks the capacity to `least` by the map's own `shrink_to`.
     fn shrink_to(&mut self, least: usize) -> Result<(), NoMemory>
         ensures { IsShrink (Self.holding self.old) least result (Self.holding self.new) };
 
-    /// Makes the capacity the length, by its own call.
+    /// Shrinks the capacity to the length by the map's own `shrink_to_fit`.
     fn shrink_to_fit(&mut self) -> Result<(), NoMemory>
         ensures { IsShrink (Self.holding self.old) 0 result (Self.holding self.new) };
 }
 
-/// A kind of bimap of values that are copied, which tests make of items.
+/// A kind of map of `Copy` values that tests can make of items.
 pub trait CopyKind<L: Copy + Eq + Drop, R: Copy + Eq + Drop>: Kind<L, R> {
-    /// The bimap of the items, by its own call.
+    /// Returns a map of the items, made by the map's own `from_iter`.
     fn built(alloc: Global, items: &[(L, R)]) -> Result<Self, ExtendStopped<L, R>>;
 
-    /// Adds the items, by its own call.
+    /// Adds the items by the map's own `extend`.
     fn add(&mut self, items: &[(L, R)]) -> Result<(), ExtendStopped<L, R>>;
 }
 
@@ -64,8 +64,9 @@ impl<
     }
 }
 
-/// Calls a test over the two mixed kinds of bimap of these values, in which either index stands on either side, and over that
-/// in the order of insertion: `over_mixed_kinds!(TEST, LEFT, RIGHT, RUNTIME)`, with a further `?` where it answers a `Result`.
+/// Calls a test over the two mixed kinds of map of these values and over the kind in insertion order. In the two mixed
+/// kinds, either index is on either side. The form is `over_mixed_kinds!(TEST, LEFT, RIGHT, RUNTIME)`. A further `?` is
+/// needed if the test returns a `Result`.
 #[macro_export]
 macro_rules! over_mixed_kinds {
     ($test:ident, $left:ty, $right:ty, $rt:expr $(, $try:tt)?) => {{

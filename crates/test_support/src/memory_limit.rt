@@ -1,7 +1,7 @@
-//! A time in which the process gets only so many more bytes of memory. It knows nothing of what is tested.
+//! A limit on the memory that the process can still allocate. It knows nothing of what is tested.
 use std::alloc::{AllocError, Global};
 
-/// The blocks that are held back. To drop it ends the famine.
+/// The memory that is withheld from the process. Dropping it gives all of it back.
 #[derive(Drop)]
 pub struct MemoryLimit {
     alloc: Global,
@@ -10,7 +10,8 @@ pub struct MemoryLimit {
 }
 
 impl MemoryLimit {
-    /// Takes all the memory that the process can get, but keeps `steps` rooms of falling size.
+    /// Allocates all the memory that the process can get. Sets `steps` blocks of it aside, each of another size, for
+    /// `raise` to give back.
     pub fn begin(alloc: Global, steps: usize) -> Result<MemoryLimit, AllocError> {
         let held = Vec::with_capacity(alloc, 1 << 17)?;
         let mut rooms = Vec::with_capacity(alloc, steps)?;
@@ -24,7 +25,7 @@ impl MemoryLimit {
         Ok(memory_limit)
     }
 
-    /// Takes all blocks of up to `size` bytes that there are.
+    /// Allocates all free blocks of up to `size` bytes.
     pub fn gather(&mut self, size: usize) -> Result<(), AllocError> {
         let mut size = size;
         for _ in 0..120000u32 {
@@ -38,7 +39,8 @@ impl MemoryLimit {
         Ok(())
     }
 
-    /// Gives the process 16 bytes more than the last time, in one block, or nothing more at the end.
+    /// Lets the process allocate one block, 16 bytes larger than after the last call. Returns `false` if no block is
+    /// left to give back.
     pub fn raise(&mut self) -> Result<bool, AllocError> {
         self.gather(1 << 17)?;
         let Some(room) = self.rooms.pop() else {

@@ -1,14 +1,14 @@
 //! A meter whose number of comparisons can be read.
 use bimap::btree::{Count, Meter};
 
-/// What a `Count` counts, with the comparisons at run time.
+/// A meter that counts as `M` does, and also counts the comparisons at run time.
 #[derive(Drop)]
 pub struct Counter<M: Meter> {
     inner: M,
     compared: u64,
 }
 
-/// A meter that has counted nothing.
+/// Returns a meter that has counted nothing.
 pub fn at_zero() -> Counter<Count> {
     Counter {
         inner: Count::new(),
@@ -17,7 +17,7 @@ pub fn at_zero() -> Counter<Count> {
 }
 
 impl<M: Meter> Counter<M> {
-    /// How many comparisons were counted; it stays at the greatest number.
+    /// Returns the number of comparisons that were counted. It stops at the greatest `u64`.
     pub fn comparisons(&self) -> u64 {
         self.compared
     }

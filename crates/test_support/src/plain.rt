@@ -1,4 +1,4 @@
-//! The bimap. It knows nothing but the vector and what scans and changes it.
+//! The map. This module knows only the vector, and what searches and changes it.
 ghost use Rattle.std.specs.Prelude.{◌≡◌, ◌≤◌, [], length, Contains, IfOk, vec_capacity};
 ghost use Rattle.bimap_base.specs.Sets.{IsApart};
 ghost use Rattle.bimap_base.specs.Holding.{IsUndoing};
@@ -13,18 +13,18 @@ use bimap_any::{Bijection, Interning};
 use bimap_base::{NoMemory, NotInsertedWith, Overwritten, Policy, UndoStopped};
 use std::alloc::Global;
 
-/// Pairs in a vector, whose capacity is the room.
+/// A map of pairs in a vector. The capacity of the vector is the capacity of the map.
 #[derive(Drop)]
 pub struct Plain<L: Eq + Drop, R: Eq + Drop> {
     pairs: Vec<(L, R)>,
-    /// No two of the pairs held share a value.
+    /// No two of the contained pairs share a value.
     pub ghost apart: { IsApart L.eq R.eq pairs.items },
-    /// There is a place for each pair held.
+    /// There is a place for each contained pair.
     pub ghost fits: { length pairs.items ≤ vec_capacity pairs },
 }
 
 impl<L: Eq + Drop, R: Eq + Drop> Plain<L, R> {
-    /// No pairs and no room. It grows by one place where it must.
+    /// Returns a map without pairs and without capacity. When it is full, an insertion makes one more place.
     pub fn new(alloc: Global) -> Self
         ensures { result.pairs.items ≡ [] }
     {

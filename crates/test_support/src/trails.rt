@@ -1,13 +1,13 @@
-//! Insertions with what they answered, as `undo_run` takes them.
+//! Insertions with the pairs that they overwrote, in the form that `undo_run` takes.
 ghost use Rattle.std.specs.Prelude.{IfOk};
 ghost use Rattle.bimap.specs.Trail.{Leads};
 
 use bimap::{Bijection, Overwritten};
 use std::alloc::{AllocError, Global};
 
-/// Inserts the pairs, and answers the entries by which `undo_run` takes them back.
+/// Inserts the pairs, and returns the entries with which `undo_run` undoes the insertions.
 ///
-/// Room for the entries is taken first. Where an insertion finds no memory, those before it stay.
+/// It allocates the entries first. If an insertion runs out of memory, the pairs before it stay in the map.
 pub fn insert_all<L: Copy + Eq + Drop, R: Copy + Eq + Drop, B: Bijection<L, R>>(
     alloc: Global,
     bimap: &mut B,

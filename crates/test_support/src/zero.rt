@@ -1,4 +1,4 @@
-//! A hashed bimap whose keys all have one hash number.
+//! A hashed map in which all keys have the same hash number.
 ghost use Rattle.std.specs.Prelude.{◌≡◌, []};
 ghost use Rattle.bimap.specs.Hash.{holding};
 
@@ -6,7 +6,7 @@ use bimap::BiHashMap;
 use std::alloc::Global;
 use std::hash::{BuildHasher, Hash, Hasher};
 
-/// A hasher that forgets all that it is given, and its own builder.
+/// A hasher that ignores everything that is written to it. It is also its own hash builder.
 #[derive(Clone, Copy, Default)]
 pub struct Zero;
 
@@ -32,10 +32,10 @@ impl BuildHasher for Zero {
     }
 }
 
-/// A hashed bimap with these builders.
+/// A hashed map with these hash builders.
 pub type Crowded<L, R> = BiHashMap<L, R, Zero, Zero>;
 
-/// The empty one. It takes no memory.
+/// Returns an empty map with these hash builders. Never allocates.
 pub fn crowded<L: Eq + Hash, R: Eq + Hash>(alloc: Global) -> Crowded<L, R>
     ensures pairs { (holding result).pairs ≡ [] }
     ensures room { (holding result).room ≡ 0 }

@@ -1,4 +1,4 @@
-//! Examples of what is there over any bimap. They are functions over any, so that a kind is named once.
+//! Examples of what works over any map. They are generic functions, so that each kind of map is named only once.
 use super::{PAIRS, Seats, holds, ordered};
 use bimap::{
     BiBTreeMap, Bijection, Call, Interning, ItemRefused, NoMemory, NotInserted, NotInsertedWith,
@@ -22,7 +22,7 @@ fn make_two_places<B: Bijection<char, u32>>(seats: &mut B) -> Result<(), NoMemor
     Ok(())
 }
 
-// Whether these pairs alone are held.
+// Returns whether the map contains exactly these pairs.
 fn are_held<B: Bijection<char, u32>>(seats: &B, pairs: &[(char, u32)]) -> bool {
     for (left, right) in pairs {
         if seats.get_by_left(left) != Some(right) {
@@ -90,7 +90,8 @@ fn undone<B: Bijection<char, u32> + Drop>(
     Ok(seats)
 }
 
-// Lists of insertions and of calls, on a bimap that holds the first pairs. It is handed back with 'd' in the place of 'b'.
+// Tests lists of insertions and of calls, on a map that contains the first pairs. Returns the map, in which 'd' has
+// taken the place of 'b'.
 fn lists<B: Bijection<char, u32> + Drop>(
     rt: &impl Abort,
     alloc: Global,
@@ -112,7 +113,7 @@ fn lists<B: Bijection<char, u32> + Drop>(
     Ok(seats)
 }
 
-// What any bimap answers, one that holds the first pairs and three empty ones.
+// Tests what the calls of any map return. One map contains the first pairs, and three are empty.
 fn answers<B: Bijection<char, u32> + Drop>(
     rt: &(impl Abort + AllocGlobal),
     three: B,
@@ -211,7 +212,7 @@ fn swaps<B: Bijection<&'static str, u32> + Drop>(rt: &impl Abort, bimap: B) {
     assert!(rt; seats.get_by_right(&12) == Some(&"bob"));
 }
 
-// What any bimap of texts answers, an empty one for each.
+// Tests what the calls of any map of texts return. Each group of calls gets an empty map.
 fn answers_of_texts<B: Interning<&'static str, u32> + Drop>(
     rt: &impl Abort,
     numbers: B,

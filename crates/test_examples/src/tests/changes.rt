@@ -1,4 +1,4 @@
-//! Examples of insertions, removals and rooms. Each function is handed what the examples begin with.
+//! Examples of insertions, removals and capacity. Each function is given the map with which the examples begin.
 use super::{Seats, holds, ordered};
 use bimap::{NotInserted, NotInsertedWith, OnHeld, Overwritten, Policy};
 use std::alloc::Global;

@@ -1,4 +1,5 @@
-//! Examples of making a bimap. Each has a test of its own: kinds that meet in one function take minutes to prove.
+//! Examples of making a map. Each example has a test of its own, because a function that names several kinds of map
+//! takes minutes to prove.
 use super::{PAIRS, Seats, holds, ordered};
 use bimap::{BiBTreeMap, BiHashMap, NoMemory, NotInverted, Overwritten};
 use std::alloc::Global;

@@ -1,4 +1,4 @@
-//! A bimap seen from its other side.
+//! A map seen from its other side.
 ghost use Rattle.std.specs.Prelude.{◌≡◌, [], nat_eq};
 ghost use Rattle.bimap.specs.BTree.{holding};
 ghost use Rattle.bimap.specs.Holding.{IsInsertion};
@@ -7,7 +7,7 @@ ghost use Rattle.bimap.specs.Exchanged.{inverse_holding};
 use super::{Seats, holds, ordered};
 use bimap::{Bijection, Inverse, NoRoom, Overwritten};
 
-// Puts a seat in from the other side.
+// Inserts a seat from the other side.
 fn give(
     seats: &mut Seats,
     seat: u32,
@@ -20,7 +20,7 @@ fn give(
     rooms.insert(seat, guest)
 }
 
-// Empties a seat from the other side, and then all others.
+// Removes one seat from the other side, and then all others.
 fn clear(seats: Seats, seat: u32) -> (Option<(u32, char)>, Seats)
     ensures { (holding result.1).pairs ≡ [] }
 {

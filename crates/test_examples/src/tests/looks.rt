@@ -45,7 +45,7 @@ fn by_right(rt: &impl Abort, seats: &Seats) {
     assert!(rt; seats.right_rank(&3) == 2);
 }
 
-// Each takes an end out of a bimap of its own.
+// Each call removes an end from a map of its own.
 fn first_out(rt: &impl Abort, seats: &mut Seats, other: &mut Seats) {
     assert!(rt; seats.pop_first_by_left() == Some(('a', 3)));
     let seats = other;

@@ -6,7 +6,7 @@ use std::process::Abort;
 
 const NAMES: [(&str, u32); 4] = [("", 0), ("main", 1), ("mainly", 2), ("z", 3)];
 
-// Some names with numbers, in an ordered map and in a hashed one.
+// Returns names with their numbers, as an ordered map. The function below returns them as a hashed map.
 fn ordered_names(rt: &impl AllocGlobal) -> Result<BiBTreeMap<String, u32>, AllocError> {
     let mut numbers = BiBTreeMap::new(rt.alloc());
     for (name, number) in NAMES {

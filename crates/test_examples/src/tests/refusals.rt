@@ -1,4 +1,4 @@
-//! What each refusal says, and how one is passed on by its text.
+//! What each error type says, and how an error is passed on by its text.
 use super::ordered;
 use bimap::value::{JsonFault, ReadFault};
 use bimap::{

@@ -1,4 +1,5 @@
-//! Examples of walks and ranges. Each is made in a function of its own, whose loan ends with it.
+//! Examples of iterators and ranges. Each example is in a function of its own, so that its borrow ends with the
+//! function.
 use super::{PAIRS, Seats, ordered};
 use bimap::BiBTreeHashMap;
 use std::ops::Bound;

@@ -1,4 +1,4 @@
-//! What a caller writes with walks and `==`, with what it then knows.
+//! What a caller can write with iterators and `==`, and what the caller's contract can then say.
 ghost use Rattle.std.specs.Prelude.{◌≡◌, IfOk, map, nat_eq, reverse};
 ghost use Rattle.std.specs.Map.{keys_of, values_of};
 ghost use Rattle.bimap_any.specs.Same.{same};

@@ -1,9 +1,9 @@
-//! Values that note how often they were dropped.
+//! Values that count how often they were dropped.
 use std::alloc::{AllocError, Global};
 use std::cell::Cell;
 use std::rc::Rc;
 
-/// A value that is its name to each comparison and hash, and counts its drops.
+/// A value that is compared and hashed by its name, and counts its drops.
 #[derive_where(Eq, Hash, Ord, PartialEq, PartialOrd)]
 pub struct Counted {
     name: u32,
@@ -18,7 +18,7 @@ impl Drop for Counted {
     }
 }
 
-/// Makes values, and knows how often each of them was dropped.
+/// A ledger makes values and knows how often each of them was dropped.
 #[derive(Drop)]
 pub struct Ledger {
     alloc: Global,
@@ -26,7 +26,7 @@ pub struct Ledger {
 }
 
 impl Ledger {
-    /// The one that has made none.
+    /// Returns a ledger that has made no value.
     pub fn new(alloc: Global) -> Ledger {
         Ledger {
             alloc,
@@ -34,7 +34,7 @@ impl Ledger {
         }
     }
 
-    /// The allocator of the values.
+    /// Returns the allocator of the values.
     pub fn alloc(&self) -> Global {
         self.alloc
     }
@@ -52,7 +52,8 @@ impl Ledger {
         Ok((left, self.value(right)?))
     }
 
-    /// How many values were dropped, if none was twice and the counts of the others are still held by the values.
+    /// Returns how many values were dropped. Returns `None` if a value was dropped twice, or if a value that was not
+    /// dropped is lost.
     pub fn dropped(&self) -> Option<usize> {
         let mut dropped = 0usize;
         for drops in self.drops.iter() {
@@ -65,7 +66,7 @@ impl Ledger {
         Some(dropped)
     }
 
-    /// Whether each value was dropped once.
+    /// Returns whether each value was dropped once.
     pub fn is_balanced(&self) -> bool {
         self.dropped() == Some(self.drops.len())
     }

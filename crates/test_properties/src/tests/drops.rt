@@ -1,4 +1,4 @@
-//! Each value that a bimap was given is dropped once, and not before it is let go.
+//! A map drops each value that it was given exactly once, and not before the value has left the map.
 use super::counted::{Counted, Ledger};
 use bimap::{BiBTreeHashMap, BiHashBTreeMap, Bijection, OnHeld, Policy, extend_with};
 use bimap_undo::Undoable;
@@ -7,7 +7,7 @@ use std::process::Abort;
 use std::test::Fail;
 use test_support::{Kind, over_mixed_kinds};
 
-// Puts in a pair of these names. What that strikes, or hands back, is dropped.
+// Inserts a pair of these names. Drops the overwritten pairs, or the pair if it is given back.
 fn put<B: Bijection<Counted, Counted>>(
     bimap: &mut B,
     ledger: &mut Ledger,
@@ -19,7 +19,7 @@ fn put<B: Bijection<Counted, Counted>>(
     Ok(())
 }
 
-// Puts in so many pairs of equal names.
+// Inserts this many pairs of equal names.
 fn fill<B: Bijection<Counted, Counted>>(
     bimap: &mut B,
     ledger: &mut Ledger,
@@ -31,7 +31,8 @@ fn fill<B: Bijection<Counted, Counted>>(
     Ok(())
 }
 
-// Strikes a left, a right, a pair and two pairs, is refused a pair, and removes one from either side.
+// Makes insertions that overwrite by the left, by the right, one pair by both, and two pairs. Then one insertion is
+// refused, and one pair is removed from either side.
 fn let_go<B: Bijection<Counted, Counted>>(
     rt: &impl Abort,
     bimap: &mut B,
@@ -57,7 +58,7 @@ fn let_go<B: Bijection<Counted, Counted>>(
     Ok(())
 }
 
-// Takes back an insertion that strikes two pairs: they are held again, and the inserted pair is let go.
+// Undoes an insertion that overwrites two pairs. The two pairs are in the map again, and the inserted pair leaves it.
 fn undone<B: Bijection<Counted, Counted>>(
     rt: &impl Abort,
     bimap: &mut B,
@@ -76,7 +77,7 @@ fn undone<B: Bijection<Counted, Counted>>(
     Ok(())
 }
 
-// Keeps some of the pairs, compacts them, clears them away and goes on.
+// Keeps some of the pairs, compacts the map, clears it and inserts again.
 fn cleared<B: Kind<Counted, Counted>>(
     rt: &impl Abort,
     bimap: &mut B,
@@ -95,7 +96,8 @@ fn cleared<B: Kind<Counted, Counted>>(
     Ok(())
 }
 
-// Inserts a list of pairs of these names, whose lefts overwrite. What the list overwrites, or hands back, is dropped.
+// Inserts a list of pairs of these names, under a policy that overwrites by the left. Drops the overwritten pairs, and
+// the pairs that are given back.
 fn put_list<B: Bijection<Counted, Counted>>(
     bimap: &mut B,
     ledger: &mut Ledger,
@@ -114,7 +116,8 @@ fn put_list<B: Bijection<Counted, Counted>>(
     Ok(())
 }
 
-// A list that overwrites two pairs, a pair by its left and one by its right, and a list that stops at its second pair.
+// Inserts a list that overwrites two pairs, one by its left and one by its right. Then inserts a list that stops at its
+// second pair.
 fn put_lists<B: Bijection<Counted, Counted>>(
     rt: &impl Abort,
     bimap: &mut B,
@@ -130,7 +133,7 @@ fn put_lists<B: Bijection<Counted, Counted>>(
     Ok(())
 }
 
-// Forty pairs, with free places in the midst.
+// Inserts forty pairs, with free places between them.
 fn fill_with_gaps<B: Bijection<Counted, Counted>>(
     bimap: &mut B,
     ledger: &mut Ledger,
@@ -143,7 +146,7 @@ fn fill_with_gaps<B: Bijection<Counted, Counted>>(
     Ok(())
 }
 
-// How many pairs so many steps of an owning walk give, which is then given up.
+// Takes this many steps of an owning iterator and drops it. The value is the number of pairs that it gave.
 macro_rules! given_up {
     ($bimap:expr, $steps:expr) => {{
         let mut walk = $bimap.into_iter();
@@ -165,7 +168,7 @@ fn given_up_in_order(bimap: BiBTreeHashMap<Counted, Counted>, steps: usize) -> u
     given_up!(bimap, steps)
 }
 
-// An owning walk that is given up after so many steps drops the rest.
+// Tests that an owning iterator drops the remaining pairs when it is dropped after this many steps.
 fn the_rest_is_dropped(rt: &impl Abort, alloc: Global, steps: usize) -> Result<(), Fail> {
     let mut ledger = Ledger::new(alloc);
     let mut bimap = BiHashBTreeMap::new(alloc);
@@ -192,7 +195,7 @@ fn all<B: Kind<Counted, Counted>>(rt: &impl Abort, alloc: Global) -> Result<(), 
     Ok(())
 }
 
-// An owning walk by an ordered left, gone from both ends.
+// Tests an owning iterator by an ordered left, which is taken from both ends.
 fn given_up_at_both_ends(rt: &impl Abort, alloc: Global, steps: usize) -> Result<(), Fail> {
     let mut bimap: BiBTreeHashMap<Counted, Counted> = BiBTreeHashMap::new(alloc);
     let mut ledger = Ledger::new(alloc);
@@ -208,7 +211,7 @@ fn given_up_at_both_ends(rt: &impl Abort, alloc: Global, steps: usize) -> Result
     Ok(())
 }
 
-// Records the insertion of a right, and that of another in its place.
+// Records the insertion of a right, and of another right that overwrites it.
 fn overwrites<B: Bijection<u32, Counted> + Drop>(
     seats: &mut Undoable<B, u32, Counted>,
     ledger: &mut Ledger,
@@ -219,7 +222,8 @@ fn overwrites<B: Bijection<u32, Counted> + Drop>(
     Ok(())
 }
 
-// A record owns what its changes took out, until it goes back, forgets, or is taken apart.
+// Tests that a record owns the values that its changes removed. It gives them up when it goes back, forgets, or is
+// taken apart.
 fn recorded<B: Bijection<u32, Counted> + Drop>(
     rt: &impl Abort,
     alloc: Global,

@@ -1,11 +1,11 @@
-//! A hashed bimap doesn't look through its pairs one by one, as keys see that count their equality tests.
+//! A hashed map does not compare a key with all its pairs, one by one. Keys that count their equality tests show this.
 use bimap::BiHashMap;
 use std::cell::Cell;
 use test_support::{Counted, counted_at};
 
 type Numbers<'a> = BiHashMap<Counted<'a>, Counted<'a>>;
 
-// Inserts a thousand pairs, each of two numbers with the sum 1001.
+// Inserts a thousand pairs. The sum of the two numbers of each pair is 1001.
 fn fill<'a>(map: &mut Numbers<'a>, tests: &'a Cell<u64>) {
     for i in 1u32..1001 {
         let _ = map.insert(counted_at(i, tests), counted_at(1001 - i, tests));
@@ -16,7 +16,7 @@ fn is_number(found: Option<&Counted>, number: u32) -> bool {
     found.is_some_and(|found| found.number == number)
 }
 
-// Whether each of the thousand pairs is found from both sides.
+// Returns whether each of the thousand pairs is found from both sides.
 fn finds_all<'a>(map: &Numbers<'a>, tests: &'a Cell<u64>) -> bool {
     for i in 1u32..1001 {
         let key = counted_at(i, tests);
@@ -29,7 +29,7 @@ fn finds_all<'a>(map: &Numbers<'a>, tests: &'a Cell<u64>) -> bool {
     true
 }
 
-// Whether none of a thousand other numbers is found on either side.
+// Returns whether none of a thousand other numbers is found on either side.
 fn misses_all<'a>(map: &Numbers<'a>, tests: &'a Cell<u64>) -> bool {
     for i in 1001u32..2001 {
         let key = counted_at(i, tests);

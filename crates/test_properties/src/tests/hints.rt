@@ -1,4 +1,5 @@
-//! Items whose iterator says nothing of how many they are, or far too much. Room that is taken by such a hint would be refused.
+//! Items whose iterator gives no upper bound of their number, or one that is far too large. Allocating by such a bound
+//! would fail.
 ghost use Rattle.std.specs.Iterator.{YieldsFirst, item_count};
 
 use bimap::BiBTreeMap;
@@ -32,7 +33,7 @@ impl<'a> Iterator for Hinted<'a> {
 
 const ITEMS: [(char, u32); 3] = [('a', 1), ('b', 2), ('c', 2)];
 
-// Each call stands in a function with no clause, so that no fact of it is carried on.
+// Each call is in a function without clauses, so that the test's proof carries no fact about the call.
 fn extended(bimap: &mut BiBTreeMap<char, u32>, is_bounded: bool) -> bool {
     bimap
         .extend(Hinted {

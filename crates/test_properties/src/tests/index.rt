@@ -1,14 +1,14 @@
-//! The ordered index asks for no more memory than the cells that it stands on.
+//! The ordered index allocates no more memory than the cells of which it consists.
 use bimap_base::Cells;
 use bimap_tree::Ordered;
 use std::alloc::{AllocError, Global};
 use std::test::Fail;
 use test_support::MemoryLimit;
 
-// Steps of 16 bytes that are more than a thousand cells take.
+// The number of steps. With 16 bytes a step, they are more memory than a thousand cells take.
 const STEPS: usize = 2400;
 
-// After how many steps a thousand cells are granted.
+// Returns the number of steps after which a thousand cells can be allocated, or `None` if they never can.
 fn steps_of_cells(alloc: Global) -> Result<Option<usize>, AllocError> {
     let mut limit = MemoryLimit::begin(alloc, STEPS)?;
     for step in 0..STEPS {
@@ -21,7 +21,7 @@ fn steps_of_cells(alloc: Global) -> Result<Option<usize>, AllocError> {
     Ok(None)
 }
 
-// After how many steps an index for a thousand places is granted.
+// Returns the number of steps after which an index for a thousand places can be allocated, or `None` if it never can.
 fn steps_of_index(alloc: Global) -> Result<Option<usize>, AllocError> {
     let mut limit = MemoryLimit::begin(alloc, STEPS)?;
     for step in 0..STEPS {

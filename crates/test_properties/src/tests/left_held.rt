@@ -1,5 +1,5 @@
-//! Objects in which two key texts read as equal lefts. Of a side of std none do, so the left here is one of its own. The
-//! bimap is one of its own too.
+//! Objects in which two key texts read as equal lefts. No type of the standard library has such texts, so this file
+//! defines its own left. The map is not one of the library's either.
 ghost use Rattle.std.specs.Prelude.{◌==◌, ◌/◌, decimal};
 ghost use Rattle.std.proofs.Common.{rules};
 ghost use Rattle.std.specs.Cmp.Rules.{comparing};
@@ -11,7 +11,7 @@ use std::alloc::Global;
 use std::process::Abort;
 use test_support::{KEEP_LEFT, KEEP_RIGHT, ONCE, OVERWRITE, Plain};
 
-// A seat at a table of ten. It is its table to each comparison, and its number in JSON.
+// A seat at a table of ten. Two seats are equal if they are at the same table. JSON shows a seat as its number.
 #[derive(Debug, Drop)]
 struct TableSeat {
     number: u8,
@@ -46,10 +46,10 @@ impl JsonKey for TableSeat {
     }
 }
 
-/// A text and a policy, with the fault or the pairs that are held.
+/// A text and a policy, with the error or the pairs that the map then contains.
 type Row = (&'static str, Policy, Result<&'static [(u8, u8)], JsonFault>);
 
-// Keys ascend by their bytes: 2 comes after 12 and 19.
+// The keys of an object ascend by their bytes: 2 comes after 12 and 19.
 const ROWS: [Row; 11] = [
     (
         r#"{"1":1,"12":2,"20":3}"#,
@@ -84,7 +84,7 @@ const ROWS: [Row; 11] = [
     (r#"{"12":1,"19":1}"#, OVERWRITE, Ok(&[(19, 1)])),
 ];
 
-// Whether these pairs alone are held, with these very numbers.
+// Returns whether the map contains exactly these pairs, with exactly these numbers.
 fn holds(bimap: &Plain<TableSeat, u8>, pairs: &[(u8, u8)]) -> bool {
     for &(number, right) in pairs {
         match bimap.get_by_right(&right) {

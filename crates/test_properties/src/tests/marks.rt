@@ -1,4 +1,4 @@
-//! Marks over a bimap that is none of the library's, and over texts, of which a record holds copies.
+//! Marks over a map that is not one of the library's, and over texts, of which the record keeps copies.
 use bimap::{Bijection, NoRoom};
 use bimap_undo::Undoable;
 use std::alloc::Global;
@@ -8,12 +8,13 @@ use test_support::{MemoryLimit, Plain};
 
 type Texts = Undoable<Plain<String, i32>, String, i32>;
 
-/// The pairs held.
+/// The contained pairs.
 type Held = &'static [(&'static str, i32)];
 
 const LONG: &str = "a text that is longer than a name";
 
-// A pair to insert, and the pairs that are then held. The last three strike a pair by its left, one by its right, and two.
+// A pair to insert, and the pairs that the map then contains. The last three insertions overwrite a pair by its left, a
+// pair by its right, and two pairs.
 const ROWS: [(&str, i32, Held); 7] = [
     ("one", 1, &[("one", 1)]),
     ("two", 2, &[("one", 1), ("two", 2)]),
@@ -32,7 +33,7 @@ const ROWS: [(&str, i32, Held); 7] = [
     ("one", 4, &[("two", 12), ("six", 3), ("one", 4)]),
 ];
 
-// Whether these pairs alone are held, and this many changes are recorded.
+// Returns whether the map contains exactly these pairs, and this many changes are recorded.
 fn stands(texts: &Texts, held: Held, mark: usize) -> bool {
     for &(left, right) in held {
         let found = texts.held().get_by_right(&right);
@@ -43,7 +44,7 @@ fn stands(texts: &Texts, held: Held, mark: usize) -> bool {
     texts.held().len() == held.len() && texts.mark() == mark
 }
 
-// Whether what is held and recorded is what so many rows left.
+// Returns whether the pairs and the record are what the first `mark` rows left.
 fn stands_at(texts: &Texts, mark: usize) -> bool {
     for (at, row) in ROWS.iter().enumerate() {
         if at.saturating_add(1) == mark {
@@ -53,7 +54,8 @@ fn stands_at(texts: &Texts, mark: usize) -> bool {
     texts.held().len() == 0 && texts.mark() == mark
 }
 
-// Whether the insertion of a text is refused for its copy, which hands the very text back.
+// Inserts a text without memory for its copy, and returns the text that the refused insertion gives back. It is an
+// error if the insertion is not refused.
 fn is_refused(alloc: Global, texts: &mut Texts, left: String, right: i32) -> Result<String, Fail> {
     let limit = MemoryLimit::begin(alloc, 0)?;
     let refused = texts.insert(left, right);

@@ -1,4 +1,4 @@
-//! What a meter counts is what the keys saw: of an ordered side each comparison, and of a hashed one none.
+//! A meter counts exactly what the keys see: each comparison of an ordered side, and none of a hashed side.
 use bimap::BijectiveMap;
 use bimap::btree::Count;
 use bimap_index::{EmptyIndex, HashIndex, Index};
@@ -13,8 +13,8 @@ type Map<'a, I, J> = BijectiveMap<Counted<'a>, Counted<'a>, I, J>;
 
 type Hashed = HashIndex<BuildHasherDefault<FoldHasher>>;
 
-/// Where the keys of each side count: those of an ordered side in `seen`, those of a hashed one beside it. And how many
-/// pairs a call is made on, with which number.
+/// One trial: the cells in which keys count their comparisons, the number of pairs in the map, and the number with
+/// which a call is made. The keys of an ordered side count in `seen`, and those of a hashed side in another cell.
 #[derive(Clone, Copy)]
 struct Trial<'a> {
     seen: &'a Cell<u64>,
@@ -24,7 +24,8 @@ struct Trial<'a> {
     number: u32,
 }
 
-// So many odd lefts, each with an odd right. The rights come in another order. What the keys saw begins anew, and a meter.
+// Fills the map with pairs of odd numbers, as many as the trial says. The rights are in another order than the lefts.
+// Sets what the keys saw to zero, and returns a new meter.
 fn fill<'a, I: Index<Counted<'a>>, J: Index<Counted<'a>>>(
     map: &mut Map<'a, I, J>,
     trial: Trial<'a>,
@@ -50,7 +51,7 @@ fn agree(rt: &impl Abort, trial: Trial<'_>, meter: &Counter<Count>, call: &str) 
     );
 }
 
-// Makes a call with the meter, and sees that it counts what the keys saw.
+// Makes a call with the meter, and tests that the meter counted what the keys saw.
 macro_rules! counts {
     ($rt:ident, $trial:ident, $meter:ident, $map:ident.$call:ident($($handed:expr),*)) => {{
         let _ = $map.$call($($handed,)* &mut $meter);
@@ -58,7 +59,7 @@ macro_rules! counts {
     }};
 }
 
-// Look-ups and removals by values that are contained, and by others.
+// Makes look-ups and removals by a value, which may be contained or not.
 fn of_values<'a, I: Index<Counted<'a>>, J: Index<Counted<'a>>>(
     rt: &impl Abort,
     map: &mut Map<'a, I, J>,
@@ -74,7 +75,7 @@ fn of_values<'a, I: Index<Counted<'a>>, J: Index<Counted<'a>>>(
     counts!(rt, trial, meter, map.remove_by_right_metered(&right));
 }
 
-// Insertions that overwrite by either side or by both, and that do not.
+// Makes insertions that overwrite by either side, by both sides, or by none.
 fn of_pairs<'a, I: Index<Counted<'a>>, J: Index<Counted<'a>>>(
     rt: &impl Abort,
     map: &mut Map<'a, I, J>,
@@ -95,7 +96,7 @@ fn of_pairs<'a, I: Index<Counted<'a>>, J: Index<Counted<'a>>>(
     );
 }
 
-// The ends and ranks of an ordered left.
+// Asks for the ends and ranks of an ordered left.
 fn of_lefts<'a, J: Index<Counted<'a>>>(
     rt: &impl Abort,
     map: &mut Map<'a, Ordered, J>,
@@ -113,7 +114,7 @@ fn of_lefts<'a, J: Index<Counted<'a>>>(
     counts!(rt, trial, meter, map.pop_last_by_left_metered());
 }
 
-// Those of an ordered right.
+// Asks for the ends and ranks of an ordered right.
 fn of_rights<'a, I: Index<Counted<'a>>>(
     rt: &impl Abort,
     map: &mut Map<'a, I, Ordered>,
@@ -131,7 +132,7 @@ fn of_rights<'a, I: Index<Counted<'a>>>(
     counts!(rt, trial, meter, map.pop_last_by_right_metered());
 }
 
-// Makes calls at each length with numbers of which every other one is contained.
+// Makes the calls at each length, with numbers of which every other one is contained.
 macro_rules! at_each_length {
     ($trial:ident => $calls:expr) => {{
         for length in [0, 1, 2, 3, 7, 8, 1000u32] {

@@ -1,4 +1,4 @@
-//! Values of no bytes, under either index on either side.
+//! Zero-sized values on both sides, under either index on either side.
 use bimap::Overwritten;
 use std::alloc::Global;
 use std::process::Abort;

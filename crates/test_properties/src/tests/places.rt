@@ -1,10 +1,10 @@
-//! The places that a reading makes: as many as the insertions of its entries, so they double from four on.
+//! Reading an object gives the capacity that inserting its entries would give. It starts at four and doubles.
 use bimap::value::{JsonObject, Value};
 use bimap::{BiBTreeHashMap, BiBTreeMap, BiHashBTreeMap, BiHashMap};
 use std::alloc::Global;
 use std::process::Abort;
 
-/// An object, and the capacity of a bimap of its entries.
+/// An object, and the capacity of a map of its entries.
 const ROWS: [(&str, usize); 3] = [
     (r#"{"1":1}"#, 4),
     (r#"{"1":1,"2":2,"3":3}"#, 4),

@@ -1,4 +1,5 @@
-//! Seats on both sides of a bimap that is none of the library's, and a large bimap with builders that are handed in.
+//! Seats on both sides of a map that is not one of the library's, and a large map with hash builders that are handed
+//! in.
 use crate::Seat;
 use bimap::BiHashMap;
 use bimap::value::{
@@ -49,14 +50,14 @@ fn builder() -> BuildHasherDefault<FoldHasher> {
     BuildHasherDefault::new()
 }
 
-// More pairs than two bytes count.
+// Returns a map of 70 000 pairs, more than a `u16` can count.
 fn many(rt: &impl Abort, alloc: Global) -> Numbers {
     let items = (0..70_000u32).map(|at| (at, at ^ 1));
     let made = BiHashMap::from_iter_with_hashers(alloc, builder(), builder(), items);
     made.ok().expect(rt, "memory")
 }
 
-// The bimap from an object of its pairs.
+// Writes the map as an object, and reads a map from it.
 fn read_back(rt: &impl Abort, alloc: Global, numbers: &Numbers) -> Numbers {
     let value = hash_to_value(alloc, numbers).expect(rt, "memory");
     from_value_with_hashers(alloc, builder(), builder(), &value).expect(rt, "memory")

@@ -1,4 +1,4 @@
-//! A bimap of texts, of which the clone and the JSON of each ask for memory too.
+//! A map of texts. Cloning a text allocates, and so does making JSON of it.
 use bimap::value::{JsonFault, JsonObject, Value};
 use bimap::{BiBTreeMap, Bijection, NoMemory};
 use std::alloc::{AllocError, Global};
@@ -10,7 +10,7 @@ type Texts = BiBTreeMap<String, char>;
 const TEXT: &str =
     "{\"eighteen\":\"A\",\"neunzehn\":\"ß\",\"zwanzig, and more than one word\":\"€\"}";
 
-// What a call makes: whether it is right, or `None` where memory was refused.
+// Makes the call and returns whether its result is right, or `None` if it ran out of memory.
 fn made(alloc: Global, call: u32, texts: &Texts, value: &Value) -> Option<bool> {
     match call {
         0 => match Texts::from_value(alloc, value) {
@@ -36,7 +36,8 @@ fn made(alloc: Global, call: u32, texts: &Texts, value: &Value) -> Option<bool> 
     }
 }
 
-// Makes the call under a famine that eases, and answers how often it was refused, or `None` where what it made is wrong.
+// Makes the call again and again, with a little more memory each time. Returns how often it ran out of memory. Returns
+// `None` if the result is wrong or if the call never succeeds.
 fn refusals(
     alloc: Global,
     call: u32,

@@ -1,4 +1,4 @@
-//! Lists of insertions that are undone where no place is free.
+//! Lists of insertions that are undone when no place is free.
 ghost use Rattle.std.specs.Prelude.{List};
 ghost use Rattle.bimap.specs.Trail.{Leads};
 
@@ -7,14 +7,15 @@ use std::alloc::{AllocError, Global};
 use std::test::Fail;
 use test_support::{CopyKind, MemoryLimit, insert_all, shows};
 
-/// Insertions, the entries that are left where the undoing of two pairs finds no place, and the pairs that are then held.
+/// Some insertions. Undoing one that overwrote two pairs runs out of memory, and leaves the entries `rest` and the
+/// pairs `held`.
 struct Row<'a, L, R> {
     insertions: &'a [(L, R)],
     rest: &'a [(L, Overwritten<L, R>)],
     held: &'a [(L, R)],
 }
 
-/// What is held before the insertions.
+/// The pairs in the map before the insertions.
 const PAIRS: [(char, u32); 4] = [('a', 1), ('b', 2), ('c', 3), ('d', 4)];
 
 const OVER_A: (char, Overwritten<char, u32>) = ('a', Overwritten::Both(('a', 1), ('b', 2)));
@@ -32,8 +33,8 @@ const ROWS: [Row<'static, char, u32>; 2] = [
     },
 ];
 
-// Undoes the insertions under a famine that eases, and answers how often they stopped, or `None` where one left something
-// else than the row says.
+// Undoes the insertions, with a little more memory each time. Returns how often this stopped. Returns `None` if a stop
+// left anything that the row does not say, or if the undoing never succeeds.
 fn refusals<L: Copy + Eq + Drop, R: Copy + Eq + Drop, B: Bijection<L, R> + Drop>(
     alloc: Global,
     bimap: &mut B,
@@ -61,7 +62,8 @@ fn refusals<L: Copy + Eq + Drop, R: Copy + Eq + Drop, B: Bijection<L, R> + Drop>
     Ok(None)
 }
 
-// The undoing of two pairs wants three growths.
+// Returns whether at least three allocations failed. Making room for a second pair allocates in the store and in both
+// indexes.
 fn is_refused_in_order(met: Option<u64>) -> bool {
     met.is_some_and(|met| met >= 3)
 }
@@ -86,7 +88,8 @@ fn a_list_stops_where_no_place_is_free(rt: HostRuntime) -> Result<(), Fail> {
     Ok(())
 }
 
-// So many pairs that two bytes do not count them, and as many items as half of them, of which each strikes two.
+// Makes 140 000 pairs, more than a `u16` can count. Makes half as many items, each of which overwrites two of the
+// pairs.
 fn fill(pairs: &mut Vec<(char, u32)>, items: &mut Vec<(char, u32)>) -> Result<(), AllocError> {
     for at in 0..140_000u32 {
         if let Some(left) = char::from_u32(0x1_0000 + at) {
@@ -99,7 +102,7 @@ fn fill(pairs: &mut Vec<(char, u32)>, items: &mut Vec<(char, u32)>) -> Result<()
     Ok(())
 }
 
-// Whether a list as long as that is undone where no place is free.
+// Returns whether a list of that many insertions is undone when no place is free.
 fn undoes_many<B: CopyKind<char, u32>>(
     alloc: Global,
     pairs: &[(char, u32)],

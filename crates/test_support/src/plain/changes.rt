@@ -1,4 +1,4 @@
-//! What changes pairs in a vector, of which no two share a value.
+//! What changes the pairs of the vector. No two pairs share a value.
 ghost use Rattle.std.specs.Prelude.{◌≡◌, ◌≤◌, ◌<◌, ◌+◌, ◌*◌, ◌⊎◌, max, Contains, OnOk, OnErr, vec_len, vec_capacity};
 ghost use Rattle.bimap_base.specs.Sets.{IsApart};
 ghost use Rattle.bimap_base.specs.Answer.{IsAnswer, named_count};
@@ -11,7 +11,7 @@ ghost use Rattle.test_support.specs.Plain.{shown, IsCleared};
 use crate::plain::scan::{has_left, has_right, take_left, take_right};
 use bimap_base::{NoMemory, NoRoom, NotInsertedWith, Overwritten, Policy, UndoStopped};
 
-/// Makes a place free, where none is. It takes memory only there.
+/// Makes room for one more pair if no place is free. Allocates only in that case.
 fn make_place<T>(items: &mut Vec<T>) -> Result<(), NoMemory>
     ensures items { items.new.items ≡ items.old.items }
     ensures ok { OnOk result (vec_len items.new < vec_capacity items.new) }
@@ -28,7 +28,7 @@ fn make_place<T>(items: &mut Vec<T>) -> Result<(), NoMemory>
     items.reserve_exact(1).map_err(|_| NoMemory)
 }
 
-/// Makes room for so many more pairs, exactly.
+/// Makes room for exactly this many more pairs.
 pub fn reserve<L, R>(pairs: &mut Vec<(L, R)>, more: usize) -> Result<(), NoMemory>
     ensures { IsReservation (shown pairs.old.items (vec_capacity pairs.old)) more result
         (shown pairs.new.items (vec_capacity pairs.new)) }
@@ -36,7 +36,7 @@ pub fn reserve<L, R>(pairs: &mut Vec<(L, R)>, more: usize) -> Result<(), NoMemor
     pairs.reserve_exact(more).map_err(|_| NoMemory)
 }
 
-/// Puts a pair in, and takes out those that share a value with it.
+/// Inserts a pair. Removes the pairs that share a value with it, and returns them.
 fn insert<L: Eq + Drop, R: Eq + Drop>(
     pairs: &mut Vec<(L, R)>,
     left: L,
@@ -55,7 +55,8 @@ fn insert<L: Eq + Drop, R: Eq + Drop>(
     Ok(answer)
 }
 
-/// Puts a pair in where the policy lets it overwrite.
+/// Inserts a pair if the policy allows it to overwrite the pairs that share a value with it. Returns the overwritten
+/// pairs.
 pub fn insert_with<L: Eq + Drop, R: Eq + Drop>(
     pairs: &mut Vec<(L, R)>,
     left: L,
@@ -79,7 +80,7 @@ pub fn insert_with<L: Eq + Drop, R: Eq + Drop>(
     }
 }
 
-/// Takes out the pairs that share a value with a left and a right, and answers them.
+/// Removes the pairs that share a value with this left or this right, and returns them.
 fn strike<L: Eq + Drop, R: Eq + Drop>(
     pairs: &mut Vec<(L, R)>,
     left: &L,
@@ -110,7 +111,7 @@ fn strike<L: Eq + Drop, R: Eq + Drop>(
     }
 }
 
-/// Takes out the pair of the left, and puts the pairs of the answer in.
+/// Removes the pair with this left and returns it. Puts the overwritten pairs back that `answer` contains.
 pub fn undo<L: Eq + Drop, R: Eq + Drop>(
     pairs: &mut Vec<(L, R)>,
     left: &L,
@@ -154,7 +155,7 @@ pub fn undo<L: Eq + Drop, R: Eq + Drop>(
     }
 }
 
-/// Keeps the pairs at which the closure answers true.
+/// Keeps the pairs on which the closure returns `true`, and drops the others.
 pub fn keep<L: Eq + Drop, R: Eq + Drop, F: FnMut(&L, &R) -> bool>(pairs: &mut Vec<(L, R)>, mut f: F)
     requires apart { IsApart L.eq R.eq pairs.old.items }
     requires may_test { MayTest F.FnMut f pairs.old.items }
@@ -172,7 +173,7 @@ pub fn keep<L: Eq + Drop, R: Eq + Drop, F: FnMut(&L, &R) -> bool>(pairs: &mut Ve
     }
 }
 
-/// Calls the closure at the two values of a pair.
+/// Calls the closure on the two values of a pair.
 fn ask<L, R, F: FnMut(&L, &R) -> bool>(f: &mut F, pair: &(L, R)) -> bool
     requires { MayTestPair F.FnMut f.old pair.now }
     ensures { TestedAt F.FnMut f.old pair.now result f.new }

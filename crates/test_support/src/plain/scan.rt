@@ -1,4 +1,4 @@
-//! What looks through pairs one by one, and takes one out.
+//! Searching the pairs one by one, and removing one of them.
 ghost use Rattle.std.specs.Prelude.{◌≡◌, true, Contains, MatchOption, MatchBool, position};
 ghost use Rattle.bimap_base.specs.Kept.{MayTestPair, TestedAt};
 ghost use Rattle.bimap_any.specs.Visited.{MayVisit, IsVisited};
@@ -65,21 +65,21 @@ fn tell<L, R, F: FnMut(&L, &R)>(f: &mut F, pair: &(L, R))
     f(&pair.0, &pair.1)
 }
 
-// The first place with an equal left.
+// Returns the first place with an equal left.
 fn place_of_left<L: Eq, R>(pairs: &[(L, R)], left: &L) -> Option<usize>
     ensures { result ≡ position (λ p. L.eq p.0 left.now) pairs.now }
 {
     pairs.iter().position(|pair| pair.0 == *left)
 }
 
-// The first place with an equal right.
+// Returns the first place with an equal right.
 fn place_of_right<L, R: Eq>(pairs: &[(L, R)], right: &R) -> Option<usize>
     ensures { result ≡ position (λ p. R.eq p.1 right.now) pairs.now }
 {
     pairs.iter().position(|pair| pair.1 == *right)
 }
 
-// The pair of a left is taken out, if there is one.
+// Removes the pair with this left and returns it, if there is one.
 pub fn take_left<L: Eq + Drop, R: Eq + Drop>(pairs: &mut Vec<(L, R)>, left: &L) -> Option<(L, R)>
     requires { IsApart L.eq R.eq pairs.old.items }
     ensures { IsTaken L.eq R.eq (λ p. p.0) L.eq pairs.old left.now result pairs.new }
@@ -88,7 +88,7 @@ pub fn take_left<L: Eq + Drop, R: Eq + Drop>(pairs: &mut Vec<(L, R)>, left: &L) 
     Some(pairs.remove(place))
 }
 
-// The same for a right.
+// Removes the pair with this right and returns it, if there is one.
 pub fn take_right<L: Eq + Drop, R: Eq + Drop>(pairs: &mut Vec<(L, R)>, right: &R) -> Option<(L, R)>
     requires { IsApart L.eq R.eq pairs.old.items }
     ensures { IsTaken L.eq R.eq (λ p. p.1) R.eq pairs.old right.now result pairs.new }

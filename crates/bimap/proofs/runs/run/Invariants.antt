@@ -6,7 +6,7 @@ use Rattle.bimap.specs.History.{IsHistory}
 use Rattle.bimap.specs.Test.{Answers}
 use Rattle.bimap.proofs.runs.run.Given as goal
 
--- the calls so far and their replies are a history that led to what is held
+-- The calls so far and their replies are a history that led to the contained pairs.
 abbrev pub invariant-loop-call : goal.invariant-loop-call
 invariant-loop-call g l = record {
   front : l.fn.calls.items ≡ l.yielded ++ into_iter_items l.call-iterator;

@@ -8,14 +8,14 @@ use Rattle.bimap.proofs.Trails.{room_undone, leads_undoable, leads_pop, leads_wi
 use Rattle.bimap.proofs.undone.undo_run.Goals as goal
 use Rattle.bimap.proofs.undone.undo_run.Goals.{In-Some}
 
--- the entries of a turn, with the last one apart
+-- The entries of one round of the loop, with the last one apart.
 led : (g : _) (c : In-Some g) (first : List (g.row.L.Denot × g.row.R.Denot)) → Leads g.L.PartialEq.eq g.R.PartialEq.eq first c.args.entries.items (g.B.Bijection.holding c.args.bimap.now).pairs → Leads g.L.PartialEq.eq g.R.PartialEq.eq first (c.pop.new.self.items ++ (c.in-Some.left, c.in-Some.answer) ∷ []) (g.B.Bijection.holding c.loop-left.bimap).pairs
 led g c first h = subst (λ (es : List (g.row.L.Denot × Overwritten g.row.L.Denot g.row.R.Denot)). Leads g.L.PartialEq.eq g.R.PartialEq.eq first es (g.B.Bijection.holding c.loop-left.bimap).pairs) c.in-Some.ensures.items (c.loop-left.invariant.led first h)
 
 led_within : (g : _) (c : In-Some g) (first : List (g.row.L.Denot × g.row.R.Denot)) → LeadsWithin g.L.PartialEq.eq g.R.PartialEq.eq (g.B.Bijection.holding c.args.bimap.now).room first c.args.entries.items (g.B.Bijection.holding c.args.bimap.now).pairs → LeadsWithin g.L.PartialEq.eq g.R.PartialEq.eq (g.B.Bijection.holding c.args.bimap.now).room first (c.pop.new.self.items ++ (c.in-Some.left, c.in-Some.answer) ∷ []) (g.B.Bijection.holding c.loop-left.bimap).pairs
 led_within g c first h = subst (λ (es : List (g.row.L.Denot × Overwritten g.row.L.Denot g.row.R.Denot)). LeadsWithin g.L.PartialEq.eq g.R.PartialEq.eq (g.B.Bijection.holding c.args.bimap.now).room first es (g.B.Bijection.holding c.loop-left.bimap).pairs) c.in-Some.ensures.items (c.loop-left.invariant.fits first h).0
 
--- where the trail fits, an undo of `Both` finds a place free
+-- If the trail fits into the room, undoing a `Both` finds a free place.
 spare : (g : _) (c : In-Some g) (first : List (g.row.L.Denot × g.row.R.Denot)) → LeadsWithin g.L.PartialEq.eq g.R.PartialEq.eq (g.B.Bijection.holding c.args.bimap.now).room first c.args.entries.items (g.B.Bijection.holding c.args.bimap.now).pairs → IsBoth c.in-Some.answer → length (g.B.Bijection.holding c.loop-left.bimap).pairs < (g.B.Bijection.holding c.loop-left.bimap).room
 spare g c first h both =
     let s = leads_within_spare g.L.PartialEq.eq g.R.PartialEq.eq g.met.L.Eq.laws g.met.R.Eq.laws c.pop.new.self.items c.in-Some.left c.in-Some.answer (g.B.Bijection.holding c.loop-left.bimap).pairs first (g.B.Bijection.holding c.args.bimap.now).room (led_within g c first h) (g.met.B.Bijection.apart c.loop-left.bimap) both in

@@ -5,7 +5,9 @@ use Rattle.bimap_undo.specs.Marks.{KeepsMarks}
 use Rattle.bimap_undo.specs.Operations.{StaysAbove, ArePerformed}
 use Rattle.bimap_undo.proofs.operations.perform_all.Given as goal
 
--- those so far were performed, no operation that is left goes below the mark, and it and the lower ones are kept
+-- The operations so far were performed.
+-- No remaining operation goes below the mark.
+-- This mark and the lower ones still stand for the same sets.
 abbrev pub invariant-loop-operation : goal.invariant-loop-operation
 invariant-loop-operation g l = record {
   front : l.fn.operations.items ≡ l.yielded ++ into_iter_items l.operation-iterator;

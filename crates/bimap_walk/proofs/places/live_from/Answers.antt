@@ -4,7 +4,7 @@ use Rattle.bimap_base.specs.Places.{pairs_in}
 use Rattle.bimap_base.proofs.Passing.{from_free, from_end}
 use Rattle.bimap_walk.proofs.places.live_from.Goals as goal
 
--- nothing was read, so nothing is there
+-- If nothing was read at a place, the place has no pair.
 nothing_at : {A P : Type 0} (f : A → P) (r : Option A) (o : Option P) → is_some r ≡ false → option_map f r ≡ o → o ≡ None
 nothing_at f None o e h = sym h
 nothing_at f (Some x) o e h = absurd (true≢false e)

@@ -9,7 +9,7 @@ use Rattle.bimap.proofs.JsonReading.{IsReading, IsReadInOrder, in_order_first, i
 use Rattle.bimap.proofs.value.object.read_into_with.Goals.{In-Ok, In-Some-next}
 use Rattle.bimap.proofs.value.object.read_into_with.Goals as goal
 
--- its key was read
+-- The key of the entry was read.
 read_key : (g : _) (c : In-Ok g) → g.L.JsonKey.reads_key (string_bytes c.in-Some-next.key.now) c.in-Ok.left
 read_key g c = subst (λ t. g.L.JsonKey.reads_key t c.in-Ok.left) c.as_str.ensures.value c.in-Ok.ensures
 
@@ -43,7 +43,7 @@ loop-key-preserved g c =
 pub overflow_add-at : goal.overflow_add-at
 overflow_add-at g c = omega (arith, ap length c.in-Some-next.ensures.steps, c.loop-key.invariant.counted, ap length c.iter-entries.ensures.rest, c.iter-entries.ensures.fits)
 
--- the entry that was read last stops the reading
+-- The entry that was read last stops the reading.
 stops : (g : _) (c : In-Some-next g) (P : (g.row.L.Denot × g.row.R.Denot → Type 0) → Entry → Type 0) → ((S : g.row.L.Denot × g.row.R.Denot → Type 0) → ((p : g.row.L.Denot × g.row.R.Denot) → Contains (g.B.Bijection.holding c.loop-key.bimap).pairs p ↔ S p) → P S (string_bytes c.in-Some-next.key.now, view c.in-Some-next.value.now))
     → StopsUnder g.L.JsonKey.reads_key g.R.JsonValue.reads g.L.PartialEq.eq g.R.PartialEq.eq (view c.args.value.now) c.args.policy c.loop-key.at P
 stops g c P why =
@@ -68,7 +68,7 @@ returns-in-Err-Bad-from_json-clause-read g c =
     stops g (goal.at.returns-in-Err-Bad-from_json-clause-read g c).In-Some-next (λ S e. ReadsSomething (g.L.JsonKey.reads_key e.0) × ReadsNothing (val e.1))
     (λ S same. ((c.in-Ok.left, read_key g (goal.at.returns-in-Err-Bad-from_json-clause-read g c).In-Ok), subst (λ e. Reads (val (view c.in-Some-next.value.now)) (Err e)) c.in-Err-Bad-from_json.field-0-is c.in-Err-Bad-from_json.ensures))
 
--- its key is a left, and memory was wanting
+-- The key of the entry is a left, and the call ran out of memory.
 no_memory : (g : _) (c : In-Some-next g) → ReadsSomething (g.L.JsonKey.reads_key (string_bytes c.in-Some-next.key.now)) → (at : ℕ) × StopsUnder g.L.JsonKey.reads_key g.R.JsonValue.reads g.L.PartialEq.eq g.R.PartialEq.eq (view c.args.value.now) c.args.policy at (λ S e. ReadsSomething (g.L.JsonKey.reads_key e.0))
 no_memory g c left = (c.loop-key.at, stops g c (λ S e. ReadsSomething (g.L.JsonKey.reads_key e.0)) (λ S same. left))
 

@@ -10,11 +10,11 @@ use Rattle.bimap.proofs.JsonPairs.{read_more, stops_here}
 use Rattle.bimap.proofs.value.pairs.read_pairs.Goals.{In-Some-as_two}
 use Rattle.bimap.proofs.value.pairs.read_pairs.Goals as goal
 
--- the value's items
+-- The items of the value.
 items : (g : _) (c : In-Some-as_two g) → Some (items_view c.deref-item-items.result.now) ≡ as_array (view c.args.value.now)
 items g c = ap (λ vs. Some (items_view vs)) c.deref-item-items.ensures.value ∙ c.in-Some.ensures
 
--- the item stops the reading
+-- The item stops the reading.
 stops : (g : _) (c : In-Some-as_two g) (P : Data → Type 0) → P (view c.item-item.result) → StopsAtItem g.L.JsonValue.reads g.R.JsonValue.reads (view c.args.value.now) c.len-at.result P
 stops g c P =
     stops_here g.L.JsonValue.reads g.R.JsonValue.reads c.deref-item-items.result.now c.loop-item.item-index c.item-item.result c.loop-item-test.true c.item-item.is c.loop-item.pairs.items c.loop-item.invariant.read
@@ -35,7 +35,7 @@ returns-in-Err-Bad-from_json g c =
     stops g (goal.at.returns-in-Err-Bad-from_json g c).In-Some-as_two (IsTwoOf (λ first second. ReadsSomething (g.L.JsonValue.reads first) × ReadsNothing (g.R.JsonValue.reads second)))
     (view c.in-Some-as_two.first.now, view c.in-Some-as_two.second.now, c.in-Some-as_two.ensures.is_two, ((c.in-Ok.left, c.in-Ok.ensures), subst (λ e. Reads (g.R.JsonValue.reads (view c.in-Some-as_two.second.now)) (Err e)) c.in-Err-Bad-from_json.field-0-is c.in-Err-Bad-from_json.ensures))
 
--- the item is two whose first is a left, and memory was wanting
+-- The item is an array of two values whose first one is a left, and the call ran out of memory.
 no_memory : (g : _) (c : In-Some-as_two g) → ReadsSomething (g.L.JsonValue.reads (view c.in-Some-as_two.first.now)) → (at : ℕ) × StopsAtItem g.L.JsonValue.reads g.R.JsonValue.reads (view c.args.value.now) at (IsTwoOf (λ first second. ReadsSomething (g.L.JsonValue.reads first)))
 no_memory g c left = (c.len-at.result, stops g c (IsTwoOf (λ first second. ReadsSomething (g.L.JsonValue.reads first))) (view c.in-Some-as_two.first.now, view c.in-Some-as_two.second.now, c.in-Some-as_two.ensures.is_two, left))
 

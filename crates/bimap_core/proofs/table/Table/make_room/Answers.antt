@@ -10,7 +10,7 @@ returns-then-len-places-clause-ok g c = omega arith
 pub returns-then-len-places-clause-room : goal.returns-then-len-places-clause-room
 returns-then-len-places-clause-room g c = room_stays _ _ _ refl
 
--- so many places were made, or none
+-- The store grew to at least `to` places, or not at all.
 grown : {T E P : Type 0} (r : Result T E) (to : ℕ) (was now : List P) → OnOk r (length now ≡ max to (length was)) → OnErr r (now ≡ was) → length now ≤ max to (length was)
 grown (Ok x) to was now ok err = omega (arith, ok)
 grown (Err x) to was now ok err = omega (arith, ap length err)

@@ -8,7 +8,7 @@ use Rattle.bimap_any.proofs.Meeting.{IsMetUpTo, met_more}
 use Rattle.bimap_kinds.specs.Held.{holding}
 use Rattle.bimap_kinds.proofs.map.BijectiveMap.is_subset_of.Goals as goal
 
--- a course has no lifetime
+-- A course is `'static`, so it outlives every lifetime.
 pub into_iter-left-iterator-requires-lives-I-Iterator-3 : goal.into_iter-left-iterator-requires-lives-I-Iterator-3
 into_iter-left-iterator-requires-lives-I-Iterator-3 g c κs within = λ a m. ⊑_static κs.1.0 a (c.type_bounds.static-I-Way a m)
 

@@ -2,7 +2,7 @@ use Rattle.std.proofs.Common.{◌≡◌, ◌≤◌, length}
 use Rattle.bimap_undo.specs.Marks.{marked, HasMarks, KeepsMarks}
 use Rattle.bimap_undo.proofs.undoable.Undoable.back_to.Given as goal
 
--- what the marks that are left stand for is kept
+-- The remaining marks still stand for the same sets.
 abbrev pub invariant-loop-self : goal.invariant-loop-self
 invariant-loop-self g l = record {
   above : l.mark ≤ length l.self-inside.changes.items;

@@ -4,7 +4,7 @@ use Rattle.bimap.proofs.Extending.{ArePutIn}
 use Rattle.bimap_undo.specs.Marks.{KeepsMarks}
 use Rattle.bimap_undo.proofs.undoable.Undoable.insert_all.Given as goal
 
--- the items so far were put in and recorded, and the marks of before are kept
+-- The items so far were inserted and recorded. The earlier marks still stand for the same sets.
 abbrev pub invariant-loop-left : goal.invariant-loop-left
 invariant-loop-left g l = record {
   callable : (goal.iterator-loop-left g).can_next l.left-iterator;
