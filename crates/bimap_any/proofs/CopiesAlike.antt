@@ -1,4 +1,4 @@
--- A copy of pairs is a copy of the same pairs in another order.
+-- A copy of pairs is also a copy of the same pairs in another order.
 use Rattle.std.proofs.Common.{◌≡◌, Bool, List, [], ◌∷◌, length, sym, ◌∙◌, subst, inl, inr, arith}
 use Rattle.std.specs.Prelude.{Contains}
 use Rattle.std.specs.List.{AllZip}
@@ -10,7 +10,7 @@ use Rattle.bimap_base.proofs.Apart.{apart_unique}
 use Rattle.bimap_any.proofs.Copying.{source_of, image_of, equal_clone, apart_clones}
 use Rattle.bimap_base.proofs.Members.{head_in, more_in, cases_in, none_in}
 
--- an image of each element, in their order
+-- A list with an image of each element, in the order of the elements.
 module _ {X : Type 0} (R : X → X → Type 0) (T : X → Type 0) where
   pub record Images (xs : List X) : Type 0 where
     pub images : List X
@@ -55,7 +55,7 @@ module _ {L R : Type 0} (same_left : L → L → Bool) (same_right : R → R →
       moved : Images IsClone (Contains copy.clones) old'
       moved = images_of IsClone (Contains copy.clones) old' (λ p c. image_of IsClone old copy.clones copy.one_for_each p ((before p).1 c))
 
-      -- two clones of one pair are one
+      -- Two clones of the same pair in the copy are the same pair.
       one : (p q r : L × R) → Contains old p → Contains copy.clones q → Contains copy.clones r → IsClone p q → IsClone p r → q ≡ r
       one p q r there first second c d =
           let e = first_so (same_left p.0 q.0) (same_right p.1 q.1) (equal_clone same_left same_right lefts rights is_clone_left is_clone_right old equal p q there c) in

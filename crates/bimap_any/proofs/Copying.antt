@@ -1,4 +1,4 @@
--- The clones of pairs that share no value, put into an empty bimap one after the other.
+-- The clones of pairs that share no value are inserted into an empty bimap, one after the other.
 use Rattle.std.proofs.Common.{◌≡◌, inl, inr, ◌||◌, ◌&&◌, Bool, true, false, List, [], ◌∷◌, ◌++◌, refl, sym, ◌∙◌, subst, arith, append_assoc, append-nil}
 use Rattle.std.specs.Prelude.{Contains}
 use Rattle.std.specs.List.{AllZip}
@@ -10,7 +10,7 @@ use Rattle.bimap_base.specs.Sets.{IsSameSet, shares, IsApart, IsWithPut}
 use Rattle.bimap_base.proofs.Apart.{apart_head, apart_tail, apart_none, apart_more, no_longer}
 use Rattle.bimap_base.proofs.Members.{head_in, more_in, cases_in, none_in}
 
--- each element of the one list stands beside one of the other
+-- Each element of one list is paired with an element of the other list.
 module _ {X : Type 0} (P : X → X → Type 0) where
   pub source_of : (xs ys : List X) → AllZip P xs ys → (y : X) → Contains ys y → (x : X) × Contains xs x × P x y
   source_of [] [] zip y there = none_in y there
@@ -32,12 +32,12 @@ module _ {X : Type 0} (P : X → X → Type 0) where
         | inr w ↦ let s = image_of xs ys zip.1 x w in (s.0, more_in y ys s.0 s.1, s.2)
       ]
 
--- values that equal two others are equal where these are
+-- Two values that are each equal to another value are equal exactly if the other two are equal.
 equal_along : {K : Type 0} {E : K → K → Bool} → IsEquivalence E → (a b c d : K) → E a b ≡ true → E c d ≡ true → E a c ≡ E b d
 equal_along {K} {E} same a b c d e f = same.congr a b c e ∙ same.symm b c ∙ same.congr c d b f ∙ same.symm d b
 
 module _ {L R : Type 0} (is_clone_left : L → L → Type 0) (is_clone_right : R → R → Type 0) where
-  -- a clone of each pair but the rest is held
+  -- The bimap contains a clone of each pair, except of the pairs in `rest`.
   pub record IsCopiedUpTo (old rest new : List (L × R)) : Type 0 where
     pub before : List (L × R)
     pub clones : List (L × R)
@@ -56,7 +56,7 @@ module _ {L R : Type 0} (is_clone_left : L → L → Type 0) (is_clone_right : R
       }
 
 module _ {L R : Type 0} (same_left : L → L → Bool) (same_right : R → R → Bool) where
-  -- a pair shares no value with those before it
+  -- A pair shares no value with the pairs before it.
   apart_before : (ps rest : List (L × R)) (p q : L × R) → IsApart same_left same_right (ps ++ p ∷ rest) → Contains ps q → shares same_left same_right q p ≡ false
   apart_before [] rest p q apart there = none_in q there
   apart_before (b ∷ ps) rest p q apart there =
@@ -95,7 +95,7 @@ module _ {L R : Type 0} (same_left : L → L → Bool) (same_right : R → R →
         sym (shares_along p q s.0 y first second) ∙ apart_head same_left same_right p ps apart s.0 s.1)
         (apart_clones ps qs later zip.1 (apart_tail same_left same_right p ps apart))
 
-    -- a further clone shares no value with the others
+    -- A further clone shares no value with the other clones.
     pub apart_clone : (old rest new : List (L × R)) (p q : L × R) → IsApart same_left same_right old → AreClonesEqual is_clone_left is_clone_right same_left same_right old → (so_far : IsCopiedUpTo is_clone_left is_clone_right old (p ∷ rest) new) → IsPairClone is_clone_left is_clone_right p q → (x : L × R) → Contains so_far.clones x → shares same_left same_right x q ≡ false
     apart_clone old rest new p q apart equal so_far clone x there =
         let s = source_of (IsPairClone is_clone_left is_clone_right) so_far.before so_far.clones so_far.one_for_each x there in
@@ -106,7 +106,7 @@ module _ {L R : Type 0} (same_left : L → L → Bool) (same_right : R → R →
         in_old : (x : L × R) → Contains (so_far.before ++ p ∷ rest) x → Contains old x
         in_old x there = subst (λ xs. Contains xs x) (sym so_far.split) there
 
-    -- so one more is put in
+    -- This allows one more clone to be inserted.
     pub copied_more : (old rest new newer : List (L × R)) (p q : L × R) → IsApart same_left same_right old → AreClonesEqual is_clone_left is_clone_right same_left same_right old → IsCopiedUpTo is_clone_left is_clone_right old (p ∷ rest) new → IsPairClone is_clone_left is_clone_right p q → IsWithPut same_left same_right (Contains new) q (Contains newer) → IsCopiedUpTo is_clone_left is_clone_right old rest newer
     copied_more old rest new newer p q apart equal so_far clone put =
         record {
@@ -126,7 +126,7 @@ module _ {L R : Type 0} (same_left : L → L → Bool) (same_right : R → R →
           );
         }
 
-    -- where nothing is left, the copy is whole
+    -- When no pair is left, the copy is complete.
     pub copied_all : (old new : List (L × R)) → IsApart same_left same_right old → IsApart same_left same_right new → AreClonesEqual is_clone_left is_clone_right same_left same_right old → IsCopiedUpTo is_clone_left is_clone_right old [] new → IsCopy is_clone_left is_clone_right same_left same_right old new
     copied_all old new apart apart_new equal so_far =
         let all : so_far.before ≡ old = sym (so_far.split ∙ append-nil so_far.before) in

@@ -1,4 +1,4 @@
--- Items put in one after the other under a policy.
+-- Items that are inserted one after the other under a policy.
 use Rattle.std.proofs.Common.{◌≡◌, ◌↔◌, ◌+◌, ◌≤◌, Bool, Option, List, [], ◌∷◌, ◌++◌, length, refl, sym, ◌∙◌, subst, arith, inl, inr}
 use Rattle.std.specs.Prelude.{Contains}
 use Rattle.std.specs.Cmp.{IsEquivalence}
@@ -18,7 +18,7 @@ use Rattle.bimap_any.proofs.Growing.{answer_overwrites, room_after, room_push}
 use Rattle.bimap_any.proofs.Survivors.{split_push, not_split, items_none, items_push}
 
 module _ {L R : Type 0} (same_left : L → L → Bool) (same_right : R → R → Bool) where
-  -- why an insertion was refused, told of another set with the same members
+  -- The reason of a refused insertion is also true of another set with the same members.
   pub refusal_along : (S T : L × R → Type 0) (NoPlace NoPlaceLeft : Type 0) (new : L × R) (policy : Policy) (why : NotInsertedWith L R) → ((p : L × R) → S p ↔ T p) → (NoPlace → NoPlaceLeft) → IsRefusalUnder same_left same_right S NoPlace new policy why → IsRefusalUnder same_left same_right T NoPlaceLeft new policy why
   refusal_along S T NoPlace NoPlaceLeft new policy (LeftHeld l r) same place w = (w.0, w.1, (w.2.0, (same w.2.0).0 w.2.1, w.2.2))
   refusal_along S T NoPlace NoPlaceLeft new policy (RightHeld l r) same place w =
@@ -38,7 +38,7 @@ module _ {L R : Type 0} (same_left : L → L → Bool) (same_right : R → R →
         | inr w ↦ each before item w.0 w.2
       ]
 
-  -- these items were put in under the policy, and nothing else
+  -- These items were inserted under the policy, and nothing else changed.
   pub record ArePutIn (old : Holding L R) (items : List (L × R)) (policy : Policy) (new : Holding L R) : Type 0 where
     pub survivors : AreSurvivors same_left same_right (Contains old.pairs) items (Contains new.pairs)
     pub allowed : AreAllowed same_left same_right (Contains old.pairs) items policy
@@ -53,11 +53,11 @@ module _ {L R : Type 0} (same_left : L → L → Bool) (same_right : R → R →
     room = record { not_lower = omega arith; had_places = λ _. refl; outgrown = inl refl };
   }
 
-  -- where no place is free, those that were there were used
+  -- If no place is free, the old capacity was used up.
   pub put_in_full : (old : Holding L R) (items : List (L × R)) (policy : Policy) (new : Holding L R) → ArePutIn old items policy new → IsFull new → IsOutOfPlaces old items new
   put_in_full old items policy new are full = record { full = full; used = omega (arith, full, are.no_longer, are.room.not_lower) }
 
-  -- the room, one item on
+  -- The capacity after one more item.
   room_more : (old : Holding L R) (items : List (L × R)) (policy : Policy) (held : Holding L R) (item : L × R) (answer : Overwritten L R) (new : Holding L R) → IsApart same_left same_right held.pairs → length held.pairs ≤ held.room → ArePutIn old items policy held → IsAnswer same_left same_right (Contains held.pairs) item answer → IsRoomAfter held (SomeShares same_left same_right (Contains held.pairs) item) new → IsRoomAfterItems same_left same_right old (items ++ item ∷ []) new
   room_more old items policy held item answer new apart fits are named room =
       let more = length_push items item in
@@ -70,7 +70,7 @@ module _ {L R : Type 0} (same_left : L → L → Bool) (same_right : R → R →
             (room_after same_left same_right PutsItself held new item item (overwrites answer) refl fits (answer_overwrites same_left same_right (Contains held.pairs) item answer named) room);
       }
 
-  -- one item on
+  -- One more item was inserted.
   pub put_in_more : (old : Holding L R) (items : List (L × R)) (policy : Policy) (held : Holding L R) (item : L × R) (answer : Overwritten L R) (new : Holding L R) → IsEquivalence same_left → IsEquivalence same_right → IsApart same_left same_right held.pairs → IsApart same_left same_right new.pairs → length held.pairs ≤ held.room → ArePutIn old items policy held → IsAllowed same_left same_right (Contains held.pairs) item policy → IsAnswer same_left same_right (Contains held.pairs) item answer → IsWithPut same_left same_right (Contains held.pairs) item (Contains new.pairs) → IsRoomAfter held (SomeShares same_left same_right (Contains held.pairs) item) new → ArePutIn old (items ++ item ∷ []) policy new
   put_in_more old items policy held item answer new lefts rights apart apart_after fits are let_in named put room =
       let more = length_push items item in
@@ -83,7 +83,7 @@ module _ {L R : Type 0} (same_left : L → L → Bool) (same_right : R → R →
       }
 
   module _ {It : Type 0} (gives : It → Type 0) (next : It → Option (L × R) → It → Type 0) where
-    -- what was stopped for want of memory under a policy was so without one, after the same items
+    -- If an extension under a policy ran out of memory, an extension without a policy did so too, after the same items.
     pub stopped_for_memory : (old : Holding L R) (policy : Policy) (stopped : ItemRefused L R) (left : L) (right : R) (new : Holding L R) → stopped.why ≡ Memory left right → (u : IsExtensionStoppedUnder same_left same_right gives next old policy stopped new) → (s : IsExtensionStopped same_left same_right gives next old (record { taken = stopped.taken; left = left; right = right }) new) × (s.items ≡ u.items)
     stopped_for_memory old policy stopped left right new is u =
         let S = Survives PutsItself (TouchesSharing same_left same_right) (Contains old.pairs) u.items in

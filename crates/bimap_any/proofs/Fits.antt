@@ -1,4 +1,4 @@
--- Which answers can be taken back, asked one value at a time.
+-- Which answers can be undone, tested one value at a time.
 use Rattle.std.proofs.Common.{◌≡◌, ◌↔◌, ◌⊎◌, inl, inr, Bool, true, false, List, refl, sym, ap, ◌∙◌, subst, true≢false}
 use Rattle.std.specs.Prelude.{Contains, not}
 use Rattle.std.specs.Cmp.{IsEquivalence}
@@ -11,7 +11,7 @@ use Rattle.bimap_base.specs.declared.overwritten.Overwritten.{Overwritten}
 use Rattle.bimap_base.specs.declared.overwritten.Overwritten.TheVariants.{Left, Right, Pair, Both}
 use Rattle.bimap_base.proofs.Apart.{apart_unique}
 
--- the answer names this pair alone
+-- The answer names only this pair.
 pub record NamesOne {L R : Type 0} (answer : Overwritten L R) (p : L × R) : Type 0 where
   pub only : (q : L × R) → IsNamed answer q → q ≡ p
   pub is : IsNamed answer p
@@ -32,7 +32,7 @@ module _ {L R : Type 0} (same_left : L → L → Bool) (same_right : R → R →
     one_of : (p q : L × R) → Contains xs p → Contains xs q → shares same_left same_right p q ≡ true → p ≡ q
     one_of p q = apart_unique same_left same_right lefts rights xs p q apart
 
-    -- the left is held, and each pair of the answer fits beside the others
+    -- If the bimap contains the left, and each pair of the answer fits beside the other pairs, the insertion can be undone.
     pub undoable_by : (a : Overwritten L R) → HasLeft same_left (Contains xs) left → ((q : L × R) → IsNamed a q → Fits same_left same_right (Contains xs) left q) → AreNamedApart same_left same_right a → IsUndoable same_left same_right (Contains xs) left a
     undoable_by a h f t = record {
       pair = h.0;
@@ -45,14 +45,14 @@ module _ {L R : Type 0} (same_left : L → L → Bool) (same_right : R → R →
     pub fits_from : (a : Overwritten L R) → IsUndoable same_left same_right (Contains xs) left a → (q : L × R) → IsNamed a q → Fits same_left same_right (Contains xs) left q
     fits_from a u q o s m e = subst (λ (z : L × R). same_left z.0 left ≡ true) (sym (u.alone q s o m e)) u.by_left
 
-    -- an answer that names one pair
+    -- The answer names one pair.
     pub one_pair : (a : Overwritten L R) (p : L × R) (b : Bool) → NamesOne a p → HasLeft same_left (Contains xs) left → (b ≡ true) ↔ Fits same_left same_right (Contains xs) left p → (b ≡ true) ↔ IsUndoable same_left same_right (Contains xs) left a
     one_pair a p b one h f = (
       λ e. undoable_by a h (λ q n. subst (Fits same_left same_right (Contains xs) left) (sym (one.only q n)) (f.0 e)) (one.apart same_left same_right),
       λ u. f.1 (fits_from a u p one.is),
     )
 
-    -- an answer that names two
+    -- The answer names two pairs.
     pub two_pairs : (p s : L × R) (b : Bool) → HasLeft same_left (Contains xs) left → Fits same_left same_right (Contains xs) left p → Fits same_left same_right (Contains xs) left s → b ≡ not (shares same_left same_right p s) → (b ≡ true) ↔ IsUndoable same_left same_right (Contains xs) left (Both p s)
     two_pairs p s b h f g e = (
       λ t. undoable_by (Both p s) h (λ q o. elim o [
@@ -62,7 +62,7 @@ module _ {L R : Type 0} (same_left : L → L → Bool) (same_right : R → R →
       λ u. e ∙ ap not u.two,
     )
 
-    -- a right that another pair may have
+    -- A right that another pair may have.
     pub fits_right_by : (l : L) (r : R) → ((w : R) × Contains xs (l, w) × (same_right w r ≡ true)) → (same_left l left ≡ true) ↔ FitsRight same_left same_right (Contains xs) left r
     fits_right_by l r h = (
       λ e s m f.
@@ -70,7 +70,7 @@ module _ {L R : Type 0} (same_left : L → L → Bool) (same_right : R → R →
       λ f. f (l, h.0) h.1 (rights.symm r h.0 ∙ h.2),
     )
 
-  -- a left that is not equal to the given one
+  -- A left that is not equal to the given left.
   pub fits_left_by : (S : L × R → Type 0) (left l : L) (b : Bool) → same_left l left ≡ false → (b ≡ true) ↔ HasLeft same_left S l → (not b ≡ true) ↔ FitsLeft same_left S left l
   fits_left_by S left l b differ has = (
     λ e s m f. absurd (true≢false (sym (has.1 (s, m, lefts.symm s.0 l ∙ f)) ∙ not-true b e)),

@@ -1,4 +1,4 @@
--- What outgrows the places of a bimap, as a history grows.
+-- When a growing history outgrows the capacity of a bimap.
 use Rattle.std.proofs.Common.{◌≡◌, ◌↔◌, ◌⊎◌, inl, inr, ℕ, ◌≤◌, ◌*◌, Bool, true, false, List, [], ◌∷◌, ◌++◌, length, refl, sym, ap, ◌∙◌, arith, append_assoc}
 use Rattle.std.specs.Prelude.{Contains, MatchBool, max}
 use Rattle.std.proofs.lemmas.Bool.{cases_lt, or_left, or_right}
@@ -10,7 +10,7 @@ use Rattle.bimap_base.specs.declared.overwritten.Overwritten.TheVariants.{Neithe
 use Rattle.bimap_any.specs.Growth.{IsOutOfRoom, Adds, Outgrows}
 
 module _ {L R : Type 0} (same_left : L → L → Bool) (same_right : R → R → Bool) where
-  -- an answer tells whether some pair was overwritten
+  -- An answer says whether some pair was overwritten.
   pub answer_overwrites : (S : L × R → Type 0) (new : L × R) (answer : Overwritten L R) → IsAnswer same_left same_right S new answer → MatchBool (overwrites answer) (SomeShares same_left same_right S new) (NoneShares same_left same_right S new)
   answer_overwrites S new Neither h = h
   answer_overwrites S new (Left l r) h = ((l, r), h.0.member, or_left (same_left l new.0) (same_right r new.1) h.1)
@@ -18,7 +18,7 @@ module _ {L R : Type 0} (same_left : L → L → Bool) (same_right : R → R →
   answer_overwrites S new (Pair l r) h = ((l, r), h.0.member, or_left (same_left l new.0) (same_right r new.1) h.1)
   answer_overwrites S new (Both p q) h = (p, h.first, or_left (same_left p.0 new.0) (same_right p.1 new.1) h.by_left)
 
-  -- places that are short of more are short of fewer, and of a set with the same members
+  -- A capacity that is too small is also too small if it is less. It is also too small for a set with the same members.
   pub out_of_room_along : (S T : L × R → Type 0) (room more : ℕ) → ((p : L × R) → S p ↔ T p) → room ≤ more → IsOutOfRoom same_left same_right S more → IsOutOfRoom same_left same_right T room
   out_of_room_along S T room more same fewer out = record {
     pairs = out.pairs;
@@ -28,7 +28,7 @@ module _ {L R : Type 0} (same_left : L → L → Bool) (same_right : R → R →
   }
 
   module _ {E : Type 0} (Puts : E → L × R → Type 0) where
-    -- after an entry that puts the pair the room is as it was, or the entry added it where no place was free
+    -- After an entry that puts a pair in, the capacity is as it was. If not, the entry added the pair when no place was free.
     pub room_after : (old new : Holding L R) (pair : L × R) (e : E) (strikes : Bool) → Puts e pair → length old.pairs ≤ old.room → MatchBool strikes (SomeShares same_left same_right (Contains old.pairs) pair) (NoneShares same_left same_right (Contains old.pairs) pair) → IsRoomAfter old (SomeShares same_left same_right (Contains old.pairs) pair) new → (new.room ≡ old.room) ⊎ (Adds same_left same_right Puts (Contains old.pairs) e × IsFull old × (new.room ≤ max 4 (2 * old.room)))
     room_after old new pair e true puts fits some room = inl (room.in_place some)
     room_after old new pair e false puts fits none room =
@@ -38,7 +38,7 @@ module _ {L R : Type 0} (same_left : L → L → Bool) (same_right : R → R →
         ]
 
     module _ (Held : List E → L × R → Type 0) where
-      -- what has outgrown the places has done so whatever comes later
+      -- If a history outgrew the capacity, every longer history outgrew it too.
       pub outgrows_first : (g h : List E) (room grown now : ℕ) → now ≡ grown → Outgrows same_left same_right Puts Held g room grown → Outgrows same_left same_right Puts Held (g ++ h) room now
       outgrows_first g h room grown now stays o = record {
         before = o.before;
@@ -50,7 +50,7 @@ module _ {L R : Type 0} (same_left : L → L → Bool) (same_right : R → R →
         at_most = omega (arith, stays, o.at_most);
       }
 
-      -- and whatever came before, where that left no fewer places
+      -- Entries before it change nothing, if they leave no smaller capacity.
       pub outgrows_second : (After : List E → L × R → Type 0) (g h : List E) (room more grown : ℕ) → ((before : List E) (p : L × R) → After before p ↔ Held (g ++ before) p) → room ≤ more → Outgrows same_left same_right Puts After h more grown → Outgrows same_left same_right Puts Held (g ++ h) room grown
       unfolding out_of_room_along
       outgrows_second After g h room more grown through fewer o = record {
@@ -63,7 +63,7 @@ module _ {L R : Type 0} (same_left : L → L → Bool) (same_right : R → R →
         at_most = o.at_most;
       }
 
-      -- one entry on
+      -- One more entry.
       pub room_push : (old new : Holding L R) (g : List E) (e : E) (room : ℕ) → IsApart same_left same_right old.pairs → ((p : L × R) → Contains old.pairs p ↔ Held g p) → room ≤ old.room → (old.room ≡ room) ⊎ Outgrows same_left same_right Puts Held g room old.room → (new.room ≡ old.room) ⊎ (Adds same_left same_right Puts (Contains old.pairs) e × IsFull old × (new.room ≤ max 4 (2 * old.room))) → (new.room ≡ room) ⊎ Outgrows same_left same_right Puts Held (g ++ e ∷ []) room new.room
       room_push old new g e room apart held fewer so_far (inl stays) =
           elim so_far [ inl was ↦ inl (stays ∙ was) | inr o ↦ inr (outgrows_first g (e ∷ []) room old.room new.room stays o) ]

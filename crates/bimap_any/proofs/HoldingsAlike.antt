@@ -1,4 +1,4 @@
--- What is said of a holding is said of one with the same members, as many of them and the same room.
+-- A statement about a bimap is true of another bimap with the same members, the same number of pairs and the same capacity.
 use Rattle.std.proofs.Common.{◌≡◌, ◌∙◌, Bool, Option, Some, None, length, sym, arith}
 use Rattle.std.specs.Prelude.{Contains, Result, OnErr, MatchOption, IfNone}
 use Rattle.std.specs.Borrow.{Bor}
@@ -60,7 +60,7 @@ module _ {L R : Type 0} where
           in_place = λ in_place. after.room ∙ r.in_place (back in_place) ∙ sym like.room;
         }
 
-        -- where an `Err` left the very holding, it left the very other
+        -- If an `Err` left the first bimap unchanged, it left the other one unchanged.
         pub insertion_alike : (pair : L × R) (policy : Policy) (result : Result (Overwritten L R) (NotInsertedWith L R)) → OnErr result (k' ≡ k) → IsInsertionUnder same_left same_right h pair policy result h' → IsInsertionUnder same_left same_right k pair policy result k'
         insertion_alike pair policy result unchanged i = record {
           allowed = on_ok_weaker result (IsAllowed-same (Contains h.pairs) (Contains k.pairs) like.members same_left same_right pair policy) i.allowed;
@@ -72,7 +72,7 @@ module _ {L R : Type 0} where
           room = room_alike _ _ (SomeShares-back (Contains h.pairs) (Contains k.pairs) like.members same_left same_right pair) i.room;
         }
 
-        -- where a held left, or an `Err`, left the very holding, it left the very other
+        -- If a contained left, or an `Err`, left the first bimap unchanged, it left the other one unchanged.
         pub interning_alike : (pair : L × R) (result : Result R (NotInserted L R)) → (HasLeft same_left (Contains h.pairs) pair.0 → k' ≡ k) → OnErr result (k' ≡ k) → IsInterning same_left same_right h pair result h' → IsInterning same_left same_right k pair result k'
         interning_alike pair result held unchanged i =
             let back = turned (Contains h.pairs) (Contains k.pairs) like.members in

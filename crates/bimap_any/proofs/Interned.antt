@@ -1,4 +1,4 @@
--- A pair that is put in where its left, or its right, has no partner.
+-- A pair is inserted because its left, or its right, has no partner.
 use Rattle.std.proofs.Common.{◌∙◌, inl, inr, Bool, refl, sym, true≢false}
 use Rattle.std.specs.Prelude.{Ok, Contains}
 use Rattle.std.specs.Cmp.{IsEquivalence}

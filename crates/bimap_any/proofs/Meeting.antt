@@ -1,4 +1,4 @@
--- Equality of sets of pairs, found by asking one of them for each pair of the other.
+-- Two sets of pairs are compared by a look-up of each pair of one set in the other.
 use Rattle.std.proofs.Common.{◌≡◌, ◌↔◌, inl, inr, ◌&&◌, Bool, true, false, List, [], ◌∷◌, ◌++◌, length, sym, ap, ◌∙◌, subst, true≢false, append_assoc, append-nil}
 use Rattle.std.specs.Prelude.{Contains}
 use Rattle.std.specs.Cmp.{IsEquivalence, first_so, second_so}
@@ -11,7 +11,7 @@ use Rattle.bimap_base.proofs.Members.{head_in}
 use Rattle.bimap_any.proofs.SameSets.{same_decides}
 
 module _ {L R : Type 0} (same_left : L → L → Bool) (same_right : R → R → Bool) where
-  -- each pair but the rest has an equal one
+  -- Each pair except those in `rest` has an equal pair.
   pub record IsMetUpTo (xs rest ys : List (L × R)) : Type 0 where
     pub before : List (L × R)
     pub split : xs ≡ before ++ rest
@@ -33,7 +33,7 @@ module _ {L R : Type 0} (same_left : L → L → Bool) (same_right : R → R →
       let all : so_far.before ≡ xs = sym (so_far.split ∙ append-nil so_far.before) in
       (same_decides same_left same_right xs ys).1 (long, λ p there. so_far.met p (subst (λ zs. Contains zs p) (sym all) there))
 
-  -- a pair that has none
+  -- Some pair has no equal pair.
   pub unmet : (xs rest ys : List (L × R)) (p : L × R) → IsMetUpTo xs (p ∷ rest) ys → (HasEqual same_left same_right (Contains ys) p → ⊥) → same same_left same_right xs ys ≡ false
   unmet xs rest ys p so_far none =
       let there : Contains xs p = subst (λ zs. Contains zs p) (sym so_far.split) (Contains-append_right so_far.before (p ∷ rest) p (head_in p rest)) in
@@ -43,7 +43,7 @@ module _ {L R : Type 0} (same_left : L → L → Bool) (same_right : R → R →
   unlike_long xs ys differ = false_from_ne_true (same same_left same_right xs ys) (λ e. differ ((same_decides same_left same_right xs ys).0 e).0)
 
   module _ (lefts : IsEquivalence same_left) (rights : IsEquivalence same_right) (ps : List (L × R)) (p : L × R) where
-    -- where a pair with the left is held, its right decides
+    -- If some pair has the left, its right decides.
     pub decided_by_right : (l : L) (r : R) → IsApart same_left same_right ps → Contains ps (l, r) → same_left l p.0 ≡ true → (same_right p.1 r ≡ true) ↔ HasEqual same_left same_right (Contains ps) p
     decided_by_right l r apart there equal = (
       λ e. let f = lefts.symm p.0 l ∙ equal in ((l, r), there, λ i. f i && e i),
@@ -55,7 +55,7 @@ module _ {L R : Type 0} (same_left : L → L → Bool) (same_right : R → R →
           ap (λ q. same_right p.1 q.1) one ∙ second,
     )
 
-    -- where none is held, there is no equal pair
+    -- If no pair has the left, there is no equal pair.
     pub lacking_left : LacksLeft same_left (Contains ps) p.0 → HasEqual same_left same_right (Contains ps) p → ⊥
     lacking_left none has =
         let first = first_so (same_left p.0 has.0.0) (same_right p.1 has.0.1) has.2 in

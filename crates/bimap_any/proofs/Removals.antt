@@ -10,7 +10,7 @@ use Rattle.bimap_any.specs.Exchange.{IsWithoutPair}
 
 module _ {L R : Type 0} (same_left : L → L → Bool) (same_right : R → R → Bool) (lefts : IsEquivalence same_left) (rights : IsEquivalence same_right) where
   module _ (A : List (L × R)) (p : L × R) (B : List (L × R)) (apart : IsApart same_left same_right A) where
-    -- one pair less is held
+    -- There is one pair less.
     pub removing_shorter : IsApart same_left same_right B → IsWithoutPair A p B → suc (length B) ≤ length A
     removing_shorter apart_after r =
         no_longer same_left same_right lefts rights (p ∷ B) A
@@ -18,7 +18,7 @@ module _ {L R : Type 0} (same_left : L → L → Bool) (same_right : R → R →
         apart
         (λ q n. elim (cases_in p B q n) [ inl e ↦ subst (Contains A) e r.member | inr m ↦ ((r.without q).0 m).0 ])
 
-    -- putting the pair in again gives the set before the removal
+    -- To insert the pair again gives the set before the removal.
     pub put_again : (T : List (L × R)) → IsWithoutPair A p B → IsWithPut same_left same_right (Contains B) p (Contains T) → IsSameSet (Contains A) (Contains T)
     put_again T r put q = (
       λ n. (put q).1 (elim (cases_Bool (shares same_left same_right q p)) [
@@ -28,7 +28,7 @@ module _ {L R : Type 0} (same_left : L → L → Bool) (same_right : R → R →
       λ n. elim ((put q).0 n) [ inl e ↦ subst (Contains A) (sym e) r.member | inr w ↦ ((r.without q).0 w.0).0 ],
     )
 
-    -- a removal by left takes one pair out
+    -- A removal by left removes one pair.
     pub removing_left : (left : L) → Contains A p → same_left p.0 left ≡ true → IsWithoutLeft same_left (Contains A) left (Contains B) → IsWithoutPair A p B
     removing_left left m e w = record {
       member = m;
@@ -38,7 +38,7 @@ module _ {L R : Type 0} (same_left : L → L → Bool) (same_right : R → R →
       );
     }
 
-    -- and so does one by right
+    -- A removal by right removes one pair.
     pub removing_right : (right : R) → Contains A p → same_right p.1 right ≡ true → IsWithoutRight same_right (Contains A) right (Contains B) → IsWithoutPair A p B
     removing_right right m e w = record {
       member = m;
@@ -48,7 +48,7 @@ module _ {L R : Type 0} (same_left : L → L → Bool) (same_right : R → R →
       );
     }
 
-  -- each member of the one set before a removal is one of the other
+  -- If the removal of the same pair from two sets gives the same set, each member of one set is a member of the other.
   removed_in : (A A' : List (L × R)) (p : L × R) (B : List (L × R)) → IsApart same_left same_right A → IsWithoutPair A p B → IsWithoutPair A' p B → (q : L × R) → Contains A q → Contains A' q
   removed_in A A' p B apart r r' q m =
       elim (cases_Bool (shares same_left same_right q p)) [
@@ -56,6 +56,6 @@ module _ {L R : Type 0} (same_left : L → L → Bool) (same_right : R → R →
         | inr s ↦ ((r'.without q).0 ((r.without q).1 (m, λ f. true≢false (sym (shares_itself same_left same_right lefts rights p) ∙ ap (λ z. shares same_left same_right z p) (sym f) ∙ s)))).0
       ]
 
-  -- a removal of this pair leads from one set alone
+  -- Only one set gives this set by the removal of this pair.
   pub removing_from_one : (A A' : List (L × R)) (p : L × R) (B : List (L × R)) → IsApart same_left same_right A → IsApart same_left same_right A' → IsWithoutPair A p B → IsWithoutPair A' p B → IsSameSet (Contains A) (Contains A')
   removing_from_one A A' p B apart apart' r r' q = (removed_in A A' p B apart r r' q, removed_in A' A p B apart' r' r q)

@@ -1,4 +1,4 @@
--- A pair that takes the place of another.
+-- A pair that replaces another pair.
 use Rattle.std.proofs.Common.{◌≡◌, ◌↔◌, ◌⊎◌, ◌+◌, ◌≤◌, inl, inr, Bool, true, false, List, length, refl, sym, subst, ◌∙◌, arith, true≢false}
 use Rattle.std.specs.Prelude.{Contains, not, Ok, Err}
 use Rattle.std.specs.Cmp.{IsEquivalence}
@@ -16,7 +16,7 @@ true_from_not true e = refl
 true_from_not false e = absurd (true≢false (sym e))
 
 module _ {L R : Type 0} (same_left : L → L → Bool) (same_right : R → R → Bool) (lefts : IsEquivalence same_left) (rights : IsEquivalence same_right) (A B : List (L × R)) (p : L × R) (apart : IsApart same_left same_right A) (r : IsWithoutPair A p B) where
-  -- none of the pairs that stay has the value that stays, nor the other one
+  -- None of the other pairs has the value that stays or the new value.
   pub none_shares_left : (to : L) → LacksLeft same_left (Contains B) to → NoneShares same_left same_right (Contains B) (to, p.1)
   none_shares_left to lacks q m =
       let w = (r.without q).0 m in
@@ -40,7 +40,7 @@ module _ {L R : Type 0} (same_left : L → L → Bool) (same_right : R → R →
   }
 
 module _ {L R : Type 0} (same_left : L → L → Bool) (same_right : R → R → Bool) (lefts : IsEquivalence same_left) (rights : IsEquivalence same_right) (old held new : Holding L R) (apart : IsApart same_left same_right old.pairs) (fits : length old.pairs ≤ old.room) (answer : Overwritten L R) where
-  -- one pair was taken out, and another put in, with which none shares a value
+  -- One pair was removed, and another was inserted. The other pair shares no value with the rest.
   placed : (p other : L × R) → IsWithoutPair old.pairs p held.pairs → NoneShares same_left same_right (Contains held.pairs) other → length held.pairs + 1 ≡ length old.pairs → held.room ≡ old.room → IsInsertion same_left same_right held other (Ok answer) new
       → IsExchanged (Contains old.pairs) p other (Contains new.pairs) × (length new.pairs ≡ length old.pairs) × (new.room ≡ old.room)
   placed p other r none count room i = (
@@ -49,9 +49,9 @@ module _ {L R : Type 0} (same_left : L → L → Bool) (same_right : R → R →
     i.room.had_place (omega (arith, count, fits, room)) ∙ room,
   )
 
--- once for both sides: `part` is the side, `rest` the other one, and `pair` makes a pair of them
+-- One proof for both sides. `part` is the side, `rest` is the other side, and `pair` makes a pair of the two.
 module _ {L R K M : Type 0} (part : L × R → K) (rest : L × R → M) (pair : K → M → L × R) (same : K → K → Bool) where
-  -- nothing changed where the value isn't held
+  -- Nothing changes if no pair has the value.
   pub missing : (held : Holding L R) (from to : K) → LacksPart part pair same (Contains held.pairs) from → IsReplacement part pair same held from to (Err (Missing to)) held
   missing held from to lacks = record { replaced = tt; refused = (refl, lacks); unchanged = refl; count = refl; room = refl }
 

@@ -1,4 +1,4 @@
--- Two ascending lists of pairs are equal place by place where they are the same sets.
+-- Two lists of pairs in ascending order are equal place by place if they are the same set.
 use Rattle.std.proofs.Common.{◌≡◌, ◌⊎◌, ◌&&◌, ◌≤◌, Bool, true, List, [], ◌∷◌, ◌++◌, length, refl, sym, ap, subst, ◌∙◌, inl, inr, arith}
 use Rattle.std.specs.List.{Contains, AllPairs}
 use Rattle.std.specs.Bool.{Decides}
@@ -14,12 +14,12 @@ use Rattle.bimap_any.specs.Same.{pair_eq, IsSame, same, pair_cmp, lexicographic}
 use Rattle.bimap_base.proofs.Members.{head_in, more_in, cases_in, none_in, AllPairs-head, AllPairs-tail}
 use Rattle.bimap_any.proofs.SameSets.{same_decides}
 
--- k is below the lefts
+-- `k` is below all lefts of the list.
 abbrev IsBelowAll : {L R : Type 0} → (L → L → Ordering) → L → List (L × R) → Type 0
 IsBelowAll cmp k [] = Unit {0}
 IsBelowAll cmp k (q ∷ qs) = (cmp k q.0 ≡ Less) × IsBelowAll cmp k qs
 
--- the lefts ascend
+-- The lefts are in ascending order.
 abbrev IsAscending : {L R : Type 0} → (L → L → Ordering) → List (L × R) → Type 0
 IsAscending cmp [] = Unit {0}
 IsAscending cmp (p ∷ ps) = IsBelowAll cmp p.0 ps × IsAscending cmp ps
@@ -47,7 +47,7 @@ module _ {L R : Type 0} (cmp : L → L → Ordering) (o : IsTotalOrder cmp) (el 
   abbrev Sub : List (L × R) → List (L × R) → Type 0
   Sub xs ys = (p : L × R) → Contains xs p → (q : L × R) × Contains ys q × (pair_eq el er p q ≡ true)
 
-  -- the heads match, so the tails do
+  -- The first pairs match, so the rest of one list matches the rest of the other.
   sub_tails : (x y : L × R) (xs ys : List (L × R)) → IsBelowAll cmp x.0 xs → cmp x.0 y.0 ≡ Equal → Sub (x ∷ xs) (y ∷ ys) → Sub xs ys
   sub_tails x y xs ys b e s p c = by (cases_in y ys m.0 m.1)
     where
@@ -61,7 +61,7 @@ module _ {L R : Type 0} (cmp : L → L → Ordering) (o : IsTotalOrder cmp) (el 
           apart y.0 p.0 yp (tied_back o p.0 y.0 py)
       by (inr d) = (m.0, d, m.2)
 
-  -- the first head matches a pair of the second tail, so all do
+  -- The first pair matches a later pair of the other list, so all pairs match later ones.
   sub_later : (x y : L × R) (xs ys : List (L × R)) (q : L × R) → IsBelowAll cmp x.0 xs → IsBelowAll cmp y.0 ys → Contains ys q → pair_eq el er x q ≡ true → Sub (x ∷ xs) (y ∷ ys) → Sub (x ∷ xs) ys
   sub_later x y xs ys q bx by' cq eq s p c = by (cases_in x xs p c)
     where
@@ -133,7 +133,7 @@ module _ {L R : Type 0} (cmp : L → L → Ordering) (o : IsTotalOrder cmp) (el 
       both_ways (same el er xs ys) (pointwise (pair_eq el er) xs ys) (λ e. t.1 (s.0 e)) (λ e. s.1 (t.0 e))
 
 module _ {L R : Type 0} (eql : L → L → Bool) (eqr : R → R → Bool) {cmpl : L → L → Ordering} {cmpr : R → R → Ordering} (total_left : IsTotalOrder cmpl) (total_right : IsTotalOrder cmpr) (tiesl : (x y : L) → eql x y ≡ eq_by_cmp cmpl x y) (tiesr : (x y : R) → eqr x y ≡ eq_by_cmp cmpr x y) where
-  -- the same sets are those that the order ties
+  -- Two lists are the same set exactly if they compare as equal.
   pub same_ties : (xs ys : List (L × R)) → AllPairs (λ p q. cmpl p.0 q.0 ≡ Less) xs → AllPairs (λ p q. cmpl p.0 q.0 ≡ Less) ys → same eql eqr xs ys ≡ eq_by_cmp (lexicographic cmpl cmpr) xs ys
   same_ties xs ys ax ay = same_is_pointwise cmpl total_left eql eqr tiesl xs ys ax ay ∙ lists_ties (pair_cmp cmpl cmpr) (λ p q. both_tied _ _ (cmpl p.0 q.0) (cmpr p.1 q.1) (tiesl p.0 q.0) (tiesr p.1 q.1)) xs ys
 
@@ -150,7 +150,7 @@ module _ {L R : Type 0} (eql : L → L → Bool) (eqr : R → R → Bool) {cmpl 
     pub held_po : IsPartialOrder (λ a b. same eql eqr (held a) (held b)) (λ a b. Some (lexicographic cmpl cmpr (held a) (held b)))
     held_po = po held_total held_ties
 
-    -- the same sets hash alike
+    -- The same sets have the same hash.
     pub held_alike : {F : L → HashWrites} {G : R → HashWrites} → Alike eql F → Alike eqr G → Alike (λ a b. same eql eqr (held a) (held b)) (λ a. slice (λ p. F p.0 ++ G p.1) (held a))
     held_alike {F} {G} left right =
         let pairs = items_Alike (and-Alike (on_Alike (λ p. p.0) left) (on_Alike (λ p. p.1) right)) in

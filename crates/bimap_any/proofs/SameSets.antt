@@ -24,7 +24,7 @@ module _ {L R : Type 0} (eql : L → L → Bool) (eqr : R → R → Bool) where
     pairs_per : IsPartialEquivalence (pair_eq eql eqr)
     pairs_per = and_per (on_per (λ p. p.0) left) (on_per (λ p. p.1) right)
 
-    -- each of the second list is met, since there are no more of them
+    -- Each pair of the second list has an equal pair in the first, because the lists have the same length.
     met : (xs ys : List (L × R)) → IsApart eql eqr xs → length xs ≡ length ys → Sub xs ys → (q : L × R) → Contains ys q → (p : L × R) × Contains xs p × (pair_eq eql eqr p q ≡ true)
     met [] ys apart long sub q c = absurd (omega (arith, long, c.1))
     met (x ∷ xs) ys apart long sub q c =
@@ -54,7 +54,7 @@ module _ {L R : Type 0} (eql : L → L → Bool) (eqr : R → R → Bool) where
         let s = (same_decides xs ys).0 e in
         (same_decides ys xs).1 (sym s.0, λ q c. let w = met xs ys apart s.0 s.1 q c in (w.0, w.1, pairs_per.symm q w.0 ∙ w.2))
 
-    -- the test does not mind the order of its two sets
+    -- The test gives the same result with its two lists exchanged.
     pub same_turned : (xs ys : List (L × R)) → IsApart eql eqr xs → IsApart eql eqr ys → same eql eqr xs ys ≡ same eql eqr ys xs
     same_turned xs ys first second = both_ways (same eql eqr xs ys) (same eql eqr ys xs) (turned xs ys first) (turned ys xs second)
 

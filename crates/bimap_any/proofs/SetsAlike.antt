@@ -1,4 +1,4 @@
--- What is said of a set is said of one with the same members.
+-- A statement about a set is true of another set with the same members.
 use Rattle.std.proofs.Common.{Bool, inl, inr}
 use Rattle.bimap_base.specs.Sets.{IsSameSet, NoneShares, SomeShares, IsWithPut, HasLeft, LacksLeft, HasRight, LacksRight}
 use Rattle.bimap_base.specs.Answer.{IsAnswer, IsOnlyStruck, IsAllowed, IsRefusal, IsRefusalUnder}

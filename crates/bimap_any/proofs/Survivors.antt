@@ -7,7 +7,7 @@ use Rattle.bimap_any.specs.Survivors.{IsUntouched, Survives, PutsItself, Touches
 use Rattle.bimap_base.proofs.Members.{none_in}
 
 module _ {X : Type 0} where
-  -- where two lists one after the other are split at an element, it lies in one of them
+  -- If two joined lists are split at an element, the element is in one of the two lists.
   pub split_append : (g h before later : List X) (e : X) → g ++ h ≡ before ++ e ∷ later → ((rest : List X) × (g ≡ before ++ e ∷ rest) × (later ≡ rest ++ h)) ⊎ ((rest : List X) × (before ≡ g ++ rest) × (h ≡ rest ++ e ∷ later))
   split_append [] h before later e q = inr (before, refl, q)
   split_append (y ∷ g) h [] later e q = inl (g, cc, cc)
@@ -17,7 +17,7 @@ module _ {X : Type 0} where
         | inr s ↦ inr (s.0, cc, s.2)
       ]
 
-  -- and where the second has one element, it is that one or lies before it
+  -- If the second list has only one element, the split is at that element or before it.
   pub split_push : (h before later : List X) (e x : X) → h ++ x ∷ [] ≡ before ++ e ∷ later → ((later ≡ []) × (h ≡ before) × (x ≡ e)) ⊎ ((rest : List X) × (later ≡ rest ++ x ∷ []) × (h ≡ before ++ e ∷ rest))
   split_push [] [] later e x q = inl (cc, refl, cc)
   split_push (y ∷ h) [] later e x q = inr (h, cc, cc)
@@ -49,11 +49,11 @@ module _ {E X : Type 0} (Puts Touches : E → X → Type 0) where
   untouched_one : (e : E) (x : X) → (Touches e x → ⊥) → IsUntouched Puts Touches (e ∷ []) x
   untouched_one e x n = λ f m t. elim (Contains-push_cases [] e f m) [ inl k ↦ none_in f k | inr w ↦ n (subst (λ d. Touches d x) (sym w) t) ]
 
-  -- where nothing has happened
+  -- The survivors of an empty history.
   pub Survives_none : (S : X → Type 0) (x : X) → S x ↔ Survives Puts Touches S [] x
   Survives_none S x = (λ m. inl (m, untouched_none x), λ s. elim s [ inl w ↦ w.0 | inr w ↦ not_split w.before w.later w.entry w.split ])
 
-  -- what survives two histories survives the second of what survives the first
+  -- The survivors of two histories are what survives the second history of the survivors of the first.
   pub Survives_append : (S : X → Type 0) (g h : List E) (x : X) → Survives Puts Touches S (g ++ h) x ↔ Survives Puts Touches (λ y. Survives Puts Touches S g y) h x
   Survives_append S g h x = (to, from)
     where
@@ -72,7 +72,7 @@ module _ {E X : Type 0} (Puts Touches : E → X → Type 0) where
       from (inl (inr s, u)) = inr (record { before = s.before; entry = s.entry; later = s.later ++ h; split = ap (λ l. l ++ h) s.split ∙ append_assoc s.before (s.entry ∷ s.later) h; puts = s.puts; untouched = untouched_both s.later h x s.untouched u })
       from (inr s) = inr (record { before = g ++ s.before; entry = s.entry; later = s.later; split = ap (λ l. g ++ l) s.split ∙ sym (append_assoc g s.before (s.entry ∷ s.later)); puts = s.puts; untouched = s.untouched })
 
-  -- what survives one entry
+  -- The survivors of one entry.
   pub Survives_one : (S : X → Type 0) (e : E) (x : X) → Survives Puts Touches S (e ∷ []) x ↔ (Puts e x ⊎ (S x × (Touches e x → ⊥)))
   Survives_one S e x = (to, from)
     where
@@ -91,14 +91,14 @@ module _ {E X : Type 0} (Puts Touches : E → X → Type 0) where
       from (inl p) = inr (record { before = []; entry = e; later = []; split = refl; puts = p; untouched = untouched_none x })
       from (inr s) = inl (s.0, untouched_one e x s.1)
 
-  -- survivors depend on the members of the first set alone
+  -- The survivors depend only on the members of the first set.
   pub Survives_along : (S T : X → Type 0) (h : List E) (x : X) → (S x ↔ T x) → Survives Puts Touches S h x ↔ Survives Puts Touches T h x
   Survives_along S T h x same = (
     λ s. elim s [ inl w ↦ inl (same.0 w.0, w.1) | inr w ↦ inr w ],
     λ s. elim s [ inl w ↦ inl (same.1 w.0, w.1) | inr w ↦ inr w ],
   )
 
-  -- the survivors after one more entry
+  -- The survivors after one more entry.
   pub survivors_push : (S T U : X → Type 0) (h : List E) (e : E) → ((x : X) → T x ↔ Survives Puts Touches S h x) → ((x : X) → U x ↔ (Puts e x ⊎ (T x × (Touches e x → ⊥)))) → (x : X) → U x ↔ Survives Puts Touches S (h ++ e ∷ []) x
   survivors_push S T U h e are step x =
       let one = Survives_one (λ y. Survives Puts Touches S h y) e x in
@@ -108,7 +108,7 @@ module _ {E X : Type 0} (Puts Touches : E → X → Type 0) where
       )
 
 module _ {L R : Type 0} (same_left : L → L → Bool) (same_right : R → R → Bool) where
-  -- a pair that is put in touches those that share a value with it
+  -- An inserted pair touches the pairs that share a value with it.
   pub put_touches : (S T : L × R → Type 0) (new : L × R) → IsWithPut same_left same_right S new T → (p : L × R) → T p ↔ ((p ≡ new) ⊎ (S p × (shares same_left same_right p new ≡ true → ⊥)))
   put_touches S T new put p = (
     λ t. elim ((put p).0 t) [ inl e ↦ inl e | inr w ↦ inr (w.0, λ q. absurd (true≢false (sym q ∙ w.1))) ],
@@ -118,7 +118,7 @@ module _ {L R : Type 0} (same_left : L → L → Bool) (same_right : R → R →
   pub items_none : (S : L × R → Type 0) → AreSurvivors same_left same_right S [] S
   items_none S = Survives_none PutsItself (TouchesSharing same_left same_right) S
 
-  -- the survivors, one item on
+  -- The survivors after one more item.
   pub items_push : (S T U : L × R → Type 0) (items : List (L × R)) (new : L × R) → AreSurvivors same_left same_right S items T → IsWithPut same_left same_right T new U → AreSurvivors same_left same_right S (items ++ new ∷ []) U
   items_push S T U items new are put =
       survivors_push PutsItself (TouchesSharing same_left same_right) S T U items new are (put_touches T U new put)

@@ -1,4 +1,4 @@
--- Two pairs that swap their rights: both are taken out, and each left is put in with the right of the other.
+-- Two pairs exchange their rights. Both pairs are removed, and each left is inserted with the right of the other.
 use Rattle.std.proofs.Common.{◌≡◌, ◌≢◌, ◌||◌, inl, inr, Bool, true, false, List, sym, ap, subst, ◌∙◌, true≢false}
 use Rattle.std.specs.Prelude.{Contains}
 use Rattle.std.specs.Cmp.{IsEquivalence}
@@ -8,7 +8,7 @@ use Rattle.bimap_any.specs.Exchange.{IsWithoutPair, AreSwapped}
 use Rattle.bimap_base.proofs.Apart.{apart_unique, shares_itself}
 
 module _ {L R : Type 0} (same_left : L → L → Bool) (same_right : R → R → Bool) (lefts : IsEquivalence same_left) (rights : IsEquivalence same_right) where
-  -- of two equal lefts nothing changes
+  -- If the two lefts are equal, nothing changes.
   pub swapped_with_itself : (held : List (L × R)) (p : L × R) (left right : L) → IsApart same_left same_right held → Contains held p → same_left p.0 left ≡ true → same_left p.0 right ≡ true → AreSwapped same_left (Contains held) left right (Contains held)
   swapped_with_itself held p left right apart there by_left by_other =
       record {
@@ -31,14 +31,14 @@ module _ {L R : Type 0} (same_left : L → L → Bool) (same_right : R → R →
       }
 
 module _ {L R : Type 0} (same_left : L → L → Bool) (same_right : R → R → Bool) (lefts : IsEquivalence same_left) (rights : IsEquivalence same_right) (old less none once : List (L × R)) (apart : IsApart same_left same_right old) (p q : L × R) (first : IsWithoutPair old p less) (second : IsWithoutPair less q none) where
-  -- two pairs of the old ones share no value
+  -- Two of the old pairs share no value.
   away : (x y : L × R) → Contains old x → Contains old y → x ≢ y → (same_left x.0 y.0 ≡ false) × (same_right x.1 y.1 ≡ false)
   away x y m n differ = (
     false_from_ne_true (same_left x.0 y.0) (λ e. differ (apart_unique same_left same_right lefts rights old x y apart m n (or_left (same_left x.0 y.0) (same_right x.1 y.1) e))),
     false_from_ne_true (same_right x.1 y.1) (λ e. differ (apart_unique same_left same_right lefts rights old x y apart m n (or_right (same_left x.0 y.0) (same_right x.1 y.1) e))),
   )
 
-  -- those that are left were there, and are neither of the two
+  -- The pairs that are left are old pairs, and are neither of the two.
   stayed : (x : L × R) → Contains none x → Contains old x × (x ≢ p) × (x ≢ q)
   stayed x m = let a = (second.without x).0 m in let b = (first.without x).0 a.0 in (b.0, b.1, a.1)
 

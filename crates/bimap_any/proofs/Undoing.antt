@@ -1,4 +1,4 @@
--- An insertion that is taken back.
+-- An insertion is undone.
 use Rattle.std.proofs.Common.{◌≡◌, inl, inr, suc, ◌≤◌, Bool, true, false, List, ◌∷◌, length, refl, sym, ap, ◌∙◌, subst, arith, true≢false}
 use Rattle.std.specs.Prelude.{Contains}
 use Rattle.std.specs.Cmp.{IsEquivalence}
@@ -16,7 +16,7 @@ module _ {L R : Type 0} (same_left : L → L → Bool) (same_right : R → R →
     struck_by : (p q : L × R) → S p → shares same_left same_right p new ≡ true → q ≡ p → S q × (shares same_left same_right q new ≡ true)
     struck_by p q m e w = subst (λ z. S z × (shares same_left same_right z new ≡ true)) (sym w) (m, e)
 
-    -- a pair that the answer names was a member that shares a value with the new one
+    -- A pair that the answer names was a member, and shares a value with the new pair.
     pub named_struck : (answer : Overwritten L R) (q : L × R) → IsAnswer same_left same_right S new answer → IsNamed answer q → S q × (shares same_left same_right q new ≡ true)
     named_struck Neither q h w = absurd w
     named_struck (Left l r) q h w = struck_by (l, r) q h.0.member (or_left (same_left l new.0) (same_right r new.1) h.1) w
@@ -25,7 +25,7 @@ module _ {L R : Type 0} (same_left : L → L → Bool) (same_right : R → R →
     named_struck (Both p s) q h (inl w) = struck_by p q h.first (or_left (same_left p.0 new.0) (same_right p.1 new.1) h.by_left) w
     named_struck (Both p s) q h (inr w) = struck_by s q h.second (or_right (same_left s.0 new.0) (same_right s.1 new.1) h.by_right) w
 
-    -- and there are no others
+    -- Each member that shares a value with the new pair is named by the answer.
     pub struck_named : (answer : Overwritten L R) (q : L × R) → IsAnswer same_left same_right S new answer → S q → shares same_left same_right q new ≡ true → IsNamed answer q
     struck_named Neither q h m e = absurd (true≢false (sym e ∙ h q m))
     struck_named (Left l r) q h m e = h.0.only q m e
@@ -41,7 +41,7 @@ module _ {L R : Type 0} (same_left : L → L → Bool) (same_right : R → R →
   named_apart A new (Both p q) h k = false_from_ne_true (shares same_left same_right p q) (λ e. k.two (apart_unique same_left same_right lefts rights A p q h k.first k.second e))
 
   module _ (A B : List (L × R)) (left : L) (answer : Overwritten L R) (apart : IsApart same_left same_right A) (i : IsInserting same_left same_right A left answer B) where
-    -- the insertion may be undone
+    -- The insertion can be undone.
     pub inserting_undoable : IsUndoable same_left same_right (Contains B) left answer
     inserting_undoable = record {
       pair = i.pair;
@@ -57,7 +57,7 @@ module _ {L R : Type 0} (same_left : L → L → Bool) (same_right : R → R →
       two = named_apart A i.pair answer apart i.is_answer;
     }
 
-    -- what is held after the undo is what was held before the insertion
+    -- After the undo the bimap contains what it contained before the insertion.
     pub undone_same : (T : L × R → Type 0) → IsUndone same_left same_right (Contains B) left answer T → IsSameSet (Contains A) T
     undone_same T u q = (
       λ m. (u q).1 (elim (cases_Bool (shares same_left same_right q i.pair)) [
@@ -74,7 +74,7 @@ module _ {L R : Type 0} (same_left : L → L → Bool) (same_right : R → R →
       ],
     )
 
-  -- an insertion that strikes two pairs leaves one less
+  -- An insertion that overwrites two pairs leaves one pair less.
   pub both_shorter : (A B : List (L × R)) (new p q : L × R) → IsApart same_left same_right A → IsApart same_left same_right B → AreBothStruck same_left same_right (Contains A) new p q → IsWithPut same_left same_right (Contains A) new (Contains B) → suc (length B) ≤ length A
   both_shorter A B new p q h k b put =
       let r = pull same_left same_right lefts rights B new k ((put new).1 (inl refl)) in
@@ -101,7 +101,7 @@ module _ {L R : Type 0} (same_left : L → L → Bool) (same_right : R → R →
       ]) in
       omega (arith, l, r.long)
 
-  -- the same of an insertion of the left with an answer that names two pairs
+  -- An insertion of the left whose answer names two pairs leaves one pair less.
   pub inserting_shorter : (A B : List (L × R)) (left : L) (answer : Overwritten L R) → IsApart same_left same_right A → IsApart same_left same_right B → IsInserting same_left same_right A left answer B → IsBoth answer → suc (length B) ≤ length A
   inserting_shorter A B left (Both p q) h k i both = both_shorter A B i.pair p q h k i.is_answer i.put
   inserting_shorter A B left Neither h k i both = absurd both

@@ -1,11 +1,11 @@
--- What interning by a right answers and leaves, as `IsInterning` of a left.
+-- What interning by a right returns, and what the bimap has afterwards. `IsInterning` says the same for a left.
 use Rattle.std.specs.Prelude.{◌≡◌, ◌+◌, Bool, true, Result, length, Contains, IfOk, IfErr, IsOk, OnOk, OnErr}
 use Rattle.bimap_base.specs.Sets.{SomeShares, IsWithPut, HasRight, LacksRight}
 use Rattle.bimap_base.specs.Answer.{IsRefusal}
 use Rattle.bimap_base.specs.Holding.{Holding, IsFull, IsRoomAfter}
 use Rattle.bimap_base.specs.declared.refusal.NotInserted.{NotInserted}
 
--- the answer is the left held for an equal right, and the given pair is put in only where none was held
+-- The result is the left of the pair with an equal right. If there was no such pair, the given pair is inserted.
 pub record IsInterningByRight {L R : Type 0} (same_left : L → L → Bool) (same_right : R → R → Bool) (old : Holding L R) (pair : L × R) (result : Result L (NotInserted L R)) (new : Holding L R) : Type 0 where
   pub answer : IfOk result (λ left. (r : R) × Contains new.pairs (left, r) × (same_right r pair.1 ≡ true))
   pub held : HasRight same_right (Contains old.pairs) pair.1 → IsOk result × (new ≡ old)

@@ -1,4 +1,4 @@
--- A pair that is put in where an equal one is no conflict.
+-- An insertion that succeeds if the bimap already contains an equal pair.
 use Rattle.std.specs.Prelude.{◌≡◌, Bool, Result, Contains}
 use Rattle.bimap_any.specs.Same.{HasEqual}
 use Rattle.bimap_base.specs.Holding.{Holding, IsInsertionUnder}
@@ -7,7 +7,8 @@ use Rattle.bimap_base.specs.declared.policy.OnHeld.TheVariants.{Overwrite}
 use Rattle.bimap_base.specs.declared.policy.Policy.{Policy}
 use Rattle.bimap_base.specs.declared.refusal.NotInsertedWith.{NotInsertedWith}
 
--- an insertion under this policy, or under one that overwrites on both sides where an equal pair is held
+-- The pair is inserted under this policy. If the bimap contains an equal pair, it is inserted under a policy that overwrites on
+-- both sides.
 pub record IsPutting {L R : Type 0} (same_left : L → L → Bool) (same_right : R → R → Bool) (old : Holding L R) (pair : L × R) (policy : Policy) (result : Result (Overwritten L R) (NotInsertedWith L R)) (new : Holding L R) : Type 0 where
   pub used : Policy
   pub insertion : IsInsertionUnder same_left same_right old pair used result new

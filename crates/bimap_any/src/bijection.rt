@@ -241,7 +241,7 @@ pub trait Bijection<L: Eq + Drop, R: Eq + Drop> {
     ghost fits: { (bimap : Self) → length (holding bimap).pairs ≤ (holding bimap).room };
 }
 
-// Whether two pairs share no value.
+// Returns whether two pairs share no value.
 fn are_apart<L: Eq, R: Eq>(first: &(L, R), second: &(L, R)) -> bool
     ensures { result ≡ not (shares L.eq R.eq first.now second.now) }
 {

@@ -7,7 +7,8 @@ ghost use Rattle.bimap_any.specs.InterningByRight.{IsInterningByRight};
 use crate::bijection::Bijection;
 use bimap_base::NotInserted;
 
-// Interning on one side: how the bimap is asked, the value that it is asked for, and the partner that is put in.
+// Interning on one side. The parameters are the bimap, its look-up, the value that is looked up, the partner that is returned if
+// there is none yet, the expression that makes this partner, and the pair to insert.
 macro_rules! interned {
     ($bimap:ident, $get:ident, $value:ident => $partner:ident, $made:expr; $left:ident, $right:ident) => {{
         if let Some(held) = $bimap.$get(&$value) {

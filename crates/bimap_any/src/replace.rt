@@ -6,7 +6,8 @@ ghost use Rattle.bimap_base.specs.Positions.{ComesLastWith};
 use crate::bijection::Bijection;
 use bimap_base::NotReplaced;
 
-// A replacement on one side: how the bimap is asked, what it answers of a pair, and the pair that is put instead.
+// A replacement on one side. The parameters are the bimap, the old and the new value, the two calls of this side, the removed
+// pair, the value that is returned, and the pair to insert.
 macro_rules! replaced {
     ($bimap:ident, $from:ident => $to:ident; $contains:ident, $remove:ident; $left:ident, $right:ident => $old:ident, $new_left:ident, $new_right:ident) => {{
         if !$bimap.$contains($from) {

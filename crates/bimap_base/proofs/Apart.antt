@@ -17,7 +17,7 @@ module _ {L R : Type 0} (same_left : L → L → Bool) (same_right : R → R →
   pub apart_none : IsApart same_left same_right []
   apart_none i j d before inside = absurd (omega (arith, inside))
 
-  -- a pair that shares no value with those of the list, before them
+  -- A pair that shares no value with the pairs of the list is put before them.
   pub apart_more : (p : L × R) (ps : List (L × R)) → ((q : L × R) → Contains ps q → shares same_left same_right p q ≡ false) → IsApart same_left same_right ps → IsApart same_left same_right (p ∷ ps)
   apart_more p ps head tail i zero d before inside = absurd (omega (arith, before))
   apart_more p ps head tail zero (suc j) d before inside = head _ (j, omega (arith, inside), get_or_default ps j _ d (omega (arith, inside)))
@@ -30,7 +30,7 @@ module _ {L R : Type 0} (same_left : L → L → Bool) (same_right : R → R →
   pub shares_itself : (p : L × R) → shares same_left same_right p p ≡ true
   shares_itself p = or_left (same_left p.0 p.0) (same_right p.1 p.1) (lefts.refl p.0)
 
-  -- two pairs of the list that share a value are one
+  -- Two pairs of the list that share a value are the same pair.
   pub apart_unique : (ps : List (L × R)) (p q : L × R) → IsApart same_left same_right ps → Contains ps p → Contains ps q → shares same_left same_right p q ≡ true → p ≡ q
   apart_unique [] p q h m n e = none_in p m
   apart_unique (y ∷ ys) p q h m n e =
@@ -47,7 +47,7 @@ module _ {L R : Type 0} (same_left : L → L → Bool) (same_right : R → R →
             ]
       ]
 
-  -- the list without one of its pairs
+  -- The list without one of its pairs.
   pub record Pulled (ps : List (L × R)) (p : L × R) : Type 0 where
     pub rest : List (L × R)
     pub long : length ps ≡ suc (length rest)
@@ -83,7 +83,7 @@ module _ {L R : Type 0} (same_left : L → L → Bool) (same_right : R → R →
             }
       ]
 
-  -- a list whose pairs are all in another is no longer
+  -- If all pairs of a list are in another list, it is not longer than the other list.
   pub no_longer : (ps qs : List (L × R)) → IsApart same_left same_right ps → IsApart same_left same_right qs → ((p : L × R) → Contains ps p → Contains qs p) → length ps ≤ length qs
   no_longer [] qs h k s = omega arith
   no_longer (p ∷ ps) qs h k s =
@@ -94,7 +94,7 @@ module _ {L R : Type 0} (same_left : L → L → Bool) (same_right : R → R →
       ]) in
       omega (arith, l, r.long)
 
-  -- a pair that is put in makes a list at most one longer
+  -- The insertion of a pair makes a list longer by at most one.
   pub one_longer : (ps qs : List (L × R)) (new : L × R) → IsApart same_left same_right ps → IsApart same_left same_right qs → IsWithPut same_left same_right (Contains ps) new (Contains qs) → length qs ≤ suc (length ps)
   one_longer ps qs new h k put =
       let r = pull qs new k ((put new).1 (inl refl)) in

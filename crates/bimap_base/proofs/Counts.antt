@@ -1,4 +1,4 @@
--- How many pairs an answer names.
+-- The number of pairs that an answer names.
 use Rattle.std.proofs.Common.{◌≡◌, ◌∙◌, Bool, refl, sym, true≢false}
 use Rattle.std.proofs.lemmas.Bool.{or_left, or_right}
 use Rattle.bimap_base.specs.Sets.{NoneShares}
@@ -7,7 +7,7 @@ use Rattle.bimap_base.specs.declared.overwritten.Overwritten.{Overwritten}
 use Rattle.bimap_base.specs.declared.overwritten.Overwritten.TheVariants.{Neither, Left, Right, Pair, Both}
 
 module _ {L R : Type 0} (same_left : L → L → Bool) (same_right : R → R → Bool) (S : L × R → Type 0) (new : L × R) where
-  -- none, where none shares a value
+  -- If no pair shares a value, the answer names no pair.
   pub none_named : (answer : Overwritten L R) → NoneShares same_left same_right S new → IsAnswer same_left same_right S new answer → named_count answer ≡ 0
   none_named Neither none is = refl
   none_named (Left l r) none is = absurd (true≢false (sym (or_left (same_left l new.0) (same_right r new.1) is.1) ∙ none (l, r) is.0.member))

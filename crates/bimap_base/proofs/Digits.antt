@@ -6,7 +6,7 @@ use Rattle.std.proofs.Math.Nat.{pow-suc}
 use Rattle.std.proofs.lemmas.Bool.Decides.{leb_tells}
 use Rattle.bimap_base.specs.Digits.{bits_from, bits}
 
--- every number is below its power of two
+-- Every number is less than two to its power.
 pub below_power : (n : ℕ) → n < 2 ^ n
 below_power zero = pow_pos 0
 below_power (suc n) = omega (arith, below_power n, pow-suc 2 n)
@@ -41,6 +41,6 @@ pub bits-least : (n m : ℕ) → n < 2 ^ m → bits n ≤ m
 unfolding bits
 bits-least n m h = bits_from-least n 0 n m (omega arith) h
 
--- more places have no fewer digits
+-- A number that is not smaller has no fewer digits.
 pub bits_mono : (m n : ℕ) → m ≤ n → bits m ≤ bits n
 bits_mono m n le = bits-least m (bits n) (omega (arith, bits-enough n))

@@ -1,4 +1,4 @@
--- The one value of a struct without fields. Assumes `Logic`.
+-- A struct without fields has only one value. Assumes `Logic`.
 use Rattle.std.proofs.Common.{List, [], ◌∷◌, refl}
 use seplogic.Ra.Ura.{Ura}
 use mir.Val.{Val, vstruct, vnil}

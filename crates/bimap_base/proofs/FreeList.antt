@@ -1,4 +1,4 @@
--- How each change of the slots keeps the count and the list of free slots.
+-- Each change of the slots keeps the count of pairs and the list of free slots right.
 use Rattle.std.proofs.Common.{◌≡◌, ◌≢◌, ℕ, zero, suc, ◌+◌, ◌-◌, ◌<◌, List, [], ◌∷◌, ◌++◌, map, length, get_or, set, Some, None, is_some, IsSome, count_by, cond, slice_get, refl, sym, ap, subst, ◌∙◌, arith, length-set, true≢false}
 use Rattle.std.proofs.lemmas.List.{map-set, map_push, length-map, length_push, get_or-map, get_or-set_same, get_or-set_other, get_or_past, get_or_append_left}
 use Rattle.std.proofs.lemmas.List.Sums.{sum_by-set, sum_by_push}
@@ -8,7 +8,7 @@ use Rattle.bimap_base.specs.declared.pairs.Slot.{Slot}
 use Rattle.bimap_base.specs.declared.pairs.Slot.TheVariants.{Free, Held}
 use Rattle.bimap_base.specs.FreeSlots.{pair_of, AddsFree, IsFreeList, IsSound, IsGrown}
 
--- the default at the end of a list changes no read
+-- To append the default to a list changes no read.
 get_or-push_default : {X : Type 0} (xs : List X) (d : X) (i : ℕ) → get_or (xs ++ d ∷ []) i d ≡ get_or xs i d
 get_or-push_default [] d zero = refl
 get_or-push_default [] d (suc i) = refl
@@ -16,7 +16,7 @@ get_or-push_default (x ∷ xs) d zero = refl
 get_or-push_default (x ∷ xs) d (suc i) = get_or-push_default xs d i
 
 module _ {L R : Type 0} where
-  -- a place starts one list of free slots at most
+  -- At most one list of free slots starts at a place.
   pub IsFreeList-count_unique : (slots : List (Slot L R)) (m n first : ℕ) → IsFreeList slots m first → IsFreeList slots n first → m ≡ n
   IsFreeList-count_unique slots zero zero first p q = refl
   IsFreeList-count_unique slots zero (suc n) first p q = absurd (omega (arith, p, slice_get_within slots first _ q.1))
@@ -27,7 +27,7 @@ module _ {L R : Type 0} where
       let same : q.0 ≡ p.0 = cc in
       ap suc (IsFreeList-count_unique slots m n p.0 p.2 (subst (IsFreeList slots n) same q.2))
 
-  -- a write at a place that is not on the list keeps the list
+  -- A write at a place outside the list keeps the list.
   pub IsFreeList-set : (slots : List (Slot L R)) (place : ℕ) (slot : Slot L R) (n first : ℕ) → ((m : ℕ) → m < n → IsFreeList slots (suc m) place → ⊥) → IsFreeList slots n first → IsFreeList (set slots place slot) n first
   IsFreeList-set slots place slot zero first off p = p ∙ sym (length-set slots place slot)
   IsFreeList-set slots place slot (suc n) first off p =
@@ -38,11 +38,11 @@ module _ {L R : Type 0} where
       ∙ ap Some (get_or-set_other slots place first slot slot other ∙ get_or_from_slice_get slots first _ slot p.1) in
       (p.0, kept, IsFreeList-set slots place slot n p.0 (λ m below. off m (omega arith)) p.2)
 
-  -- a held slot is on no list of free slots
+  -- A slot with a pair is on no list of free slots.
   pub held_is_off_list : (slots : List (Slot L R)) (place : ℕ) (l : L) (r : R) → slice_get slots place ≡ Some (Held l r) → (m : ℕ) → IsFreeList slots (suc m) place → ⊥
   held_is_off_list slots place l r found m p = let listed = p.1 in cc
 
-  -- the count of pairs after a write
+  -- The count of pairs after a write.
   pub count-set : (slots : List (Slot L R)) (place : ℕ) (old new : Slot L R) → slice_get slots place ≡ Some old → count_by is_some (map pair_of (set slots place new)) + cond (is_some (pair_of old)) 1 0 ≡ count_by is_some (map pair_of slots) + cond (is_some (pair_of new)) 1 0
   count-set slots place old new found =
       let within = slice_get_within slots place old found in
@@ -51,7 +51,7 @@ module _ {L R : Type 0} where
       let counted = sum_by-set (λ o. cond (is_some o) 1 0) (map pair_of slots) place (pair_of new) None (omega (arith, length-map slots pair_of)) in
       rw (map-set pair_of slots place new, ← read) counted
 
-  -- a place that finds a pair is a held slot
+  -- If a place has a pair, its slot is not free.
   pub held_at : (slots : List (Slot L R)) (place : ℕ) → IsSome (get_or (map pair_of slots) place None) → (l : L) × (r : R) × (slice_get slots place ≡ Some (Held l r))
   held_at slots place present =
       let inside : place < length (map pair_of slots) = grind (arith, get_or_past) in
@@ -62,7 +62,7 @@ module _ {L R : Type 0} where
       by_slot (Free _) found some = absurd (true≢false (sym some))
       by_slot (Held l r) found some = (l, r, found)
 
-  -- where not every place has a pair, the list's first place is free
+  -- If some place has no pair, the first place of the list is free.
   pub first_is_free : (slots : List (Slot L R)) (len place : ℕ) → IsSound slots len place → len < length slots → (after : ℕ) × (slice_get slots place ≡ Some (Free after))
   first_is_free slots len place sound fewer = by_count sound.free sound.total sound.linked
     where
@@ -110,7 +110,7 @@ module _ {L R : Type 0} where
         linked = IsFreeList-set slots place (Held m s) sound.free next (λ k _. held_is_off_list slots place l r found k) sound.linked;
       }
 
-  -- ---- a free slot more at the end
+  -- ---- One more free slot at the end.
   pub before_push : (slots : List (Slot L R)) (slot : Slot L R) (p : ℕ) → p < length slots → slice_get (slots ++ slot ∷ []) p ≡ slice_get slots p
   before_push slots slot p within =
       slice_get-get_or (slots ++ slot ∷ []) p slot (omega (arith, within, length_push slots slot))

@@ -10,7 +10,7 @@ module _ {L R : Type 0} where
   pub adds_all : (first slots more : List (Slot L R)) → AddsFree first slots → AddsFree slots more → AddsFree first more
   adds_all first slots more a b = record { kept = λ place. b.kept place ∙ a.kept place; count = b.count ∙ a.count }
 
-  -- ---- the list of free slots along a run, and past it
+  -- ---- The list of free slots along a run, and after it.
   run_stays : (slots more : List (Slot L R)) (from to after : ℕ) → to ≤ length slots → ((p : ℕ) → p < length slots → slice_get more p ≡ slice_get slots p) → IsRun slots from to after → IsRun more from to after
   run_stays slots more from to after within kept r = record {
     next = λ p above below. kept p (omega (arith, within, below)) ∙ r.next p above below;
@@ -30,7 +30,7 @@ module _ {L R : Type 0} where
       let (t, e, l) = then_on slots more n m p.0 kept p.2 q in
       (suc t, omega (arith, e), (p.0, kept next (slice_get_within slots next _ p.1) ∙ p.1, l))
 
-  -- a run that names the number of slots at its end
+  -- A run whose last slot stores the number of slots.
   pub grown_by_run : (first slots more : List (Slot L R)) (start end len next : ℕ) → start ≡ length slots → start < end → end ≡ length more → ((p : ℕ) → p < start → slice_get more p ≡ slice_get slots p) → AddsFree slots more → IsRun more start end end → IsGrown first slots len next → IsGrown first more len next
   grown_by_run first slots more start end len next from some long kept adds r g =
       let (m, e, p) = along_run more (end - (start + 1)) start end end 0 (omega (arith, some)) r long in
@@ -45,7 +45,7 @@ module _ {L R : Type 0} where
         adds = adds_all first slots more g.adds adds;
       }
 
-  -- a block that is entered at its first slot, goes on in its midst, and from its end comes back to its second slot
+  -- A block that starts with its first slot and goes on in its middle. From its end it comes back to its second slot.
   pub grown_by_block : (first slots low more : List (Slot L R)) (start middle end : ℕ) → start ≡ length slots → start + 1 < middle → middle < end
       → ((p : ℕ) → p < start + 1 → slice_get low p ≡ slice_get (slots ++ Free middle ∷ []) p) → AddsFree (slots ++ Free middle ∷ []) low → IsRun low (start + 1) middle end → middle ≡ length low
       → ((p : ℕ) → p < middle → slice_get more p ≡ slice_get low p) → AddsFree low more → IsRun more middle end (start + 1) → end ≡ length more

@@ -17,7 +17,7 @@ use Rattle.bimap_base.proofs.Compaction.{counted_in}
 use Rattle.bimap_base.proofs.Members.{head_in, more_in, cases_in, none_in}
 
 module _ {L R : Type 0} where
-  -- the pair of a slot is that of before with its sides exchanged
+  -- The pair of an exchanged slot is the old pair with its sides exchanged.
   pub pairs_of_inverse : (slots : List (Slot L R)) → map pair_of (map inverse_slot slots) ≡ map (option_map inverse_pair) (map pair_of slots)
   pairs_of_inverse [] = refl
   pairs_of_inverse (Free next ∷ slots) = ap (λ z. None ∷ z) (pairs_of_inverse slots)
@@ -28,7 +28,7 @@ module _ {L R : Type 0} where
   long_inverse (Free next ∷ slots) = long_inverse slots
   long_inverse (Held l r ∷ slots) = ap suc (long_inverse slots)
 
-  -- the list of free slots goes by the same places
+  -- The list of free slots has the same places.
   linked_inverse : (slots : List (Slot L R)) (free first : ℕ) → IsFreeList slots free first → IsFreeList (map inverse_slot slots) free first
   linked_inverse slots zero first linked = linked ∙ sym (length-map slots inverse_slot)
   linked_inverse slots (suc free) first linked =
@@ -42,7 +42,7 @@ module _ {L R : Type 0} where
     linked = linked_inverse slots sound.free next sound.linked;
   }
 
-  -- a pair of the exchanged ones is one of before, exchanged
+  -- Each pair of the exchanged ones is an old pair with its sides exchanged.
   pub inverse_in : (pairs : List (L × R)) (q : R × L) → Contains (map inverse_pair pairs) q → Contains pairs (inverse_pair q)
   inverse_in [] q c = none_in q c
   inverse_in (p ∷ pairs) q c =
@@ -59,7 +59,7 @@ module _ {L R : Type 0} where
         | inr d ↦ more_in (inverse_pair p) (map inverse_pair pairs) q (in_inverse pairs q d)
       ]
 
-  -- pairs that share no value share none when their sides are exchanged
+  -- Pairs that share no value share none after their sides are exchanged.
   pub apart_inverse : (same_left : L → L → Bool) (same_right : R → R → Bool) (pairs : List (L × R)) → IsApart same_left same_right pairs → IsApart same_right same_left (map inverse_pair pairs)
   apart_inverse same_left same_right [] apart = apart_none same_right same_left
   apart_inverse same_left same_right (p ∷ pairs) apart =
@@ -67,6 +67,6 @@ module _ {L R : Type 0} where
       (λ q there. or_comm (same_right p.1 q.0) (same_left p.0 q.1) ∙ apart_head same_left same_right p pairs apart (inverse_pair q) (inverse_in pairs q there))
       (apart_inverse same_left same_right pairs (apart_tail same_left same_right p pairs apart))
 
-  -- nor do they want more places
+  -- The pairs still fit into the capacity.
   pub fits_inverse : (held : Holding L R) → length held.pairs ≤ held.room → length (map inverse_pair held.pairs) ≤ held.room
   fits_inverse held fits = subst (λ n. n ≤ held.room) (sym (length-map held.pairs inverse_pair)) fits

@@ -1,4 +1,4 @@
--- The pairs of a store from a place on.
+-- The pairs of a store from some place on.
 use Rattle.std.proofs.Common.{◌≡◌, ℕ, zero, suc, ◌+◌, ◌≤◌, List, [], ◌∷◌, length, drop, Option, Some, None, refl, sym, ap, ◌∙◌, arith}
 use Rattle.std.proofs.lemmas.List.{drop_all}
 use Rattle.bimap_base.specs.Places.{pairs_in}
@@ -20,14 +20,14 @@ module _ {P : Type 0} where
     next : suc place ≡ place + 1
     next = omega arith
 
-    -- a free place adds none
+    -- A free place adds no pair.
     pub from_free : pair_at slots place ≡ None → pairs_in (drop (place + 1) slots) ≡ pairs_in (drop place slots)
     from_free is = ap (λ k. pairs_in (drop k slots)) (sym next) ∙ past_free slots place is
 
-    -- a live place adds its pair
+    -- A place with a pair adds this pair.
     pub from_live : (p : P) → pair_at slots place ≡ Some p → pairs_in (drop place slots) ≡ p ∷ pairs_in (drop (place + 1) slots)
     from_live p is = past_live slots place p is ∙ ap (λ k. p ∷ pairs_in (drop k slots)) next
 
-    -- beyond the last place there is none
+    -- Beyond the last place there is no pair.
     pub from_end : length slots ≤ place → pairs_in (drop place slots) ≡ []
     from_end end = ap pairs_in (drop_all place slots end)

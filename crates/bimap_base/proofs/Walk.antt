@@ -1,4 +1,4 @@
--- The pairs at listed places, where each live place is listed once: those of the store, in the order of the list.
+-- The pairs at listed places. If each place with a pair is listed once, they are the pairs of the store in the order of the list.
 use Rattle.std.proofs.Common.{◌≡◌, ◌≢◌, ◌↔◌, ◌⊎◌, ℕ, zero, suc, ◌<◌, ◌≤◌, Bool, false, List, [], ◌∷◌, length, get_or, Option, Some, None, is_some, IsSome, refl, sym, ap, subst, ◌∙◌, inl, inr, arith, true≢false}
 use Rattle.std.specs.Prelude.{slice_set}
 use Rattle.std.specs.List.{AllPairs, Contains}
@@ -13,12 +13,12 @@ use Rattle.bimap_base.proofs.Members.{head_in, more_in, cases_in, none_in, AllPa
 use Rattle.bimap_base.proofs.Compaction.{counted_in}
 
 module _ {P : Type 0} where
-  -- each live place is listed once, and no other
+  -- Each place with a pair is listed once, and no other place is listed.
   pub record IsWalk (slots : List (Option P)) (places : List ℕ) : Type 0 where
     pub live : (place : ℕ) → Contains places place ↔ IsLive slots place
     pub distinct : AllPairs (λ a b. a ≢ b) places
 
-  -- what stands at a place is held
+  -- The pair at a place is one of the pairs of the store.
   pub held_at : (slots : List (Option P)) (place : ℕ) (p : P) → pair_at slots place ≡ Some p → Contains (pairs_in slots) p
   held_at [] place p i = cc
   held_at (None ∷ slots) zero p i = cc
@@ -26,7 +26,7 @@ module _ {P : Type 0} where
   held_at (Some q ∷ slots) zero p i = (0, omega arith, let j : q ≡ p = cc in j)
   held_at (Some q ∷ slots) (suc place) p i = more_in q (pairs_in slots) p (held_at slots place p i)
 
-  -- what is held stands at a place
+  -- Each pair of the store is at some place.
   pub place_of : (slots : List (Option P)) (p : P) → Contains (pairs_in slots) p → (place : ℕ) × (pair_at slots place ≡ Some p)
   place_of [] p c = none_in p c
   place_of (None ∷ slots) p c = let r = place_of slots p c in (suc r.0, r.1)
@@ -54,7 +54,7 @@ module _ {P : Type 0} where
       by None e rest = rest (rw e at c)
       by (Some x) e rest = elim (cases_in x (pairs_at slots qs) p (rw e at c)) [ inl same ↦ (q, e ∙ ap Some same) | inr d ↦ rest d ]
 
-  -- an index of the pairs is the index of a place
+  -- The pair at an index is the pair at the place at this index.
   pub read_at : (slots : List (Option P)) (places : List ℕ) → ((place : ℕ) → Contains places place → IsLive slots place) → (i : ℕ) (d : ℕ) (x : P) → i < length places → pair_at slots (get_or places i d) ≡ Some (get_or (pairs_at slots places) i x)
   read_at slots [] live i d x inside = absurd (omega arith)
   read_at slots (q ∷ qs) live i d x inside = by (pair_at slots q) refl (live q (head_in q qs)) i inside (λ j. read_at slots qs (λ p c. live p (more_in q qs p c)) j d x)
@@ -64,7 +64,7 @@ module _ {P : Type 0} where
       by (Some y) e some zero inside rest = rw e refl
       by (Some y) e some (suc i) inside rest = rw e (rest i (omega arith))
 
-  -- each listed place is live, so there are as many pairs
+  -- If each listed place has a pair, there are as many pairs as listed places.
   pub long_at : (slots : List (Option P)) (places : List ℕ) → ((place : ℕ) → Contains places place → IsLive slots place) → length (pairs_at slots places) ≡ length places
   long_at slots [] live = refl
   long_at slots (q ∷ qs) live = by (pair_at slots q) refl (live q (head_in q qs)) (long_at slots qs (λ p c. live p (more_in q qs p c)))
@@ -98,7 +98,7 @@ module _ {P : Type 0} where
   free_at None never = refl
   free_at (Some p) never = absurd (never refl)
 
-  -- as many places are listed as are live
+  -- As many places are listed as have a pair.
   pub listed_long : (slots : List (Option P)) (places : List ℕ) → IsWalk slots places → length places ≡ length (pairs_in slots)
   listed_long slots [] walk = sym (ap length (nothing_in slots (λ place. free_at (pair_at slots place) (λ some. none_in place ((walk.live place).1 some)))))
   listed_long slots (q ∷ qs) walk =
@@ -126,7 +126,7 @@ module _ {P : Type 0} where
       vacated (x ∷ slots) (suc place) p i = vacated slots place p i
 
   module _ (slots : List (Option P)) (places : List ℕ) (walk : IsWalk slots places) where
-    -- the pairs of a walk are those of the store
+    -- The pairs at the listed places are the pairs of the store.
     pub walked : IsSameSet (Contains (pairs_in slots)) (Contains (pairs_at slots places))
     walked p = (
       λ c. let a = place_of slots p c in listed_at slots places a.0 p ((walk.live a.0).1 (ap is_some a.1)) a.1,
@@ -142,14 +142,14 @@ module _ {P : Type 0} where
     pub fits_walked : length (pairs_at slots places) ≤ length slots
     fits_walked = omega (arith, long_walked, fits_in slots)
 
-    -- what holds of each place and each later one holds of their pairs
+    -- A statement that is true of each place and each later place carries over to their pairs.
     pub pairs_walked : (S : ℕ → ℕ → Type 0) (T : P → P → Type 0) → ((a b : ℕ) (p q : P) → S a b → pair_at slots a ≡ Some p → pair_at slots b ≡ Some q → T p q) → AllPairs S places → AllPairs T (pairs_at slots places)
     pairs_walked S T step all i j d before inside =
         let long = long_at slots places (λ place. (walk.live place).0) in
         let read = read_at slots places (λ place. (walk.live place).0) in
         step (get_or places i 0) (get_or places j 0) _ _ (all i j 0 before (omega arith)) (read i 0 d (omega arith)) (read j 0 d (omega arith))
 
--- where the keys of a side are listed, so are its places
+-- If the places with a key on one side are listed, the places with a pair are listed.
 pub walk_of : {P K : Type 0} (key : P → K) (slots : List (Option P)) (places : List ℕ) → ((place : ℕ) → Contains places place ↔ IsSome (option_map key (pair_at slots place))) → AllPairs (λ a b. a ≢ b) places → IsWalk slots places
 walk_of {P} {K} key slots places listed distinct = record { live = λ place. (λ c. keyed (pair_at slots place) ((listed place).0 c), λ some. (listed place).1 (live (pair_at slots place) some)); distinct = distinct }
   where
@@ -162,7 +162,7 @@ walk_of {P} {K} key slots places listed distinct = record { live = λ place. (λ
     live (Some p) some = refl
 
 module _ {L R : Type 0} (same_left : L → L → Bool) (same_right : R → R → Bool) where
-  -- pairs at two places share no value
+  -- The pairs at any two places share no value.
   abbrev pub AreApartAt : List (Option (L × R)) → Type 0
   AreApartAt slots =
       (a b : ℕ) (p q : L × R) → a ≢ b → pair_at slots a ≡ Some p → pair_at slots b ≡ Some q → shares same_left same_right p q ≡ false

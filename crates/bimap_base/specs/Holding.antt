@@ -1,4 +1,5 @@
--- What a contract sees of a bimap, and what each call answers and leaves: one record a call, one fact a field.
+-- What a contract sees of a bimap. There is one record for each call, which says what the call returns and what the bimap has
+-- afterwards. Each field of a record states one fact.
 use Rattle.std.specs.Prelude.{◌≡◌, ◌↔◌, ℕ, ◌<◌, ◌≤◌, ◌+◌, ◌*◌, max, Bool, true, false, Option, Result, List, length, Contains, IfSome, IfNone, IfOk, IfErr, IsOk, OnOk, OnErr, MatchOption}
 use Rattle.std.specs.Borrow.{Bor}
 use denote.Param.Members.{Mut}
@@ -13,29 +14,30 @@ use Rattle.bimap_base.specs.declared.refusal.NotInserted.{NotInserted}
 use Rattle.bimap_base.specs.declared.refusal.NotInsertedWith.{NotInsertedWith}
 use Rattle.bimap_base.specs.declared.refusal.UndoStopped.{UndoStopped}
 
--- the pairs of a bimap, each once, and the number of its places
+-- The pairs of a bimap, each once, and its capacity, which contracts call `room`.
 pub record Holding (L R : Type 0) : Type 0 where
   pub pairs : List (L × R)
   pub room : ℕ
 
--- no place is free
+-- The bimap has as many pairs as its capacity, so no place is free.
 abbrev pub IsFull : {L R : Type 0} → Holding L R → Type 0
 IsFull held = length held.pairs ≡ held.room
 
--- the room never falls, and is doubled at most, to four at least. It stays where a place was free, or where what is put in
--- takes the place of what goes out
+-- The capacity after a change. It is not less than before. It is at most twice the capacity of before, or at most 4. It stays if
+-- a place was free, or if the new pair gets the place of an old one.
 pub record IsRoomAfter {L R : Type 0} (old : Holding L R) (InPlace : Type 0) (new : Holding L R) : Type 0 where
   pub not_lower : old.room ≤ new.room
   pub at_most : new.room ≤ max 4 (2 * old.room)
   pub had_place : length old.pairs < old.room → new.room ≡ old.room
   pub in_place : InPlace → new.room ≡ old.room
 
--- the partner of a value whose pair passes the test, or that no pair passes it; `pair` makes a pair of the two
+-- A look-up returns the partner of a value in a pair that passes the test. If it returns `None`, no pair passes the test. `pair`
+-- makes a pair of the value and its partner.
 pub record IsPartner {L R X Y : Type 0} (pair : X → Y → L × R) (passes : L × R → Bool) (held : Holding L R) (result : Option (Bor Y)) : Type 0 where
   pub found : IfSome result (λ y. (x : X) × Contains held.pairs (pair x y.now) × (passes (pair x y.now) ≡ true))
   pub none : IfNone result ((p : L × R) → Contains held.pairs p → passes p ≡ false)
 
--- what a removal of the pair that passes the test answers and leaves
+-- What the removal of the pair that passes the test returns, and what the bimap has afterwards.
 pub record IsRemoval {L R : Type 0} (passes : L × R → Bool) (old : Holding L R) (result : Option (L × R)) (new : Holding L R) : Type 0 where
   pub removed : IfSome result (λ p. Contains old.pairs p × (passes p ≡ true))
   pub none : IfNone result ((p : L × R) → Contains old.pairs p → passes p ≡ false)
@@ -44,25 +46,25 @@ pub record IsRemoval {L R : Type 0} (passes : L × R → Bool) (old : Holding L 
   pub room : new.room ≡ old.room
 
 module _ {L R Q : Type 0} (same_left : L → Q → Bool) where
-  -- the answer of a look-up by left
+  -- What a look-up by left returns.
   abbrev pub IsFoundByLeft : Holding L R → Q → Option (Bor R) → Type 0
   IsFoundByLeft held left = IsPartner (λ l r. (l, r)) (λ p. same_left p.0 left) held
 
-  -- what a removal by left answers and leaves
+  -- What a removal by left returns, and what the bimap has afterwards.
   abbrev pub IsRemovalByLeft : Holding L R → Q → Option (L × R) → Holding L R → Type 0
   IsRemovalByLeft old left = IsRemoval (λ p. same_left p.0 left) old
 
 module _ {L R Q : Type 0} (same_right : R → Q → Bool) where
-  -- the answer of a look-up by right
+  -- What a look-up by right returns.
   abbrev pub IsFoundByRight : Holding L R → Q → Option (Bor L) → Type 0
   IsFoundByRight held right = IsPartner (λ r l. (l, r)) (λ p. same_right p.1 right) held
 
-  -- and one by right
+  -- What a removal by right returns, and what the bimap has afterwards.
   abbrev pub IsRemovalByRight : Holding L R → Q → Option (L × R) → Holding L R → Type 0
   IsRemovalByRight old right = IsRemoval (λ p. same_right p.1 right) old
 
 module _ {L R : Type 0} (same_left : L → L → Bool) (same_right : R → R → Bool) where
-  -- what `insert` answers and leaves
+  -- What `insert` returns, and what the bimap has afterwards.
   pub record IsInsertion (old : Holding L R) (pair : L × R) (result : Result (Overwritten L R) (NoRoom L R)) (new : Holding L R) : Type 0 where
     pub answer : IfOk result (IsAnswer same_left same_right (Contains old.pairs) pair)
     pub put : OnOk result (IsWithPut same_left same_right (Contains old.pairs) pair (Contains new.pairs))
@@ -73,7 +75,7 @@ module _ {L R : Type 0} (same_left : L → L → Bool) (same_right : R → R →
     pub unchanged : OnErr result (new ≡ old)
     pub room : IsRoomAfter old (SomeShares same_left same_right (Contains old.pairs) pair) new
 
-  -- the same of `insert_no_overwrite`
+  -- What `insert_no_overwrite` returns, and what the bimap has afterwards.
   pub record IsInsertionWithoutOverwriting (old : Holding L R) (pair : L × R) (result : Result (Unit {0}) (NotInserted L R)) (new : Holding L R) : Type 0 where
     pub none_held : OnOk result (NoneShares same_left same_right (Contains old.pairs) pair)
     pub put : OnOk result (IsWithPut same_left same_right (Contains old.pairs) pair (Contains new.pairs))
@@ -82,7 +84,7 @@ module _ {L R : Type 0} (same_left : L → L → Bool) (same_right : R → R →
     pub unchanged : OnErr result (new ≡ old)
     pub room : IsRoomAfter old (SomeShares same_left same_right (Contains old.pairs) pair) new
 
-  -- of `insert_with`
+  -- What `insert_with` returns, and what the bimap has afterwards.
   pub record IsInsertionUnder (old : Holding L R) (pair : L × R) (policy : Policy) (result : Result (Overwritten L R) (NotInsertedWith L R)) (new : Holding L R) : Type 0 where
     pub allowed : OnOk result (IsAllowed same_left same_right (Contains old.pairs) pair policy)
     pub answer : IfOk result (IsAnswer same_left same_right (Contains old.pairs) pair)
@@ -92,7 +94,7 @@ module _ {L R : Type 0} (same_left : L → L → Bool) (same_right : R → R →
     pub unchanged : OnErr result (new ≡ old)
     pub room : IsRoomAfter old (SomeShares same_left same_right (Contains old.pairs) pair) new
 
-  -- the answer is the right held for an equal left, and the given pair is put in only where none was held
+  -- The result is the right of the pair with an equal left. If there was no such pair, the given pair is inserted.
   pub record IsInterning (old : Holding L R) (pair : L × R) (result : Result R (NotInserted L R)) (new : Holding L R) : Type 0 where
     pub answer : IfOk result (λ right. (l : L) × Contains new.pairs (l, right) × (same_left l pair.0 ≡ true))
     pub held : HasLeft same_left (Contains old.pairs) pair.0 → IsOk result × (new ≡ old)
@@ -104,7 +106,7 @@ module _ {L R : Type 0} (same_left : L → L → Bool) (same_right : R → R →
     pub unchanged : OnErr result (new ≡ old)
     pub room : IsRoomAfter old (SomeShares same_left same_right (Contains old.pairs) pair) new
 
-  -- and of `undo_insert`
+  -- What `undo_insert` returns, and what the bimap has afterwards.
   pub record IsUndoing (old : Holding L R) (left : L) (answer : Overwritten L R) (result : Result (L × R) (UndoStopped L R)) (new : Holding L R) : Type 0 where
     pub taken : IfOk result (λ p. Contains old.pairs p × (same_left p.0 left ≡ true))
     pub undone : OnOk result (IsUndone same_left same_right (Contains old.pairs) left answer (Contains new.pairs))
@@ -115,12 +117,12 @@ module _ {L R : Type 0} (same_left : L → L → Bool) (same_right : R → R →
     pub unchanged : OnErr result (new ≡ old)
     pub room : IsRoomAfter old (IsBoth answer → ⊥) new
 
--- what `retain` leaves, the closure being called in some order
+-- What the bimap has after `retain`, if the closure is called in some order.
 pub record IsRetention {F L R : Type 0} (g : Mut F (Bor L × (Bor R × Unit {0})) Bool) (old : Holding L R) (f : F) (new : Holding L R) : Type 0 where
   pub kept : IsKept g f old.pairs new.pairs
   pub room : new.room ≡ old.room
 
--- what `retain` leaves, the closure being called in the order of the pairs
+-- What the bimap has after `retain`, if the closure is called in the order of the pairs.
 pub record IsRetentionInOrder {F L R : Type 0} (g : Mut F (Bor L × (Bor R × Unit {0})) Bool) (old : Holding L R) (f : F) (new : Holding L R) : Type 0 where
   pub kept : IsKeptInOrder g f old.pairs new.pairs
   pub room : new.room ≡ old.room

@@ -8,11 +8,11 @@ use Rattle.std.specs.declared.cmp.Ordering.{Ordering}
 use Rattle.std.specs.declared.cmp.Ordering.TheVariants.{Less, Equal, Greater}
 use Rattle.bimap_base.specs.Keyed.{Follows}
 
--- keys that equal one thing are equal
+-- If `x` is equal to `q`, the things equal to `q` are the things equal to `x`.
 pub respects_equal : {K : Type 0} {same : K → K → Bool} → IsEquivalence same → (q x y : K) → same x q ≡ true → same y q ≡ same y x
 respects_equal laws q x y e = laws.symm y q ∙ sym (laws.congr x q y e) ∙ laws.symm x y
 
--- keys stand to each other as they are ordered
+-- A total order has the law `Follows` if the queries are keys.
 pub follows_itself : {K : Type 0} {order : K → K → Ordering} → IsTotalOrder order → Follows order order
 follows_itself {order = order} total q x y less le = by (order y q) refl
   where

@@ -2,23 +2,23 @@
 use Rattle.std.specs.Prelude.{ℕ, List, Option, None, is_some, IsSome, count_by, slice_index_or, option_map}
 
 module _ {P : Type 0} where
-  -- the pair at a place
+  -- The pair at a place, or `None` if it has none.
   abbrev pub pair_at : List (Option P) → ℕ → Option P
   pair_at slots place = slice_index_or slots place None
 
-  -- the place has a pair
+  -- The place has a pair.
   abbrev pub IsLive : List (Option P) → ℕ → Type 0
   IsLive slots place = IsSome (pair_at slots place)
 
-  -- how many places have a pair
+  -- The number of places that have a pair.
   abbrev pub pair_count : List (Option P) → ℕ
   pair_count slots = count_by is_some slots
 
 module _ {L R : Type 0} where
-  -- the left of the pair at a place
+  -- The left of the pair at a place, or `None` if it has none.
   abbrev pub left_at : List (Option (L × R)) → ℕ → Option L
   left_at slots place = option_map (λ p. p.0) (pair_at slots place)
 
-  -- the right of the pair at a place
+  -- The right of the pair at a place, or `None` if it has none.
   abbrev pub right_at : List (Option (L × R)) → ℕ → Option R
   right_at slots place = option_map (λ p. p.1) (pair_at slots place)

@@ -1,4 +1,4 @@
-//! A side of a store by the numbers that a builder gives its keys.
+//! The keys of a side of a store, hashed by a hash builder.
 ghost use Rattle.std.specs.Prelude.{◌≡◌, ◌%◌};
 ghost use Rattle.std.specs.List.{fold};
 ghost use Rattle.std.proofs.Common.{ap, sym};
@@ -11,7 +11,7 @@ use crate::spread::Spread;
 use std::hash::{BuildHasher, Hash};
 use std::marker::PhantomData;
 
-/// The keys of a side, as a hashed index numbers and compares them.
+/// The keys of a side, as a hashed index hashes and compares them.
 #[derive_where(Clone, Copy; S)]
 pub struct ByHash<'a, K, Q, S, B> {
     side: S,
@@ -20,7 +20,7 @@ pub struct ByHash<'a, K, Q, S, B> {
 }
 
 impl<'a, K, Q, S: Copy, B> ByHash<'a, K, Q, S, B> {
-    /// The keys of this side, numbered by this builder. It takes no memory.
+    /// Returns the keys of this side, to be hashed by this builder. Never allocates.
     pub fn new(side: S, builder: &'a B) -> Self
         ensures side { result.side ≡ side }
         ensures builder { result.builder.now ≡ builder.now }

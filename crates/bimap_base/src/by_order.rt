@@ -1,4 +1,4 @@
-//! A side of a store by the order of its keys.
+//! The keys of a side of a store, in their order.
 ghost use Rattle.std.specs.Prelude.{◌≡◌};
 
 use crate::keys::{Keys, Sought};
@@ -11,13 +11,13 @@ use std::marker::PhantomData;
 /// The keys of a side, as an ordered index compares them.
 #[derive_where(Clone, Copy; S)]
 pub struct ByOrder<K, S> {
-    // By value, so that a comparison follows no reference to it.
+    // The side is stored by value. A comparison then follows one reference less.
     side: S,
     of: PhantomData<K>,
 }
 
 impl<K, S: Copy> ByOrder<K, S> {
-    /// The keys of this side. It takes no memory.
+    /// Returns the keys of this side. Never allocates.
     pub fn new(side: S) -> Self
         ensures { result.side ≡ side }
     {

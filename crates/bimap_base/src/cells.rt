@@ -1,4 +1,4 @@
-//! The nodes of an index, one for each place.
+//! The nodes of an ordered index, one for each place.
 ghost use Rattle.std.specs.Prelude.{◌≡◌, ℕ, ◌+◌, ◌<◌, ◌≤◌, ◌^◌, max, true, false, cond, Some, [], length, map, slice_get, slice_set, vec_len, OnOk, OnErr, IfOk, IsOk};
 ghost use Rattle.bimap_base.specs.Digits.{most_height};
 ghost use Rattle.bimap_base.specs.declared.cells.Node.{Node};
@@ -9,7 +9,7 @@ use crate::refusal::NoMemory;
 use std::alloc::Global;
 use std::marker::Model;
 
-/// A node: its children's places, and the height and the number of places of the tree below it, itself included.
+/// A node of a tree. It stores the places of its children, and the height and the size of the subtree whose root it is.
 #[derive(Clone, Copy)]
 pub struct Node {
     pub left: Option<usize>,
@@ -25,40 +25,42 @@ const NO_NODE: Node = Node {
     size: 0,
 };
 
-/// How a node is kept, where places are few enough for it.
+/// The stored form of a node, while there are few enough places for it.
 pub trait Cell: Copy + Drop {
     ghost use Rattle.bimap_base.specs.declared.cells.Node.{Node};
 
-    /// The node that it keeps, and a number that places are fewer than.
+    /// The node that the cell stores.
     ghost node_in: { Self → Node };
 
+    /// There are always fewer places than this number.
     ghost most: { ℕ };
 
-    /// The cell that keeps a node.
+    /// Returns the cell that stores a node.
     fn of(node: Node) -> Self
         requires { (n : ℕ) × (n < most) × IsAmong n node }
         ensures { node_in result ≡ node };
 
-    /// The node that it keeps.
+    /// Returns the node that the cell stores.
     fn node(self) -> Node
         ensures { result ≡ node_in self };
 
-    /// That node's child on the side of the turn, right if it is true, without the rest of the node.
+    /// Returns the child in the direction `direction`, which is right if it is true. Reads nothing else of the node.
     fn child(self, direction: bool) -> Option<usize>
         ensures { result ≡ cond direction (node_in self).right (node_in self).left };
 
-    /// The cell that keeps the same node with this child on the side of the turn.
+    /// Returns a cell of the same node with another child in the direction `direction`.
     fn linked(self, direction: bool, child: Option<usize>) -> Self
         requires { (n : ℕ) × (n < most) × IsThere n child }
         ensures { node_in result ≡ linked direction child (node_in self) };
 
-    /// The cell that keeps the same node with a place more or less below it.
+    /// Returns a cell of the same node with one place more in its subtree if `grew` is true, or one less if not.
     fn counted(self, grew: bool) -> Self
         requires { (n : ℕ) × (n < most) × CanCount n grew (node_in self) }
         ensures { node_in result ≡ counted grew (node_in self) };
 }
 
-/// A node as it is kept where there are fewer than 2^26 places, in 12 bytes: each child's place plus one, and 0 for no child; then the height times 2^26, plus the size.
+/// A node in 12 bytes, for fewer than 2^26 places. A link is the place of a child plus one, or 0 for no child. `count` is the
+/// height times 2^26, plus the size.
 #[derive(Clone, Copy)]
 pub struct NarrowCell {
     left: u32,
@@ -66,7 +68,7 @@ pub struct NarrowCell {
     count: u32,
 }
 
-/// A node as it is kept where there are more places, in 32 bytes.
+/// A node in 32 bytes, for any number of places.
 #[derive(Clone, Copy)]
 pub struct WideCell {
     left: usize,
@@ -75,10 +77,10 @@ pub struct WideCell {
     size: usize,
 }
 
-// How many places are too many for narrow cells.
+// From this count of places on, narrow cells are too narrow.
 const WIDE: usize = 67_108_864;
 
-/// Nodes that are kept in cells of one kind, by place. Each call takes constant time, and no memory.
+/// Nodes by place, in cells of one width. Each public call takes constant time. No public call allocates.
 #[derive(Drop)]
 pub struct Nodes<C: Cell> {
     cells: Vec<C>,
@@ -95,7 +97,10 @@ impl<C: Cell> Model for Nodes<C> {
     ghost invariant = { λ n. length n.cells.items < C.most };
 }
 
-/// A node for each place below a number, in 12 bytes where there are fewer than 2^26, and else in 32. There is no way to a node but `read`, `cell`, `write`, `set_child`, `recount` and `count`, which count a touch each.
+/// A node for each place below some number. A node takes 12 bytes while there are fewer than 2^26 nodes. From then on it takes
+/// 32 bytes.
+///
+/// Only `read`, `cell`, `write`, `set_child`, `recount` and `count` reach a node. Each of them counts one touch.
 #[derive(Drop)]
 pub enum Cells {
     Narrow(Nodes<NarrowCell>),
@@ -231,7 +236,7 @@ impl Cell for WideCell {
 }
 
 impl<C: Cell> Nodes<C> {
-    // No nodes. It takes no memory.
+    // Returns an empty list of nodes. Never allocates.
     fn new(alloc: Global) -> Self
         requires { 0 < C.most }
         ensures { result ≡ [] }
@@ -241,7 +246,7 @@ impl<C: Cell> Nodes<C> {
         }
     }
 
-    /// The number of nodes.
+    /// Returns the number of nodes.
     #[inline(always)]
     pub fn places(&self) -> usize
         ensures { result ≡ length self.now }
@@ -249,7 +254,7 @@ impl<C: Cell> Nodes<C> {
         self.cells.len()
     }
 
-    // Makes empty nodes up to a number, with room for just so many. A refusal changes nothing.
+    // Appends empty nodes up to `to`, and allocates exactly as many. If it runs out of memory, nothing changes.
     fn extend(&mut self, to: usize) -> Result<(), NoMemory>
         requires more { length self.old ≤ to }
         requires few { to < C.most }
@@ -267,7 +272,7 @@ impl<C: Cell> Nodes<C> {
         Ok(())
     }
 
-    /// The node of a place.
+    /// Returns the node of a place.
     #[inline(always)]
     pub fn read<M: Meter>(&self, place: usize, meter: &mut M) -> Node
         requires { place < length self.now }
@@ -278,7 +283,7 @@ impl<C: Cell> Nodes<C> {
         self.cell(place, meter).node()
     }
 
-    /// The cell that keeps the node of a place.
+    /// Returns the cell that stores the node of a place.
     #[inline(always)]
     pub fn cell<M: Meter>(&self, place: usize, meter: &mut M) -> C
         requires { place < length self.now }
@@ -290,14 +295,14 @@ impl<C: Cell> Nodes<C> {
         self.cells[place]
     }
 
-    /// Makes this the node of a place.
+    /// Writes the node of a place.
     #[inline(always)]
     pub fn write<M: Meter>(&mut self, place: usize, node: Node, meter: &mut M)
         requires place { place < length self.old }
         requires left { IsThere (length self.old) node.left }
         requires right { IsThere (length self.old) node.right }
 
-        // What a cell has room for: a level more than a balanced tree of all places has, and all places.
+        // A cell can store one level more than the bound for a balanced tree of all places, and the number of all places.
         requires height { node.height ≤ most_height (length self.old) + 1 }
         requires size { node.size ≤ length self.old }
 
@@ -310,7 +315,7 @@ impl<C: Cell> Nodes<C> {
         cells[place] = C::of(node);
     }
 
-    /// Makes this the child of a place's node on the side of the turn.
+    /// Replaces the child of a place's node in the direction `direction`.
     #[inline(always)]
     pub fn set_child<M: Meter>(
         &mut self,
@@ -331,7 +336,7 @@ impl<C: Cell> Nodes<C> {
         cells[place] = cells[place].linked(direction, child);
     }
 
-    /// Makes this the child of a place's node on the side of the turn, and counts a place more or less below it.
+    /// Replaces the child of a place's node in the direction `direction`, and counts one place more or less in its subtree.
     #[inline(always)]
     pub fn recount<M: Meter>(
         &mut self,
@@ -354,7 +359,7 @@ impl<C: Cell> Nodes<C> {
         cells[place] = cells[place].linked(direction, child).counted(grew);
     }
 
-    /// Counts a place more or less below a place.
+    /// Counts one place more or less in the subtree of a place.
     #[inline(always)]
     pub fn count<M: Meter>(&mut self, place: usize, grew: bool, meter: &mut M)
         requires { (n : Node) × (slice_get self.old place ≡ Some n)
@@ -370,7 +375,7 @@ impl<C: Cell> Nodes<C> {
     }
 }
 
-// The same nodes in wide cells, and empty ones up to a number.
+// Returns the same nodes in wide cells, with empty nodes after them up to `to`.
 fn widened(narrow: &Nodes<NarrowCell>, to: usize) -> Result<Nodes<WideCell>, NoMemory>
     requires { length narrow.now ≤ to }
     ensures len { IfOk result (λ wide. length wide ≡ to) }
@@ -391,14 +396,14 @@ fn widened(narrow: &Nodes<NarrowCell>, to: usize) -> Result<Nodes<WideCell>, NoM
 }
 
 impl Cells {
-    /// No nodes. It takes no memory.
+    /// Returns an empty list of nodes. Never allocates.
     pub fn new(alloc: Global) -> Self
         ensures { nodes_in result ≡ [] }
     {
         Cells::Narrow(Nodes::new(alloc))
     }
 
-    /// The number of nodes.
+    /// Returns the number of nodes.
     pub fn places(&self) -> usize
         ensures { result ≡ length (nodes_in self.now) }
     {
@@ -408,7 +413,10 @@ impl Cells {
         }
     }
 
-    /// Makes nodes for each place below `to`, in time of their number. It takes memory only where some are missing, and a refusal changes nothing. Where they become 2^26, all nodes move to wider cells.
+    /// Makes a node for each place below `to` that has none. The time is at most proportional to `to`. If there are 2^26 nodes or
+    /// more afterwards, all nodes are in wide cells.
+    ///
+    /// Allocates only if nodes are missing. If it runs out of memory, nothing changes.
     pub fn grow(&mut self, to: usize) -> Result<(), NoMemory>
         ensures ok { OnOk result (length (nodes_in self.new)
             ≡ max (length (nodes_in self.old)) to) }

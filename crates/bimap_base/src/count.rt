@@ -1,4 +1,4 @@
-//! A meter that keeps no number at run time, for the calls that are handed none.
+//! A meter that stores no number at run time. It is for the calls that are passed no meter.
 ghost use Rattle.std.specs.Prelude.{◌≡◌, ℕ, ◌+◌};
 ghost use Rattle.std.specs.Coded.{coded_ℕ};
 ghost use base.Fml.{ftrue};
@@ -6,7 +6,7 @@ ghost use base.Fml.{ftrue};
 use crate::meter::Meter;
 use std::marker::Model;
 
-// A number that only contracts see.
+// A number that exists only in contracts.
 #[derive(Drop)]
 pub struct Tally {
     pub ghost number: { ℕ } by { coded_ℕ },
@@ -30,7 +30,7 @@ impl Tally {
     }
 }
 
-/// A meter whose numbers only contracts see. It takes no bytes.
+/// A meter whose counts exist only in contracts. It takes no bytes.
 #[derive(Drop)]
 pub struct Count {
     compared: Tally,
@@ -38,7 +38,7 @@ pub struct Count {
 }
 
 impl Count {
-    /// Returns a meter of which both numbers are 0.
+    /// Returns a meter whose two counts are 0.
     pub fn new() -> Self
         ensures compared { result.compared.number ≡ 0 }
         ensures touched { result.touched.number ≡ 0 }

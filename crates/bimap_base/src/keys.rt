@@ -1,4 +1,4 @@
-//! How an ordered index compares the places that it lists, without knowing their values.
+//! How an ordered index compares the places that it lists. The index knows nothing of the values of keys.
 ghost use Rattle.std.specs.Prelude.{◌≡◌, ℕ, ◌+◌, Option, Some, IsSome};
 ghost use Rattle.std.specs.declared.cmp.Ordering.{Ordering};
 ghost use Rattle.std.specs.Cmp.{IsTotalOrder};
@@ -7,24 +7,24 @@ ghost use Rattle.bimap_base.specs.Keyed.{standing, Follows};
 use crate::meter::Meter;
 use std::cmp::Ordering;
 
-/// Live places, each with a key, and a total order of keys. Each call counts one comparison.
+/// Places that have keys, and a total order of the keys. Each call counts one comparison.
 pub trait Keys {
     type Key;
 
-    /// The key of a place, where it is live.
+    /// The key of a place, or `None` if the place has no key.
     ghost key_at: { Self → ℕ → Option Self.Key };
 
     /// The order of keys.
     ghost order: { Self.Key → Self.Key → Ordering };
 
-    /// How the key of a place stands to a key.
+    /// Returns how the key of a place compares with `key`.
     fn compare<M: Meter>(&self, place: usize, key: &Self::Key, meter: &mut M) -> Ordering
         requires live { IsSome (key_at self.now place) }
         ensures answer { result ≡ standing order (key_at self.now place) (Some key.now) }
         ensures comparisons { M.comparisons meter.new ≡ M.comparisons meter.old + 1 }
         ensures touches { M.touches meter.new ≡ M.touches meter.old };
 
-    /// How the key of the place `a` stands to that of the place `b`.
+    /// Returns how the key of the place `a` compares with the key of the place `b`.
     fn compare_places<M: Meter>(&self, a: usize, b: usize, meter: &mut M) -> Ordering
         requires first { IsSome (key_at self.now a) }
         requires second { IsSome (key_at self.now b) }
@@ -36,18 +36,18 @@ pub trait Keys {
     ghost total: { IsTotalOrder order };
 }
 
-/// What places are found by. A call counts one comparison.
+/// A query by which places are found. Each call counts one comparison.
 pub trait Sought<K: Keys>: Copy {
-    /// How a key stands to what is sought.
+    /// How a key compares with the query.
     ghost order: { K.Key → Self → Ordering };
 
-    /// How the key of a place stands to what is sought.
+    /// Returns how the key of a place compares with the query.
     fn compare<M: Meter>(&self, keys: &K, place: usize, meter: &mut M) -> Ordering
         requires live { IsSome (K.key_at keys.now place) }
         ensures answer { result ≡ standing order (K.key_at keys.now place) (Some self.now) }
         ensures comparisons { M.comparisons meter.new ≡ M.comparisons meter.old + 1 }
         ensures touches { M.touches meter.new ≡ M.touches meter.old };
 
-    /// A key below one that isn't above what is sought is below it.
+    /// If one key is below another key, and the other key is not above the query, then the first key is below the query.
     ghost follows: { Follows K.order order };
 }

@@ -1,4 +1,4 @@
-//! What every bimap stands on: the plain types, the store of pairs, and the interfaces between store, index and bimap.
+//! The base of all bimaps. It has the plain types, the store of pairs, and the interfaces between store, index and bimap.
 #![tactic(auto)]
 
 mod by_hash;

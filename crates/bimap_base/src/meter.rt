@@ -1,12 +1,12 @@
-//! What counts comparisons of keys and touches of nodes.
+//! Counts of comparisons of keys and of touches of nodes.
 ghost use Rattle.std.specs.Prelude.{◌≡◌, ℕ, ◌+◌};
 
-/// Counts comparisons of keys and touches of nodes, for contracts to see. What it keeps at run time is its own affair.
+/// Counts comparisons of keys and touches of nodes. Contracts bound both counts. A meter need not store them at run time.
 pub trait Meter {
-    /// How many comparisons of keys were counted.
+    /// The number of comparisons of keys that were counted.
     ghost comparisons: { Self → ℕ };
 
-    /// How many reads and writes of nodes were counted.
+    /// The number of reads and writes of nodes that were counted.
     ghost touches: { Self → ℕ };
 
     /// Counts a comparison of keys.

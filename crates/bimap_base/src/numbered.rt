@@ -1,10 +1,10 @@
-//! The number under which a hashed index lists a key.
+//! The hash number under which a hashed index lists a key.
 ghost use Rattle.std.specs.Prelude.{◌≡◌};
 ghost use Rattle.bimap_base.specs.Numbered.{number_by};
 
 use std::hash::{BuildHasher, Hash};
 
-/// The low half of the hash that the builder gives the key.
+/// Returns the low 32 bits of the hash that the hash builder gives for the key.
 pub fn hash_number<K: Hash, B: BuildHasher>(builder: &B, key: &K) -> u32
     ensures { result ≡ number_by B.Hasher.finish B.Hasher.write B.build_hasher K.hash_input
         builder.now key.now }

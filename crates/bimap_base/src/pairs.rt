@@ -1,4 +1,4 @@
-//! The store: pairs in numbered places. It knows nothing of their values, nor of how places are found.
+//! The store of pairs in numbered places. The code here knows nothing of the values in pairs, nor of how places are found.
 ghost use Rattle.std.specs.Prelude.{◌≡◌, ◌+◌, ◌<◌, ◌≤◌, [], max, map, length, option_map, Some, None, IsOk, IsSome, OnOk, OnErr, slice_set, slice_get, slice_index_or, replicate, ℕ, vec_len, vec_capacity};
 ghost use Rattle.bimap_base.specs.Slots.{pair_at, IsLive, pair_count};
 ghost use Rattle.bimap_base.specs.Places.{pairs_in, compacted};
@@ -15,15 +15,15 @@ use std::mem;
 #[derive(Drop)]
 pub struct Pairs<L, R> {
     slots: Vec<Slot<L, R>>,
-    // How many places have a pair.
+    // The number of pairs.
     len: usize,
-    // The first free place, or the number of places where none is free.
+    // The first free place. If no place is free, this is the number of places.
     next: usize,
 }
 
 #[derive(Drop)]
 enum Slot<L, R> {
-    // It names the next free place, and the last free one the number of places.
+    // A free slot stores the next free place. The last free slot stores the number of places.
     Free(usize),
     Held(L, R),
 }
@@ -40,7 +40,7 @@ impl<L, R> Model for Pairs<L, R> {
     ghost invariant = { λ s. IsSound s.slots.items s.len s.next };
 }
 
-// Pushes free slots up to a place, each naming the next one, and the last one `after`.
+// Appends free slots up to `to`. Each stores the next place, and the last stores `after`.
 fn push_run<L, R>(slots: &mut Vec<Slot<L, R>>, to: usize, after: usize)
     requires room { to ≤ vec_capacity slots.old }
     requires more { vec_len slots.old < to }
@@ -58,11 +58,14 @@ fn push_run<L, R>(slots: &mut Vec<Slot<L, R>>, to: usize, after: usize)
     slots.push_reserved(Slot::Free(after));
 }
 
-// Free slots in a row that are taken in another order than the blocks before.
+// Free slots are appended in blocks of this size. Each block is taken in an order of its own.
 const BLOCK: usize = 1_024;
 
-// Pushes a block of free slots. After the first one, the taking begins in their midst, elsewhere in each block: where keys rise,
-// the places at the top of a tree lie powers of two apart, and would all fall into the same few lines of a processor's cache.
+// Appends a block of free slots. After its first slot, a block is taken from some slot inside it, which differs from block to
+// block.
+//
+// Without this, ascending keys would put the places at the top of a tree powers of two apart. All of them would then share a few
+// lines of the processor's cache.
 fn push_block<L, R>(slots: &mut Vec<Slot<L, R>>)
     requires { vec_len slots.old + 1_024 ≤ vec_capacity slots.old }
     ensures grown { (first : _) (len next : ℕ) → IsGrown first slots.old.items len next →
@@ -78,7 +81,7 @@ fn push_block<L, R>(slots: &mut Vec<Slot<L, R>>)
     push_run(slots, end, first + 1);
 }
 
-// Pushes free slots up to a number, which the vector has room for. They come after those that are free already.
+// Appends free slots up to `to`. The capacity must suffice for them. They are taken after the slots that are free already.
 fn push_free<L, R>(slots: &mut Vec<Slot<L, R>>, to: usize)
     requires room { to ≤ vec_capacity slots.old }
     requires fits { vec_len slots.old ≤ to }
@@ -95,7 +98,7 @@ fn push_free<L, R>(slots: &mut Vec<Slot<L, R>>, to: usize)
 }
 
 impl<L, R> Pairs<L, R> {
-    /// No places. It takes no memory.
+    /// Returns a store without places. Never allocates.
     pub fn new(alloc: Global) -> Self
         ensures { result ≡ [] }
     {
@@ -106,19 +109,19 @@ impl<L, R> Pairs<L, R> {
         }
     }
 
-    /// The allocator.
+    /// Returns the allocator.
     pub fn allocator(&self) -> Global {
         *self.slots.allocator()
     }
 
-    /// The number of places.
+    /// Returns the number of places.
     pub fn places(&self) -> usize
         ensures { result ≡ length self.now }
     {
         self.slots.len()
     }
 
-    /// The number of pairs.
+    /// Returns the number of pairs.
     pub fn len(&self) -> usize
         ensures value { result ≡ pair_count self.now }
         ensures bound { result ≤ length self.now }
@@ -126,7 +129,7 @@ impl<L, R> Pairs<L, R> {
         self.len
     }
 
-    /// The pair at a place.
+    /// Returns the pair at a place, or `None` if the place has no pair.
     pub fn at(&self, place: usize) -> Option<(&L, &R)>
         ensures { option_map (λ p. (p.0.now, p.1.now)) result ≡ pair_at self.now place }
     {
@@ -136,7 +139,7 @@ impl<L, R> Pairs<L, R> {
         }
     }
 
-    /// The pair at a place that has one, in constant time.
+    /// Returns the pair at a place that has one, in constant time.
     pub fn held(&self, place: usize) -> (&L, &R)
         requires live { IsLive self.now place }
         ensures { pair_at self.now place ≡ Some (result.0.now, result.1.now) }
@@ -147,7 +150,7 @@ impl<L, R> Pairs<L, R> {
         }
     }
 
-    /// Puts a pair into a free place, and answers which. It takes no memory.
+    /// Moves a pair into a free place, and returns that place. Some place must be free. Never allocates.
     pub fn put(&mut self, left: L, right: R) -> usize
         requires free { pair_count self.old < length self.old }
         ensures there { result < length self.old }
@@ -166,7 +169,7 @@ impl<L, R> Pairs<L, R> {
         }
     }
 
-    /// Puts a pair in the place of another, which it answers. It takes no memory.
+    /// Replaces the pair at a place with another pair, and returns the old pair. Never allocates.
     pub fn swap_in(&mut self, place: usize, left: L, right: R) -> (L, R)
         requires live { IsLive self.old place }
         ensures was { pair_at self.old place ≡ Some result }
@@ -179,7 +182,7 @@ impl<L, R> Pairs<L, R> {
         }
     }
 
-    /// Takes out the pair at a place, which is free then.
+    /// Removes the pair at a place, and returns it. The place is free afterwards.
     pub fn take(&mut self, place: usize) -> (L, R)
         requires live { IsLive self.old place }
         ensures was { pair_at self.old place ≡ Some result }
@@ -197,7 +200,8 @@ impl<L, R> Pairs<L, R> {
         }
     }
 
-    /// Makes places up to a number, exactly. It takes memory only where some are missing, and a refusal changes nothing.
+    /// Adds exactly the missing places below `to`. Allocates only if places are missing. If it runs out of memory, nothing
+    /// changes.
     pub fn grow(&mut self, to: usize) -> Result<(), NoMemory>
         ensures ok { OnOk result (length self.new ≡ max to (length self.old)) }
         ensures kept { (place : _) → pair_at self.new place ≡ pair_at self.old place }
@@ -217,7 +221,7 @@ impl<L, R> Pairs<L, R> {
         Ok(())
     }
 
-    /// Makes exactly `to` places, and moves the pairs to the first of them, in their order. A refusal changes nothing.
+    /// Moves the pairs to the first of exactly `to` places, in their order. If it runs out of memory, nothing changes.
     pub fn compact(&mut self, to: usize) -> Result<(), NoMemory>
     where
         L: Drop,

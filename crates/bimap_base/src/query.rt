@@ -1,4 +1,4 @@
-//! What a look-up may be asked with, in place of a key.
+//! What a look-up may be given instead of a key.
 ghost use Rattle.std.specs.Prelude.{◌≡◌, Bool, true};
 ghost use Rattle.std.proofs.Common.{ap, sym};
 ghost use Rattle.std.specs.Hash as fed;
@@ -15,38 +15,39 @@ use std::alloc::{Allocator, Global};
 use std::cmp::{Eq, Ord, Ordering};
 use std::hash::Hash;
 
-/// What a look-up asks for, in place of a key: a reference to a key, or a borrowed form of one. To ask, no key is built.
+/// A query is what a look-up searches by. It is a reference to a key, or a borrowed form of a key, as `&str` is of `String`. A
+/// look-up by a borrowed form builds no key.
 ///
-/// `&K` asks for keys of any type `K`, `&str` for a `String` or a `&str`, and `&[T]` for a `Vec<T>`.
+/// `&K` finds keys of any type `K`. `&str` finds a `String` or a `&str`. `&[T]` finds a `Vec<T>`.
 pub trait Query<K: Eq>: Copy {
-    /// Whether a key is one that the query asks for.
+    /// Whether a key is equal to the query.
     ghost same: { K → Self → Bool };
 
-    /// Returns whether the query asks for this key.
+    /// Returns whether this key is equal to the query.
     fn is(&self, key: &K) -> bool
         ensures { result ≡ same key.now self.now };
 
-    /// Beside a key that the query asks for, it asks for the equal ones.
+    /// If a key is equal to the query, then the keys equal to that key are exactly the keys equal to the query.
     ghost respects: { (q : Self) (x y : K) → same x q ≡ true → same y q ≡ K.eq y x };
 }
 
-/// A query that stands to every key as the keys do that it asks for.
+/// A query that compares with every key as an equal key would.
 pub trait OrderQuery<K: Ord>: Query<K> {
-    /// How a key stands to the query.
+    /// How a key compares with the query.
     ghost order: { K → Self → Ordering };
 
-    /// Returns how this key stands to the query.
+    /// Returns how this key compares with the query.
     fn order(&self, key: &K) -> Ordering
         ensures { result ≡ order key.now self.now };
 
-    /// The query asks for the keys that stand equal.
+    /// A key is equal to the query exactly if the comparison gives `Equal`.
     ghost agrees: { (q : Self) (x : K) → Self.Query.same x q ≡ is_eq (order x q) };
 
-    /// A key below one that isn't above the query is below the query.
+    /// If one key is below another key, and the other key is not above the query, then the first key is below the query.
     ghost follows: { Follows K.cmp order };
 }
 
-/// A query that is hashed as the keys are that it asks for.
+/// A query that has the same hash as each key that is equal to it.
 pub trait HashQuery<K: Eq + Hash>: Query<K> + Hash {
     ghost hashed: { (q : Self) (k : K) → Self.Query.same k q ≡ true →
         Self.Hash.hash_input q ≡ K.hash_input k };

@@ -1,15 +1,15 @@
-//! The two sides of a store, as the keys of its places. It knows no index.
+//! The two sides of a store, as the keys of its places. The code here knows no index.
 ghost use Rattle.std.specs.Prelude.{◌≡◌, ℕ, Option, Some, IsSome};
 ghost use Rattle.bimap_base.specs.Slots.{left_at, right_at};
 
 use crate::pairs::Pairs;
 
-/// Live places, each with a key.
+/// Places that have keys.
 pub trait Side<K>: Copy {
-    /// The key of a place, where it is live.
+    /// The key of a place, or `None` if the place has no key.
     ghost key_at: { Self → ℕ → Option K };
 
-    /// The key of a place, in constant time.
+    /// Returns the key of a place, in constant time.
     fn key(&self, place: usize) -> &K
         requires live { IsSome (key_at self.now place) }
         ensures { key_at self.now place ≡ Some result.now };
@@ -28,7 +28,7 @@ pub struct RightSide<'a, L, R> {
 }
 
 impl<'a, L, R> LeftSide<'a, L, R> {
-    /// The lefts of this store. It takes no memory.
+    /// Returns the lefts of this store. Never allocates.
     pub fn new(pairs: &'a Pairs<L, R>) -> Self
         ensures { result.pairs.now ≡ pairs.now }
     {
@@ -37,7 +37,7 @@ impl<'a, L, R> LeftSide<'a, L, R> {
 }
 
 impl<'a, L, R> RightSide<'a, L, R> {
-    /// The rights of this store. It takes no memory.
+    /// Returns the rights of this store. Never allocates.
     pub fn new(pairs: &'a Pairs<L, R>) -> Self
         ensures { result.pairs.now ≡ pairs.now }
     {

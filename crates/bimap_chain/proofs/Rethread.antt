@@ -1,4 +1,4 @@
--- The chains threaded anew, place by place.
+-- The chains are linked again, place by place.
 use Rattle.std.proofs.Common.{◌≡◌, ℕ, suc, ◌%◌, ◌<◌, ◌≤◌, List, length, Option, None, Some, sym, ◌∙◌, ap, arith, inl, inr, length-set}
 use Rattle.std.specs.Prelude.{slice_index_or, slice_set}
 use Rattle.bimap_chain.specs.Chains.{Numbers, number_at, is_of, last_below}
@@ -6,14 +6,14 @@ use Rattle.std.proofs.lemmas.Bool.{cases_eq}
 use Rattle.bimap_chain.proofs.Below.{last_here, last_lower}
 use Rattle.bimap_chain.proofs.WithNext.{listed_within, is_own, is_others, written_at}
 
--- The places below `done` are threaded.
+-- The chains contain the places below `done`.
 pub record ThreadedBelow (c : Numbers) (links heads : List (Option ℕ)) (done : ℕ) : Type 0 where
   pub as_many_links : length links ≡ length c
   pub enough_heads : length c ≤ length heads
   pub heads_begin : (bucket : ℕ) → bucket < length heads → slice_index_or heads bucket None ≡ last_below c (length heads) bucket done
   pub links_lead : (place number : ℕ) → place < done → number_at c place ≡ Some number → slice_index_or links place None ≡ last_below c (length heads) (number % length heads) place
 
--- all heads below `done` are empty
+-- All heads below `done` are empty.
 abbrev pub EmptyBelow : List (Option ℕ) → ℕ → Type 0
 EmptyBelow heads done = (bucket : ℕ) → bucket < done → slice_index_or heads bucket None ≡ None
 
@@ -21,7 +21,7 @@ pub begun : (c : Numbers) (links heads : List (Option ℕ)) → length links ≡
 unfolding last_below
 begun c links heads l h e = record { as_many_links = l; enough_heads = h; heads_begin = λ k i. e k i; links_lead = λ q m i a. absurd (omega arith) }
 
--- a place that is not listed
+-- A place that is not listed changes nothing.
 pub passed : (c : Numbers) (links heads : List (Option ℕ)) (place done : ℕ) → ThreadedBelow c links heads place → done ≡ suc place → number_at c place ≡ None → ThreadedBelow c links heads done
 passed c links heads place done t e free = record {
   as_many_links = t.as_many_links;
@@ -30,7 +30,7 @@ passed c links heads place done t e free = record {
   links_lead = λ q m l a. elim (cases_eq q place) [ inl i ↦ let j = ap (number_at c) i in cc | inr i ↦ t.links_lead q m (omega arith) a ];
 }
 
--- a place that is listed: it goes to the front of its chain
+-- A place that is listed goes to the front of its chain.
 pub put_first : (c : Numbers) (links heads : List (Option ℕ)) (b number place done : ℕ) (old : Option ℕ) → ThreadedBelow c links heads place → done ≡ suc place → b ≡ number % length heads → number_at c place ≡ Some number
     → old ≡ slice_index_or heads b None → ThreadedBelow c (slice_set links place old) (slice_set heads b (Some place)) done
 put_first c links heads b number place done old t e own held read =

@@ -1,4 +1,4 @@
--- One place is listed, or taken out, and one link or head is written: the chains stand again.
+-- One place is listed or removed, and one link or head is written. The chains are in order afterwards.
 use Rattle.std.proofs.Common.{◌≡◌, ◌≢◌, ℕ, zero, suc, ◌+◌, ◌%◌, ◌<◌, ◌≤◌, true, false, List, [], ◌∷◌, length, Option, None, Some, refl, sym, ◌∙◌, ap, subst, arith, inl, inr, eq-eqb, length-set, get_or-set_same, get_or-set_other}
 use Rattle.std.specs.Prelude.{slice_index_or, slice_set, IfSome}
 use Rattle.bimap_chain.specs.Chains.{Numbers, number_at, is_of, last_below, NoneWithin, IsThreaded, IsListed, GoesOver, Links, link_or_head}
@@ -7,7 +7,7 @@ use Rattle.bimap_chain.specs.Threads.{Threading, IsSized, IsSound, numbers_of, l
 use Rattle.bimap_chain.proofs.Below.{found, last_here, last_lower, same_last, skipped, same_above}
 use Rattle.bimap_chain.proofs.Walk.{leads, of_bucket}
 
--- what stands in a list where one item was written
+-- The item at an index of a list after one item was written.
 pub written_at : (xs : List (Option ℕ)) (i k : ℕ) (v x : Option ℕ) → i < length xs → (k ≡ i → v ≡ x) → (k ≢ i → slice_index_or xs k None ≡ x) → slice_index_or (slice_set xs i v) k None ≡ x
 written_at xs i k v x fits same other =
     elim (cases_eq k i) [
@@ -27,7 +27,7 @@ pub is_others : (n h k : ℕ) → (k ≡ h % n → ⊥) → is_of n k (Some h) �
 is_others n h k differs = grind arith
 
 module _ (c : Numbers) (links heads : List (Option ℕ)) (b place : ℕ) (over : Option ℕ) (t : IsThreaded c links heads) (fits : b < length heads) (inn : place < length c) (o : GoesOver c (length heads) b place over) where
-  -- what stands in the link or head that goes over the place
+  -- The link or head before the place leads to the greatest listed place of the bucket that is not above it.
   pub link_over : link_or_head links heads b over ≡ last_below c (length heads) b (suc place)
   link_over = by over o
     where
@@ -50,7 +50,7 @@ module _ (c : Numbers) (links heads : List (Option ℕ)) (b place : ℕ) (over :
     at_other : (q : ℕ) → q ≢ place → number_at d q ≡ number_at c q
     at_other q e = get_or-set_other c place q v None e
 
-    -- outside the bucket no cell has changed
+    -- Outside the bucket no cell has changed.
     same_of : (k q : ℕ) → k ≢ b → is_of n k (number_at c q) ≡ is_of n k (number_at d q)
     same_of k q e =
         elim (cases_eq q place) [
@@ -61,15 +61,15 @@ module _ (c : Numbers) (links heads : List (Option ℕ)) (b place : ℕ) (over :
     other_bucket : (k m : ℕ) → k ≢ b → last_below d n k m ≡ last_below c n k m
     other_bucket k m e = sym (same_last n k c d m (λ q l. same_of k q e))
 
-    -- below the place no cell has changed
+    -- Below the place no cell has changed.
     lower : (k m : ℕ) → m ≤ place → last_below d n k m ≡ last_below c n k m
     lower k m l = sym (same_last n k c d m (λ q r. ap (is_of n k) (sym (at_other q (omega arith)))))
 
-    -- above a place of the bucket
+    -- A chain is as before down to a listed place above this one.
     higher : (m p : ℕ) → place < p → p < m → is_of n b (number_at c p) ≡ true → last_below d n b m ≡ last_below c n b m
     higher m p l r e = sym (same_above n b c d (suc place) m p (λ q i j. ap (is_of n b) (sym (at_other q (omega arith)))) (omega arith) r e)
 
-    -- up to the place that goes over
+    -- No place of the bucket is between this place and the one before it in the chain.
     up_to : (m : ℕ) → place < m → NoneWithin c n b (place + 1) m → last_below d n b m ≡ last_below d n b (suc place)
     up_to m l h = skipped n b d (suc place) m (omega arith) (λ q i j. ap (is_of n b) (at_other q (omega arith)) ∙ h q (omega arith) j)
 
@@ -85,7 +85,7 @@ module _ (c : Numbers) (links heads : List (Option ℕ)) (b place : ℕ) (over :
           | inr i ↦ sym (other_bucket k (length c) i)
         ])
 
-    -- a link that was not written, of a place other than the one
+    -- The link of another place that was not written is still right.
     link_kept : (q h : ℕ) → q ≢ place → number_at c q ≡ Some h → last_below d n (h % n) q ≡ last_below c n (h % n) q → slice_index_or kept q None ≡ last_below d n (h % n) q
     link_kept q h e a s = others_kept q e ∙ t.links_lead q h a ∙ sym s
 
@@ -99,7 +99,7 @@ module _ (c : Numbers) (links heads : List (Option ℕ)) (b place : ℕ) (over :
     of_own : (q h : ℕ) → number_at c q ≡ Some h → h % n ≡ b → is_of n b (number_at c q) ≡ true
     of_own q h a e = ap (is_of n b) a ∙ eq-eqb (h % n) b e
 
-    -- what leads on from a place whose link was not written
+    -- A place whose link was not written leads to where it led before.
     unchanged : (p : Option ℕ) → GoesOver c n b place p → (q h : ℕ) → q ≢ place → number_at c q ≡ Some h → (p ≡ Some q → ⊥) → last_below d n (h % n) q ≡ last_below c n (h % n) q
     unchanged p g q h e a differs =
         elim (cases_eq (h % n) b) [
@@ -144,7 +144,7 @@ module _ (c : Numbers) (links heads : List (Option ℕ)) (b place : ℕ) (over :
     lengths None links' heads' w = (ap length w.0, ap length w.1 ∙ length-set heads b (last_below d n b (suc place)))
     lengths (Some p) links' heads' w = (ap length w.0 ∙ length-set kept p (last_below d n b (suc place)), ap length w.1)
 
-    -- the chains stand again
+    -- The chains are in order again.
     pub with_next : (to : Option ℕ) (links' heads' : List (Option ℕ)) → to ≡ last_below d n b (suc place) → Links b over to kept heads links' heads' → IsThreaded d links' heads'
     with_next to links' heads' e written =
         let w = subst (λ s. Links b over s kept heads links' heads') e written in
@@ -157,7 +157,7 @@ module _ (c : Numbers) (links heads : List (Option ℕ)) (b place : ℕ) (over :
           links_lead = λ q h a. links_of over links' heads' o w q h a ∙ ap (λ m. last_below d m (h % m) q) (sym long.1);
         }
 
--- a place is listed
+-- A place is listed.
 pub listed : (c : Numbers) (links heads : List (Option ℕ)) (b number place : ℕ) (over next : Option ℕ) (links' heads' : List (Option ℕ)) → IsThreaded c links heads → b ≡ number % length heads → place < length c → number_at c place ≡ None
     → GoesOver c (length heads) b place over → next ≡ link_or_head links heads b over → Links b over (Some place) (slice_set links place next) heads links' heads' → IsThreaded (slice_set c place (Some number)) links' heads'
 listed c links heads b number place over next links' heads' t own inn free o is written =
@@ -173,7 +173,7 @@ listed c links heads b number place over next links' heads' t own inn free o is 
     (sym (last_here (length heads) b (slice_set c place (Some number)) place (ap (is_of (length heads) b) (get_or-set_same c place (Some number) None inn) ∙ ap (λ k. is_of (length heads) k (Some number)) own ∙ is_own (length heads) number)))
     written
 
--- a place is taken out, whatever its own link is then
+-- A place is removed, whatever its own link is then.
 pub unlisted : (c : Numbers) (links heads : List (Option ℕ)) (b number place : ℕ) (over next left : Option ℕ) (links' heads' : List (Option ℕ)) → IsThreaded c links heads → b ≡ number % length heads → number_at c place ≡ Some number
     → GoesOver c (length heads) b place over → next ≡ slice_index_or links place None → Links b over next (slice_set links place left) heads links' heads' → IsThreaded (slice_set c place None) links' heads'
 unlisted c links heads b number place over next left links' heads' t own held o is written =
@@ -192,12 +192,12 @@ unlisted c links heads b number place over next left links' heads' t own held o 
     ∙ sym (last_lower (length heads) b (slice_set c place None) place (ap (is_of (length heads) b) (get_or-set_same c place None None inn))))
     written
 
--- a place to which a chain leads is as low as the end
+-- A place that a chain leads to is below the end.
 pub few : (c : Numbers) (n b m k : ℕ) (at : Option ℕ) → at ≡ last_below c n b m → m ≤ k → IfSome at (λ p. p < k)
 few c n b m k None e h = tt
 few c n b m k (Some p) e h = omega (arith, (found n b c m p (sym e)).0)
 
--- the place that goes over another is listed, whatever is written at that one
+-- The place before another one in a chain is listed, whatever is written at that other place.
 pub over_listed : (c : Numbers) (n b place : ℕ) (v over : Option ℕ) → GoesOver c n b place over → IfSome over (λ p. IsListed (slice_set c place v) p)
 over_listed c n b place v None g = tt
 over_listed c n b place v (Some p) g = let o = of_bucket n b (number_at c p) g.2 in (o.0, get_or-set_other c place p v None (omega (arith, g.0)) ∙ o.1)
@@ -206,11 +206,11 @@ pub goes_listed : (c : Numbers) (n b place : ℕ) (over : Option ℕ) → GoesOv
 goes_listed c n b place None g = tt
 goes_listed c n b place (Some p) g = let o = of_bucket n b (number_at c p) g.2 in (o.0, o.1)
 
--- ---- threads that are sound again
+-- ---- The threads are sound again.
 pub as_sized : (a b a' b' : ℕ) → IsSized a b → a' ≡ a → b' ≡ b → IsSized a' b'
 as_sized a b a' b' s e f = subst (λ x. IsSized x b') (sym e) (subst (λ y. IsSized a y) (sym f) s)
 
--- a place was written, and then a link or a head
+-- A place was written, and after it a link or a head.
 pub sound_again : (old mid new : Threading) (b : ℕ) (over to : Option ℕ) (numbers : Numbers) (links : List (Option ℕ)) → IsSound old
     → numbers_of mid ≡ numbers → the_links mid ≡ links → length mid.cells ≡ length old.cells → mid.heads ≡ old.heads
     → numbers_of new ≡ numbers_of mid → Links b over to (the_links mid) mid.heads (the_links new) new.heads → length new.cells ≡ length mid.cells → length new.heads ≡ length mid.heads

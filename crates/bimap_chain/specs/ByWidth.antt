@@ -3,7 +3,7 @@ use Rattle.bimap_chain.specs.Threads.{Threading}
 use Rattle.bimap_chain.specs.declared.hashed.ByWidth.{ByWidth}
 use Rattle.bimap_chain.specs.declared.hashed.ByWidth.TheVariants.{Narrow, Wide}
 
--- the threads, of whichever width
+-- These are the threads, whatever the width of their links.
 abbrev pub threads_in : ByWidth → Threading
 threads_in (Narrow threads) = threads
 threads_in (Wide threads) = threads

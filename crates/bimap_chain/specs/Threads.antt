@@ -4,25 +4,25 @@ use Rattle.std.specs.Int.{IsPowerOfTwo}
 use Rattle.bimap_chain.specs.Cells.{Cell, numbers_in, links_in}
 use Rattle.bimap_chain.specs.Chains.{Numbers, IsThreaded}
 
--- what the cells tell, by place, and the first place of each bucket
+-- The cell of each place, and the first place of each bucket's chain.
 pub record Threading : Type 0 where
   pub cells : List Cell
   pub heads : List (Option ℕ)
 
--- the numbers that the cells show
+-- The numbers under which the places are listed.
 abbrev pub numbers_of : Threading → Numbers
 numbers_of threads = numbers_in threads.cells
 
--- the links that the cells show
+-- The links of the places.
 abbrev pub links_of : Threading → List (Option ℕ)
 links_of threads = links_in threads.cells
 
--- there are at least two heads for each cell, and the heads are as many as a power of two, or none
+-- There are at least two heads for each cell. The number of heads is a power of two, or 0.
 pub record IsSized (cells heads : ℕ) : Type 0 where
   pub enough : 2 * cells ≤ heads
   pub power : 0 < heads → IsPowerOfTwo heads
 
--- the cells are threaded
+-- The heads suffice for the cells, and the links and heads form the chains.
 pub record IsSound (threads : Threading) : Type 0 where
   pub sized : IsSized (length threads.cells) (length threads.heads)
   pub threaded : IsThreaded (numbers_of threads) (links_of threads) threads.heads

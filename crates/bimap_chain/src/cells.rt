@@ -1,11 +1,12 @@
-//! A cell as it is kept. It knows no other.
+//! One stored cell of a hashed index. The code here knows no other cell.
 ghost use Rattle.std.specs.Prelude.{◌≡◌, ◌+◌, ◌<◌, IsSome, Some, IfSome, nat_eq};
 ghost use Rattle.std.specs.Option.{option_eq};
 ghost use Rattle.bimap_chain.specs.Cells.{free_cell, listed_cell, cell_with_next, cell_of};
 
 use crate::link::{Link, link_to, place_of};
 
-/// The number of a place, and its link in the chain: 8 bytes where the link has four, and 16 where it has eight.
+/// The hash number of a place, and its link to the next place of the chain. A cell takes 8 bytes if the link has four bytes, and
+/// 16 if it has eight.
 #[derive(Clone, Copy, Drop)]
 pub(crate) struct ChainCell<L> {
     number: u32,
@@ -13,7 +14,7 @@ pub(crate) struct ChainCell<L> {
 }
 
 impl<L: Link> ChainCell<L> {
-    /// The cell of a place that isn't listed.
+    /// Returns the cell of a place that isn't listed.
     #[inline(always)]
     pub(crate) fn free() -> Self
         ensures { cell_of L.width result ≡ free_cell }
@@ -24,7 +25,7 @@ impl<L: Link> ChainCell<L> {
         }
     }
 
-    /// The cell of a place that is listed under the number.
+    /// Returns the cell of a place that is listed under the number.
     #[inline(always)]
     pub(crate) fn of(number: u32, next: Option<usize>) -> Self
         requires { IfSome next (λ p. p + 1 < L.width.free) }
@@ -36,7 +37,7 @@ impl<L: Link> ChainCell<L> {
         }
     }
 
-    /// The same with another next place.
+    /// Returns this cell with another next place.
     #[inline(always)]
     pub(crate) fn with_next(self, next: Option<usize>) -> Self
         requires listed { IsSome (cell_of L.width self).number }
@@ -46,7 +47,7 @@ impl<L: Link> ChainCell<L> {
         Self::of(self.number, next)
     }
 
-    /// The number under which its place is listed.
+    /// Returns the number under which its place is listed, or `None` if the place isn't listed.
     #[inline(always)]
     pub(crate) fn number(self) -> Option<u32>
         ensures { result ≡ (cell_of L.width self).number }
@@ -60,7 +61,7 @@ impl<L: Link> ChainCell<L> {
         }
     }
 
-    /// Whether its place, which is listed, is listed under the number.
+    /// Returns whether its place is listed under this number. The place must be listed.
     #[inline(always)]
     pub(crate) fn has_number(self, number: u32) -> bool
         requires { IsSome (cell_of L.width self).number }
@@ -69,7 +70,7 @@ impl<L: Link> ChainCell<L> {
         self.number == number
     }
 
-    /// The next place of the chain of its place, which is listed.
+    /// Returns the next place of the chain, or `None` at the end of the chain. The place of this cell must be listed.
     #[inline(always)]
     pub(crate) fn next(self) -> Option<usize>
         requires { IsSome (cell_of L.width self).number }

@@ -1,4 +1,4 @@
-//! The calls along a chain. They know keys by `Spread` alone.
+//! The calls that follow a chain. They know keys only through `Spread`.
 ghost use Rattle.std.specs.Prelude.{◌≡◌, ℕ, ◌+◌, ◌*◌, ◌<◌, ◌≤◌, ◌-◌, ◌%◌, ◌^◌, ◌++◌, length, None, Some, replicate, slice_set, slice_index_or, OnOk, OnErr, IfSome, IfNone, IfOk};
 ghost use Rattle.std.specs.Int.{IsPowerOfTwo};
 ghost use Rattle.bimap_base.specs.Places.{pairs_in, compacted};
@@ -9,14 +9,14 @@ use crate::link::Link;
 use crate::threads::Threads;
 use bimap_base::{NoMemory, Spread};
 
-/// More cells than this fit no memory.
+/// No memory has space for more cells than this.
 pub(crate) const MOST: usize = usize::MAX / 4 + 1;
 
-// Up to so many cells have four heads each: these stay near, and fewer of them lead to another key, which a processor does not
-// foresee.
+// Up to this many cells, each cell has four heads. These heads still fit into the processor's cache. With four heads a cell, a
+// head leads less often to an unequal key, which costs a mispredicted branch.
 const FEW: usize = 4_096;
 
-// How many heads there are to be for so many cells.
+// Returns how many heads there are to be for `cells` cells, if there are `heads` now.
 fn heads_for(heads: usize, cells: usize) -> usize
     requires few { cells ≤ 2 ^ 62 }
     requires power { 0 < heads → IsPowerOfTwo heads }
@@ -32,7 +32,7 @@ fn heads_for(heads: usize, cells: usize) -> usize
 }
 
 impl<L: Link> Threads<L> {
-    /// The bucket of a number.
+    /// Returns the bucket of a number.
     #[inline(always)]
     fn bucket(&self, number: u32) -> usize
         requires some { 0 < length self.now.heads }
@@ -43,7 +43,8 @@ impl<L: Link> Threads<L> {
         number as usize & (self.buckets() - 1)
     }
 
-    /// The place of the bucket whose link goes over the given place, or `None` where that is the head.
+    /// Returns the place just before `place` in the chain of the bucket, whether `place` is listed or not. Returns `None` if only
+    /// the head is before it.
     #[inline(always)]
     fn over(&self, bucket: usize, place: usize) -> Option<usize>
         requires threaded { IsThreaded (numbers_of self.now) (links_of self.now) self.now.heads }
@@ -65,7 +66,7 @@ impl<L: Link> Threads<L> {
         over
     }
 
-    /// What stands in that link or head.
+    /// Returns the place that the link of the place `over` leads to. If `over` is `None`, that is the place at the head.
     #[inline(always)]
     fn link(&self, bucket: usize, over: Option<usize>) -> Option<usize>
         requires bucket { bucket < length self.now.heads }
@@ -79,8 +80,8 @@ impl<L: Link> Threads<L> {
         }
     }
 
-    /// Goes along the chain of a bucket for the listed place whose key the query asks for. Answers that place, and the one whose
-    /// link goes over it.
+    /// Follows the chain of a bucket to the listed place whose key is equal to the query. Returns that place and the place before
+    /// it in the chain.
     #[inline(always)]
     fn seek<S: Spread>(
         &self,
@@ -116,7 +117,7 @@ impl<L: Link> Threads<L> {
         (None, over)
     }
 
-    /// The listed place whose key the query asks for, by the number of the query.
+    /// Returns the listed place whose key is equal to the query, or `None`. The caller passes the hash number of the query.
     #[inline(always)]
     pub(crate) fn find_numbered<S: Spread>(
         &self,
@@ -139,7 +140,7 @@ impl<L: Link> Threads<L> {
         self.seek(self.bucket(number), spread, number, query).0
     }
 
-    /// Lists the place under a number. It takes no memory.
+    /// Lists the place under a number. Never allocates.
     #[inline(always)]
     pub(crate) fn insert_numbered(&mut self, place: usize, number: u32)
         requires sound { IsSound self.old }
@@ -156,7 +157,7 @@ impl<L: Link> Threads<L> {
         self.set_link(bucket, over, Some(place));
     }
 
-    /// Takes out a place, and the link that goes over it leads on to the next. It takes no memory.
+    /// Removes a place. The link that led to it now leads to the next place of the chain. Never allocates.
     #[inline(always)]
     fn cut(&mut self, bucket: usize, over: Option<usize>, place: usize)
         requires sound { IsSound self.old }
@@ -171,7 +172,7 @@ impl<L: Link> Threads<L> {
         self.set_link(bucket, over, next);
     }
 
-    /// Takes the place out. It takes no memory.
+    /// Removes a place. Never allocates.
     #[inline(always)]
     pub(crate) fn remove(&mut self, place: usize)
         requires sound { IsSound self.old }
@@ -186,7 +187,7 @@ impl<L: Link> Threads<L> {
         self.cut(bucket, self.over(bucket, place), place);
     }
 
-    /// Takes out the place whose key the query asks for, and answers it: one way along the chain. It takes no memory.
+    /// Removes the place whose key is equal to the query, and returns it. Follows the chain once. Never allocates.
     #[inline(always)]
     pub(crate) fn take_numbered<S: Spread>(
         &mut self,
@@ -216,7 +217,7 @@ impl<L: Link> Threads<L> {
         at
     }
 
-    /// Makes cells for all places below `to`, and threads the chains anew. A refusal changes nothing.
+    /// Makes cells for all places below `to`, and links all chains again. If it runs out of memory, nothing changes.
     pub(crate) fn grow(&mut self, to: usize) -> Result<(), NoMemory>
         requires sound { IsSound self.old }
         requires above { length (numbers_of self.old) ≤ to }
@@ -233,7 +234,8 @@ impl<L: Link> Threads<L> {
         Ok(())
     }
 
-    /// Other ones of `to` cells, with links of another width, that list the same places. A refusal makes nothing.
+    /// Returns threads of `to` cells with links of another width. They list the same places under the same numbers. If it runs
+    /// out of memory, it returns no threads.
     pub(crate) fn widened<M: Link>(&self, to: usize) -> Result<Threads<M>, NoMemory>
         requires above { length (numbers_of self.now) ≤ to }
         requires most { to ≤ 2 ^ 62 }
@@ -253,8 +255,8 @@ impl<L: Link> Threads<L> {
         Ok(wide)
     }
 
-    /// Other ones of exactly `to` cells, of which the first list the same numbers, in the order of their places. It hashes
-    /// nothing. A refusal makes nothing.
+    /// Returns threads of exactly `to` cells. Their first cells list the numbers of the listed places, in ascending order of
+    /// place. Hashes nothing. If it runs out of memory, it returns no threads.
     pub(crate) fn compacted<M: Link>(&self, to: usize) -> Result<Threads<M>, NoMemory>
         requires fits { length (pairs_in (numbers_of self.now)) ≤ to }
         requires most { to ≤ 2 ^ 62 }
@@ -275,7 +277,7 @@ impl<L: Link> Threads<L> {
         Ok(kept)
     }
 
-    /// Threads the chains anew under empty heads, by the numbers that the cells keep.
+    /// Links all chains again by the numbers that the cells store. All heads must be empty before.
     pub(crate) fn thread(&mut self)
         requires sized { IsSized (length self.old.cells) (length self.old.heads) }
         requires empty { self.old.heads ≡ replicate (length self.old.heads) None }
@@ -293,7 +295,7 @@ impl<L: Link> Threads<L> {
         }
     }
 
-    /// Takes all places off.
+    /// Removes all places.
     pub(crate) fn clear(&mut self)
         requires { IsSound self.old }
         ensures numbers { numbers_of self.new ≡ replicate (length (numbers_of self.old)) None }

@@ -1,4 +1,4 @@
-//! `Hashed` and its calls: each asks once which width the threads have. It knows no values.
+//! `Hashed` and its calls. Each call finds out once which width the links have. Nothing here knows values.
 ghost use Rattle.std.specs.Prelude.{◌≡◌, ◌<◌, ◌≤◌, ◌-◌, ℕ, [], ◌++◌, length, None, Some, replicate, slice_set, IfSome, IfNone, IfOk, OnOk, OnErr, IsOk, IsSome};
 ghost use Rattle.bimap_base.specs.Places.{pairs_in, compacted};
 ghost use Rattle.bimap_chain.specs.Chains.{number_at, IsListed, AreNumbered, Matches};
@@ -11,10 +11,10 @@ use bimap_base::{NoMemory, Spread};
 use std::alloc::Global;
 use std::marker::Model;
 
-// How many places are too many for links of four bytes.
+// From this count of places on, links of four bytes are too narrow.
 const WIDE: usize = 4_294_967_295;
 
-// The threads, with links of four bytes where there are fewer places than that, and else of eight.
+// The threads. The links have four bytes while fewer than `WIDE` places have cells. From then on they have eight.
 #[derive(Drop)]
 enum ByWidth {
     Narrow(Threads<u32>),
@@ -23,9 +23,11 @@ enum ByWidth {
 
 /// A set of places, each listed under the hash number of its key.
 ///
-/// A contract sees the list of its cells, one for each place: the number under which the place is listed, or `None`. A
-/// call with keys wants each listed place live, and listed under the present number of its key; so a place is taken out
-/// before its key changes for an unequal one, and put in after.
+/// A contract sees a list with one entry for each cell. The entry is the hash number under which the place of the cell is
+/// listed, or `None`.
+///
+/// A call that is handed keys requires that each listed place has a key, and is listed under the present hash number of this
+/// key. Remove a place before its key changes to an unequal key, and insert it afterwards.
 #[derive(Drop)]
 pub struct Hashed {
     by_width: ByWidth,
@@ -44,7 +46,7 @@ impl Model for Hashed {
     ghost invariant = { λ h. IsSound (threads_in h.by_width) };
 }
 
-// The threads of a compaction of these, in the width that so many cells have.
+// Returns the listed places moved to the first of `to` cells. The links get the width that fits `to`.
 fn compacted_of<L: Link>(threads: &Threads<L>, to: usize) -> Result<Hashed, NoMemory>
     requires sound { IsSound threads.now }
     requires fits { length (pairs_in (numbers_of threads.now)) ≤ to }
@@ -61,7 +63,7 @@ fn compacted_of<L: Link>(threads: &Threads<L>, to: usize) -> Result<Hashed, NoMe
 }
 
 impl Hashed {
-    /// No places, and no cells. It takes no memory.
+    /// Returns an index without places and without cells. Never allocates.
     pub fn new(alloc: Global) -> Self
         ensures { result ≡ [] }
     {
@@ -70,7 +72,7 @@ impl Hashed {
         }
     }
 
-    /// The listed place whose key the query asks for.
+    /// Returns the listed place whose key is equal to the query, or `None`. Hashes the query once, and follows one chain.
     #[inline(always)]
     pub fn find<S: Spread>(&self, spread: &S, query: S::Query) -> Option<usize>
         requires { AreNumbered (S.key_at spread.now) (S.number_of spread.now) self.now }
@@ -82,7 +84,7 @@ impl Hashed {
         self.find_numbered(spread, spread.hash_query(query), query)
     }
 
-    /// As `find`, by a number that the caller has.
+    /// Does what `find` does, with the hash number of the query from the caller.
     #[inline(always)]
     pub fn find_numbered<S: Spread>(
         &self,
@@ -103,8 +105,8 @@ impl Hashed {
         }
     }
 
-    /// Lists the place under its present number, for a caller that has only the keys. (An index of a side has the number
-    /// from its search.) It takes no memory.
+    /// Lists the place under the present hash number of its key. It is for a caller that has only the keys. An index of a side
+    /// has the number from its search. Never allocates.
     pub fn insert<S: Spread>(&mut self, spread: &S, place: usize)
         requires live { IsSome (S.key_at spread.now place) }
         requires cell { place < length self.old }
@@ -115,7 +117,7 @@ impl Hashed {
         self.insert_numbered(place, spread.hash_place(place));
     }
 
-    /// Lists the place under a number. It takes no memory.
+    /// Lists the place under a number. Never allocates.
     #[inline(always)]
     pub fn insert_numbered(&mut self, place: usize, number: u32)
         requires cell { place < length self.old }
@@ -128,7 +130,7 @@ impl Hashed {
         }
     }
 
-    /// Takes the place out. It takes no memory, and hashes nothing.
+    /// Removes a place. Never allocates, and hashes nothing.
     #[inline(always)]
     pub fn remove(&mut self, place: usize)
         requires { IsListed self.old place }
@@ -140,7 +142,8 @@ impl Hashed {
         }
     }
 
-    /// Takes out the place whose key the query asks for, and answers it: one way along the chain. It takes no memory.
+    /// Removes the place whose key is equal to the query, and returns it. Hashes the query once, and follows the chain once.
+    /// Never allocates.
     #[inline(always)]
     pub fn take<S: Spread>(&mut self, spread: &S, query: S::Query) -> Option<usize>
         requires { AreNumbered (S.key_at spread.now) (S.number_of spread.now) self.old }
@@ -158,8 +161,10 @@ impl Hashed {
         }
     }
 
-    /// Makes cells for all places below `to`, exactly, and hashes nothing, for a caller that hands its keys to each call. (An
-    /// index of a side has none at hand.) It takes memory only where some are missing, and a refusal changes nothing.
+    /// Makes a cell for each place below `to` that has none, and no further cell. Hashes nothing, and does not read the keys. It
+    /// is for a caller that hands its keys to each call. An index of a side has no keys at hand.
+    ///
+    /// Allocates only if cells are missing. If it runs out of memory, nothing changes.
     pub fn grow<S: Spread>(&mut self, _spread: &S, to: usize) -> Result<(), NoMemory>
         ensures ok { OnOk result (self.new ≡ self.old ++ replicate (to - length self.old) None) }
         ensures err { OnErr result (self.new ≡ self.old) }
@@ -168,7 +173,7 @@ impl Hashed {
         self.grow_to(to)
     }
 
-    /// As `grow`, without keys, for which it has no use.
+    /// Does what `grow` does, without keys.
     pub fn grow_to(&mut self, to: usize) -> Result<(), NoMemory>
         ensures ok { OnOk result (self.new ≡ self.old ++ replicate (to - length self.old) None) }
         ensures err { OnErr result (self.new ≡ self.old) }
@@ -193,7 +198,7 @@ impl Hashed {
         }
     }
 
-    // The number of cells.
+    // Returns the number of cells.
     fn cells(&self) -> usize
         ensures { result ≡ length self.now }
     {
@@ -203,8 +208,8 @@ impl Hashed {
         }
     }
 
-    /// Another one of exactly `to` cells, of which the first list the same numbers, in the order of their places. It hashes
-    /// nothing. A refusal makes nothing.
+    /// Returns an index of exactly `to` cells. Its first cells list the numbers of the listed places, in ascending order of
+    /// place. Hashes nothing. If it runs out of memory, it returns no index.
     pub fn compacted(&self, to: usize) -> Result<Self, NoMemory>
         requires { length (pairs_in self.now) ≤ to }
         ensures { IfOk result (λ h. h ≡ compacted (pairs_in self.now) to) }
@@ -215,7 +220,7 @@ impl Hashed {
         }
     }
 
-    /// Takes all places out. The cells stay.
+    /// Removes all places. The cells stay.
     pub fn clear(&mut self)
         ensures { self.new ≡ replicate (length self.old) None }
     {

@@ -1,7 +1,8 @@
-//! A hashed index of places: which places it lists, each under the number of its key. It knows no values, and compares
-//! and numbers keys through `Spread` alone.
+//! A hashed index of places, which lists each place under the hash number of its key. It knows no values. It compares and
+//! hashes keys only through `Spread`.
 //!
-//! A look-up, an insertion and a removal go along one chain, whose length isn't bounded. Only `grow` asks for memory.
+//! A look-up, an insertion and a removal follow one chain, whose length is not bounded. Only `grow`, `grow_to` and `compacted`
+//! allocate.
 #![tactic(auto)]
 
 mod cells;

@@ -1,26 +1,27 @@
-//! Links: a place, or none, in four bytes or in eight.
+//! Links, each to a place or to none, in four bytes or in eight.
 ghost use Rattle.std.specs.Prelude.{◌≡◌, ◌+◌, ◌<◌, ◌≤◌, ◌^◌, IfSome};
 ghost use Rattle.bimap_chain.specs.Width.{Width, target, narrow, wide};
 
-/// A number that tells a place, by the place plus one, or none, by 0. Its greatest stands where a place isn't listed.
+/// A link to a place or to none, stored as a number. A link to a place is the place plus one, and a link to none is 0. The
+/// greatest number marks the cell of a place that is not listed.
 pub(crate) trait Link: Copy + Drop {
-    /// The number, and the greatest one.
+    /// The number of each link, and the greatest number.
     ghost width: { Width Self };
 
-    /// The link that is this number.
+    /// Returns the link with this number.
     fn of(number: usize) -> Self
         requires { number ≤ width.free }
         ensures { width.number result ≡ number };
 
-    /// The number that the link is.
+    /// Returns the number of the link.
     fn get(self) -> usize
         ensures { result ≡ width.number self };
 
-    /// The link of a place that isn't listed.
+    /// Returns the link that marks a place as not listed.
     fn free() -> Self
         ensures { width.number result ≡ width.free };
 
-    /// Some link is less than the greatest, and each is a machine number.
+    /// The greatest number is more than 0, and it fits into a `usize`.
     ghost fits: { (0 < width.free) × (width.free < 2 ^ 64) };
 }
 
@@ -70,7 +71,7 @@ impl Link for usize {
     }
 }
 
-/// The link that tells a place, or none.
+/// Returns the link to a place, or the link to none.
 #[inline(always)]
 pub(crate) fn link_to<L: Link>(place: Option<usize>) -> L
     requires { IfSome place (λ p. p + 1 < L.width.free) }
@@ -83,7 +84,7 @@ pub(crate) fn link_to<L: Link>(place: Option<usize>) -> L
     }
 }
 
-/// The place that a link tells.
+/// Returns the place that a link leads to, or `None`.
 #[inline(always)]
 pub(crate) fn place_of<L: Link>(link: L) -> Option<usize>
     ensures { result ≡ target L.width link }

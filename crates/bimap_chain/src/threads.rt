@@ -1,4 +1,5 @@
-//! The cells and the heads of a hashed index: what is read and written of each. It knows no keys, and follows no chain.
+//! The cells and the heads of a hashed index, and the reads and writes of each. The code here knows no keys, and follows no
+//! chain.
 ghost use Rattle.std.specs.Prelude.{◌≡◌, ◌<◌, ◌≤◌, ◌-◌, ◌++◌, [], length, None, Some, replicate, slice_set, slice_index_or, vec_capacity, OnOk, OnErr, IfSome, nat_eq};
 ghost use Rattle.std.specs.Option.{option_eq};
 ghost use Rattle.bimap_chain.specs.Cells.{free_cell};
@@ -11,8 +12,8 @@ use bimap_base::NoMemory;
 use std::alloc::Global;
 use std::marker::Model;
 
-/// A cell for each place, and by bucket the first place of its chain. Each link has the same width, in which the cells
-/// are few enough for a link to tell each place.
+/// A cell for each place, and a head for each bucket. The head leads to the first place of the bucket's chain. All links have
+/// the same width. There are few enough cells that a link can lead to each place.
 #[derive(Drop)]
 pub(crate) struct Threads<L: Link> {
     cells: Vec<ChainCell<L>>,
@@ -37,7 +38,7 @@ impl<L: Link> Model for Threads<L> {
     ghost invariant = { λ t. length t.cells.items < L.width.free };
 }
 
-// Fills up to a number, for which there is room, with one item alone.
+// Replaces all items with `to` copies of one item. The capacity must suffice for them.
 fn refill<T: Copy>(items: &mut Vec<T>, to: usize, item: T)
     requires { to ≤ vec_capacity items.old }
     ensures { items.new.items ≡ replicate to item }
@@ -49,7 +50,7 @@ fn refill<T: Copy>(items: &mut Vec<T>, to: usize, item: T)
 }
 
 impl<L: Link> Threads<L> {
-    /// No cells, and no heads. It takes no memory.
+    /// Returns threads without cells and without heads. Never allocates.
     pub(crate) fn new(alloc: Global) -> Self
         ensures cells { result.cells ≡ [] }
         ensures heads { result.heads ≡ [] }
@@ -60,7 +61,7 @@ impl<L: Link> Threads<L> {
         }
     }
 
-    /// The number of cells.
+    /// Returns the number of cells.
     #[inline(always)]
     pub(crate) fn len(&self) -> usize
         ensures { result ≡ length self.now.cells }
@@ -68,7 +69,7 @@ impl<L: Link> Threads<L> {
         self.cells.len()
     }
 
-    /// The number of heads.
+    /// Returns the number of heads.
     #[inline(always)]
     pub(crate) fn buckets(&self) -> usize
         ensures { result ≡ length self.now.heads }
@@ -76,12 +77,12 @@ impl<L: Link> Threads<L> {
         self.heads.len()
     }
 
-    /// The allocator of both.
+    /// Returns the allocator of the cells and the heads.
     pub(crate) fn allocator(&self) -> Global {
         *self.cells.allocator()
     }
 
-    /// The number under which the place is listed.
+    /// Returns the number under which the place is listed, or `None` if it isn't listed.
     #[inline(always)]
     pub(crate) fn number(&self, place: usize) -> Option<u32>
         requires { place < length (numbers_of self.now) }
@@ -90,7 +91,7 @@ impl<L: Link> Threads<L> {
         self.cells[place].number()
     }
 
-    /// Whether a listed place is listed under the number.
+    /// Returns whether a place is listed under this number. The place must be listed.
     #[inline(always)]
     pub(crate) fn has_number(&self, place: usize, number: u32) -> bool
         requires place { place < length (numbers_of self.now) }
@@ -100,7 +101,7 @@ impl<L: Link> Threads<L> {
         self.cells[place].has_number(number)
     }
 
-    /// The next place of the chain of a listed place.
+    /// Returns the place after a listed place in its chain, or `None` at the end of the chain.
     #[inline(always)]
     pub(crate) fn next(&self, place: usize) -> Option<usize>
         requires place { place < length (numbers_of self.now) }
@@ -110,7 +111,7 @@ impl<L: Link> Threads<L> {
         self.cells[place].next()
     }
 
-    /// The first place of the bucket.
+    /// Returns the first place of the bucket's chain, or `None` if the chain is empty.
     #[inline(always)]
     pub(crate) fn head(&self, bucket: usize) -> Option<usize>
         requires { bucket < length self.now.heads }
@@ -119,7 +120,7 @@ impl<L: Link> Threads<L> {
         place_of(self.heads[bucket])
     }
 
-    /// Writes the link of a listed place, or the head of the bucket.
+    /// Makes the link of the listed place `over` lead to `to`. If `over` is `None`, makes the head of the bucket lead to `to`.
     #[inline(always)]
     pub(crate) fn set_link(&mut self, bucket: usize, over: Option<usize>, to: Option<usize>)
         requires bucket { bucket < length self.old.heads }
@@ -138,7 +139,7 @@ impl<L: Link> Threads<L> {
         }
     }
 
-    /// Writes the number and the link of a place.
+    /// Lists a place under a number, with a link to the place `next`.
     #[inline(always)]
     pub(crate) fn list(&mut self, place: usize, number: u32, next: Option<usize>)
         requires place { place < length (numbers_of self.old) }
@@ -153,7 +154,7 @@ impl<L: Link> Threads<L> {
         cells[place] = ChainCell::of(number, next);
     }
 
-    /// Takes a place off, without its link.
+    /// Marks a place as not listed, and clears its own link. Links that lead to the place stay.
     #[inline(always)]
     pub(crate) fn unlist(&mut self, place: usize)
         requires { place < length (numbers_of self.old) }
@@ -165,8 +166,8 @@ impl<L: Link> Threads<L> {
         self.cells[place] = ChainCell::free();
     }
 
-    /// Makes cells for all places below `cells`, exactly, and so many heads, all of them empty, each with one request for
-    /// memory. A refusal changes nothing.
+    /// Makes exactly the missing cells for all places below `cells`, and exactly `heads` heads, all of them empty. Allocates at
+    /// most once for the cells and once for the heads. If it runs out of memory, nothing changes.
     pub(crate) fn extend(&mut self, cells: usize, heads: usize) -> Result<(), NoMemory>
         requires cells { length self.old.cells ≤ cells }
         requires few { cells < L.width.free }
@@ -191,7 +192,7 @@ impl<L: Link> Threads<L> {
         Ok(())
     }
 
-    /// Takes all places off, and empties all heads.
+    /// Marks all places as not listed, and empties all heads.
     pub(crate) fn empty(&mut self)
         ensures cells { self.new.cells ≡ replicate (length self.old.cells) free_cell }
         ensures heads { self.new.heads ≡ replicate (length self.old.heads) None }

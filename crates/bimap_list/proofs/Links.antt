@@ -1,4 +1,4 @@
--- A ring of cells where one place is appended, or taken out.
+-- A ring of cells, in which one place is appended or removed.
 use Rattle.std.proofs.Common.{◌≡◌, ◌≢◌, ℕ, zero, suc, ◌+◌, ◌-◌, ◌<◌, ◌≤◌, List, [], ◌∷◌, ◌++◌, length, get_or, replicate, take, Some, map, refl, sym, ap, subst, ◌∙◌, inl, inr, arith, eqb, add-one, length-append, length-set, get_or-set_same, get_or-set_other}
 use Rattle.std.specs.Prelude.{slice_get, slice_index_or, slice_set}
 use Rattle.std.specs.List.{All, AllPairs, Contains, remove}
@@ -15,7 +15,7 @@ use Rattle.bimap_base.proofs.Members.{AllPairs-head, AllPairs-tail, head_in, in_
 use Rattle.bimap_list.specs.Ring.{IsJoined, IsRing, Leads, LeadsThrough, Listing, listing, next_at, place_of, places_from, places_of, previous_at, links_in, told, unlinked}
 use Rattle.bimap_list.specs.declared.ring.Links.{Links}
 
--- numbers that differ, each below a bound, are no more than it
+-- Distinct numbers below a bound are at most as many as the bound says.
 few_below : (n : ℕ) (xs : List ℕ) → AllPairs (λ a b. a ≢ b) xs → All (λ p. p + 1 < n) xs → length xs ≤ n - 1
 few_below n xs distinct below =
     length-le_from_distinct_below xs (n - 1) (IsDistinct-from_AllPairs Decides-eqb xs distinct) (λ q any.
@@ -36,7 +36,7 @@ All-removed P xs k all = All-append P _ _ (All-take P k xs all) (All-drop P (suc
 distinct_removed : (xs : List ℕ) (k p : ℕ) → slice_get xs k ≡ Some p → AllPairs (λ a b. a ≢ b) xs → AllPairs (λ a b. a ≢ b) (remove xs k)
 distinct_removed xs k p is = all_pairs_remove (λ a b. a ≢ b) xs k (slice_get_within xs k p is)
 
--- a place is where it is read
+-- A place in the list stands at the index at which it is read.
 pub contains_at : (xs : List ℕ) (k p : ℕ) → slice_get xs k ≡ Some p → Contains xs p
 contains_at xs k p is = (k, slice_get_within xs k p is, get_or_from_slice_get xs k p p is)
 
@@ -46,7 +46,7 @@ others (x ∷ xs) zero p is distinct = let e : x ≡ p = cc in subst (λ y. All 
 others (x ∷ xs) (suc k) p is distinct =
     All-cons (λ q. q ≢ p) x (remove xs k) (AllPairs-head (λ a b. a ≢ b) x xs distinct p (contains_at xs k p is)) (others xs k p is (AllPairs-tail (λ a b. a ≢ b) x xs distinct))
 
--- it is out, and the others are left
+-- The removed place is absent, and the other places are left.
 pub dropped : (xs : List ℕ) (k p : ℕ) → slice_get xs k ≡ Some p → AllPairs (λ a b. a ≢ b) xs → Drops xs p (remove xs k)
 dropped xs k p is distinct q = (
   λ c. (All-contains (Contains xs) (remove xs k) q (All-removed (Contains xs) xs k (All-contains_itself xs)) c, All-contains (λ q. q ≢ p) (remove xs k) q (others xs k p is distinct) c),
@@ -54,7 +54,7 @@ dropped xs k p is distinct q = (
 )
 
 module _ (cells : List (Links ℕ)) where
-  -- each place is read where its cell is linked
+  -- Each place is read where its cell is linked.
   read_from : (ps : List ℕ) (from most : ℕ) → LeadsThrough cells from ps 0 → length ps ≤ most → places_from cells most (next_at cells from) ≡ ps
   read_from [] from zero linked less = refl
   read_from [] from (suc most) linked less = rw linked.0 refl
@@ -62,7 +62,7 @@ module _ (cells : List (Links ℕ)) where
   read_from (p ∷ ps) from (suc most) linked less =
       rw (linked.0.0, add-one p) (ap (λ qs. p ∷ qs) (ap (λ q. places_from cells most (next_at cells q)) (sym (add-one p)) ∙ read_from ps (p + 1) most linked.1 (omega (arith, less))))
 
-  -- so a ring shows its places
+  -- This makes a ring show its places.
   pub shown : (ps : List ℕ) → IsRing cells ps → places_of cells ≡ ps
   unfolding places_of
   shown ps ring = read_from ps 0 (length cells) ring.linked (omega (arith, few_below (length cells) ps ring.distinct ring.within))
@@ -70,7 +70,7 @@ module _ (cells : List (Links ℕ)) where
   pub is_ring : (ps : List ℕ) → IsRing cells ps → IsRing cells (places_of cells)
   is_ring ps ring = subst (IsRing cells) (sym (shown ps ring)) ring
 
-  -- the first cell and the last one are each linked to a cell of which holds what holds of all
+  -- The first cell and the last cell are each linked to a cell. A predicate that is true of all linked cells is true of it.
   first_of : (P : ℕ → Type 0) (ps : List ℕ) (from to : ℕ) → LeadsThrough cells from ps to → All (λ p. P (p + 1)) ps → P to → (cell : ℕ) × Leads cells from cell × P cell
   first_of P [] from to linked all last = (to, linked, last)
   first_of P (p ∷ ps) from to linked all last = (p + 1, linked.0, All-head (λ p. P (p + 1)) p ps all)
@@ -79,7 +79,7 @@ module _ (cells : List (Links ℕ)) where
   last_of P [] from to linked all first = (from, linked, first)
   last_of P (p ∷ ps) from to linked all first = last_of P ps (p + 1) to linked.1 (All-tail (λ p. P (p + 1)) p ps all) (All-head (λ p. P (p + 1)) p ps all)
 
-  -- so is the cell of each place, on both sides
+  -- The predicate is also true of the cells before and after the cell of each place.
   around : (P : ℕ → Type 0) (ps : List ℕ) (k from to place : ℕ) → slice_get ps k ≡ Some place → LeadsThrough cells from ps to → All (λ p. P (p + 1)) ps → P from → P to → (before : ℕ) × (after : ℕ) × Leads cells before (place + 1) × Leads cells (place + 1) after × P before × P after
   around P [] k from to place is linked all first last = cc
   around P (p ∷ ps) zero from to place is linked all first last =
@@ -88,7 +88,7 @@ module _ (cells : List (Links ℕ)) where
       subst (λ q. (before : ℕ) × (after : ℕ) × Leads cells before (q + 1) × Leads cells (q + 1) after × P before × P after) e (from, next.0, linked.0, next.1, first, next.2)
   around P (p ∷ ps) (suc k) from to place is linked all first last = around P ps k (p + 1) to place is linked.1 (All-tail (λ p. P (p + 1)) p ps all) (All-head (λ p. P (p + 1)) p ps all) last
 
-  -- what is read after a cell
+  -- These places are read after a cell.
   head_after : (ps : List ℕ) (from : ℕ) → LeadsThrough cells from ps 0 → place_of (next_at cells from) ≡ slice_get ps 0
   head_after [] from linked = ap place_of linked.0
   head_after (p ∷ ps) from linked = ap place_of (linked.0.0 ∙ add-one p)
@@ -98,7 +98,7 @@ module _ (cells : List (Links ℕ)) where
   read_after (p ∷ ps) from zero place linked is = let e : p ≡ place = cc in subst (λ q. place_of (next_at cells (q + 1)) ≡ slice_get ps 0) e (head_after ps (p + 1) linked.1)
   read_after (p ∷ ps) from (suc k) place linked is = read_after ps (p + 1) k place linked.1 is
 
--- the cells of the places and cell 0 tell the same in another list of cells
+-- The cells of the places and cell 0 have the same links in another list of cells.
 pub same_cells : (old new : List (Links ℕ)) (bound : ℕ) → ((cell : ℕ) → cell ≤ bound → slice_index_or new cell unlinked ≡ slice_index_or old cell unlinked) → (ps : List ℕ) (from to : ℕ) → from ≤ bound → to ≤ bound → All (λ p. p < bound) ps → LeadsThrough old from ps to → LeadsThrough new from ps to
 same_cells old new bound same [] from to first last below linked = (ap (λ c. c.next) (same from first) ∙ linked.0, ap (λ c. c.previous) (same to last) ∙ linked.1)
 same_cells old new bound same (p ∷ ps) from to first last below linked =
@@ -108,7 +108,7 @@ same_cells old new bound same (p ∷ ps) from to first last below linked =
       same_cells old new bound same ps (p + 1) to less last (All-tail (λ p. p < bound) p ps below) linked.1,
     )
 
--- a place is appended
+-- A place is appended.
 module _ (old mid new : List (Links ℕ)) (place : ℕ) (first : IsJoined old (previous_at old 0) (place + 1) mid) (second : IsJoined mid (place + 1) 0 new) (back : next_at old (previous_at old 0) ≡ 0) where
   appended : (ps : List ℕ) (from : ℕ) → LeadsThrough old from ps 0 → from ≢ place + 1 → (Contains ps place → ⊥) → LeadsThrough new from (ps ++ place ∷ []) 0
   appended [] from linked away absent = (
@@ -128,7 +128,7 @@ module _ (old mid new : List (Links ℕ)) (place : ℕ) (first : IsJoined old (p
         appended ps (p + 1) linked.1 (λ e. other (omega (arith, e))) (λ c. absent (more_in p ps place c)),
       )
 
--- a place is taken out
+-- A place is removed.
 module _ (old new : List (Links ℕ)) (place : ℕ) (joined : IsJoined old (previous_at old (place + 1)) (next_at old (place + 1)) new) (back : next_at old (previous_at old (place + 1)) ≡ place + 1) (forth : previous_at old (next_at old (place + 1)) ≡ place + 1) where
   link_left : (from to : ℕ) → Leads old from to → from ≢ place + 1 → to ≢ place + 1 → Leads new from to
   link_left from to leads first last = (
@@ -157,16 +157,16 @@ module _ (old new : List (Links ℕ)) (place : ℕ) (joined : IsJoined old (prev
       let other : p + 1 ≢ place + 1 = λ e. AllPairs-head (λ a b. a ≢ b) p ps distinct place (contains_at ps k place is) (omega (arith, e)) in
       (link_left from (p + 1) linked.0 first other, removed ps k (p + 1) to is linked.1 (AllPairs-tail (λ a b. a ≢ b) p ps distinct) other last)
 
--- cells that lead from cell 0 to it list no place
+-- Cells in which cell 0 leads to itself list no place.
 pub none_listed : (cells : List (Links ℕ)) → Leads cells 0 0 → IsRing cells []
 none_listed cells leads = record { linked = leads; distinct = λ i j d before inside. absurd (omega (arith, inside)); within = All-nil _ }
 
--- nor does no cell
+-- A list without cells lists no place either.
 pub none_shown : (cells : List (Links ℕ)) (l : Listing) → ◌≡◌ {A = Listing} (listing cells) l → length cells ≡ 0 → l.places ≡ []
 none_shown [] l is none = ap (λ l. Listing.places l) (sym is) ∙ shown [] [] (none_listed [] (refl, refl))
 none_shown (c ∷ cells) l is none = absurd (omega (arith, none))
 
--- cells that were added tell what one that is not there does
+-- Cells that were added are read as a missing cell is read.
 pub added : (xs : List (Links ℕ)) (n k : ℕ) → slice_index_or (xs ++ replicate n unlinked) k unlinked ≡ slice_index_or xs k unlinked
 added [] zero k = refl
 added [] (suc n) zero = refl
@@ -174,7 +174,7 @@ added [] (suc n) (suc k) = added [] n k
 added (x ∷ xs) n zero = refl
 added (x ∷ xs) n (suc k) = added xs n k
 
--- a list, and the cells that show it
+-- These lemmas take a list and the cells that show it.
 module _ (cells : List (Links ℕ)) (l : Listing) (whole : IsRing cells (places_of cells)) (is : ◌≡◌ {A = Listing} (listing cells) l) where
   pub ring_of : IsRing cells l.places
   ring_of = subst (λ l. IsRing cells (Listing.places l)) is whole
@@ -188,7 +188,7 @@ module _ (cells : List (Links ℕ)) (l : Listing) (whole : IsRing cells (places_
   pub fits_cells : length l.places ≤ l.cells
   fits_cells = omega (arith, few_below (length cells) l.places ring_of.distinct ring_of.within, cells_of)
 
-  -- as many cells as both have tell the same
+  -- The cells that both lists have are the same.
   resized : (new : List (Links ℕ)) (bound : ℕ) → ((cell : ℕ) → cell ≤ bound → slice_index_or new cell unlinked ≡ slice_index_or cells cell unlinked) → All (λ p. p < bound) l.places → bound ≤ length new - 1 → IsRing new l.places
   resized new bound same below inside =
       record {
@@ -214,7 +214,7 @@ module _ (cells : List (Links ℕ)) (l : Listing) (whole : IsRing cells (places_
       let e = get_or-set_same cells 0 unlinked unlinked some in
       none_listed (slice_set cells 0 unlinked) (ap (λ c. c.next) e, ap (λ c. c.previous) e)
 
-  -- the cell before cell 0, as it is read
+  -- The cell before cell 0, as it is read.
   module _ (links : Links ℕ) (some : 0 < l.cells) (read : links ≡ get_or cells 0 links) where
     at_start : previous_at cells 0 ≡ links.previous
     at_start = ap (λ c. c.previous) (get_or_default cells 0 unlinked links (omega (arith, some, cells_of)) ∙ sym read)
@@ -233,7 +233,7 @@ module _ (cells : List (Links ℕ)) (l : Listing) (whole : IsRing cells (places_
           within = subst (λ n. All (λ p. p + 1 < n) (l.places ++ place ∷ [])) (sym long) (All-push (λ p. p + 1 < length cells) l.places place ring_of.within (omega (arith, inside, cells_of)));
         }
 
-  -- the cells around that of a place, as they are read
+  -- The cells before and after the cell of a place, as they are read.
   module _ (links : Links ℕ) (k place : ℕ) (here : slice_get l.places k ≡ Some place) (read : links ≡ get_or cells (place + 1) links) where
     pub at_place : slice_index_or cells (place + 1) unlinked ≡ links
     at_place = get_or_default cells (place + 1) unlinked links (All-contains (λ p. p + 1 < length cells) l.places place ring_of.within (contains_at l.places k place here)) ∙ sym read
@@ -258,7 +258,7 @@ module _ (cells : List (Links ℕ)) (l : Listing) (whole : IsRing cells (places_
           within = subst (λ n. All (λ p. p + 1 < n) (remove l.places k)) (sym long) (All-removed (λ p. p + 1 < length cells) l.places k ring_of.within);
         }
 
--- one item is written over, and what is told of it stays
+-- One stored item is overwritten, and its plain form stays the same.
 told_still : {A : Type 0} (f : A → ℕ) (xs : List A) (i : ℕ) (x d : A) → i < length xs → f x ≡ f (get_or xs i d) → (k : ℕ) → f (get_or (slice_set xs i x) k d) ≡ f (get_or xs k d)
 told_still f xs i x d inside same k =
     elim (cases_eq k i) [
@@ -266,7 +266,7 @@ told_still f xs i x d inside same k =
       | inr other ↦ ap f (get_or-set_other xs i k x d other)
     ]
 
--- the first cell gets its next one, and that its previous one
+-- The first cell gets its next cell, and the second cell gets its previous one.
 joined : (cells : List (Links ℕ)) (from to : ℕ) (a b : Links ℕ) → from < length cells → to < length cells → a.next ≡ to → a.previous ≡ previous_at cells from → b.previous ≡ from → b.next ≡ next_at (slice_set cells from a) to → IsJoined cells from to (slice_set (slice_set cells from a) to b)
 joined cells from to a b first second a_next a_previous b_previous b_next =
     let mid = slice_set cells from a in
@@ -286,16 +286,16 @@ many_told : {A B : Type 0} (f : A → B) (n : ℕ) (a : A) → map f (replicate 
 many_told f zero a = refl
 many_told f (suc n) a = ap (λ z. f a ∷ z) (many_told f n a)
 
--- the cells as they are kept, and what they tell
+-- These lemmas take the stored cells and their links as plain numbers.
 module _ {N : Type 0} (value : N → ℕ) (xs : List (Links N)) where
   pub as_many : length (told value xs) ≡ length xs
   as_many = length-map xs (links_in value)
 
-  -- a cell that was read
+  -- A cell that was read.
   read : (k : ℕ) (x d : Links N) (e : Links ℕ) → k < length xs → x ≡ get_or xs k d → links_in value x ≡ get_or (told value xs) k e
   read k x d e within is = ap (links_in value) is ∙ sym (get_or-map (links_in value) xs k d e within)
 
-  -- cells that were added
+  -- Cells that were added.
   pub told_more : (items new : List (Links N)) (to more : ℕ) (u : Links N) → items ≡ xs → new ≡ take to items ++ replicate more u → length items ≤ to → links_in value u ≡ unlinked → told value new ≡ told value xs ++ replicate more unlinked
   told_more items new to more u was made inside is =
       let tell = links_in value in
@@ -314,7 +314,7 @@ module _ {N : Type 0} (value : N → ℕ) (xs : List (Links N)) where
       subst (IsJoined cells from to) (sym (map-set tell (slice_set xs from a) to b ∙ ap (λ z. slice_set z to (tell b)) once))
       (joined cells from to (tell a) (tell b) (omega (arith, first, as_many)) (omega (arith, second, as_many)) n_is (ap (λ c. c.previous) (read from x d unlinked first x_is)) m_is (ap (λ c. c.next) y_told))
 
-  -- a list, and the kept cells that show it
+  -- A list, and the stored cells that show it.
   module _ (l : Listing) (whole : IsRing (told value xs) (places_of (told value xs))) (is : ◌≡◌ {A = Listing} (listing (told value xs)) l) where
     cell_0 : (x d : Links N) → 0 < l.cells → x ≡ get_or xs 0 d → links_in value x ≡ get_or (told value xs) 0 (links_in value x)
     cell_0 x d some r = read 0 x d (links_in value x) (omega (arith, some, cells_of (told value xs) l whole is, as_many)) r
@@ -331,7 +331,7 @@ module _ {N : Type 0} (value : N → ℕ) (xs : List (Links N)) where
         pushed (told value xs) l whole is (links_in value x) some (cell_0 x d some r) (told value mid) (told value new) place inside absent
         (subst (λ from. IsJoined (told value xs) from (place + 1) (told value mid)) last first) second (length-map new (links_in value) ∙ long ∙ sym as_many)
 
-    -- the cells around that of a place
+    -- The cells before and after the cell of a place.
     module _ (x d : Links N) (k place : ℕ) (here : slice_get l.places k ≡ Some place) (r : x ≡ get_or xs (place + 1) d) where
       pub before_inside : value x.previous < length xs
       before_inside = omega (arith, before_within (told value xs) l whole is (links_in value x) k place here (cell_of x d k place here r), as_many)
@@ -345,6 +345,6 @@ module _ {N : Type 0} (value : N → ℕ) (xs : List (Links N)) where
           (subst (λ from. IsJoined (told value xs) from (value x.next) (told value new)) before (subst (λ to. IsJoined (told value xs) from to (told value new)) after joined))
           (length-map new (links_in value) ∙ long ∙ sym as_many)
 
--- where a list has a place
+-- A place of a list has an index there.
 pub place_in : (xs : List ℕ) (p : ℕ) → Contains xs p → (k : ℕ) × (slice_get xs k ≡ Some p)
 place_in xs p c = (c.0, slice_get-get_or xs c.0 p c.1 ∙ ap Some c.2)

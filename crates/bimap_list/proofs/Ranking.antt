@@ -16,7 +16,7 @@ use Rattle.bimap_base.proofs.Members.{AllPairs-head, AllPairs-tail, cases_in, he
 use Rattle.bimap_list.specs.Ranks.{AreRanks}
 use Rattle.bimap_list.proofs.Links.{contains_at}
 
--- the first so many were read, and the one after them is the next
+-- The first `n` places were read. The place after them comes next.
 pub record IsRead (all : List ℕ) (n : ℕ) (read : List ℕ) (next : Option ℕ) : Type 0 where
   pub read_so_far : read ≡ take n all
   pub comes : next ≡ slice_get all n
@@ -26,7 +26,7 @@ taken [] n place is = cc
 taken (x ∷ xs) zero place is = let e : x ≡ place = cc in ap (λ z. z ∷ []) (sym e)
 taken (x ∷ xs) (suc n) place is = ap (λ zs. x ∷ zs) (taken xs n place is)
 
--- past the end nothing comes
+-- Past the end no place comes.
 pub past : (all : List ℕ) (n : ℕ) → slice_get all n ≡ None → length all ≤ n
 past [] n none = omega arith
 past (x ∷ xs) zero none = cc
@@ -43,7 +43,7 @@ read_more all n read more place next so_far longer after =
 pub all_read : (all : List ℕ) (n : ℕ) (read : List ℕ) (next : Option ℕ) → IsRead all n read next → length all ≤ n → read ≡ all
 all_read all n read next so_far long = so_far.read_so_far ∙ take_all n all long
 
--- of the first so many places the ranks are listed
+-- The ranks of the first `n` places are listed.
 pub record AreRanked (sorted places : List ℕ) (n : ℕ) (ranks : List ℕ) : Type 0 where
   pub stand : AllZip (λ p r. slice_get sorted r ≡ Some p) (take n places) ranks
   pub apart : AllPairs (λ a b. a ≢ b) ranks
@@ -61,7 +61,7 @@ one_ranked sorted places n place rank ranks more so_far is stands longer apart =
       apart = apart;
     }
 
--- a rank that is listed is that of a place
+-- Each listed rank is the rank of a place.
 of_place : (sorted places ranks : List ℕ) → AllZip (λ p r. slice_get sorted r ≡ Some p) places ranks → (rank : ℕ) → Contains ranks rank → (place : ℕ) × Contains places place × (slice_get sorted rank ≡ Some place)
 of_place sorted [] [] zip rank c = none_in rank c
 of_place sorted [] (r ∷ rs) zip rank c = absurd zip
@@ -81,7 +81,7 @@ earlier (p ∷ ps) (suc n) place is distinct c =
       | inr d ↦ earlier ps n place is (AllPairs-tail (λ a b. a ≢ b) p ps distinct) d
     ]
 
--- so the rank of a further place is not
+-- The rank of a further place is therefore not listed yet.
 pub unranked : (sorted places : List ℕ) (n place rank : ℕ) (ranks : List ℕ) → AreRanked sorted places n ranks → slice_get places n ≡ Some place → slice_get sorted rank ≡ Some place → AllPairs (λ a b. a ≢ b) places → Contains ranks rank → ⊥
 unranked sorted places n place rank ranks so_far is stands distinct c =
     let w = of_place sorted (take n places) ranks so_far.stand rank c in
@@ -98,13 +98,13 @@ module _ (places sorted : List ℕ) (moved : IsPermutation places sorted) (rises
       let differ = AllPairs-from_IsDistinct Decides-eqb sorted (IsDistinct-IsPermutation eqb nat_eq_equiv.symm places sorted moved (IsDistinct-from_AllPairs Decides-eqb places distinct)) i j d before inside in
       omega (arith, less, differ)
 
-  -- each place stands where it is found
+  -- Each place stands among the sorted places at the index at which it is found.
   found : (place : ℕ) (r : Result ℕ ℕ) → Contains places place → IsBinarySearchResult (λ y. nat_cmp y place) sorted r → (rank : ℕ) → r ≡ Ok rank → slice_get sorted rank ≡ Some place
   found place r has searched_at rank is =
       let at = searched sorted place (Ok rank) (subst (IsBinarySearchResult (λ y. nat_cmp y place) sorted) is searched_at) (λ i j before inside. up i j 0 before inside) in
       slice_get-get_or sorted rank 0 at.0 ∙ ap Some at.1
 
-  -- and is found
+  -- A search for a place of the list always finds it.
   never_missed : (place : ℕ) (r : Result ℕ ℕ) → Contains places place → IsBinarySearchResult (λ y. nat_cmp y place) sorted r → ((rank : ℕ) → r ≡ Ok rank → ⊥) → ⊥
   never_missed place (Ok rank) has searched_at never = never rank refl
   never_missed place (Err e) has searched_at never =
@@ -125,7 +125,7 @@ module _ (places sorted : List ℕ) (moved : IsPermutation places sorted) (rises
         stand = subst (λ ps. AllZip (λ p r. slice_get sorted r ≡ Some p) ps ranks) (take_all (length places) places (omega arith)) done.stand;
       }
 
--- at a turn of the loop the place that comes is searched among the sorted ones, and is found
+-- Each round of the loop searches the place that comes among the sorted places, and finds it.
 pub record IsFound (places sorted : List ℕ) (n place : ℕ) (r : Result ℕ ℕ) : Type 0 where
   pub comes : slice_get places n ≡ Some place
   pub stands : (rank : ℕ) → r ≡ Ok rank → slice_get sorted rank ≡ Some place

@@ -3,7 +3,7 @@ use Rattle.bimap_list.specs.Ring.{Listing}
 use Rattle.bimap_list.specs.declared.linked_list.ByWidth.{ByWidth}
 use Rattle.bimap_list.specs.declared.linked_list.ByWidth.TheVariants.{Narrow, Wide}
 
--- the list, of whichever width
+-- This is the list, whatever the width of its links.
 abbrev pub ring_in : ByWidth → Listing
 ring_in (Narrow ring) = ring
 ring_in (Wide ring) = ring

@@ -2,7 +2,8 @@
 use Rattle.std.specs.Prelude.{◌≡◌, ℕ, ◌<◌, ◌↔◌, List, Some, slice_get}
 use Rattle.std.specs.List.{AllPairs, AllZip, Contains}
 
--- each number of the second list tells where the place beside it stands among the sorted places
+-- The rank of a place is its index among the places in ascending order. The second list has the rank of each place of the
+-- first list, in the same order.
 pub record AreRanks (places ranks : List ℕ) : Type 0 where
   pub sorted : List ℕ
   pub ascends : AllPairs (λ a b. a < b) sorted

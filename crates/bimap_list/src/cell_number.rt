@@ -1,24 +1,24 @@
-//! The number of a cell, in four bytes or in eight.
+//! The number of a cell, which a link stores in four bytes or in eight.
 ghost use Rattle.std.specs.Prelude.{◌≡◌, ℕ, ◌+◌, ◌<◌, ◌≤◌};
 
-/// A number of a cell, as a link keeps it.
+/// The number of a cell in the form that a link stores.
 pub(crate) trait CellNumber: Copy + Drop {
-    /// The number that is kept.
+    /// The number that is stored.
     ghost value: { Self → ℕ };
 
-    /// How many cells have a number: those of the numbers below this one.
+    /// The count of cells that can have a number. Their numbers are those below this one.
     ghost count: { ℕ };
 
-    /// Keeps a number.
+    /// Returns the stored form of a number.
     fn of(number: usize) -> Self
         requires { number < count }
         ensures { value result ≡ number };
 
-    /// Returns the number that is kept.
+    /// Returns the number that is stored.
     fn get(self) -> usize
         ensures { result ≡ value self };
 
-    /// Cell 0 has a number.
+    /// At least cell 0 can have a number.
     ghost some: { 0 < count };
 }
 

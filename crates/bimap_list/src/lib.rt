@@ -1,6 +1,6 @@
-//! Places in a doubly linked list, in the order in which they were appended. It knows no values, and no keys.
+//! A doubly linked list of places, in the order in which they were appended. It knows no values and no keys.
 //!
-//! Each call takes constant time, but for `grow` and `ranks`, which alone ask for memory.
+//! Each call takes constant time, except `grow` and `ranks`. These two are also the only calls that allocate.
 #![tactic(auto)]
 
 mod cell_number;

@@ -1,4 +1,4 @@
-//! `LinkedList` and its calls: each asks once which width the links have.
+//! `LinkedList` and its calls. Each call finds out once which width the links have.
 ghost use Rattle.std.specs.Prelude.{◌≡◌, ◌≢◌, ℕ, ◌+◌, ◌<◌, ◌≤◌, ◌++◌, ◌∷◌, [], length, max, slice_get, Some, IsOk, OnOk, OnErr};
 ghost use Rattle.std.specs.List.{AllPairs, Contains, remove};
 ghost use Rattle.bimap_base.specs.Keyed.{Drops};
@@ -8,21 +8,21 @@ use bimap_base::NoMemory;
 use std::alloc::Global;
 use std::marker::Model;
 
-// How many places are too many for links of four bytes.
+// From this count of places on, links of four bytes are too narrow.
 const WIDE: usize = 4_294_967_296;
 
-// The cells, with links of four bytes where there are fewer places than that, and else of eight.
+// The cells. The links have four bytes while fewer than `WIDE` places have cells. From then on they have eight.
 #[derive(Drop)]
 enum ByWidth {
     Narrow(Ring<u32>),
     Wide(Ring<usize>),
 }
 
-/// A list of distinct places, with a cell for each place that may be in it. A cell takes 8 bytes where there are fewer than
-/// 2^32 of these places, and 16 bytes where there are more.
+/// A list of distinct places, with a cell for each place that may be in it. A cell takes 8 bytes while fewer than 2^32 places
+/// have cells. From then on a cell takes 16 bytes.
 ///
-/// The cells are linked to a ring: from cell 0 through those of the places in order, each one more than its place, back to
-/// cell 0. A contract sees the list and the number of places that have cells.
+/// The cells are linked into a ring. It leads from cell 0 through the cells of the listed places in order, and back to cell 0.
+/// The number of a place's cell is the place plus one. A contract sees the list and the number of places that have cells.
 #[derive(Drop)]
 pub struct LinkedList {
     by_width: ByWidth,
@@ -38,7 +38,7 @@ impl Model for LinkedList {
 }
 
 impl LinkedList {
-    /// Returns an empty list with no cells. It takes no memory.
+    /// Returns an empty list without cells. Never allocates.
     pub fn new(alloc: Global) -> Self
         ensures places { result.places ≡ [] }
         ensures cells { result.cells ≡ 0 }
@@ -52,7 +52,7 @@ impl LinkedList {
     pub fn cells(&self) -> usize
         ensures cells { result ≡ self.now.cells }
 
-        // What is true of each list.
+        // The following is true of every list.
         ensures below { (p : ℕ) → Contains self.now.places p → p < self.now.cells }
         ensures fits { length self.now.places ≤ self.now.cells }
         ensures distinct { AllPairs (λ a b. a ≢ b) self.now.places }
@@ -63,8 +63,9 @@ impl LinkedList {
         }
     }
 
-    /// Makes cells for each place below `to`, in time of their number. It takes memory only where some are missing, and a
-    /// refusal changes nothing.
+    /// Makes a cell for each place below `to` that has none. The time is at most proportional to `to`.
+    ///
+    /// Allocates only if cells are missing. If it runs out of memory, nothing changes.
     pub fn grow(&mut self, to: usize) -> Result<(), NoMemory>
         ensures places { self.new.places ≡ self.old.places }
         ensures ok { OnOk result (self.new.cells ≡ max self.old.cells to) }
@@ -87,7 +88,7 @@ impl LinkedList {
         }
     }
 
-    /// Takes back the cells of the places from `to` on, none of which is in the list. Their memory stays.
+    /// Removes the cells of the places from `to` on. None of these places is in the list. Keeps the memory of the cells.
     pub fn shrink(&mut self, to: usize)
         requires cells { to ≤ self.old.cells }
         requires below { (p : ℕ) → Contains self.old.places p → p < to }
@@ -115,7 +116,7 @@ impl LinkedList {
         }
     }
 
-    /// Takes a place out.
+    /// Removes a place from the list.
     #[inline(always)]
     pub fn remove(&mut self, place: usize)
         requires { Contains self.old.places place }
@@ -131,7 +132,7 @@ impl LinkedList {
         }
     }
 
-    /// Takes all places out. The cells stay.
+    /// Removes all places from the list. The cells stay.
     pub fn clear(&mut self)
         ensures places { self.new.places ≡ [] }
         ensures cells { self.new.cells ≡ self.old.cells }
@@ -153,7 +154,7 @@ impl LinkedList {
         }
     }
 
-    /// Returns the place after one of the list, or `None` after the last.
+    /// Returns the place after `place` in the list, or `None` if `place` is the last.
     #[inline(always)]
     pub fn after(&self, place: usize) -> Option<usize>
         requires { Contains self.now.places place }

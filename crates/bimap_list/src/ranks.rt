@@ -1,4 +1,4 @@
-//! The ranks of the places of a list, for a store whose pairs move to its first places.
+//! The ranks of the places of a list. They are needed when the pairs of a store move to its first places.
 ghost use Rattle.std.specs.Prelude.{◌≡◌, ◌≢◌, ◌≤◌, length, IfOk};
 ghost use Rattle.std.specs.List.{AllPairs};
 ghost use Rattle.bimap_list.specs.Ranks.{AreRanks};
@@ -8,11 +8,11 @@ use bimap_base::NoMemory;
 use std::alloc::Global;
 
 impl LinkedList {
-    /// Returns a list of the ranks of the places, in the order of this one: each tells how many of the places are below its
-    /// own. It has `to` cells.
+    /// Returns a list of the ranks of the places, in the order of this list. The rank of a place is the number of listed places
+    /// below it. The new list has cells for `to` places.
     ///
-    /// With n places it takes O(n log n) time, and memory for the cells and for the time of the call for 2 n numbers. A
-    /// refusal makes nothing.
+    /// With n places it takes O(n log n) time. It allocates the cells, and 2 n numbers that it frees before it returns. If it
+    /// runs out of memory, it returns no list.
     pub fn ranks(&self, alloc: Global, to: usize) -> Result<LinkedList, NoMemory>
         requires room { length self.now.places ≤ to }
         ensures ranks { IfOk result (λ list. AreRanks self.now.places list.places) }
@@ -33,7 +33,7 @@ impl LinkedList {
         Ok(list)
     }
 
-    // The places in the order of the list.
+    // Returns the places in the order of the list.
     fn to_vec(&self, alloc: Global) -> Result<Vec<usize>, NoMemory>
         ensures items { IfOk result (λ places. places.items ≡ self.now.places) }
         ensures distinct { AllPairs (λ a b. a ≢ b) self.now.places }

@@ -1,4 +1,4 @@
-//! A ring of cells, whose links have one width.
+//! A ring of cells whose links all have the same width.
 ghost use Rattle.std.specs.Prelude.{◌≡◌, ◌≢◌, ℕ, ◌+◌, ◌<◌, ◌≤◌, ◌++◌, ◌∷◌, [], length, slice_get, Some, OnOk, OnErr, IfOk};
 ghost use Rattle.std.specs.List.{AllPairs, Contains, remove};
 ghost use Rattle.bimap_base.specs.Keyed.{Drops};
@@ -9,16 +9,16 @@ use bimap_base::NoMemory;
 use std::alloc::Global;
 use std::marker::Model;
 
-/// A cell of the ring: the numbers of the cells before and after it. It has 8 bytes where a number has four, and 16 where
-/// it has eight.
+/// A cell of the ring. It stores the numbers of the cells before and after it. A cell takes 8 bytes if a number has four bytes,
+/// and 16 if a number has eight.
 #[derive(Clone, Copy, Drop)]
 pub(crate) struct Links<N> {
     previous: N,
     next: N,
 }
 
-/// The cells of a list, whose numbers have one width: from cell 0 through those of the places in order, each one more than
-/// its place, back to cell 0.
+/// The cells of a list, with numbers of one width. The ring leads from cell 0 through the cells of the listed places in
+/// order, and back to cell 0. The number of a place's cell is the place plus one.
 #[derive(Drop)]
 pub(crate) struct Ring<N: CellNumber> {
     cells: Vec<Links<N>>,
@@ -38,7 +38,7 @@ impl<N: CellNumber> Model for Ring<N> {
     } };
 }
 
-// A cell that leads to cell 0 and from it.
+// Returns a cell that is linked to cell 0 in both directions.
 #[inline(always)]
 fn unlinked_cell<N: CellNumber>() -> Links<N>
     ensures { links_in N.value result ≡ unlinked }
@@ -49,7 +49,7 @@ fn unlinked_cell<N: CellNumber>() -> Links<N>
     }
 }
 
-// Links one cell to the next one, and back.
+// Links the cell `from` to the cell `to`, and back.
 #[inline(always)]
 fn join<N: CellNumber>(cells: &mut Vec<Links<N>>, from: usize, to: usize)
     requires from { from < length cells.old.items }
@@ -63,7 +63,7 @@ fn join<N: CellNumber>(cells: &mut Vec<Links<N>>, from: usize, to: usize)
     cells[to].previous = N::of(from);
 }
 
-// The place of a cell, which cell 0 has not.
+// Returns the place of a cell. Cell 0 has no place.
 #[inline(always)]
 fn place_of<N: CellNumber>(cell: N) -> Option<usize>
     ensures { result ≡ place_of (N.value cell) }
@@ -73,7 +73,7 @@ fn place_of<N: CellNumber>(cell: N) -> Option<usize>
 }
 
 impl<N: CellNumber> Ring<N> {
-    /// No places, and no cells. It takes no memory.
+    /// Returns a ring without places and without cells. Never allocates.
     pub(crate) fn new(alloc: Global) -> Self
         ensures places { result.places ≡ [] }
         ensures cells { result.cells ≡ 0 }
@@ -83,12 +83,12 @@ impl<N: CellNumber> Ring<N> {
         }
     }
 
-    /// The number of places that have cells.
+    /// Returns the number of places that have cells.
     #[inline(always)]
     pub(crate) fn cells(&self) -> usize
         ensures cells { result ≡ self.now.cells }
 
-        // What is true of each ring.
+        // The following is true of every ring.
         ensures few { self.now.cells < N.count }
         ensures below { (p : ℕ) → Contains self.now.places p → p < self.now.cells }
         ensures fits { length self.now.places ≤ self.now.cells }
@@ -97,7 +97,7 @@ impl<N: CellNumber> Ring<N> {
         self.cells.len().saturating_sub(1)
     }
 
-    /// Makes cells for each place below `to`. A refusal changes nothing.
+    /// Makes cells for each place below `to`. If it runs out of memory, nothing changes.
     pub(crate) fn grow(&mut self, to: usize) -> Result<(), NoMemory>
         requires above { self.old.cells ≤ to }
         requires few { to < N.count }
@@ -118,7 +118,9 @@ impl<N: CellNumber> Ring<N> {
         Ok(())
     }
 
-    /// A ring of the same places, with links of another width and cells for each place below `to`. A refusal makes nothing.
+    /// Returns a ring of the same places whose links have another width. It has cells for each place below `to`.
+    ///
+    /// If it runs out of memory, it returns no ring.
     pub(crate) fn copied<M: CellNumber>(&self, to: usize) -> Result<Ring<M>, NoMemory>
         requires above { self.now.cells ≤ to }
         requires few { to < M.count }
@@ -138,7 +140,7 @@ impl<N: CellNumber> Ring<N> {
         Ok(copy)
     }
 
-    /// Takes back the cells of the places from `to` on, none of which is in the ring. Their memory stays.
+    /// Removes the cells of the places from `to` on. None of these places is in the ring. Keeps the memory of the cells.
     pub(crate) fn shrink(&mut self, to: usize)
         requires cells { to ≤ self.old.cells }
         requires below { (p : ℕ) → Contains self.old.places p → p < to }
@@ -162,7 +164,7 @@ impl<N: CellNumber> Ring<N> {
         join(&mut self.cells, place + 1, 0);
     }
 
-    /// Takes a place out.
+    /// Removes a place from the ring.
     #[inline(always)]
     pub(crate) fn remove(&mut self, place: usize)
         requires { Contains self.old.places place }
@@ -176,7 +178,7 @@ impl<N: CellNumber> Ring<N> {
         join(&mut self.cells, previous.get(), next.get());
     }
 
-    /// Takes all places out. The cells stay.
+    /// Removes all places from the ring. The cells stay.
     pub(crate) fn clear(&mut self)
         ensures places { self.new.places ≡ [] }
         ensures cells { self.new.cells ≡ self.old.cells }
@@ -186,7 +188,7 @@ impl<N: CellNumber> Ring<N> {
         }
     }
 
-    /// The first place, or `None` if there is none.
+    /// Returns the first place, or `None` if the ring has no place.
     #[inline(always)]
     pub(crate) fn first(&self) -> Option<usize>
         ensures { result ≡ slice_get self.now.places 0 }
@@ -197,7 +199,7 @@ impl<N: CellNumber> Ring<N> {
         place_of(self.cells[0].next)
     }
 
-    /// The place after one of the ring, or `None` after the last.
+    /// Returns the place after `place` in the ring, or `None` if `place` is the last.
     #[inline(always)]
     pub(crate) fn after(&self, place: usize) -> Option<usize>
         requires { Contains self.now.places place }

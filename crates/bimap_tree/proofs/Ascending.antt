@@ -17,7 +17,7 @@ use Rattle.bimap_tree.specs.Order.{AllStand, IsSplit, after_key}
 use Rattle.bimap_tree.proofs.Distinct.{all_front, all_behind, all_append, all_both}
 use Rattle.bimap_tree.proofs.Split.{less_or_not}
 
--- ---- what holds of each place of a list
+-- ---- A statement that is true of each place of a list.
 all_at : (P : ℕ → Type 0) (xs : List ℕ) → ((i : ℕ) → i < length xs → P (slice_index xs i)) → AllByRecursion P xs
 all_at P xs h = recursion_from_All P xs (λ i d few. subst P (get_or_default xs i 0 d few) (h i few))
 
@@ -27,7 +27,7 @@ all_without P xs ys p h = all_append P xs ys (all_front P xs (p ∷ ys) h) (all_
 all_with : (P : ℕ → Type 0) (xs ys : List ℕ) (p : ℕ) → P p → AllByRecursion P (xs ++ ys) → AllByRecursion P (xs ++ p ∷ ys)
 all_with P xs ys p here h = all_append P xs (p ∷ ys) (all_front P xs ys h) (here, all_behind P xs ys h)
 
--- ---- lists that rise
+-- ---- Lists in strictly ascending order.
 sorted_none : (c : ℕ → ℕ → Ordering) → IsStrictlySortedBy c []
 unfolding IsStrictlySortedBy
 sorted_none c = tt
@@ -44,9 +44,9 @@ sorted_with : (c : ℕ → ℕ → Ordering) (xs ys : List ℕ) (p : ℕ) → Al
 sorted_with c [] ys p a b s = sorted_more c p ys b s
 sorted_with c (x ∷ xs) ys p a b s = sorted_more c x (xs ++ p ∷ ys) (all_with (λ y. c x y ≡ Less) xs ys p a.0 (sorted_head c x (xs ++ ys) s)) (sorted_with c xs ys p a.1 b (sorted_tail c x (xs ++ ys) s))
 
--- ---- the keys of places
+-- ---- The keys of places.
 module _ {K : Type 0} (key : ℕ → Option K) (order : K → K → Ordering) where
-  -- how the keys of two places stand
+  -- How the keys of two places compare.
   abbrev stand : ℕ → ℕ → Ordering
   stand p q = standing order (key p) (key q)
 
@@ -54,7 +54,7 @@ module _ {K : Type 0} (key : ℕ → Option K) (order : K → K → Ordering) wh
   key_is (Some k) some = (k, refl)
   key_is None some = absurd (let x : false ≡ true = some in cc)
 
-  -- the key of a listed place
+  -- A listed place has a key.
   pub key_listed : (xs : List ℕ) → Ascends key order xs → (p : ℕ) → Contains xs p → (k : K) × (key p ≡ Some k)
   key_listed xs up p (i, few, e) =
       let here : slice_index xs i ≡ p = get_or_default xs i 0 p few ∙ e in
@@ -88,16 +88,16 @@ module _ {K : Type 0} (key : ℕ → Option K) (order : K → K → Ordering) wh
     rises = λ i j k l lt few e f. sym (stand_is (slice_index xs i) (slice_index xs j) k l e f) ∙ Less-from_sorted stand xs i j 0 s lt few;
   }
 
-  -- a list from which a place was taken out
+  -- A list from which a place was removed is still in order.
   pub ascends_without : (xs ys : List ℕ) (p : ℕ) → Ascends key order (xs ++ p ∷ ys) → Ascends key order (xs ++ ys)
   ascends_without xs ys p up =
       ascends_from (xs ++ ys)
       (all_without (λ q. IsSome (key q)) xs ys p (live_all (xs ++ p ∷ ys) up))
       (sorted_without stand xs ys p (rising (xs ++ p ∷ ys) up))
 
-  -- ---- as seen from a query
+  -- ---- Comparisons with a query.
   module _ {Q : Type 0} (to : K → Q → Ordering) (follows : Follows order to) where
-    -- a key above one that is not below the query is above it
+    -- If one key is not below the query, every key above it is above the query.
     above : (a b : Option K) (k : Q) → standing to a (Some k) ≢ Less → standing order a b ≡ Less → standing to b (Some k) ≡ Greater
     above a None k n h = refl
     above None (Some b) k n h = absurd (let x : Greater ≡ Less = h in cc)
@@ -119,7 +119,7 @@ module _ {K : Type 0} (key : ℕ → Option K) (order : K → K → Ordering) wh
           split k xs (ascends_tail x xs up),
         )
 
-    -- only one place of a list has a key that stands equal
+    -- At most one place of a list has a key equal to the query.
     apart : (a b : Option K) (k : Q) → standing order a b ≡ Less → standing to a (Some k) ≡ Equal → standing to b (Some k) ≡ Equal → ⊥
     apart (Some a) (Some b) k less first second =
         let x : Less ≡ Equal = sym (follows k a b less (ap is_le second)) ∙ first in
@@ -141,7 +141,7 @@ module _ {K : Type 0} (key : ℕ → Option K) (order : K → K → Ordering) wh
         ]
 
   module _ (total : IsTotalOrder order) where
-    -- ---- a list into which a place was put
+    -- ---- A list into which a place was inserted.
     flipped : (a : Option K) (k : K) → IsSome a → standing order a (Some k) ≡ Greater → standing order (Some k) a ≡ Less
     flipped (Some a) k some h = total.antisymm k a ∙ ap ordering_reverse h
     flipped None k some h = absurd (let w : false ≡ true = some in cc)
@@ -156,11 +156,11 @@ module _ {K : Type 0} (key : ℕ → Option K) (order : K → K → Ordering) wh
         (all_both (λ q. IsSome (key q)) (λ q. standing order (key q) (Some k) ≡ Greater) (λ y. stand p y ≡ Less) (λ y l h. ap (λ o. standing order o (key y)) e ∙ flipped (key y) k l h) ys (all_behind (λ q. IsSome (key q)) xs ys live) b)
         (rising (xs ++ ys) up))
 
-    -- the key of a place stands equal to itself
+    -- The key of a place is equal to itself.
     pub own_key : (p : ℕ) (k : K) → key p ≡ Some k → standing order (key p) (Some k) ≡ Equal
     own_key p k e = ap (λ o. standing order o (Some k)) e ∙ tied_itself total k
 
--- a list split at a key is split just after it too
+-- A list that is split at a key is also split just after it.
 pub split_after : (go : ℕ → Ordering) (xs : List ℕ) → IsSplit go xs → IsSplit (λ q. after_key (go q)) xs
 split_after go [] h = tt
 split_after go (x ∷ xs) h = (elim h.0 [ inl a ↦ inl (ap after_key a) | inr a ↦ inr (all_both (λ q. go q ≡ Greater) (λ q. go q ≡ Greater) (λ q. after_key (go q) ≡ Greater) (λ q e _. ap after_key e) xs a a) ], split_after go xs h.1)

@@ -1,4 +1,4 @@
--- A place with a tree on the side of a turn, and one on the other.
+-- A place with a subtree in one direction, and a subtree in the other.
 use Rattle.std.proofs.Common.{◌≡◌, ℕ, ◌+◌, ◌≤◌, ◌<◌, max, Bool, true, false, not, List, Option, Some, length, refl, arith}
 use Rattle.std.specs.Prelude.{slice_get, slice_set}
 use Rattle.bimap_base.specs.declared.cells.Node.{Node}
@@ -44,7 +44,7 @@ pub far-node_on : (direction : Bool) (near far : Tree) → far_of direction (nod
 far-node_on true near far = refl
 far-node_on false near far = refl
 
--- a node is told by its children on both sides, its height and its size
+-- A node is determined by its two children, its height and its size.
 same_node : (n m : Node) → n.left ≡ m.left → n.right ≡ m.right → n.height ≡ m.height → n.size ≡ m.size → n ≡ m
 same_node n m a b c d = let e : record { left = n.left; right = n.right; height = n.height; size = n.size } ≡ record { left = m.left; right = m.right; height = m.height; size = m.size } = cc in e
 
@@ -52,7 +52,7 @@ pub node_is : (direction : Bool) (n m : Node) → near_of direction n ≡ near_o
 node_is true n m a b c d = same_node n m b a c d
 node_is false n m a b c d = same_node n m a b c d
 
--- what the nodes show of it
+-- What the nodes show of such a tree.
 pub record Parts (ns : List Node) (direction : Bool) (near : Tree) (p : ℕ) (far : Tree) : Type 0 where
   pub node : slice_get ns p ≡ Some (node_on direction near far)
   pub near_shown : Shows ns near
@@ -66,7 +66,7 @@ pub Shows-branch : (ns : List Node) (direction : Bool) (near : Tree) (p : ℕ) (
 Shows-branch ns true near p far h = (h.node, h.far_shown, h.near_shown)
 Shows-branch ns false near p far h = (h.node, h.near_shown, h.far_shown)
 
--- what its balance is
+-- When such a tree is balanced.
 pub record Level (near far : Tree) : Type 0 where
   pub near_level : height near ≤ height far + 1
   pub far_level : height far ≤ height near + 1
@@ -81,7 +81,7 @@ pub IsBalanced-branch : (direction : Bool) (near : Tree) (p : ℕ) (far : Tree) 
 IsBalanced-branch true near p far h = (h.far_level, h.near_level, h.far_balanced, h.near_balanced)
 IsBalanced-branch false near p far h = (h.near_level, h.far_level, h.near_balanced, h.far_balanced)
 
--- a place linked above two trees
+-- A place is linked above two trees.
 pub Shows-linked : (ns ms : List Node) (direction : Bool) (near : Tree) (p : ℕ) (far : Tree) → ms ≡ slice_set ns p (node_on direction near far) → p < length ns → occurs p near ≡ 0 → occurs p far ≡ 0 → Shows ns near → Shows ns far → Shows ms (branch direction near p far)
 Shows-linked ns ms direction near p far e within nn nf hn hf =
     Shows-branch ms direction near p far record {
@@ -90,7 +90,7 @@ Shows-linked ns ms direction near p far e within nn nf hn hf =
       far_shown = Shows-keeps ns ms far p (node_on direction near far) e nf hf;
     }
 
--- a tree whose root is a place, with the node of that place
+-- A tree whose root is a place, with the node of that place.
 pub record Opened (ns : List Node) (p : ℕ) (direction : Bool) (node : Node) (t near far : Tree) : Type 0 where
   pub is : t ≡ branch direction near p far
   pub near_stands : Stands ns (near_of direction node) near
@@ -104,6 +104,6 @@ opened_on ns root p false node t h some e =
     let (l, r, o) = opened ns root p node t h some e in
     (l, r, record { is = o.is; near_stands = o.left_stands; far_stands = o.right_stands })
 
--- the root that is told of a tree that the nodes show is there
+-- If the nodes show a tree, the root that a `Subtree` stores for it has a cell.
 pub told_there : (ns : List Node) (told : Subtree) (t : Tree) → Measures told t → Shows ns t → IsThere (length ns) told.root
 told_there ns told t m h = there ns told.root t record { root_is = m.root_is; shown = h }

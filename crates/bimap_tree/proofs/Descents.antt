@@ -1,4 +1,4 @@
--- What a loop down a tree keeps: what it costs, and what it finds from where it has come.
+-- The invariants of loops down a tree. They say what the loop has cost, and what it finds from the present position.
 use Rattle.std.proofs.Common.{◌≡◌, ◌≢◌, ℕ, ◌+◌, ◌-◌, ◌*◌, ◌≤◌, ◌<◌, ◌^◌, Bool, true, false, List, Option, Some, None, length, subst, refl, sym, ◌∙◌, ap, arith, inl, inr}
 use Rattle.std.proofs.Math.Nat.{mul-le-mul_left, mul-suc}
 use Rattle.std.specs.Prelude.{slice_get}
@@ -24,7 +24,7 @@ use Rattle.bimap_tree.proofs.Shown.{no_root, opened, Stands-at, root_within, hei
 use Rattle.bimap_tree.proofs.Split.{count_length, less_or_not, not_less}
 use Rattle.bimap_tree.proofs.Found.{equal_or_not}
 
--- ---- a test of how a place stands
+-- ---- A test of how a place compares.
 pub wants : (how go : Ordering) (same direction : Bool) → how ≡ go → same ≡ is_eq how → same ≡ false → direction ≡ is_lt how → go ≡ wanted direction
 wants Less go same direction e f n t = sym e ∙ ap wanted (sym t)
 wants Equal go same direction e f n t = cc
@@ -39,9 +39,9 @@ is_less how go direction e f y = elim (less_or_not how) [ inl w ↦ cc | inr n �
 pub is_not_less : (how go : Ordering) (direction : Bool) → how ≡ go → direction ≡ is_lt how → direction ≡ false → go ≢ Less
 is_not_less how go direction e f n less = let is : is_lt how ≡ true = ap is_lt (e ∙ less) in cc
 
--- ---- what it costs
+-- ---- The cost of a descent.
 module _ (ns : List Node) (top : Option ℕ) (each before : ℕ) where
-  -- the levels that it has left behind have cost at most so much each
+  -- Each level that the loop has passed has cost at most `each`.
   pub record Costs (root : Option ℕ) (now : ℕ) : Type 0 where
     pub within : (t : Tree) → Stands ns top t → (s : Tree) × Stands ns root s × (now + each * height s ≤ before + each * height t)
 
@@ -57,7 +57,7 @@ module _ (ns : List Node) (top : Option ℕ) (each before : ℕ) where
       cell_within t h = let (s, k, le) = c.within t h in root_within ns at s (Stands-at ns root (Some at) s is k)
 
       module _ (node : Node) (told : slice_get ns at ≡ Some node) (direction : Bool) where
-        -- the next level
+        -- The subtree on the next level.
         near_stands : (s : Tree) → Stands ns root s → (near : Tree) × Stands ns (near_of direction node) near × (height near + 1 ≤ height s)
         near_stands s k =
             let (near, far, o) = opened_on ns root at direction node s k is told in
@@ -80,9 +80,9 @@ module _ (ns : List Node) (top : Option ℕ) (each before : ℕ) where
             let (near, st, low) = near_stands s k in
             omega (arith, height_told ns root s k, height_told ns next near (Stands-at ns (near_of direction node) next near (sym e) st))
 
--- ---- what it finds
+-- ---- What a descent finds.
 module _ (ns : List Node) (live : ℕ → Type 0) (go : ℕ → Ordering) where
-  -- a step to the side of the turn
+  -- The loop goes down in the direction `direction`.
   pub record StepOn (root : Option ℕ) (at : ℕ) (node : Node) (direction : Bool) (s near far : Tree) : Type 0 where
     pub is : s ≡ branch direction near at far
     pub can : CanSeek ns (near_of direction node) live go near
@@ -111,7 +111,7 @@ module _ (ns : List Node) (live : ℕ → Type 0) (go : ℕ → Ordering) where
   live_here root at node s h e f = let (l, r, i) = seek_into ns root at node live go s h e f in i.at_live
 
   module _ (top : Option ℕ) where
-    -- from here it finds what it would find from the top
+    -- The loop finds from here what it would find from the top.
     pub record Finds (root : Option ℕ) : Type 0 where
       pub alike : (t : Tree) → CanSeek ns top live go t → (s : Tree) × CanSeek ns root live go s × (first_equal go (reading t) ≡ first_equal go (reading s))
 
@@ -136,7 +136,7 @@ module _ (ns : List Node) (live : ℕ → Type 0) (go : ℕ → Ordering) where
               (near, rw e o.can, f ∙ o.found w);
         }
 
-    -- so many places are below, and those that are below from here on
+    -- `rank` places are below the key, and further ones are counted from here on.
     pub record Counts (root : Option ℕ) (rank : ℕ) : Type 0 where
       pub alike : (t : Tree) → CanSeek ns top live go t → (s : Tree) × CanSeek ns root live go s × (count_below go (reading t) ≡ rank + count_below go (reading s))
 
@@ -151,7 +151,7 @@ module _ (ns : List Node) (live : ℕ → Type 0) (go : ℕ → Ordering) where
         pub counts_live : (t : Tree) → CanSeek ns top live go t → live at
         counts_live t h = let (s, k, f) = d.alike t h in live_here root at node s k is told
 
-        -- the tree on the left
+        -- The subtree on the left.
         pub counts_left : (t : Tree) → CanSeek ns top live go t → (l : Tree) × Stands ns node.left l × (size l + 1 < 2 ^ 64) × (go at ≡ Less → rank + (size l + 1) < 2 ^ 64)
         counts_left t h =
             let (s, k, f) = d.alike t h in
@@ -175,9 +175,9 @@ module _ (ns : List Node) (live : ℕ → Type 0) (go : ℕ → Ordering) where
                 (l, rw same i.can_left, omega (arith, now, f, counted_left ns root at node live go s l r i n));
           }
 
--- ---- where a rank leads
+-- ---- Where a rank leads.
 module _ (ns : List Node) (top : Option ℕ) (first : ℕ) where
-  -- the place at this rank from here is the one at the first rank from the top
+  -- The place at this rank from here is the place at the first rank from the top.
   pub record Leads (root : Option ℕ) (rank : ℕ) : Type 0 where
     pub alike : (t : Tree) → Stands ns top t → first < size t → (s : Tree) × Stands ns root s × (rank < size s) × ((p : ℕ) → slice_get (reading s) rank ≡ Some p → slice_get (reading t) first ≡ Some p)
 
@@ -189,7 +189,7 @@ module _ (ns : List Node) (top : Option ℕ) (first : ℕ) where
     leads_none e t h few = let (s, k, low, f) = d.alike t h few in absurd (omega (arith, ap size (no_root s (k.root_is ∙ e))))
 
     module _ (at : ℕ) (is : root ≡ Some at) (node : Node) (told : slice_get ns at ≡ Some node) where
-      -- the tree on the left
+      -- The subtree on the left.
       pub leads_before : (t : Tree) → Stands ns top t → first < size t → (l : Tree) × Stands ns node.left l
       leads_before t h few =
           let (s, k, low, f) = d.alike t h few in
@@ -220,9 +220,9 @@ module _ (ns : List Node) (top : Option ℕ) (first : ℕ) where
               (r, i.right_stands, omega arith, λ p e. f p (rank_right s l r at rank (rank - (before + 1)) p i.is (omega arith) e));
         }
 
--- ---- a way that is noted
+-- ---- A route that is noted.
 module _ (ns : List Node) (live : ℕ → Type 0) (go : ℕ → Ordering) (top : Option ℕ) (first : Route) (start : ℕ) where
-  -- the way has come on to here, from where it finds what it would find at first
+  -- The route has come to here. The search finds from here what it would find from its start.
   pub record Goes (root : Option ℕ) (now : Route) (depth : ℕ) : Type 0 where
     pub alike : (path : Path) (s : Tree) → CanFollow ns top live go first start path s → (low : Path) × (e : Tree) × CanFollow ns root live go now depth low e × (plug low e ≡ plug path s) × (first_equal go (reading s) ≡ first_equal go (reading e))
 
@@ -233,7 +233,7 @@ module _ (ns : List Node) (live : ℕ → Type 0) (go : ℕ → Ordering) (top :
     pub goes_none : root ≡ None → (path : Path) (s : Tree) → CanFollow ns top live go first start path s → None ≡ first_equal go (reading s)
     goes_none e path s h = let (low, x, k, w, f) = d.alike path s h in sym (f ∙ none_here ns live go root x k.seek e)
 
-    -- where it ends, it has come all the way
+    -- When the loop ends, the search is complete.
     pub goes_end : (found : Option ℕ) → found ≡ root → (last : Route) → step_at last ≡ step_at now → (path : Path) (s : Tree) → CanFollow ns top live go first start path s → (low : Path) × (e : Tree) × IsFollowed go last depth found (plug path s) low e
     goes_end found same last noted path s h =
         let (low, x, k, w, f) = d.alike path s h in
@@ -268,9 +268,9 @@ module _ (ns : List Node) (live : ℕ → Type 0) (go : ℕ → Ordering) (top :
       pub goes_right : (direction : Bool) → direction ≡ true → go at ≡ Less → (next : Option ℕ) → next ≡ node.right → (then : Route) → IsNoted (step_at now) depth (packed at, direction) (step_at then) → Goes next then (depth + 1)
       goes_right direction right less next e then noted = goes_down direction (less ∙ ap wanted (sym right)) next (e ∙ ap (λ x. near_of x node) (sym right)) then noted
 
--- ---- the way to a tree's first place
+-- ---- The route to a tree's first place.
 module _ (ns : List Node) (top start : ℕ) (old : Notes) where
-  -- what the way from here on notes is noted of the way from the top
+  -- The route that is noted from here on belongs to the route that is noted from the top.
   pub record Descends (at depth : ℕ) (now : Notes) : Type 0 where
     pub alike : (s : Tree) → CanDescend ns top start s → (e : Tree) × CanDescend ns at depth e × ((last : Notes) (first low : ℕ) → (lefts : List (ℕ × Tree)) × (rest : Tree) × IsFirst now last depth e first low lefts rest → (lefts : List (ℕ × Tree)) × (rest : Tree) × IsFirst old last start s first low lefts rest)
 

@@ -1,4 +1,4 @@
--- How often a place stands in a tree, and in its reading.
+-- How often a place occurs in a tree, and in the list of its places.
 use Rattle.std.proofs.Common.{◌≡◌, ◌≢◌, ℕ, zero, suc, ◌+◌, ◌≤◌, ◌<◌, false, List, [], ◌∷◌, ◌++◌, length, refl, sym, subst, ap, arith, inl, inr}
 use Rattle.std.proofs.Common.{get_or, eqb, eqb-true, eq-eqb}
 use Rattle.std.specs.List.{AllByRecursion, AllPairs, Contains, IsDistinct}
@@ -10,7 +10,7 @@ use Rattle.bimap_base.specs.Keyed.{Adds, Drops}
 use Rattle.bimap_tree.specs.Tree.{Tree, leaf, fork, reading, size, occurs, is_at, IsDistinctTree}
 use Rattle.bimap_tree.proofs.Shown.{is_at-same, is_at-other, by_ordering, size-reading}
 
--- how often a place stands in the list
+-- How often a place occurs in the list.
 abbrev pub tally : ℕ → List ℕ → ℕ
 tally q [] = 0
 tally q (x ∷ xs) = is_at q x + tally q xs
@@ -60,7 +60,7 @@ tally_contains (x ∷ xs) q h =
           (suc c.0, omega arith, c.2)
     ]
 
--- a place that the list does not contain is nowhere in the tree
+-- A place that is not in the list does not occur in the tree.
 pub absent_reading : (t : Tree) (place : ℕ) → (Contains (reading t) place → ⊥) → occurs place t ≡ 0
 absent_reading t place n =
     elim (leb_tells 1 (occurs place t)) [
@@ -68,7 +68,7 @@ absent_reading t place n =
       | inr w ↦ omega arith
     ]
 
--- a place is listed exactly if it is in the tree
+-- A place is in the list exactly if it occurs in the tree.
 pub contains_occurs : (t : Tree) (q : ℕ) → Contains (reading t) q → 0 < occurs q t
 contains_occurs t q (k, few, e) =
     let here : 1 ≤ tally (get_or (reading t) k q) (reading t) = tally_at (reading t) k q few in
@@ -78,7 +78,7 @@ contains_occurs t q (k, few, e) =
 pub occurs_contains : (t : Tree) (q : ℕ) → 0 < occurs q t → Contains (reading t) q
 occurs_contains t q h = tally_contains (reading t) q (omega (arith, tally-reading q t))
 
--- a tree with one place more lists it and the old ones
+-- If a tree has one place more, its list has this place and the old ones.
 pub adds : (t u : Tree) (place : ℕ) → ((q : ℕ) → occurs q u ≡ occurs q t + is_at q place) → Adds (reading t) place (reading u)
 adds t u place more p = (
   (λ c. elim (eqb_tells p place) [
@@ -91,7 +91,7 @@ adds t u place more p = (
   ]),
 )
 
--- a tree with one place less lists the others
+-- If a tree has one place less, its list has the other places.
 pub drops : (t u : Tree) (place : ℕ) → IsDistinctTree t → ((q : ℕ) → occurs q t ≡ occurs q u + is_at q place) → Drops (reading t) place (reading u)
 drops t u place once less p = (
   (λ c. (
@@ -101,7 +101,7 @@ drops t u place once less p = (
   (λ both. occurs_contains u p (omega (arith, less p, contains_occurs t p both.0, is_at-other p place both.1))),
 )
 
--- what holds of each place of a list
+-- A statement that is true of each place of a list.
 pub all_front : (P : ℕ → Type 0) (xs ys : List ℕ) → AllByRecursion P (xs ++ ys) → AllByRecursion P xs
 all_front P [] ys h = tt
 all_front P (x ∷ xs) ys h = (h.0, all_front P xs ys h.1)
@@ -118,7 +118,7 @@ pub all_both : (P Q R : ℕ → Type 0) → ((q : ℕ) → P q → Q q → R q) 
 all_both P Q R f [] a b = tt
 all_both P Q R f (x ∷ xs) a b = (f x a.0 b.0, all_both P Q R f xs a.1 b.1)
 
--- it holds of each place of a tree that reads so
+-- It is true of each place of a tree whose places are those of the list.
 pub occurs_all : (P : ℕ → Type 0) (t : Tree) → AllByRecursion P (reading t) → (q : ℕ) → 0 < occurs q t → P q
 occurs_all P leaf h q n = absurd (omega arith)
 occurs_all P (fork l p r) h q n =
@@ -127,7 +127,7 @@ occurs_all P (fork l p r) h q n =
     (occurs_all P r (all_behind P (reading l) (p ∷ reading r) h).1 q)
     (λ e. rw e (all_behind P (reading l) (p ∷ reading r) h).0)
 
--- distinct places below a number are no more than it
+-- A tree of distinct places below `n` has at most `n` places.
 pub size_within : (t : Tree) (n : ℕ) → IsDistinctTree t → ((q : ℕ) → 0 < occurs q t → q < n) → size t ≤ n
 size_within t n d low =
     rw (← size-reading t) (length-le_from_distinct_below (reading t) n (distinct_places t d)

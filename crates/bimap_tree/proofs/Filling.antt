@@ -1,4 +1,4 @@
--- Buffers that are filled with the places of trees.
+-- Buffers to which the places of trees are appended.
 use Rattle.std.proofs.Common.{◌≡◌, ℕ, ◌+◌, ◌≤◌, ◌<◌, List, [], ◌∷◌, ◌++◌, length, take, Option, Some, refl, sym, subst, ◌∙◌, ap, arith, length-append, length-take-le, append_assoc}
 use Rattle.std.specs.Prelude.{slice_get, slice_set}
 use Rattle.std.proofs.lemmas.List.{take_all, take_more_set}
@@ -7,7 +7,7 @@ use Rattle.bimap_tree.specs.Filled.{CanFill, IsFilled, place_in}
 use Rattle.bimap_tree.specs.Tree.{Tree, leaf, fork, reading, height, size, root_of, node_of, IsBalanced, Stands}
 use Rattle.bimap_tree.proofs.Shown.{Opened, opened, Stands-at, size-reading}
 
--- a place stands behind all that was put, and more is put behind it
+-- A place is written after the appended ones, and more are appended after it.
 pub behind : (w f : ℕ) (old xs ys b new : List ℕ) (at n m : ℕ) → f ≤ length old → n ≡ f + length xs → IsFilled w f old xs b n → IsFilled w (n + 1) (slice_set b n at) ys new m → IsFilled w f old (xs ++ at ∷ ys) new m
 behind w f old xs ys b new at n m short all h k =
     let front : length (take f old ++ xs) ≡ f + length xs = omega (arith, length-append (take f old) xs, length-take-le f old short) in
@@ -24,11 +24,11 @@ behind w f old xs ys b new at n m short all h k =
 pub on : (w f : ℕ) (old xs ys b new : List ℕ) (at n m : ℕ) → f ≤ length old → f + length xs < w → IsFilled w f old xs b n → IsFilled w (n + 1) (slice_set b n at) ys new m → IsFilled w f old (xs ++ at ∷ ys) new m
 on w f old xs ys b new at n m short le h k = behind w f old xs ys b new at n m short (omega (arith, le, h.enough, h.most)) h k
 
--- what is put may be said by another list that is the same
+-- The appended list may be replaced by an equal list.
 pub IsFilled-same : (w f : ℕ) (old xs ys new : List ℕ) (n : ℕ) → xs ≡ ys → IsFilled w f old xs new n → IsFilled w f old ys new n
 IsFilled-same w f old xs ys new n e h = subst (λ zs. IsFilled w f old zs new n) e h
 
--- low trees
+-- Trees of few levels.
 no_levels : (t : Tree) → height t ≤ 0 → t ≡ leaf
 no_levels leaf h = refl
 no_levels (fork l p r) h = absurd (omega arith)
@@ -47,7 +47,7 @@ two_levels f old b new node l r at n m e hl hr few long h k =
     let er : place_in node.right ≡ reading r = ap (λ z. place_in z.right) e ∙ one_level r hr in
     on 64 f old (reading l) (reading r) b new at n m (omega (arith, few, long)) (omega (arith, few, one_place l hl)) (IsFilled-same 64 f old _ _ b n el h) (IsFilled-same 64 (n + 1) (slice_set b n at) _ _ new m er k)
 
--- the two trees below a place
+-- The two subtrees of a place.
 pub parts : (ns : List Node) (at : ℕ) (node : Node) (t : Tree) → CanFill ns at node t → (l : Tree) × (r : Tree) × Opened ns at node t l r × IsBalanced l × IsBalanced r
 parts ns at node t h =
     let (l, r, o) = opened ns (Some at) at node t h.tree refl h.node_is in
@@ -63,7 +63,7 @@ told_size ns p node t h = let (l, r, i, _, _) = parts ns p node t h in ap (λ z.
 pub told_height : (ns : List Node) (p : ℕ) (node : Node) (t : Tree) → CanFill ns p node t → node.height ≡ height t
 told_height ns p node t h = let (l, r, i, _, _) = parts ns p node t h in ap (λ z. z.height) i.node_is ∙ ap height (sym i.is)
 
--- the tree on the left, the place and the tree on the right
+-- The left subtree, the place and the right subtree.
 pub both_sides : (f : ℕ) (old b new : List ℕ) (ns : List Node) (at left right : ℕ) (node left_node right_node : Node) (t : Tree) → CanFill ns at node t → node.left ≡ Some left → node.right ≡ Some right → slice_get ns left ≡ Some left_node → slice_get ns right ≡ Some right_node → f + size t < 62 → length old ≡ 64
     → ((l : Tree) → CanFill ns left left_node l → f + size l < 62 → IsFilled 64 f old (reading l) b (f + size l))
     → ((r : Tree) → CanFill ns right right_node r → f + left_node.size + 1 + size r < 62 → IsFilled 64 (f + left_node.size + 1) (slice_set b (f + left_node.size) at) (reading r) new (f + left_node.size + 1 + size r))

@@ -1,4 +1,4 @@
--- A search that looks at the first place before any other.
+-- A search that tries the first place before any other.
 use Rattle.std.proofs.Common.{◌≡◌, ℕ, ◌+◌, ◌≤◌, false, List, [], ◌∷◌, Option, Some, None, refl, sym, subst, ◌∙◌, ap, arith}
 use Rattle.std.specs.declared.cmp.Ordering.{Ordering}
 use Rattle.std.specs.declared.cmp.Ordering.TheVariants.{Less, Equal, Greater}
@@ -23,7 +23,7 @@ Wants-onward go path (x ∷ xs) t above w =
     Wants-onward go (below path false x.0 x.1) xs t (all_front (λ q. go q ≡ Greater) (reading (hang xs t)) (x.0 ∷ reading x.1) above)
     ((all_behind (λ q. go q ≡ Greater) (reading (hang xs t)) (x.0 ∷ reading x.1) above).0, w)
 
--- a tree with a root leaves room for a comparison more
+-- The height of a tree with a root is below the bound. This leaves one comparison for the first place.
 pub some_levels : (ns : List Node) (root : Option ℕ) (t : Tree) → Stands ns root t → (at : ℕ) → root ≡ Some at → IsBalanced t → height t + 1 ≤ most_height (size t)
 some_levels ns root leaf h at is b = let no : None ≡ Some at = h.root_is ∙ is in absurd (cc)
 some_levels ns root (fork l p r) h at is b = below_bound (fork l p r) b (omega arith)
@@ -32,7 +32,7 @@ module _ (ns : List Node) (root : Option ℕ) (live : ℕ → Type 0) (go : ℕ 
   pub can_descend_first : (at : ℕ) → root ≡ Some at → CanDescend ns at 0 t
   can_descend_first at is = record { tree = record { root_is = h.seek.tree.root_is ∙ is; shown = h.seek.tree.shown }; deep = h.deep }
 
-  -- from another route too
+  -- The search may also begin with another route.
   pub follow_anew : (new : Route) → CanFollow ns root live go new 0 top t
   follow_anew new = record { seek = h.seek; follows = tt; depth_is = refl; wants = tt; deep = h.deep }
 

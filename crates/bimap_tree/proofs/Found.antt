@@ -1,4 +1,4 @@
--- What a search of a list finds, in terms of how its places stand to the key.
+-- What a search of a list finds, by how its places compare with the key.
 use Rattle.std.proofs.Common.{◌≡◌, ◌≢◌, ◌⊎◌, true, false, ℕ, zero, suc, ◌+◌, ◌≤◌, ◌<◌, cond, List, [], ◌∷◌, Option, Some, None, refl, sym, subst, ◌∙◌, ap, arith, inl, inr}
 use Rattle.std.specs.Prelude.{IfSome, IfNone, slice_get}
 use Rattle.std.specs.List.{Contains}
@@ -31,7 +31,7 @@ module _ (go : ℕ → Ordering) where
         | inr n ↦ elim (cases_in x xs p c) [ inl same ↦ let y : is_eq (go x) ≡ true = ap (λ z. is_eq (go z)) same ∙ ap is_eq s in cc | inr k ↦ first_none xs (rw n at e) p k s ]
       ]
 
--- the place that a search found, and that there is none where it found none
+-- A place that the search found has an equal key. If the search found none, no place has one.
 pub found_in : (go : ℕ → Ordering) (xs : List ℕ) (found : Option ℕ) → found ≡ first_equal go xs → IfSome found (λ p. Contains xs p × (go p ≡ Equal))
 found_in go xs None e = tt
 found_in go xs (Some p) e = first_is go xs p (sym e)
@@ -44,17 +44,17 @@ pub none_told : (go : ℕ → Ordering) (xs : List ℕ) (found told_on : Option 
 none_told go xs found (Some p) none e = tt
 none_told go xs found None none e = first_none go xs (sym e ∙ none)
 
--- where no listed key is equal, none is found
+-- If no listed key is equal, the search finds no place.
 pub none_of : (go : ℕ → Ordering) (xs : List ℕ) (found : Option ℕ) → found ≡ first_equal go xs → ((p : ℕ) → Contains xs p → go p ≡ Equal → ⊥) → found ≡ None
 none_of go xs None e n = refl
 none_of go xs (Some p) e n = let (c, s) = first_is go xs p (sym e) in absurd (n p c s)
 
--- where one alone is equal, it is found
+-- If exactly one listed key is equal, the search finds its place.
 pub one_of : (go : ℕ → Ordering) (xs : List ℕ) (found : Option ℕ) (place : ℕ) → found ≡ first_equal go xs → Contains xs place → go place ≡ Equal → ((p : ℕ) → Contains xs p → go p ≡ Equal → p ≡ place) → found ≡ Some place
 one_of go xs None place e listed same only = absurd (first_none go xs (sym e) place listed same)
 one_of go xs (Some p) place e listed same only = let (c, s) = first_is go xs p (sym e) in ap Some (only p c s)
 
--- ---- the places below a key come first
+-- ---- The places below a key come first.
 module _ (go : ℕ → Ordering) where
   above_at : (xs : List ℕ) → AllStand go Greater xs → (i p : ℕ) → slice_get xs i ≡ Some p → go p ≡ Greater
   above_at [] h i p e = absurd (cc)

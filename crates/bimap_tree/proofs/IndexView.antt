@@ -1,4 +1,4 @@
--- The tree that nodes tell is the one that they show.
+-- The tree that is read from the nodes is the tree that the nodes show.
 use Rattle.std.proofs.Common.{◌≡◌, ℕ, zero, suc, ◌^◌, ◌≤◌, ◌<◌, List, Option, None, refl, sym, subst, ap, arith, ◌∙◌}
 use Rattle.std.specs.Prelude.{slice_get}
 use Rattle.bimap_base.specs.declared.cells.Node.{Node}

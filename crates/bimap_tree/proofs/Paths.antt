@@ -1,4 +1,4 @@
--- Ways down a tree.
+-- Routes down a tree.
 use Rattle.std.proofs.Common.{◌≡◌, ℕ, ◌+◌, ◌≤◌, ◌<◌, Bool, true, false, List, [], ◌∷◌, ◌++◌, refl, sym, subst, ◌∙◌, ap, arith, append_assoc, append-nil}
 use Rattle.std.specs.Prelude.{slice_get, slice_set}
 use Rattle.std.proofs.lemmas.Option.{slice_get_within}
@@ -15,7 +15,7 @@ use Rattle.bimap_tree.proofs.Distinct.{all_append}
 use Rattle.bimap_tree.proofs.Shown.{is_at-same, is_at-apart, get-written, get-elsewhere, Shows-frame}
 use Rattle.bimap_tree.proofs.Split.{split_below, split_above}
 
--- what a whole tree has, it has beside the subtree or in it
+-- Each place of the whole tree is outside the subtree or in it.
 pub occurs-plug : (q : ℕ) (path : Path) (t : Tree) → occurs q (plug path t) ≡ occurs_on q path + occurs q t
 occurs-plug q top t = omega arith
 occurs-plug q (below up direction p sister) t = omega (arith, occurs-plug q up (branch direction t p sister), occurs-branch q direction t p sister)
@@ -40,7 +40,7 @@ balanced_inside (below up direction p sister) t h = (level direction t p sister 
 pub tells : (direction : Bool) (s sister : Tree) → Tells direction (node_on direction s sister) s sister
 tells direction s sister = record { near_is = near-node_on direction s sister; far_is = far-node_on direction s sister; height_is = height-node_on direction s sister; size_is = size-node_on direction s sister }
 
--- nodes that show a whole tree hold the path, and show the subtree
+-- If nodes show a whole tree, they fit the route and show the subtree.
 pub holds_of : (ns : List Node) (path : Path) (t : Tree) → Shows ns (plug path t) → Holds ns path t × Shows ns t
 holds_of ns top t h = (tt, h)
 holds_of ns (below up direction p sister) t h =
@@ -48,7 +48,7 @@ holds_of ns (below up direction p sister) t h =
     let o = parts ns direction t p sister shown in
     (((node_on direction t sister, o.node, tells direction t sister), o.far_shown, holds), o.near_shown)
 
--- nodes that agree on the places of the path hold it too
+-- Other nodes that agree on the places of the route fit the route too.
 pub Holds-frame : (ns ms : List Node) (path : Path) (s : Tree) → ((q : ℕ) → 0 < occurs_on q path → slice_get ms q ≡ slice_get ns q) → Holds ns path s → Holds ms path s
 Holds-frame ns ms top s same h = tt
 Holds-frame ns ms (below up direction p sister) s same h = (
@@ -57,16 +57,16 @@ Holds-frame ns ms (below up direction p sister) s same h = (
   Holds-frame ns ms up (branch direction s p sister) (λ q o. same q (omega arith)) h.2,
 )
 
--- steps that agree as far as the path goes follow it too
+-- Other entries that agree up to the end of the route follow the route too.
 pub Follows-frame : (kept : ℕ → ℕ) (noted other : ℕ → ℕ × Bool) (path : Path) → ((i : ℕ) → i < steps path → other i ≡ noted i) → Follows kept noted path → Follows kept other path
 Follows-frame kept noted other top same h = tt
 Follows-frame kept noted other (below up direction p sister) same h = (same (steps up) (omega arith) ∙ h.0, Follows-frame kept noted other up (λ i l. same i (omega arith)) h.1)
 
--- a step noted at the path's end
+-- One more entry is noted at the end of the route.
 pub Follows-noted : (kept : ℕ → ℕ) (old new : ℕ → ℕ × Bool) (path : Path) (direction : Bool) (p : ℕ) (sister : Tree) (depth : ℕ) → depth ≡ steps path → IsNoted old depth (kept p, direction) new → Follows kept old path → Follows kept new (below path direction p sister)
 Follows-noted kept old new path direction p sister depth is n h = (ap new (sym is) ∙ n.here, Follows-frame kept old new path (λ i l. n.elsewhere i (λ e. absurd (omega arith))) h)
 
--- ---- what stands before the path's end is below the key, and what stands behind it is above
+-- ---- The places before the end of the route are below the key, and the places after it are above the key.
 pub beside : (go : ℕ → Ordering) (path : Path) (t : Tree) → IsSplit go (reading (plug path t)) → Wants go path → AllStand go Less (front path) × AllStand go Greater (back path)
 beside go top t split w = (tt, tt)
 beside go (below up true p sister) t split w =
@@ -80,12 +80,12 @@ beside go (below up false p sister) t split w =
     let s : IsSplit go ((front up ++ reading t) ++ p ∷ (reading sister ++ back up)) = subst (λ x. IsSplit go x) e split in
     (less, (w.0, split_above go (front up ++ reading t) (reading sister ++ back up) p s (λ f. let x : Greater ≡ Less = sym w.0 ∙ f in cc)))
 
--- keys that stand alike to each place of the path want one way
+-- Keys that compare equally with each place of the route lie in the same directions.
 pub Wants-alike : (go other : ℕ → Ordering) (path : Path) → ((q : ℕ) → 0 < occurs_on q path → other q ≡ go q) → Wants go path → Wants other path
 Wants-alike go other top same w = tt
 Wants-alike go other (below up direction p sister) same w = (same p (omega (arith, is_at-same p)) ∙ w.0, Wants-alike go other up (λ q o. same q (omega arith)) w.1)
 
--- only the root, the height and the size of a subtree matter to the places above
+-- The places above a subtree depend only on its root, its height and its size.
 Holds-alike : (ns : List Node) (path : Path) (s t : Tree) → root_of t ≡ root_of s → height t ≡ height s → size t ≡ size s → Holds ns path s → Holds ns path t
 Holds-alike ns top s t r a b h = tt
 Holds-alike ns (below up direction p sister) s t r a b h = (
@@ -101,7 +101,7 @@ tells-linked : (direction : Bool) (node : Node) (s t sister : Tree) → height t
 tells-linked true node s t sister a b h = record { near_is = refl; far_is = h.far_is; height_is = omega (arith, h.height_is, a); size_is = omega (arith, h.size_is, b) }
 tells-linked false node s t sister a b h = record { near_is = refl; far_is = h.far_is; height_is = omega (arith, h.height_is, a); size_is = omega (arith, h.size_is, b) }
 
--- nor does its root, once the place above is told of it
+-- They do not depend on its root either, after the root is written into the place above.
 pub Holds-linked : (ns ms : List Node) (up : Path) (direction : Bool) (p : ℕ) (sister s t : Tree) → ((q : ℕ) → occurs_on q (below up direction p sister) ≤ 1) → height t ≡ height s → size t ≡ size s → (h : Holds ns (below up direction p sister) s) → ms ≡ slice_set ns p (linked direction (root_of t) h.0.0) → Holds ms (below up direction p sister) t
 Holds-linked ns ms up direction p sister s t once a b h e =
     let within = slice_get_within ns p h.0.0 h.0.1 in
@@ -115,7 +115,7 @@ Holds-linked ns ms up direction p sister s t once a b h e =
           (omega (arith, size-branch direction s p sister, size-branch direction t p sister, b)) h.2),
     )
 
--- a subtree of the same height keeps the whole in balance
+-- A subtree of the same height keeps the whole tree balanced.
 pub IsBalanced-alike : (path : Path) (s t : Tree) → height t ≡ height s → IsBalanced t → IsBalanced (plug path s) → IsBalanced (plug path t)
 IsBalanced-alike top s t same b h = b
 IsBalanced-alike (below up direction p sister) s t same b h =

@@ -1,4 +1,4 @@
--- Taking out the place at a path's end.
+-- The removal of the place at the end of a route.
 use Rattle.std.proofs.Common.{◌≡◌, ℕ, suc, ◌+◌, ◌^◌, ◌≤◌, ◌<◌, Bool, true, false, not, List, [], ◌∷◌, ◌++◌, Option, Some, None, length, refl, sym, subst, ◌∙◌, ap, arith, append_assoc, append-nil, length-set}
 use Rattle.std.specs.Prelude.{is_some, slice_get, slice_set}
 use Rattle.std.proofs.lemmas.Option.{slice_get_within}
@@ -13,12 +13,12 @@ use Rattle.bimap_tree.proofs.Heights.{low}
 use Rattle.bimap_tree.proofs.Rooms.{room_for}
 use Rattle.bimap_tree.proofs.Shown.{is_at-same, is_at-apart, Shows-frame, get-written, get-elsewhere, no_root, opened, Stands-at}
 
--- a test for no child
+-- The test for no child.
 pub no_child : (child : Option ℕ) (b : Bool) → is_some child ≡ not b → b ≡ true → child ≡ None
 no_child None b e h = refl
 no_child (Some p) b e h = absurd (let x : true ≡ not true = e ∙ ap not h in cc)
 
--- ---- the way to the first place
+-- ---- The route to the first place.
 module _ (nodes : List Node) (at depth : ℕ) (node : Node) (s : Tree) (h : CanDescend nodes at depth s) (told : slice_get nodes at ≡ Some node) where
   pub record Descent (l r : Tree) : Type 0 where
     pub is : s ≡ fork l at r
@@ -31,7 +31,7 @@ module _ (nodes : List Node) (at depth : ℕ) (node : Node) (s : Tree) (h : CanD
       let (l, r, o) = opened nodes (Some at) at node s h.tree refl told in
       (l, r, record { is = o.is; left_stands = o.left_stands; here = omega (arith, h.deep, ap height o.is); deeper = omega (arith, h.deep, ap height o.is) })
 
-  -- it is this place, which has no left child
+  -- A place without a left child is itself the first place.
   pub first_here : node.left ≡ None → (notes : Notes) → (lefts : List (ℕ × Tree)) × (rest : Tree) × IsFirst notes notes depth s at depth lefts rest
   first_here none notes =
       let (l, r, d) = descent in
@@ -47,7 +47,7 @@ module _ (nodes : List Node) (at depth : ℕ) (node : Node) (s : Tree) (h : CanD
         },
       )
 
-  -- it is the first place of the left tree
+  -- A place with a left child has the first place of its left subtree.
   pub first_left : (old mid new : Notes) (l r : Tree) → Descent l r → IsNoted old.step_at depth (old.kept at, false) mid.step_at → mid.kept ≡ old.kept → (first low : ℕ) → (lefts : List (ℕ × Tree)) × (rest : Tree) × IsFirst mid new (depth + 1) l first low lefts rest → (lefts : List (ℕ × Tree)) × (rest : Tree) × IsFirst old new depth s first low lefts rest
   first_left old mid new l r d noted same first low (lefts, rest, i) =
       let next : depth + 1 ≡ suc depth = omega arith in (
@@ -62,7 +62,7 @@ module _ (nodes : List Node) (at depth : ℕ) (node : Node) (s : Tree) (h : CanD
         },
       )
 
--- ---- turns to the left
+-- ---- Entries to the left.
 pub plug-onward : (path : Path) (lefts : List (ℕ × Tree)) (t : Tree) → plug (onward path lefts) t ≡ plug path (hang lefts t)
 plug-onward path [] t = refl
 plug-onward path (x ∷ xs) t = plug-onward (below path false x.0 x.1) xs t
@@ -79,7 +79,7 @@ height-hang : (lefts : List (ℕ × Tree)) (t : Tree) → length lefts + height 
 height-hang [] t = omega arith
 height-hang (x ∷ xs) t = omega (arith, height-hang xs t)
 
--- the first place is read first
+-- The first place comes first in the list.
 pub reading-hang : (lefts : List (ℕ × Tree)) (first : ℕ) (rest : Tree) → reading (hang lefts (fork leaf first rest)) ≡ first ∷ reading (hang lefts rest)
 reading-hang [] first rest = refl
 reading-hang (x ∷ xs) first rest = ap (λ z. z ++ x.0 ∷ reading x.1) (reading-hang xs first rest)
@@ -88,7 +88,7 @@ pub Follows-onward : (kept : ℕ → ℕ) (noted : ℕ → ℕ × Bool) (path : 
 Follows-onward kept noted path [] h on = h
 Follows-onward kept noted path (x ∷ xs) h on = Follows-onward kept noted (below path false x.0 x.1) xs (on.0, h) on.1
 
--- a step noted above them leaves them as they are
+-- An entry that is noted above them does not change them.
 FollowsOn-keeps : (kept : ℕ → ℕ) (old new : ℕ → ℕ × Bool) (n : ℕ) (step : ℕ × Bool) (depth : ℕ) (lefts : List (ℕ × Tree)) → IsNoted old n step new → n < depth → FollowsOn kept old depth lefts → FollowsOn kept new depth lefts
 FollowsOn-keeps kept old new n step depth [] noted few on = tt
 FollowsOn-keeps kept old new n step depth (x ∷ xs) noted few on = (
@@ -96,7 +96,7 @@ FollowsOn-keeps kept old new n step depth (x ∷ xs) noted few on = (
   FollowsOn-keeps kept old new n step (suc depth) xs noted (omega arith) on.1,
 )
 
--- the nodes of a tree hold the turns to its first place, above a subtree that they show
+-- The nodes of a tree fit the route to its first place, and show the subtree there.
 Shows-hang : (nodes : List Node) (lefts : List (ℕ × Tree)) (s : Tree) → Shows nodes (hang lefts s) → Shows nodes s
 Shows-hang nodes [] s h = h
 Shows-hang nodes (x ∷ xs) s h = Shows-hang nodes xs s h.1
@@ -111,11 +111,11 @@ Holds-onward ns ms path (x ∷ xs) s same h shown =
     ) in
     Holds-onward ns ms (below path false x.0 x.1) xs s (λ q o. same q (omega arith)) step shown.1
 
--- a place alone above one tree is one place more
+-- A place above a single subtree makes one place more.
 one_less : (s t : Tree) → size s ≡ size t + 1 → height s ≡ height t + 1 → Moves false s t
 one_less s t few low = record { sizes = omega arith; not_lower = omega arith; not_higher = omega arith }
 
--- ---- the place at the path's end
+-- ---- The place at the end of the route.
 module _ (nodes : List Node) (notes : Notes) (path : Path) (l : Tree) (at : ℕ) (r : Tree) (h : CanTake nodes notes path l at r) where
   shown_here : Shows nodes (fork l at r)
   shown_here = (holds_of nodes path (fork l at r) h.shown).1
@@ -132,7 +132,7 @@ module _ (nodes : List Node) (notes : Notes) (path : Path) (l : Tree) (at : ℕ)
   pub right_tree : (node : Node) → slice_get nodes at ≡ Some node → Stands nodes node.right r
   right_tree node e = record { root_is = sym (ap (λ n. n.right) (node_told node e)); shown = shown_here.2 }
 
-  -- how deep the path goes
+  -- The depth of the route.
   pub depth_within : steps path + height (fork l at r) ≤ 91
   depth_within = omega (arith, steps_within path (fork l at r), h.deep)
 
@@ -148,7 +148,7 @@ module _ (nodes : List Node) (notes : Notes) (path : Path) (l : Tree) (at : ℕ)
   balanced_here : IsBalanced (fork l at r)
   balanced_here = balanced_inside path (fork l at r) h.balanced
 
-  -- a tree that is all there is below the place rises in its position
+  -- A tree of all other places below the removed place moves to its position.
   rises : (t : Tree) → KeepsWhole nodes notes → Shows nodes t → IsBalanced t → ((q : ℕ) → occurs q t ≤ occurs q (fork l at r)) → Moves false (fork l at r) t → CanRise nodes notes path false (fork l at r) t
   rises t whole shown balanced few moves = record {
     follows = h.follows;
@@ -174,7 +174,7 @@ module _ (nodes : List Node) (notes : Notes) (path : Path) (l : Tree) (at : ℕ)
     },
   )
 
-  -- there is no left tree, and it is the right one, or the other way round
+  -- If there is no left subtree, this tree is the right one. If there is no right subtree, it is the left one.
   module _ (node : Node) (e : slice_get nodes at ≡ Some node) where
     pub rises_right : KeepsWhole nodes notes → node.left ≡ None → CanRise nodes notes path false (fork l at r) r
     rises_right whole none =
@@ -194,21 +194,21 @@ module _ (nodes : List Node) (notes : Notes) (path : Path) (l : Tree) (at : ℕ)
         let no = no_root r ((right_tree node e).root_is ∙ none) in
         taken l (sym (ap (λ x. reading l ++ reading x) no ∙ append-nil (reading l))) (λ q. omega (arith, ap (λ x. occurs q x) no))
 
-  -- the way to the right tree's first place
+  -- The route to the first place of the right subtree.
   pub can_descend : (node : Node) → slice_get nodes at ≡ Some node → (right : ℕ) → node.right ≡ Some right → (depth : ℕ) → depth ≡ notes.depth → CanDescend nodes right (depth + 1) r
   can_descend node e right some depth is = record {
     tree = Stands-at nodes node.right (Some right) r some (right_tree node e);
     deep = omega (arith, is, h.depth_is, depth_within);
   }
 
-  -- a cell can keep its node
+  -- A cell can store the node of the removed place.
   pub kept : (node : Node) → slice_get nodes at ≡ Some node → (node.height ≤ most_height (length nodes) + 1) × (node.size ≤ length nodes)
   kept node e =
       let told = node_told node e in
       let room = room_for nodes l at r shown_here.1 shown_here.2 at_within (λ q. omega (arith, once q)) in
       (omega (arith, ap (λ n. n.height) told, low (fork l at r) balanced_here (length nodes) room), omega (arith, ap (λ n. n.size) told, room))
 
-  -- how deep the first place of the right tree is
+  -- The depth of the first place of the right subtree.
   pub low_within : (old mid : Notes) (depth first low : ℕ) (lefts : List (ℕ × Tree)) (rest : Tree) → depth ≡ notes.depth → IsFirst old mid (depth + 1) r first low lefts rest → (low + 1 ≤ height (plug path (fork l at r))) × (steps path + height r + 1 ≤ height (plug path (fork l at r)))
   low_within old mid depth first low lefts rest is i =
       let a = steps_within path (fork l at r) in
@@ -216,14 +216,14 @@ module _ (nodes : List Node) (notes : Notes) (path : Path) (l : Tree) (at : ℕ)
       let d : height r ≡ height (hang lefts (fork leaf first rest)) = ap height i.whole in
       (omega (arith, i.low_is, is, h.depth_is), omega arith)
 
--- the same, said of an equal tree
+-- The same lemma for an equal tree.
 pub taking : (nodes : List Node) (notes : Notes) (path : Path) (l : Tree) (at : ℕ) (r x : Tree) → CanTake nodes notes path l at r → r ≡ x → CanTake nodes notes path l at x
 taking nodes notes path l at r x h e = subst (λ y. CanTake nodes notes path l at y) e h
 
 pub taken_of : (old new : List Node) (path : Path) (l r x : Tree) (root : Option ℕ) → r ≡ x → (v : Tree) × IsTaken old new path l x root v → (v : Tree) × IsTaken old new path l r root v
 taken_of old new path l r x root e h = subst (λ y. (v : Tree) × IsTaken old new path l y root v) (sym e) h
 
--- ---- the first place of the right tree takes its position
+-- ---- The first place of the right subtree moves to the position of the removed place.
 module _ (nodes : List Node) (notes : Notes) (path : Path) (l : Tree) (at first : ℕ) (lefts : List (ℕ × Tree)) (rest : Tree) (h : CanTake nodes notes path l at (hang lefts (fork leaf first rest))) where
   whole_shown : Shows nodes (fork l at (hang lefts (fork leaf first rest)))
   whole_shown = shown_here nodes notes path l at (hang lefts (fork leaf first rest)) h
@@ -243,15 +243,15 @@ module _ (nodes : List Node) (notes : Notes) (path : Path) (l : Tree) (at first 
   pub was_height : (last : Node) → slice_get nodes first ≡ Some last → last.height ≡ height (fork leaf first rest)
   was_height last e = ap (λ n. n.height) (last_told last e)
 
-  -- how often a place stands in all of them
+  -- No place occurs twice in all of these together.
   each_once : (q : ℕ) → occurs_on q path + occurs q l + is_at q at + occurs q (hang lefts leaf) + is_at q first + occurs q rest ≤ 1
   each_once q = omega (arith, once nodes notes path l at (hang lefts (fork leaf first rest)) h q, occurs-hang q lefts (fork leaf first rest))
 
-  -- the whole, with the first place at the position of the one that is taken out, and so below it
+  -- The whole tree, with the first place at the position of the removed place, and the rest below it.
   as_whole : (t : Tree) → plug (onward (below path true first l) lefts) t ≡ plug path (fork l first (hang lefts t))
   as_whole t = plug-onward (below path true first l) lefts t
 
-  -- another tree may take the place of the whole, where the first place has this node
+  -- The whole tree may be replaced by another tree, if the first place has this node.
   module _ (node : Node) (mid : List Node) (e : mid ≡ slice_set nodes first node) where
     written_elsewhere : (q : ℕ) → is_at q first ≡ 0 → slice_get mid q ≡ slice_get nodes q
     written_elsewhere q other = ap (λ x. slice_get x q) e ∙ get-elsewhere nodes first q node (is_at-apart q first other)
@@ -269,7 +269,7 @@ module _ (nodes : List Node) (notes : Notes) (path : Path) (l : Tree) (at first 
       distinct = λ q. let d = each_once q in omega arith;
     }
 
-    -- it has that node, and the place above is told of it
+    -- The first place has that node, and the place above links to it.
     pub record TakesOver (new : List Node) : Type 0 where
       pub first_is : slice_get new first ≡ Some node
       pub same_elsewhere : (q : ℕ) → is_at q first ≡ 0 → occurs_on q path ≡ 0 → slice_get new q ≡ slice_get nodes q
@@ -294,7 +294,7 @@ module _ (nodes : List Node) (notes : Notes) (path : Path) (l : Tree) (at first 
         ) in
         Holds-onward nodes new (below path true first l) lefts (fork leaf first rest) (λ q o. let d = each_once q in m.same_elsewhere q (omega arith) (omega arith)) step whole_shown.2
 
-    -- the first place is taken out of its tree
+    -- The first place is removed from its subtree.
     pub rises_first : KeepsWhole nodes notes → (last : Notes) → last.kept ≡ notes.kept → Follows last.kept last.step_at (onward (below path true first l) lefts) → CanRise new last (onward (below path true first l) lefts) false (fork leaf first rest) rest
     rises_first whole last same follows =
         let bal = balanced_here nodes notes path l at (hang lefts (fork leaf first rest)) h in
@@ -327,12 +327,12 @@ module _ (nodes : List Node) (notes : Notes) (path : Path) (l : Tree) (at first 
       },
     )
 
--- the way that was noted to the first place still goes along the path
+-- The route that was noted to the first place still follows the route to the removed place.
 pub path_followed : (path : Path) (old mid : Notes) (depth first low : ℕ) (s : Tree) (lefts : List (ℕ × Tree)) (rest : Tree) → Follows old.kept old.step_at path → depth ≡ steps path → IsFirst old mid (depth + 1) s first low lefts rest → Follows mid.kept mid.step_at path
 path_followed path old mid depth first low s lefts rest follows is i =
     Follows-frame mid.kept old.step_at mid.step_at path (λ j few. i.same_above j (omega (arith, is, few))) (subst (λ k. Follows k old.step_at path) (sym i.kept_is) follows)
 
--- the way that was noted to the first place
+-- The route that was noted to the first place.
 pub first_followed : (path : Path) (l : Tree) (old mid last : Notes) (depth first low : ℕ) (s : Tree) (lefts : List (ℕ × Tree)) (rest : Tree) → Follows old.kept old.step_at path → depth ≡ steps path → IsFirst old mid (depth + 1) s first low lefts rest → IsNoted mid.step_at depth (mid.kept first, true) last.step_at → last.kept ≡ mid.kept → Follows last.kept last.step_at (onward (below path true first l) lefts) × (low ≡ steps (onward (below path true first l) lefts))
 first_followed path l old mid last depth first low s lefts rest follows is i noted same =
     let kept = path_followed path old mid depth first low s lefts rest follows is i in

@@ -1,4 +1,4 @@
--- A tree in the place of another at the end of a way.
+-- A tree that replaces another tree at the end of a route.
 use Rattle.std.proofs.Common.{◌≡◌, ℕ, ◌-◌, ◌<◌, ◌≤◌, Bool, List, Some, length, refl, sym, subst, ◌∙◌, ap, arith, length-set}
 use Rattle.std.specs.Prelude.{slice_get, slice_set}
 use Rattle.std.proofs.lemmas.Option.{slice_get_within}
@@ -11,7 +11,7 @@ use Rattle.bimap_tree.specs.Notes.{Notes}
 use Rattle.bimap_tree.proofs.Paths.{Holds-linked}
 use Rattle.bimap_tree.proofs.Shown.{is_at-apart, get-elsewhere}
 
--- the last step of the way
+-- The last entry of the route.
 above : (nodes : List Node) (notes : Notes) (depth : ℕ) (path : Path) (s : Tree) → CanReplace nodes notes depth path s → 0 < depth → (step : ℕ × Bool) → step ≡ notes.step_at (depth - 1) → (up : Path) × (sister : Tree) × (path ≡ below up step.1 step.0 sister)
 above nodes notes depth top s h more step e = absurd (omega (arith, h.depth_is, more))
 above nodes notes depth (below up ordering p sister) s h more step e =
@@ -20,13 +20,13 @@ above nodes notes depth (below up ordering p sister) s h more step e =
     let same : (p, ordering) ≡ step = ap (λ q. (q, ordering)) (sym whole) ∙ sym h.follows.0 ∙ ap notes.step_at (sym at) ∙ sym e in
     (up, sister, ap (λ x. below up x.1 x.0 sister) same)
 
--- where the way has no step
+-- The route has no entry.
 pub replaced_at_top : (nodes : List Node) (notes : Notes) (depth : ℕ) (path : Path) (s t : Tree) → CanReplace nodes notes depth path s → depth ≡ 0 → IsReplaced nodes nodes path t
 replaced_at_top nodes notes depth top s t h none = record { holds = tt; same_elsewhere = λ q o. refl }
 replaced_at_top nodes notes depth (below up direction p sister) s t h none = absurd (omega (arith, h.depth_is, none))
 
 module _ (nodes : List Node) (notes : Notes) (depth : ℕ) (path : Path) (s : Tree) (h : CanReplace nodes notes depth path s) (more : 0 < depth) (step : ℕ × Bool) (e : step ≡ notes.step_at (depth - 1)) where
-  -- the node of the place there
+  -- The node of the place in that entry.
   pub told_above : (node : Node) × (slice_get nodes step.0 ≡ Some node)
   told_above =
       let (up, sister, is) = above nodes notes depth path s h more step e in

@@ -1,4 +1,4 @@
--- Going a way once more, by its turns.
+-- A second descent along a route, by its directions.
 use Rattle.std.proofs.Common.{◌≡◌, ℕ, ◌+◌, ◌≤◌, ◌<◌, ◌^◌, Bool, List, [], ◌∷◌, ◌++◌, Option, Some, None, length, refl, sym, subst, ◌∙◌, ap, arith}
 use Rattle.std.proofs.Math.Nat.{mod-eq_of_lt}
 use Rattle.std.specs.Prelude.{slice_get}
@@ -14,18 +14,18 @@ use Rattle.bimap_tree.proofs.Branch.{root-branch, near-node_on, parts}
 use Rattle.bimap_tree.proofs.Paths.{Follows-noted, steps_within}
 use Rattle.bimap_tree.proofs.Shown.{root_within}
 
--- ---- which places are kept whole
+-- ---- Which places are stored in full.
 pub keeps_few : (nodes : List Node) (route : Route) → length nodes ≤ 2 ^ 31 → KeepsWhole nodes (notes_of route)
 keeps_few nodes route few p low = mod-eq_of_lt (omega (arith, few, low))
 
 pub keeps_all : (nodes : List Node) (route : LongRoute) → KeepsWhole nodes (long_notes_of route)
 keeps_all nodes route p low = refl
 
--- ---- the steps still to go, each a turn at a place away from a sister
+-- ---- The entries that are left. Each has a direction, a place and the subtree on the other side.
 abbrev pub Rest : Type 0
 Rest = List (Bool × ℕ × Tree)
 
--- the path that goes on by them, and the tree that they lead down
+-- The route that goes on by them, and the tree down which they lead.
 abbrev pub onward : Path → Rest → Path
 onward up [] = up
 onward up (x ∷ xs) = onward (below up x.0 x.1 x.2) xs
@@ -63,7 +63,7 @@ near_told : (direction : Bool) (near far : Tree) (node : Node) → Some node ≡
 near_told direction near far node e = let same : node ≡ node_on direction near far = cc in ap (λ n. near_of direction n) same ∙ near-node_on direction near far
 
 module _ (nodes : List Node) (top_root : Option ℕ) (notes : Notes) where
-  -- the way has come to here, and its steps are noted once more
+  -- The descent has come to here, and the entries up to here are noted again.
   pub record Comes (root : Option ℕ) (now : Notes) (path : Path) (s : Tree) (up : Path) (xs : Rest) : Type 0 where
     pub is : path ≡ onward up xs
     pub tree : Stands nodes root (hang xs s)
@@ -78,7 +78,7 @@ module _ (nodes : List Node) (top_root : Option ℕ) (notes : Notes) where
         (top, xs, record { is = e; tree = subst (λ t. Stands nodes top_root t) (ap (λ y. plug y s) e ∙ plug-onward top xs s) h.tree; follows = tt }, refl);
   }
 
-  -- there is a step still to go
+  -- An entry is left.
   one_more : (xs : Rest) → 0 < length xs → (x : Bool × ℕ × Tree) × (ys : Rest) × (xs ≡ x ∷ ys)
   one_more [] n = absurd (omega (arith, n))
   one_more (x ∷ xs) n = (x, xs, refl)
@@ -136,7 +136,7 @@ module _ (nodes : List Node) (top_root : Option ℕ) (notes : Notes) where
               );
         }
 
--- ---- what may be done at the end of a route may be at the end of that way
+-- ---- What may be done at the end of a `Route` may be done at the end of the second route.
 module _ (nodes : List Node) (root : Option ℕ) (notes : Notes) (path : Path) where
   pub retrace_put : (place : ℕ) → CanPut nodes notes path place → root_of (plug path leaf) ≡ root → CanRetrace nodes root notes path leaf
   retrace_put place h is = record { tree = record { root_is = is; shown = h.shown }; follows = h.follows; depth_is = h.depth_is; deep = h.deep }

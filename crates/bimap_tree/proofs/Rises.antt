@@ -1,4 +1,4 @@
--- Going up a path.
+-- The rise along a route.
 use Rattle.std.proofs.Common.{◌≡◌, ◌≢◌, ℕ, ◌+◌, ◌-◌, ◌^◌, ◌≤◌, ◌<◌, max, Bool, true, false, not, List, ◌++◌, Option, Some, length, refl, sym, subst, ◌∙◌, ap, arith, append_assoc, append-nil, inl, inr, length-set}
 use Rattle.std.specs.Prelude.{slice_get, slice_set}
 use Rattle.std.proofs.lemmas.Option.{slice_get_within}
@@ -18,7 +18,7 @@ pub one_notes : (grew : Bool) → one_if grew + one_if (not grew) ≡ 1
 one_notes true = refl
 one_notes false = refl
 
--- what a node that was counted anew tells
+-- What a node stores after its size was corrected.
 pub near-recounted : (direction : Bool) (child : Option ℕ) (grew : Bool) (n : Node) → near_of direction (recounted direction child grew n) ≡ child
 near-recounted true child grew n = refl
 near-recounted false child grew n = refl
@@ -31,7 +31,7 @@ counted-near : (direction : Bool) (child : Option ℕ) (grew : Bool) (n : Node) 
 counted-near true child grew n e = ap (λ c. counted grew record { left = n.left; right = c; height = n.height; size = n.size }) e
 counted-near false child grew n e = ap (λ c. counted grew record { left = c; right = n.right; height = n.height; size = n.size }) e
 
--- to count alone is enough where the child is the one that the node has
+-- To correct the size suffices, if the child is the one that the node has.
 pub counted_alone : (direction : Bool) (child : Option ℕ) (grew : Bool) (n : Node) (old new : List Node) (at : ℕ) → near_of direction n ≡ child → new ≡ slice_set old at (counted grew n) → new ≡ slice_set old at (recounted direction child grew n)
 counted_alone direction child grew n old new at e f = f ∙ ap (λ x. slice_set old at x) (counted-near direction child grew n e)
 
@@ -39,7 +39,7 @@ size-recounted : (direction : Bool) (child : Option ℕ) (grew : Bool) (n : Node
 size-recounted direction child true n some = omega arith
 size-recounted direction child false n some = omega (arith, some refl)
 
--- ---- a place above a tree that has moved
+-- ---- A place above a tree that has changed.
 module _ (nodes : List Node) (at : ℕ) (direction grew : Bool) (node : Node) (sister s u : Tree) (h : CanRejoin nodes at direction grew node sister s u) where
   pub sister_stands : Stands nodes (far_of direction node) sister
   sister_stands = record { root_is = sym h.told.far_is; shown = h.sister_shown }
@@ -50,7 +50,7 @@ module _ (nodes : List Node) (at : ℕ) (direction grew : Bool) (node : Node) (s
       let one = one_notes grew in
       can_link nodes at u sister h.has_cell h.shown h.sister_shown h.distinct h.balanced lv.far_balanced (omega arith) (omega arith) (omega arith)
 
-  -- the whole has moved as the child has, if at all
+  -- The height of the whole tree changes as the height of the child does, or not at all.
   pub moved : (new : List Node) (t : Tree) → IsRebalanced nodes new direction at u sister t → Moves grew (branch direction s at sister) t
   moved new t b =
       let lv = level direction s at sister h.steady in
@@ -67,17 +67,17 @@ module _ (nodes : List Node) (at : ℕ) (direction grew : Bool) (node : Node) (s
         | inr v ↦ record { sizes = omega arith; not_lower = omega arith; not_higher = omega arith }
       ]
 
-  -- the child that its node is told of is there
+  -- The child that is written into the node has a cell.
   pub child_there : (child : Option ℕ) → root_of u ≡ child → IsThere (length nodes) child
   child_there child root = there nodes child u record { root_is = root; shown = h.shown }
 
-  -- a place more or less can be counted below its node
+  -- The size in the node can grow or shrink by one.
   pub can_count : CanCount (length nodes) grew node
   can_count =
       let room = can_rebalance.link.room in
       record { more = λ e. omega (arith, ap one_if e, ap (λ b. one_if (not b)) e); less = λ e. omega arith }
 
-  -- its node was told of the child alone, where its height is as it was
+  -- Only the child was written into the node, if the height stays the same.
   pub record Retold (new : List Node) : Type 0 where
     pub linked : IsRebalanced nodes new direction at u sister (branch direction u at sister)
     pub as_high : height (branch direction u at sister) ≡ height (branch direction s at sister)
@@ -95,7 +95,7 @@ module _ (nodes : List Node) (at : ℕ) (direction grew : Bool) (node : Node) (s
         as_high = height-branch direction u at sister ∙ ap (λ x. x + 1) even ∙ sym (height-branch direction s at sister);
       }
 
-  -- above a child that grew, but no higher than the place was above its sister
+  -- The child grew, and is not higher than the place was above the other child.
   pub low : (child : Option ℕ) → root_of u ≡ child → (new : List Node) → new ≡ slice_set nodes at (recounted direction child grew node) → grew ≡ true → height u < node.height → Retold new
   low child root new e up few =
       let lv = level direction s at sister h.steady in
@@ -103,22 +103,22 @@ module _ (nodes : List Node) (at : ℕ) (direction grew : Bool) (node : Node) (s
       let none : one_if (not grew) ≡ 0 = ap (λ x. one_if (not x)) up in
       retold child root new e (omega arith) (omega arith) (omega arith)
 
-  -- above a child that is as high as it was
+  -- The child has its old height.
   pub steady : (child : Option ℕ) → root_of u ≡ child → (new : List Node) → new ≡ slice_set nodes at (recounted direction child grew node) → height u ≡ height s → Retold new
   steady child root new e same = let lv = level direction s at sister h.steady in retold child root new e (omega arith) (omega arith) (omega arith)
 
   pub as_told : node.height ≡ height (branch direction s at sister)
   as_told = h.told.height_is ∙ sym (height-branch direction s at sister)
 
-  -- the node's count can be told
+  -- A node can store the new size.
   pub counts : (node.size + one_if grew < 2 ^ 64) × (one_if (not grew) ≤ node.size)
   counts =
       let one = one_notes grew in
       (omega arith, omega arith)
 
--- ---- a step of the path
+-- ---- One entry of the route.
 module _ (nodes : List Node) (notes : Notes) (grew : Bool) (s u : Tree) where
-  -- the path's last step
+  -- The last entry of the route.
   pub record LastStep (depth at : ℕ) (direction : Bool) (path up : Path) (sister : Tree) : Type 0 where
     pub is : path ≡ below up direction at sister
     pub above : depth - 1 ≡ steps up
@@ -167,7 +167,7 @@ module _ (nodes : List Node) (notes : Notes) (grew : Bool) (s u : Tree) where
       moves = m;
     }
 
--- what is read along the path, with its last step told apart
+-- The list of places along the route, with its last entry separated.
 reading_step : (up : Path) (direction : Bool) (u : Tree) (at : ℕ) (sister : Tree) → front up ++ reading (branch direction u at sister) ++ back up ≡ front (below up direction at sister) ++ reading u ++ back (below up direction at sister)
 reading_step up true u at sister = simp append_assoc
 reading_step up false u at sister = simp append_assoc
@@ -183,7 +183,7 @@ risen_on nodes new last path up direction at sister u t root v is b r =
     } in
     subst (λ x. IsRisen nodes last x u root v) (sym is) done
 
--- the way up is at its end
+-- The rise is at its end.
 pub at_top : (nodes : List Node) (notes : Notes) (path : Path) (grew : Bool) (s u : Tree) (depth : ℕ) (root : Option ℕ) → CanRise nodes notes path grew s u → depth ≡ steps path → depth ≡ 0 → root_of u ≡ root → (v : Tree) × IsRisen nodes nodes path u root v
 at_top nodes notes top grew s u depth root c e n r = (
   u,
@@ -197,7 +197,7 @@ at_top nodes notes top grew s u depth root c e n r = (
 )
 at_top nodes notes (below up direction p sister) grew s u depth root c e n r = absurd (omega (arith, e, n))
 
--- ---- a place alone at a path's end
+-- ---- A single place at the end of a route.
 module _ (nodes : List Node) (notes : Notes) (path : Path) (place : ℕ) (h : CanPut nodes notes path place) (new : List Node) (e : new ≡ slice_set nodes place (node_on false leaf leaf)) where
   pub can_put : KeepsWhole nodes notes → CanRise new notes path true leaf (fork leaf place leaf)
   can_put whole =

@@ -1,4 +1,4 @@
--- The rotations of a tree that is two levels higher on the side of a turn.
+-- The rotations of a tree that is two levels higher in one direction.
 use Rattle.std.proofs.Common.{◌≡◌, ℕ, ◌+◌, ◌^◌, ◌≤◌, ◌<◌, max, Bool, true, false, not, List, ◌∷◌, Option, Some, refl, sym, subst, ◌∙◌, ap, arith, length, append_assoc, length-set}
 use Rattle.std.specs.Prelude.{slice_get, slice_set}
 use Rattle.std.proofs.lemmas.Option.{slice_get_within}
@@ -18,7 +18,7 @@ double_reading : (direction : Bool) (a : Tree) (heavy : ℕ) (b : Tree) (middle 
 double_reading true a heavy b middle d place r = simp append_assoc
 double_reading false a heavy b middle d place r = simp append_assoc
 
--- a place may be linked above two trees that the nodes show, apart from each other and from it
+-- A place may be linked above two trees that the nodes show. The trees and the place have nothing in common.
 pub can_link : (ns : List Node) (place : ℕ) (n f : Tree) → place < length ns → Shows ns n → Shows ns f → ((q : ℕ) → occurs q n + is_at q place + occurs q f ≤ 1) → IsBalanced n → IsBalanced f → height n ≤ height f + 2 → height f ≤ height n + 2 → size n + size f + 1 < 2 ^ 64 → CanRebalance ns place n f
 can_link ns place n f within near far distinct near_balanced far_balanced a b fits =
     let room = room_for ns n place f near far within distinct in
@@ -39,7 +39,7 @@ can_link ns place n f within near far distinct near_balanced far_balanced a b fi
       far_level = b;
     }
 
--- a place linked above two trees of about one height needs no rotation
+-- A place above two trees of about the same height needs no rotation.
 pub no_rotation : (N0 N1 : List Node) (direction : Bool) (place : ℕ) (n f : Tree) → CanRebalance N0 place n f → height n ≤ height f + 1 → height f ≤ height n + 1 → N1 ≡ slice_set N0 place (node_on direction n f) → IsRebalanced N0 N1 direction place n f (branch direction n place f)
 no_rotation N0 N1 direction place n f h a b e =
     let dp = h.distinct place in
@@ -59,7 +59,7 @@ no_rotation N0 N1 direction place n f h a b e =
       same_length = rw (e, length-set) refl;
     }
 
--- ---- one rotation: a heavy b, place, r becomes a, heavy, b place r
+-- ---- One rotation. The trees (a heavy b) place r become a heavy (b place r).
 module _ (direction : Bool) (N0 : List Node) (place heavy : ℕ) (a b r : Tree) (h : CanRebalance N0 place (branch direction a heavy b) r) (two : height (branch direction a heavy b) ≡ height r + 2) where
   below_heavy : Parts N0 direction a heavy b
   below_heavy = parts N0 direction a heavy b h.link.near_shown
@@ -67,11 +67,11 @@ module _ (direction : Bool) (N0 : List Node) (place heavy : ℕ) (a b r : Tree) 
   levels : Level a b
   levels = level direction a heavy b h.near_balanced
 
-  -- how often a place stands in all of them
+  -- No place occurs twice in all of these together.
   each_once : (q : ℕ) → occurs q a + is_at q heavy + occurs q b + is_at q place + occurs q r ≤ 1
   each_once q = omega (arith, h.distinct q, occurs-branch q direction a heavy b)
 
-  -- how high the inner tree is
+  -- The height of the inner tree.
   inner_level : (height b ≤ height r + 1) × (height r ≤ height b + 1)
   inner_level = let lv = levels in let tall = height-branch direction a heavy b in (omega arith, omega arith)
 
@@ -113,7 +113,7 @@ module _ (direction : Bool) (N0 : List Node) (place heavy : ℕ) (a b r : Tree) 
           same_length = done.same_length ∙ lower.same_length;
         }
 
--- ---- two rotations: a heavy (b middle d), place, r becomes a heavy b, middle, d place r
+-- ---- Two rotations. The trees (a heavy (b middle d)) place r become (a heavy b) middle (d place r).
 module _ (direction : Bool) (N0 : List Node) (place heavy middle : ℕ) (a b d r : Tree) (h : CanRebalance N0 place (branch direction a heavy (branch direction b middle d)) r) (two : height (branch direction a heavy (branch direction b middle d)) ≡ height r + 2) (lt : height a < height (branch direction b middle d)) where
   upper : Parts N0 direction a heavy (branch direction b middle d)
   upper = parts N0 direction a heavy (branch direction b middle d) h.link.near_shown
@@ -127,15 +127,15 @@ module _ (direction : Bool) (N0 : List Node) (place heavy middle : ℕ) (a b d r
   inner_levels : Level b d
   inner_levels = level direction b middle d upper_levels.far_balanced
 
-  -- how often a place stands in all of them
+  -- No place occurs twice in all of these together.
   all_once : (q : ℕ) → occurs q a + is_at q heavy + occurs q b + is_at q middle + occurs q d + is_at q place + occurs q r ≤ 1
   all_once q = omega (arith, h.distinct q, occurs-branch q direction a heavy (branch direction b middle d), occurs-branch q direction b middle d)
 
-  -- how many places all of them have
+  -- The number of places in all of these together.
   all_fit : size a + size b + size d + size r + 3 < 2 ^ 64
   all_fit = omega (arith, h.link.fits, size-branch direction a heavy (branch direction b middle d), size-branch direction b middle d)
 
-  -- how high they are
+  -- The heights of these trees.
   record Even : Type 0 where
     outer : height a ≡ height r
     near : (height b ≤ height r) × (height r ≤ height b + 1)
@@ -160,7 +160,7 @@ module _ (direction : Bool) (N0 : List Node) (place heavy middle : ℕ) (a b d r
     near_side : IsRebalanced N0 N1 direction heavy a b (branch direction a heavy b)
     near_side = let v = even in no_rotation N0 N1 direction heavy a b double_first (omega arith) (omega arith) e1
 
-    -- what they do not hold is as it was
+    -- A tree without these places is shown as before.
     kept : (t : Tree) → ((q : ℕ) → occurs q a + is_at q heavy + occurs q b + occurs q t ≤ 1) → Shows N0 t → Shows N1 t
     kept t apart shown = Shows-frame N0 N1 t (λ q n. near_side.same_elsewhere q (omega (arith, apart q))) shown
 
@@ -206,9 +206,9 @@ module _ (direction : Bool) (N0 : List Node) (place heavy middle : ℕ) (a b d r
             same_length = done.same_length ∙ far_side.same_length ∙ near_side.same_length;
           }
 
--- ---- the tree that is too high, as its nodes tell it
+-- ---- The tree that is too high, as its nodes describe it.
 module _ (direction : Bool) (N0 : List Node) (place heavy : ℕ) (n f : Tree) where
-  -- its two trees
+  -- Its two subtrees.
   pub record Upper (outer inner : Option ℕ) (a b : Tree) : Type 0 where
     pub is : n ≡ branch direction a heavy b
     pub outer_stands : Stands N0 outer a
@@ -230,7 +230,7 @@ module _ (direction : Bool) (N0 : List Node) (place heavy : ℕ) (n f : Tree) wh
         },
       )
 
-  -- the two trees of the inner one
+  -- The two subtrees of the inner one.
   pub record Inner (middle : ℕ) (outer near far : Option ℕ) (a b d : Tree) : Type 0 where
     pub is : n ≡ branch direction a heavy (branch direction b middle d)
     pub outer_stands : Stands N0 outer a
@@ -256,11 +256,11 @@ module _ (direction : Bool) (N0 : List Node) (place heavy : ℕ) (n f : Tree) wh
         },
       )
 
--- the same, said of an equal tree
+-- The same lemma for an equal tree.
 pub rebalanced_of : (old new : List Node) (direction : Bool) (place : ℕ) (n x f t : Tree) → n ≡ x → IsRebalanced old new direction place x f t → IsRebalanced old new direction place n f t
 rebalanced_of old new direction place n x f t e h = subst (λ y. IsRebalanced old new direction place y f t) (sym e) h
 
--- the same from the other side
+-- The same lemma in the other direction.
 pub can_turned : (ns : List Node) (place : ℕ) (n f : Tree) → CanRebalance ns place n f → CanRebalance ns place f n
 can_turned ns place n f h =
     can_link ns place f n h.link.has_cell h.link.far_shown h.link.near_shown (λ q. omega (arith, h.distinct q)) h.far_balanced h.near_balanced h.far_level h.near_level (omega (arith, h.link.fits))

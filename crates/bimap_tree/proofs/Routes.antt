@@ -1,4 +1,4 @@
--- Routes of keys that stand alike, and routes where there are more cells.
+-- Routes of keys that compare alike, and routes after cells were added.
 use Rattle.std.proofs.Common.{◌≡◌, ℕ, ◌<◌, length, sym, subst, ◌∙◌, arith}
 use Rattle.std.specs.Prelude.{slice_get}
 use Rattle.std.specs.List.{Contains}
@@ -12,7 +12,7 @@ use Rattle.bimap_tree.proofs.Distinct.{occurs_contains}
 use Rattle.bimap_tree.proofs.Paths.{occurs-plug, Wants-alike}
 use Rattle.bimap_tree.proofs.Shown.{Shows-frame, in_tree}
 
--- where the listed places stand alike to two keys, a route of the one is a route of the other
+-- If the listed places compare alike with two keys, a route of one key is a route of the other.
 pub IsRoute-alike : (index : IndexView) (first second : ℕ → Ordering) (route : Route) → ((q : ℕ) → Contains index.places q → second q ≡ first q) → IsRoute index first route → IsRoute index second route
 IsRoute-alike index first second route same r = record {
   path = r.path;
@@ -23,7 +23,7 @@ IsRoute-alike index first second route same r = record {
       (λ q n. same q (subst (λ x. Contains x q) r.of_index.in_order (occurs_contains (plug r.path leaf) q (omega (arith, occurs-plug q r.path leaf))))) r.wants;
 }
 
--- more cells change no route
+-- Cells that are added change no route.
 pub IsRoute-grown : (old new : IndexView) (go : ℕ → Ordering) (route : Route) → ((k : ℕ) → k < length old.nodes → slice_get new.nodes k ≡ slice_get old.nodes k) → new.root ≡ old.root → new.places ≡ old.places → IsRoute old go route → IsRoute new go route
 IsRoute-grown old new go route same root places h =
     let t = plug h.path leaf in

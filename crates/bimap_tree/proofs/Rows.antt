@@ -1,4 +1,4 @@
--- Trees that a descent comes to, and the rows of places around them.
+-- Subtrees that a descent comes to, and the consecutive places around them.
 use Rattle.std.proofs.Common.{◌≡◌, ℕ, zero, suc, ◌+◌, ◌-◌, ◌≤◌, ◌<◌, List, [], ◌∷◌, ◌++◌, length, take, drop, Option, Some, None, refl, sym, subst, ◌∙◌, ap, arith, length-append, length-take-le, append_assoc}
 use Rattle.std.specs.Prelude.{slice_get}
 use Rattle.std.proofs.lemmas.List.{take_all, take-append-le, append-nil}
@@ -27,12 +27,12 @@ one_at_most None = omega arith
 one_at_most (Some place) = omega arith
 
 module _ (ns : List Node) (places : List ℕ) (rank : ℕ) where
-  -- the whole tree
+  -- The whole tree.
   pub subtree_whole : (at : ℕ) (node : Node) (t : Tree) → CanFill ns at node t → places ≡ reading t → rank < size t → IsRankedSubtree ns places rank (record { start = 0; before = None; behind = None; at = at; node = node }) t
   subtree_whole at node t h e l = record { front = []; back = []; shown = h; is = e ∙ sym (append-nil (reading t)); start_is = refl; low = omega arith; high = omega arith }
 
   module _ (subtree : RankedSubtree) (s : Tree) (h : IsRankedSubtree ns places rank subtree s) where
-    -- the tree on the left of its root
+    -- The left subtree.
     pub subtree_left : (left : ℕ) (left_node : Node) → subtree.node.left ≡ Some left → slice_get ns left ≡ Some left_node → rank < subtree.start + left_node.size
         → (l : Tree) × IsRankedSubtree ns places rank (record { start = subtree.start; before = subtree.before; behind = Some subtree.at; at = left; node = left_node }) l × (height l + 1 ≤ height s)
     subtree_left left left_node el gl le =
@@ -53,7 +53,7 @@ module _ (ns : List Node) (places : List ℕ) (rank : ℕ) where
           omega (arith, ap height i.is),
         )
 
-    -- the tree on its right
+    -- The right subtree.
     pub subtree_right : (left right : ℕ) (left_node right_node : Node) → subtree.node.left ≡ Some left → subtree.node.right ≡ Some right → slice_get ns left ≡ Some left_node → slice_get ns right ≡ Some right_node → subtree.start + left_node.size ≤ rank
         → (r : Tree) × IsRankedSubtree ns places rank (record { start = subtree.start + left_node.size + 1; before = Some subtree.at; behind = subtree.behind; at = right; node = right_node }) r × (height r + 1 ≤ height s)
     subtree_right left right left_node right_node el er gl gr le =
@@ -78,14 +78,14 @@ module _ (ns : List Node) (places : List ℕ) (rank : ℕ) where
           omega (arith, ap height i.is),
         )
 
-    -- its places are listed ones
+    -- The places of the subtree are listed places.
     pub subtree_within : subtree.start + size s ≤ length places
     subtree_within =
         let B : List ℕ = place_in subtree.before in
         let E : List ℕ = place_in subtree.behind ++ h.back in
         omega (arith, h.start_is, size-reading s, ap length h.is, length-append h.front (B ++ (reading s ++ E)), length-append B (reading s ++ E), length-append (reading s) E)
 
-    -- it and the places beside it
+    -- The places of the subtree, and the places beside it.
     pub row : (old b c new : List ℕ) (f m : ℕ) → subtree.node.size ≤ 60 → IsFilled 64 0 old (place_in subtree.before) b f → IsFilled 64 f b (reading s) c (f + size s) → IsFilled 64 (f + subtree.node.size) c (place_in subtree.behind) new m → IsRow places rank new (subtree.start - f) m
     row old b c new f m few k1 k2 k3 =
         let n : subtree.node.size ≡ size s = told_size ns subtree.at subtree.node s h.shown in

@@ -1,4 +1,4 @@
--- Finding places in a tree.
+-- Searches for places in a tree.
 use Rattle.std.proofs.Common.{◌≡◌, ◌≢◌, ℕ, ◌+◌, ◌≤◌, List, ◌∷◌, ◌++◌, Option, Some, zero-add, refl, sym, subst, ◌∙◌, ap, arith}
 use Rattle.std.specs.Prelude.{slice_get}
 use Rattle.std.specs.declared.cmp.Ordering.{Ordering}
@@ -10,7 +10,7 @@ use Rattle.bimap_tree.proofs.Split.{split_front, split_back, split_below, split_
 use Rattle.bimap_tree.specs.Search.{CanSeek}
 use Rattle.bimap_tree.proofs.Shown.{is_at-same, opened, size-reading}
 
--- what is known of a tree that may be searched, at its root
+-- What is known at the root of a tree that may be searched.
 pub record SeekInto (ns : List Node) (root : Option ℕ) (at : ℕ) (node : Node) (live : ℕ → Type 0) (go : ℕ → Ordering) (t l r : Tree) : Type 0 where
   pub is : t ≡ fork l at r
   pub can_left : CanSeek ns node.left live go l

@@ -1,4 +1,4 @@
--- Where the bounds of a range cut the ranks.
+-- Where the ends of a range cut the ranks.
 use Rattle.std.proofs.Common.{◌≡◌, ℕ, List, Option, Some, refl, sym, ap, ◌∙◌, arith, Bool}
 use Rattle.std.specs.Prelude.{max, not}
 use Rattle.std.specs.Ordering.{is_ge, is_gt, is_lt}
@@ -25,7 +25,7 @@ gt_not_lt Equal = refl
 gt_not_lt Greater = refl
 
 module _ {K Q : Type 0} (key : ℕ → Option K) (order : K → K → Ordering) (to : K → Q → Ordering) (follows : Follows order to) (xs : List ℕ) (up : Ascends key order xs) where
-  -- a test that the keys below fail, and that all others pass
+  -- A test that exactly the keys below a key fail.
   cuts : (go : ℕ → Ordering) → IsSplit go xs → (test : K → Bool) → ((p : ℕ) (k : K) → key p ≡ Some k → test k ≡ not (is_lt (go p))) → (rank : ℕ) → rank ≡ count_below go xs → IsCut test key xs rank
   cuts go parts test tells rank e = record {
     within = omega (arith, e, count_length go xs);
@@ -46,7 +46,7 @@ module _ {K Q : Type 0} (key : ℕ → Option K) (order : K → K → Ordering) 
   pub cut_unbounded : IsCut (is_from_start to Unbounded) key xs 0
   cut_unbounded = record { within = omega arith; before = λ i p k few at has. absurd (omega arith); after = λ i p k few at has. refl }
 
--- between the two cuts the keys lie between the ends
+-- The keys between the two cuts are between the two ends.
 pub span_from_cuts : {K Q : Type 0} (key_at : ℕ → Option K) (order : K → Q → Ordering) (low high : Bound Q) (places : List ℕ) (front cut back : ℕ) → IsCut (is_from_start order low) key_at places front → IsCut (is_past_end order high) key_at places cut → back ≡ max front cut → IsSpan (is_between order low high) key_at places front back
 span_from_cuts key_at order low high places front cut back start end most =
     record {

@@ -1,4 +1,4 @@
--- Lists of places in the order of their keys, as seen from one key.
+-- Lists of places in the order of their keys, compared with one key.
 use Rattle.std.proofs.Common.{◌≡◌, ◌≢◌, ◌⊎◌, ℕ, ◌+◌, ◌≤◌, true, false, cond, List, [], ◌∷◌, ◌++◌, length, zero-add, refl, sym, ◌∙◌, ap, arith, inl, inr, Some, None}
 use Rattle.std.specs.Ordering.{is_lt, is_eq}
 use Rattle.std.specs.declared.cmp.Ordering.{Ordering}
@@ -15,12 +15,12 @@ module _ (go : ℕ → Ordering) where
   split_back [] ys h = h
   split_back (x ∷ xs) ys h = split_back xs ys h.1
 
-  -- what stands before a place that is not above the key is below it
+  -- The places before a place that is not above the key are below the key.
   pub split_below : (xs ys : List ℕ) (p : ℕ) → IsSplit go (xs ++ p ∷ ys) → go p ≢ Greater → AllStand go Less xs
   split_below [] ys p h n = tt
   split_below (x ∷ xs) ys p h n = (elim h.0 [ inl a ↦ a | inr a ↦ absurd (n (all_behind (λ q. go q ≡ Greater) xs (p ∷ ys) a).0) ], split_below xs ys p h.1 n)
 
-  -- what stands after a place that is not below the key is above it
+  -- The places after a place that is not below the key are above the key.
   pub split_above : (xs ys : List ℕ) (p : ℕ) → IsSplit go (xs ++ p ∷ ys) → go p ≢ Less → AllStand go Greater ys
   split_above xs ys p h n = elim (split_back xs (p ∷ ys) h).0 [ inl a ↦ absurd (n a) | inr a ↦ a ]
 

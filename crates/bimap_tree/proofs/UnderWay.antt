@@ -23,12 +23,12 @@ use Rattle.bimap_tree.proofs.Searches.{seek_into, found_left, found_right}
 use Rattle.bimap_tree.proofs.Shown.{a_fork, height_told}
 use Rattle.bimap_tree.proofs.Whole.{can_seek_of, few_levels, height_within, route_if_none, shown_index}
 
--- a search that has not found the key yet may still go down all that is below
+-- A search that has not found the key yet may still go down all levels below.
 pub levels_on : (ns : List Node) (descent : Descent) → descent.is_found ≡ false → levels_left ns descent ≡ height_at ns descent.root
 levels_on ns descent e = ap (λ b. cond b 0 (height_at ns descent.root)) e
 
 module _ (ns : List Node) (live : ℕ → Type 0) (go : ℕ → Ordering) where
-  -- a key that is found at the top is the first that is equal
+  -- A key that is found at the top is the first equal key.
   pub found_at : (root : Option ℕ) (s : Tree) (place : ℕ) → CanSeek ns root live go s → root ≡ Some place → go place ≡ Equal → root ≡ first_equal go (reading s)
   found_at root s place h e same =
       let (l, r, whole) = a_fork s place (h.tree.root_is ∙ e) in
@@ -45,7 +45,8 @@ module _ (ns : List Node) (live : ℕ → Type 0) (go : ℕ → Ordering) where
       let same : l ≡ s = let e = i.is in cc in
       (subst (λ x. CanSeek ns (root_of s) live go x) same i.can_left, found_left ns (Some p) p (node_of s sister) live go (fork s p sister) l r i w ∙ ap (λ x. first_equal go (reading x)) same)
 
-  -- where the way leads down a tree that may be searched, the rest may be, and finds what the whole would
+  -- If a route leads down a tree that may be searched, its subtree may be searched. The search finds the same there as in the
+  -- whole tree.
   seek_along : (root : Option ℕ) (path : Path) (s : Tree) → CanSeek ns root live go (plug path s) → Wants go path → CanSeek ns (root_of s) live go s × (first_equal go (reading (plug path s)) ≡ first_equal go (reading s))
   seek_along root top s h w = (subst (λ x. CanSeek ns x live go s) (sym h.tree.root_is) h, refl)
   seek_along root (below up direction p sister) s h w =
@@ -54,7 +55,7 @@ module _ (ns : List Node) (live : ℕ → Type 0) (go : ℕ → Ordering) where
       (m, f ∙ e)
 
 module _ (ns : List Node) (root : Option ℕ) (len : ℕ) (v : IndexView) (w : IsWhole ns root len) (e : index_of ns root ≡ v) (descent : Descent) (at_root : descent.root ≡ root) (no_step : descent.depth ≡ 0) (not_found : descent.is_found ≡ false) where
-  -- a search that has not gone down yet
+  -- A search that has not gone down yet.
   pub starts : (go : ℕ → Ordering) (route : Route) → IsUnderWay v go descent route
   starts go route = record {
     path = top;
@@ -74,14 +75,14 @@ module _ (ns : List Node) (root : Option ℕ) (len : ℕ) (v : IndexView) (w : I
       omega (arith, levels_on v.nodes descent not_found, h, r, height_within ns root len v w e)
 
 module _ (ns : List Node) (root : Option ℕ) (len : ℕ) (v : IndexView) (w : IsWhole ns root len) (e : index_of ns root ≡ v) {K : Type 0} (key : ℕ → Option K) (order : K → K → Ordering) (total : IsTotalOrder order) (up : Ascends key order v.places) (k : K) (descent : Descent) where
-  -- which places have a key, and how each stands to the one sought
+  -- Which places have a key, and how each compares with the key that is searched for.
   abbrev live : ℕ → Type 0
   live = λ q. IsSome (key q)
 
   abbrev go : ℕ → Ordering
   go = λ q. standing order (key q) (Some k)
 
-  -- a search that is under way may go on, and finds what it would have found from the top
+  -- A search that is under way may go on. It finds what it would have found from the top.
   pub goes_on_down : (route : Route) (u : IsUnderWay v go descent route) → CanFollow ns descent.root live go route descent.depth u.path u.rest × (first_equal go v.places ≡ first_equal go (reading u.rest))
   goes_on_down route u =
       let whole = can_seek_of ns root len v w e key order order (follows_itself total) up (plug u.path u.rest) u.of_index k in
@@ -96,7 +97,7 @@ module _ (ns : List Node) (root : Option ℕ) (len : ℕ) (v : IndexView) (w : I
         ap (λ x. first_equal go x) (sym u.of_index.in_order) ∙ found,
       )
 
-  -- where it has come after a step
+  -- Where the search is after one level more.
   pub goes_further : (old next : Route) (u : IsUnderWay v go descent old) (later : Descent) → ((path : Path) (s : Tree) → CanFollow ns descent.root live go old descent.depth path s → (low : Path) × (rest : Tree) × IsFollowed go next later.depth later.root (plug path s) low rest) → (later.is_found ≡ true → (later ≡ descent) ⊎ ((place : ℕ) × (later.root ≡ Some place) × (go place ≡ Equal))) → IsUnderWay v go later next
   goes_further old next u later goes found =
       let (low, rest, f) = goes _ _ (goes_on_down old u).0 in
@@ -114,7 +115,7 @@ module _ (ns : List Node) (root : Option ℕ) (len : ℕ) (v : IndexView) (w : I
         ];
       }
 
-  -- what it answers, and where its route leads, once it has gone down all the way
+  -- What a completed search returns, and where its route leads.
   module _ (old : Route) (u : IsUnderWay v go descent old) (found : Option ℕ) where
     pub finds_on : ((path : Path) (s : Tree) → CanFollow ns descent.root live go old descent.depth path s → found ≡ first_equal go (reading s)) → found ≡ first_equal go v.places
     finds_on h = let (can, first) = goes_on_down old u in h _ _ can ∙ sym first

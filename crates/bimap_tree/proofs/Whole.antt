@@ -1,4 +1,4 @@
--- The fields of an index, and what it shows.
+-- The fields of an index, and what a contract sees of it.
 use Rattle.std.proofs.Common.{◌≡◌, ℕ, ◌+◌, ◌-◌, ◌*◌, ◌^◌, ◌≤◌, ◌<◌, List, [], ◌∷◌, ◌++◌, Option, Some, None, length, refl, sym, subst, ◌∙◌, ap, arith, append_assoc, append-nil, length-append}
 use Rattle.std.specs.Prelude.{IsSome, IfNone, slice_get}
 use Rattle.std.specs.Cmp.{IsTotalOrder}
@@ -44,7 +44,7 @@ module _ (ns : List Node) (root : Option ℕ) (len : ℕ) (v : IndexView) (w : I
   few : size (tree_in ns root) < 2 ^ 64
   few = omega (arith, w.counted, w.few)
 
-  -- the height is at most twice the number of the length's digits
+  -- The height is at most twice the number of binary digits of the length.
   pub height_within : height (tree_in ns root) ≤ most_height (length v.places)
   height_within = subst (λ x. height (tree_in ns root) ≤ 2 * bits x) size_is (height-bound (tree_in ns root) w.index.balanced)
 
@@ -54,7 +54,7 @@ module _ (ns : List Node) (root : Option ℕ) (len : ℕ) (v : IndexView) (w : I
   pub rank_within : (rank : ℕ) → rank < length v.places → rank < size (tree_in ns root)
   rank_within rank h = omega (arith, h, size_is)
 
-  -- what callers see of it
+  -- What callers see of the index.
   pub shown_index : IsBalancedIndex v (tree_in ns root)
   shown_index = subst (λ x. IsBalancedIndex x (tree_in ns root)) e (record { tree = w.index; in_order = refl })
 
@@ -63,7 +63,7 @@ module _ (ns : List Node) (root : Option ℕ) (len : ℕ) (v : IndexView) (w : I
       let here : Contains (reading (tree_in ns root)) p = subst (λ x. Contains x p) (sym places_are) c in
       omega (arith, nodes_are, in_tree ns (tree_in ns root) p w.index.tree.shown (contains_occurs (tree_in ns root) p here))
 
-  -- ---- more cells
+  -- ---- Cells are added.
   module _ (ms : List Node) (same : (k : ℕ) → k < length ns → slice_get ms k ≡ slice_get ns k) where
     still_stands : Stands ms root (tree_in ns root)
     still_stands = record { root_is = w.index.tree.root_is; shown = Shows-frame ns ms (tree_in ns root) (λ q n. same q (in_tree ns (tree_in ns root) q w.index.tree.shown n)) w.index.tree.shown }
@@ -74,9 +74,9 @@ module _ (ns : List Node) (root : Option ℕ) (len : ℕ) (v : IndexView) (w : I
     pub places_grown : reading (tree_in ms root) ≡ v.places
     places_grown = ap reading (tree_in-shown ms root (tree_in ns root) still_stands) ∙ places_are
 
-  -- ---- searches
+  -- ---- Searches.
   module _ {K Q : Type 0} (key : ℕ → Option K) (order : K → K → Ordering) (to : K → Q → Ordering) (follows : Follows order to) (up : Ascends key order v.places) where
-    -- in each form of the tree
+    -- Every tree that the index shows may be searched.
     pub can_seek_of : (t : Tree) → IsBalancedIndex v t → (k : Q) → CanSeek ns root (λ q. IsSome (key q)) (λ q. standing to (key q) (Some k)) t
     can_seek_of t shown k =
         let ascends : Ascends key order (reading t) = subst (λ x. Ascends key order x) (sym shown.in_order) up in
@@ -90,7 +90,7 @@ module _ (ns : List Node) (root : Option ℕ) (len : ℕ) (v : IndexView) (w : I
     pub can_seek : (k : Q) → CanSeek ns root (λ q. IsSome (key q)) (λ q. standing to (key q) (Some k)) (tree_in ns root)
     can_seek = can_seek_of (tree_in ns root) shown_index
 
-    -- what a search of the tree answers
+    -- What a search of the tree returns.
     pub finds : (k : Q) (found : Option ℕ) → ((t : Tree) → CanSeek ns root (λ q. IsSome (key q)) (λ q. standing to (key q) (Some k)) t → found ≡ first_equal (λ q. standing to (key q) (Some k)) (reading t)) → found ≡ first_equal (λ q. standing to (key q) (Some k)) v.places
     finds k found h = h _ (can_seek k) ∙ ap (λ x. first_equal (λ q. standing to (key q) (Some k)) x) places_are
 
@@ -112,7 +112,7 @@ module _ (ns : List Node) (root : Option ℕ) (len : ℕ) (v : IndexView) (w : I
     deep = omega (arith, few_levels (tree_in ns root) w.index.balanced few);
   }
 
-  -- the route that a search without success leaves
+  -- The route that is left by a search that found nothing.
   pub route_left : (t : Tree) → IsBalancedIndex v t → (go : ℕ → Ordering) (route : Route) (found : Option ℕ) → found ≡ None → (low : Path) × (s : Tree) × IsFollowed go route route.depth found t low s → IsRoute v go route
   route_left t shown go route found none (low, s, f) =
       let no : s ≡ leaf = no_root s (f.root_is ∙ none) in
@@ -129,26 +129,26 @@ module _ (ns : List Node) (root : Option ℕ) (len : ℕ) (v : IndexView) (w : I
   route_if_none t shown go route None f = route_left t shown go route None refl (f refl)
   route_if_none t shown go route (Some p) f = tt
 
-  -- ---- a search for a place's own key
+  -- ---- A search for the key of a place.
   module _ {K : Type 0} (key : ℕ → Option K) (order : K → K → Ordering) (place : ℕ) (k : K) (is : key place ≡ Some k) (found : Option ℕ) (first : found ≡ first_equal (λ q. standing order (key q) (key place)) (reading (tree_in ns root))) where
     first_listed : found ≡ first_equal (λ q. standing order (key q) (Some k)) v.places
     first_listed =
         subst (λ o. found ≡ first_equal (λ q. standing order (key q) o) (reading (tree_in ns root))) is first
         ∙ ap (λ x. first_equal (λ q. standing order (key q) (Some k)) x) places_are
 
-    -- leads to no place, where no listed key is equal
+    -- It leads to no place, if no listed key is equal.
     pub place_route : ((p : ℕ) → Contains v.places p → standing order (key p) (Some k) ≡ Equal → ⊥) → (route : Route) → (low : Path) × (s : Tree) × IsFollowed (λ q. standing order (key q) (key place)) route route.depth found (tree_in ns root) low s → IsRoute v (λ q. standing order (key q) (Some k)) route
     place_route unequal route f =
         route_left (tree_in ns root) shown_index (λ q. standing order (key q) (Some k)) route found (none_of (λ q. standing order (key q) (Some k)) v.places found first_listed unequal)
         (subst (λ o. (low : Path) × (s : Tree) × IsFollowed (λ q. standing order (key q) o) route route.depth found (tree_in ns root) low s) is f)
 
-    -- leads to the place, where it is listed
+    -- It leads to the place, if the place is listed.
     pub place_found : IsTotalOrder order → Ascends key order v.places → Contains v.places place → found ≡ Some place
     place_found total up listed =
         one_of (λ q. standing order (key q) (Some k)) v.places found place first_listed listed (own_key key order total place k is)
         (λ p c s. only_one key order order (follows_itself total) v.places up k p place c listed s (own_key key order total place k is))
 
-  -- ---- a place put in at a route's end
+  -- ---- A place is inserted at the end of a route.
   module _ (go : ℕ → Ordering) (route : Route) (r : IsRoute v go route) where
     at_fields : IsIndex ns root (plug r.path leaf)
     at_fields = subst (λ x. IsIndex x.nodes x.root (plug r.path leaf)) (sym e) r.of_index.tree
@@ -231,7 +231,7 @@ module _ (ns : List Node) (root : Option ℕ) (len : ℕ) (v : IndexView) (w : I
             subst (λ x. Ascends key order x) (sym (reads ∙ read_now))
             (ascends_with key order total (front r.path) (back r.path) place k is less more parts)
 
-  -- ---- the place at a route's end taken out
+  -- ---- The place at the end of a route is removed.
   module _ (go : ℕ → Ordering) (route : Route) (found : ℕ) (low : Path) (s : Tree) (f : IsFollowed go route route.depth (Some found) (tree_in ns root) low s) where
     pub end : (l : Tree) × (r : Tree) × (s ≡ fork l found r)
     end = a_fork s found f.root_is

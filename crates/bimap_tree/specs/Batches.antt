@@ -1,12 +1,12 @@
--- The places that a batch holds.
+-- The places that a batch contains.
 use Rattle.std.specs.Prelude.{◌≡◌, ℕ, ◌+◌, ◌<◌, ◌≤◌, List, Some, slice_get, slice_index}
 use Rattle.bimap_tree.specs.declared.batch.Batch.{Batch}
 
--- the batch holds the place of this rank
+-- The batch contains the place of this rank.
 abbrev pub HasRank : Batch → ℕ → Type 0
 HasRank batch rank = (batch.from ≤ rank) × (rank < batch.from + batch.count)
 
--- the places that the batch holds are those of the list
+-- The places in the batch are those of the list.
 pub record IsBatch (places : List ℕ) (batch : Batch) : Type 0 where
   pub fits : batch.count < 64
   pub reads : (k : ℕ) → k < batch.count → slice_get places (batch.from + k) ≡ Some (slice_index batch.places k)

@@ -1,4 +1,4 @@
--- What a search tells that is under way.
+-- What is known of a search that is under way.
 use Rattle.std.specs.Prelude.{◌≡◌, ℕ, true, cond, List, Some}
 use Rattle.std.specs.declared.cmp.Ordering.{Ordering}
 use Rattle.std.specs.declared.cmp.Ordering.TheVariants.{Equal}
@@ -10,12 +10,12 @@ use Rattle.bimap_tree.specs.Notes.{packed, step_at}
 use Rattle.bimap_tree.specs.declared.descent.Descent.{Descent}
 use Rattle.bimap_tree.specs.declared.route.Route.{Route}
 
--- how many levels a search may still look at
+-- The number of levels that a search may still look at.
 abbrev pub levels_left : List Node → Descent → ℕ
 levels_left nodes descent = cond descent.is_found 0 (height_at nodes descent.root)
 
--- the search has come down the index's tree, as places that stand so to a key want, to a subtree; where it has found
--- the key, it is that of the place at the top there
+-- The search has come down the tree of the index to a subtree. `go` says how each place compares with the key that is searched
+-- for. If the search has found the key, it is the key of the place at the top of the subtree.
 pub record IsUnderWay (index : IndexView) (go : ℕ → Ordering) (descent : Descent) (route : Route) : Type 0 where
   pub path : Path
   pub rest : Tree

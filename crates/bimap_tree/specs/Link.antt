@@ -1,17 +1,17 @@
--- Linking a place above two trees.
+-- A place is linked above two trees.
 use Rattle.std.specs.Prelude.{◌≡◌, ℕ, ◌+◌, ◌≤◌, ◌<◌, ◌^◌, max, Bool, List, slice_get, length}
 use Rattle.bimap_base.specs.declared.cells.Node.{Node}
 use Rattle.bimap_base.specs.Digits.{most_height}
 use Rattle.bimap_tree.specs.Tree.{Tree, reading, height, size, root_of, IsBalanced, Shows, is_at, occurs, branch}
 use Rattle.bimap_tree.specs.declared.link.Subtree.{Subtree}
 
--- what is told of a tree is so
+-- The `Subtree` has the root, the height and the size of the tree.
 pub record Measures (told : Subtree) (t : Tree) : Type 0 where
   pub root_is : root_of t ≡ told.root
   pub height_is : told.height ≡ height t
   pub size_is : told.size ≡ size t
 
--- a place may be linked above two trees
+-- A place may be linked above two trees.
 pub record CanLink (nodes : List Node) (place : ℕ) (near far : Tree) : Type 0 where
   pub has_cell : place < length nodes
   pub near_shown : Shows nodes near
@@ -21,7 +21,7 @@ pub record CanLink (nodes : List Node) (place : ℕ) (near far : Tree) : Type 0 
   pub far_low : height far ≤ most_height (length nodes)
   pub fits : size near + size far + 1 < 2 ^ 64
 
--- a place may be linked above two balanced trees whose heights differ by at most two
+-- A place may be linked above two balanced trees whose heights differ by at most two.
 pub record CanRebalance (nodes : List Node) (place : ℕ) (near far : Tree) : Type 0 where
   pub link : CanLink nodes place near far
   pub distinct : (q : ℕ) → occurs q near + is_at q place + occurs q far ≤ 1
@@ -30,7 +30,7 @@ pub record CanRebalance (nodes : List Node) (place : ℕ) (near far : Tree) : Ty
   pub near_level : height near ≤ height far + 2
   pub far_level : height far ≤ height near + 2
 
--- the tree that stands after a place was linked above two trees, with rotations where they are needed
+-- The tree that results after a place was linked above two trees, with the rotations that were needed.
 pub record IsRebalanced (old new : List Node) (direction : Bool) (place : ℕ) (near far : Tree) (t : Tree) : Type 0 where
   pub shown : Shows new t
   pub in_order : reading t ≡ reading (branch direction near place far)

@@ -1,4 +1,4 @@
--- A way down a tree, from its top to one of its subtrees, and what goes on along it.
+-- A route down a tree, from its top to one of its subtrees, and what is done along it.
 use Rattle.std.specs.Prelude.{◌≡◌, ℕ, suc, ◌+◌, ◌≤◌, ◌<◌, ◌^◌, max, Bool, true, false, not, List, [], ◌∷◌, ◌++◌, Option, Some, slice_get, length}
 use Rattle.std.specs.declared.cmp.Ordering.{Ordering}
 use Rattle.std.specs.declared.cmp.Ordering.TheVariants.{Less, Greater}
@@ -6,85 +6,88 @@ use Rattle.bimap_base.specs.declared.cells.Node.{Node}
 use Rattle.bimap_tree.specs.Notes.{Notes}
 use Rattle.bimap_tree.specs.Tree.{Tree, leaf, reading, height, size, occurs, is_at, root_of, IsBalanced, Shows, Stands, branch, near_of, far_of}
 
--- no step, or a path, and below it a turn at a place, to its right if the turn is true, away from the sister tree
+-- A route is `top`, which has no entry, or a route with one entry more below it. The entry is a direction, which is right if it
+-- is true, a place, and the subtree of the place on the other side.
 pub data Path : Type 0 where
   top : Path
   below : Path → Bool → ℕ → Tree → Path
 
--- the whole tree, with this subtree at the path's end
+-- The whole tree, if this subtree is at the end of the route.
 abbrev pub plug : Path → Tree → Tree
 plug top t = t
 plug (below up direction p sister) t = plug up (branch direction t p sister)
 
--- the number of steps
+-- The number of entries of the route.
 abbrev pub steps : Path → ℕ
 steps top = 0
 steps (below up direction p sister) = suc (steps up)
 
--- the places before those of the subtree, and those after them
+-- The places before those of the subtree.
 abbrev pub front : Path → List ℕ
 front top = []
 front (below up true p sister) = (front up ++ reading sister) ++ p ∷ []
 front (below up false p sister) = front up
 
+-- The places after those of the subtree.
 abbrev pub back : Path → List ℕ
 back top = []
 back (below up true p sister) = back up
 back (below up false p sister) = p ∷ reading sister ++ back up
 
--- how often a place stands beside the subtree
+-- How often a place occurs outside the subtree.
 abbrev pub occurs_on : ℕ → Path → ℕ
 occurs_on q top = 0
 occurs_on q (below up direction p sister) = occurs_on q up + is_at q p + occurs q sister
 
--- how many places stand beside the subtree
+-- The number of places outside the subtree.
 abbrev pub size_on : Path → ℕ
 size_on top = 0
 size_on (below up direction p sister) = size_on up + size sister + 1
 
--- the steps noted at the depths of the path are its own, with so much kept of their places
+-- The noted entries at the depths of the route are its own. `kept` says how a place is stored.
 abbrev pub Follows : (ℕ → ℕ) → (ℕ → ℕ × Bool) → Path → Type 0
 Follows kept noted top = Unit {0}
 Follows kept noted (below up direction p sister) = (noted (steps up) ≡ (kept p, direction)) × Follows kept noted up
 
--- the way that a key wants at a turn
+-- How a place compares with a key that lies in this direction from it.
 abbrev pub wanted : Bool → Ordering
 wanted true = Less
 wanted false = Greater
 
--- at each place of the path the key wants the turn that it takes
+-- At each place of the route the key lies in the direction that the route takes.
 abbrev pub Wants : (ℕ → Ordering) → Path → Type 0
 Wants go top = Unit {0}
 Wants go (below up direction p sister) = (go p ≡ wanted direction) × Wants go up
 
--- what the node of a place tells of the subtree s and the sister, and of the height and the size that it has with them
+-- The node of a place stores the roots of the subtree `s` and of the sister. Its height and its size are those that the two give.
 pub record Tells (direction : Bool) (node : Node) (s sister : Tree) : Type 0 where
   pub near_is : near_of direction node ≡ root_of s
   pub far_is : far_of direction node ≡ root_of sister
   pub height_is : node.height ≡ max (height s) (height sister) + 1
   pub size_is : node.size ≡ size s + size sister + 1
 
--- the nodes show the sisters, and those of the path's places tell what they did with the subtree s
+-- The nodes show the sisters. The nodes of the places on the route are those of a tree with the subtree `s` at the end.
 abbrev pub Holds : List Node → Path → Tree → Type 0
 Holds nodes top s = Unit {0}
 Holds nodes (below up direction p sister) s = ((node : Node) × (slice_get nodes p ≡ Some node) × Tells direction node s sister) × Shows nodes sister × Holds nodes up (branch direction s p sister)
 
--- 1 if it is so, else 0
+-- 1 if the argument is true, and 0 if it is false.
 abbrev pub one_if : Bool → ℕ
 one_if true = 1
 one_if false = 0
 
--- the tree u has one place more than s, or else one less, and its height has moved that way, if at all
+-- The tree `u` has one place more than `s` if `grew` is true, and one place less if not. Its height is the same, or has changed
+-- by one in that direction.
 pub record Moves (grew : Bool) (s u : Tree) : Type 0 where
   pub sizes : size u + one_if (not grew) ≡ size s + one_if grew
   pub not_lower : height s ≤ height u + one_if (not grew)
   pub not_higher : height u ≤ height s + one_if grew
 
--- the way keeps the places of these nodes whole
+-- The noted route stores the places of these nodes in full.
 abbrev pub KeepsWhole : List Node → Notes → Type 0
 KeepsWhole nodes notes = (p : ℕ) → p < length nodes → notes.kept p ≡ p
 
--- at the path's end the tree u stands in place of s, of which the places above do not know yet
+-- At the end of the route the tree `u` has replaced `s`. The nodes above still fit `s`.
 pub record CanRise (nodes : List Node) (notes : Notes) (path : Path) (grew : Bool) (s u : Tree) : Type 0 where
   pub follows : Follows notes.kept notes.step_at path
   pub whole : KeepsWhole nodes notes
@@ -96,7 +99,7 @@ pub record CanRise (nodes : List Node) (notes : Notes) (path : Path) (grew : Boo
   pub fits : size_on path + size s + one_if grew < 2 ^ 64
   pub moves : Moves grew s u
 
--- at a step of the path
+-- A place of the route may be linked above the tree `u`, which has replaced `s`.
 pub record CanRejoin (nodes : List Node) (at : ℕ) (direction grew : Bool) (node : Node) (sister s u : Tree) : Type 0 where
   pub node_is : slice_get nodes at ≡ Some node
   pub has_cell : at < length nodes
@@ -109,7 +112,7 @@ pub record CanRejoin (nodes : List Node) (at : ℕ) (direction grew : Bool) (nod
   pub fits : size s + size sister + 1 + one_if grew < 2 ^ 64
   pub moves : Moves grew s u
 
--- the tree v that stands after all places of the path were told of the tree u
+-- The tree `v` is the result after all nodes of the route were made to fit the tree `u`.
 pub record IsRisen (old new : List Node) (path : Path) (u : Tree) (root : Option ℕ) (v : Tree) : Type 0 where
   pub tree : Stands new root v
   pub in_order : reading v ≡ front path ++ reading u ++ back path
@@ -117,7 +120,7 @@ pub record IsRisen (old new : List Node) (path : Path) (u : Tree) (root : Option
   pub balanced : IsBalanced v
   pub same_length : length new ≡ length old
 
--- a place may be put at the path's end, where no place is
+-- A place may be inserted at the end of the route, where no place is.
 pub record CanPut (nodes : List Node) (notes : Notes) (path : Path) (place : ℕ) : Type 0 where
   pub follows : Follows notes.kept notes.step_at path
   pub depth_is : notes.depth ≡ steps path

@@ -1,4 +1,4 @@
--- Which keys lie in a range whose ends are queries.
+-- Which keys are in a range whose ends are queries.
 use Rattle.std.specs.Prelude.{Bool, true, false, not, ◌&&◌}
 use Rattle.std.specs.Ordering.{is_gt, is_ge}
 use Rattle.std.specs.declared.cmp.Ordering.{Ordering}
@@ -6,18 +6,18 @@ use Rattle.std.specs.declared.ops.Bound.{Bound}
 use Rattle.std.specs.declared.ops.Bound.TheVariants.{Included, Excluded, Unbounded}
 
 module _ {K Q : Type 0} (order : K → Q → Ordering) where
-  -- whether a key is inside a start: at it or after it, or only after it if it is excluded
+  -- Whether a key is not before the start of a range. It is at the start or after it. If the start is excluded, it is after it.
   abbrev pub is_from_start : Bound Q → K → Bool
   is_from_start (Included q) k = is_ge (order k q)
   is_from_start (Excluded q) k = is_gt (order k q)
   is_from_start Unbounded k = true
 
-  -- whether a key is outside an end: after it, or at it too if it is excluded
+  -- Whether a key is past the end of a range. It is after the end. If the end is excluded, it may also be at the end.
   abbrev pub is_past_end : Bound Q → K → Bool
   is_past_end (Included q) k = is_gt (order k q)
   is_past_end (Excluded q) k = is_ge (order k q)
   is_past_end Unbounded k = false
 
-  -- whether a key lies between the two ends
+  -- Whether a key is between the two ends.
   abbrev pub is_between : Bound Q → Bound Q → K → Bool
   is_between start end k = is_from_start start k && not (is_past_end end k)

@@ -5,7 +5,8 @@ use Rattle.bimap_tree.specs.Filled.{CanFill, place_in}
 use Rattle.bimap_tree.specs.Tree.{Tree, reading, size}
 use Rattle.bimap_tree.specs.declared.walk.RankedSubtree.{RankedSubtree}
 
--- the listed places are some, the one before the tree, the tree's, the one behind it, and others; a rank is that of one of these three
+-- The listed places are `front`, the place before the tree, the places of the tree, the place behind it, and `back`. The rank
+-- is one of those between `front` and `back`.
 pub record IsRankedSubtree (nodes : List Node) (places : List ℕ) (rank : ℕ) (subtree : RankedSubtree) (tree : Tree) : Type 0 where
   pub front : List ℕ
   pub back : List ℕ

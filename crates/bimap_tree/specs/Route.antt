@@ -1,4 +1,4 @@
--- What a `Route` tells.
+-- What a `Route` stores.
 use Rattle.std.specs.Prelude.{◌≡◌, ℕ, ◌+◌, ◌≤◌, List, Option}
 use Rattle.std.specs.declared.cmp.Ordering.{Ordering}
 use Rattle.bimap_base.specs.declared.cells.Node.{Node}
@@ -9,7 +9,8 @@ use Rattle.bimap_tree.specs.Search.{CanSeek}
 use Rattle.bimap_tree.specs.Notes.{packed, step_at}
 use Rattle.bimap_tree.specs.declared.route.Route.{Route}
 
--- the route leads down the index's tree, as places that stand so to a key want, to where no place is
+-- The route leads down the tree of the index to where no place is. `go` says how each place compares with a key, and the route
+-- has the direction of that key at each place.
 pub record IsRoute (index : IndexView) (go : ℕ → Ordering) (route : Route) : Type 0 where
   pub path : Path
   pub of_index : IsBalancedIndex index (plug path leaf)
@@ -17,7 +18,7 @@ pub record IsRoute (index : IndexView) (go : ℕ → Ordering) (route : Route) :
   pub depth_is : route.depth ≡ steps path
   pub wants : Wants go path
 
--- the search has come along the path to the subtree s, and may go on
+-- The search has come along the route `path` to the subtree `s`, and may go on.
 pub record CanFollow (nodes : List Node) (root : Option ℕ) (live : ℕ → Type 0) (go : ℕ → Ordering) (route : Route) (depth : ℕ) (path : Path) (s : Tree) : Type 0 where
   pub seek : CanSeek nodes root live go s
   pub follows : Follows packed (step_at route) path
@@ -25,7 +26,7 @@ pub record CanFollow (nodes : List Node) (root : Option ℕ) (live : ℕ → Typ
   pub wants : Wants go path
   pub deep : depth + height s ≤ 91
 
--- the search has come along the path, from a tree t, to a subtree at this root
+-- The search has come along the route `path`, from a tree `t`, to a subtree with this root.
 pub record IsFollowed (go : ℕ → Ordering) (route : Route) (depth : ℕ) (root : Option ℕ) (t : Tree) (path : Path) (e : Tree) : Type 0 where
   pub whole : plug path e ≡ t
   pub follows : Follows packed (step_at route) path

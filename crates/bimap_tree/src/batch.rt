@@ -1,11 +1,11 @@
-//! The places of a few ranks, read by one descent. It knows no key.
+//! The places of a few ranks, read by one descent. The code here knows no key.
 ghost use Rattle.std.specs.Prelude.{◌≡◌, ◌↔◌, ◌+◌, ◌*◌, ◌<◌, ◌≤◌, IsTrue, Some, length, slice_get};
 ghost use Rattle.bimap_base.specs.Digits.{most_height};
 
 use crate::ordered::Ordered;
 use bimap_base::Meter;
 
-/// The places of some ranks in a row, so that a walk descends once for many steps. It takes no memory.
+/// The places of some consecutive ranks. An iterator with a batch descends the tree once for many items. Never allocates.
 #[derive(Clone, Copy, Drop)]
 pub struct Batch {
     // The first rank.
@@ -17,11 +17,11 @@ pub struct Batch {
 impl Batch {
     ghost use Rattle.bimap_tree.specs.Batches.{HasRank, IsBatch};
 
-    /// A batch of this index that holds no place.
+    /// Returns a batch of this index that contains no place.
     pub fn new(index: &Ordered) -> Batch
         ensures { IsBatch index.now.places result }
     {
-        // The contract alone names it.
+        // Only the contract uses the index.
         let _ = index;
         Batch {
             from: 0,
@@ -37,7 +37,7 @@ impl Batch {
         self.from <= rank && rank - self.from < self.count
     }
 
-    // How many places to ask for: few at first, since many walks are short.
+    // Returns how many places the subtree of the next read may have. The first read is small, because many iterations are short.
     fn wanted(&self) -> usize
         ensures least { 2 ≤ result }
         ensures most { result ≤ 60 }
@@ -45,7 +45,7 @@ impl Batch {
         if self.count == 0 { 7 } else { 60 }
     }
 
-    // Reads the places of some ranks, this one among them. It is a call of its own, so that a step that needs none is short.
+    // Reads the places of some ranks, with this rank among them. It is never inlined, because most calls of `place` skip it.
     #[inline(never)]
     fn fill<M: Meter>(&mut self, index: &Ordered, rank: usize, meter: &mut M)
         requires { rank < length index.now.places }
@@ -60,7 +60,8 @@ impl Batch {
         self.count = count;
     }
 
-    /// The place at a rank. Where the batch lacks it, the batch is filled first with places around this one, by one descent.
+    /// Returns the place at a rank. If the batch does not contain it, first fills the batch with places around this rank, by one
+    /// descent.
     #[inline(always)]
     pub fn place<M: Meter>(&mut self, index: &Ordered, rank: usize, meter: &mut M) -> usize
         requires batch { IsBatch index.now.places self.old }

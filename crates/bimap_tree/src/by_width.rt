@@ -1,4 +1,4 @@
-//! The calls of a tree over cells of either width: each asks once which they have.
+//! The calls of a tree over cells of either width. Each call finds out once which width the cells have.
 ghost use Rattle.std.specs.Prelude.{Some, length, slice_get, ◌*◌, ◌+◌, ◌<◌, ◌^◌, ◌≡◌, ◌≤◌};
 ghost use Rattle.bimap_tree.specs.Tree.{IsBalanced, Stands, Tree, fork, height, leaf, reading, root_of, size};
 ghost use Rattle.bimap_tree.specs.Search.{CanSeek};

@@ -1,4 +1,4 @@
-//! A search down a tree that stops at each level. It knows how far it has come, and not what is sought.
+//! A search down a tree that can stop at each level. The code here knows how far a search has come, and not what it searches for.
 ghost use Rattle.std.specs.Prelude.{◌≡◌, ◌⊎◌, ◌+◌, ◌<◌, ◌≤◌, ℕ, None, Some, false, true};
 ghost use Rattle.std.specs.declared.cmp.Ordering.TheVariants.{Equal};
 ghost use Rattle.bimap_tree.specs.Descent.{levels_left};
@@ -12,17 +12,17 @@ use crate::route::{Route, branches_on_direction, route_in_tree};
 use crate::search_key::SearchKey;
 use bimap_base::{Cell, Meter, Nodes};
 
-/// A search that is under way: it has come down to a place, or to where there is none.
+/// A search that is under way. It has come down to a place, or to where there is no place.
 #[derive(Clone, Copy)]
 pub struct Descent {
     root: Option<usize>,
     depth: usize,
-    // Whether the key of the place is the one sought, so that the search is over.
+    // Whether the key of the place is equal to the key that is searched for. If it is, the search is over.
     is_found: bool,
 }
 
 impl Descent {
-    // One that has not gone down from this root yet.
+    // Returns a search that has not gone down from this root yet.
     pub(crate) fn new(root: Option<usize>) -> Self
         ensures root { result.root ≡ root }
         ensures depth { result.depth ≡ 0 }
@@ -36,7 +36,7 @@ impl Descent {
     }
 }
 
-// Goes down a level and notes the way, unless the search is over. Answers whether it went.
+// Goes down one level and notes the route, unless the search is over. Returns whether it went down.
 pub fn step_in_tree<C: Cell, S: SearchKey, M: Meter>(
     cells: &Nodes<C>,
     sought: &S,
@@ -64,7 +64,8 @@ pub fn step_in_tree<C: Cell, S: SearchKey, M: Meter>(
     ensures touches { M.touches meter.new + levels_left cells.now descent.new ≤ M.touches meter.old
         + levels_left cells.now descent.old }
 {
-    // Where turns are guessed, a wrong guess would undo what the other search has done meanwhile.
+    // If directions are branches, the search stays where it is. A mispredicted branch would discard what the processor has begun
+    // for the other search.
     if branches_on_direction::<C, S>(cells) {
         return false;
     }
@@ -84,7 +85,7 @@ pub fn step_in_tree<C: Cell, S: SearchKey, M: Meter>(
     true
 }
 
-// Goes all the way down from where the search has come, noting the way, and answers the place there.
+// Goes down from where the search has come to its end, and notes the route. Returns the place there, or `None`.
 pub fn finish_in_tree<C: Cell, S: SearchKey, M: Meter>(
     cells: &Nodes<C>,
     sought: &S,

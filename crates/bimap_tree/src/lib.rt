@@ -1,4 +1,4 @@
-//! An index of places in the order of their keys: a balanced tree over cells, which compares keys through `Keys` alone.
+//! An index of places in the order of their keys. It is a balanced tree over cells, and compares keys only through `Keys`.
 #![tactic(auto)]
 
 mod batch;

@@ -1,11 +1,11 @@
-//! Linking a place above two trees, with rotations. It knows no key and no order.
+//! Links a place above two trees, with rotations. The code here knows no key and no order.
 ghost use Rattle.std.specs.Prelude.{◌≡◌, ℕ, ◌+◌, ◌<◌, ◌≤◌, slice_set, Some};
 ghost use Rattle.bimap_tree.specs.Tree.{Tree, Stands, height, root_of, branch, node_on, near_of, far_of};
 ghost use Rattle.bimap_tree.specs.Link.{Measures, CanLink, CanRebalance, IsRebalanced};
 
 use bimap_base::{Cell, Meter, Node, Nodes};
 
-/// A tree as its root's node tells it.
+/// The root of a tree, with the height and the size that the root's node stores.
 #[derive(Clone, Copy)]
 pub struct Subtree {
     pub root: Option<usize>,
@@ -13,7 +13,7 @@ pub struct Subtree {
     pub size: usize,
 }
 
-// The child on the side of the turn, right if it is true, and the other one.
+// Returns the child in the direction `direction`, and the other child. The direction is right if `direction` is true.
 pub fn children(node: Node, direction: bool) -> (Option<usize>, Option<usize>)
     ensures near { result.0 ≡ near_of direction node }
     ensures far { result.1 ≡ far_of direction node }
@@ -25,14 +25,14 @@ pub fn children(node: Node, direction: bool) -> (Option<usize>, Option<usize>)
     }
 }
 
-// The child on the side of the turn, right if it is true.
+// Returns the child in the direction `direction`, which is right if it is true.
 pub fn child(node: Node, direction: bool) -> Option<usize>
     ensures { result ≡ near_of direction node }
 {
     if direction { node.right } else { node.left }
 }
 
-// The tree at this root.
+// Returns the root, the height and the size of the tree at this root.
 pub fn measure<C: Cell, M: Meter>(cells: &Nodes<C>, root: Option<usize>, meter: &mut M) -> Subtree
     requires { (t : Tree) × Stands cells.now root t }
     ensures measured { (t : Tree) → Stands cells.now root t → Measures result t }
@@ -56,7 +56,7 @@ pub fn measure<C: Cell, M: Meter>(cells: &Nodes<C>, root: Option<usize>, meter: 
     }
 }
 
-// Writes the node of a place, with the near tree on the side of the turn.
+// Writes the node of a place. The tree `near` becomes its child in the direction `direction`, and `far` becomes its other child.
 pub fn link<C: Cell, M: Meter>(
     cells: &mut Nodes<C>,
     place: usize,
@@ -103,7 +103,8 @@ pub fn link<C: Cell, M: Meter>(
     }
 }
 
-// Links a place above two trees, the heavy one of which, on the side of the turn, is two levels higher: by one rotation or two.
+// Links a place above two trees by one rotation or two. The tree at `heavy`, in the direction `direction`, is two levels higher than
+// `light`.
 pub fn rotate<C: Cell, M: Meter>(
     cells: &mut Nodes<C>,
     place: usize,
@@ -140,7 +141,7 @@ pub fn rotate<C: Cell, M: Meter>(
     link(cells, middle, direction, upper_side, lower_side, meter)
 }
 
-// Links a place above two trees whose heights differ by at most two, and rotates where it must.
+// Links a place above two trees whose heights differ by at most two. Rotates if the heights differ by two.
 #[inline(always)]
 pub fn rebalance<C: Cell, M: Meter>(
     cells: &mut Nodes<C>,

@@ -1,4 +1,4 @@
-//! The steps of a way down a tree.
+//! The entries of a route down a tree.
 ghost use Rattle.std.specs.Prelude.{◌≡◌, ℕ, ◌+◌, ◌<◌, ◌≤◌, ◌^◌, length, true};
 ghost use Rattle.bimap_tree.specs.Path.{Path};
 ghost use Rattle.bimap_tree.specs.Retraced.{CanRetrace, IsRetraced};
@@ -8,25 +8,25 @@ ghost use Rattle.bimap_tree.specs.Tree.{Tree};
 use crate::route::Route;
 use bimap_base::{Cell, Meter, Nodes};
 
-// A route's steps tell the places whole where there are no more than this.
+// Up to this many places, the entries of a `Route` store places in full.
 pub(crate) const PACKED: usize = 2_147_483_648;
 
-// The steps of a way, by depth: a place, as it is kept, and whether the way goes on to its right.
+// The entries of a route, by depth. An entry is a place, as it is stored, and whether the route goes on to the right of it.
 pub trait Steps {
     ghost use Rattle.bimap_tree.specs.Notes.{Notes};
 
     ghost notes: { Self → Notes };
 
-    // The number of steps.
+    // Returns the number of entries.
     fn depth(&self) -> usize
         ensures { result ≡ (notes self.now).depth };
 
-    // The place, as it is kept, and the turn at a depth.
+    // Returns the place, as it is stored, and the direction at a depth.
     fn step(&self, depth: usize) -> (usize, bool)
         requires { depth < 91 }
         ensures { result ≡ (notes self.now).step_at depth };
 
-    // Notes the place and the turn at a depth.
+    // Notes the place and the direction at a depth.
     fn note(&mut self, depth: usize, place: usize, direction: bool)
         requires { depth < 91 }
         ensures noted { IsNoted (notes self.old).step_at depth (
@@ -37,7 +37,7 @@ pub trait Steps {
         ensures depth { (notes self.new).depth ≡ (notes self.old).depth };
 }
 
-// The way of a route in a tree of more places than its steps tell whole.
+// A route in a tree with more places than the entries of a `Route` can store in full.
 #[derive(Drop)]
 pub struct LongRoute {
     places: [usize; 91],
@@ -62,14 +62,14 @@ impl Steps for LongRoute {
     }
 }
 
-// Whether a route's steps tell the places of these nodes whole.
+// Returns whether the entries of a `Route` store the places of these nodes in full.
 pub fn fits<C: Cell>(cells: &Nodes<C>) -> bool
     ensures { result ≡ true → length cells.now ≤ 2 ^ 31 }
 {
     cells.places() <= PACKED
 }
 
-// The way of a route once more, by its turns.
+// Returns a route with its places in full. Descends again by the directions of the `Route`.
 pub fn retraced<C: Cell, M: Meter>(
     cells: &Nodes<C>,
     root: Option<usize>,

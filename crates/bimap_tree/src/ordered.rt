@@ -1,4 +1,4 @@
-//! The listed places in the order of their keys. It knows places, ranks and counts, and no key's value.
+//! The listed places in the order of their keys. The code here knows places, ranks and counts, and no key's value.
 ghost use Rattle.std.specs.Prelude.{◌≡◌, ◌≢◌, ◌⊎◌, ℕ, ◌+◌, ◌-◌, ◌*◌, ◌<◌, ◌≤◌, [], length, max, slice_get, Some, None, true, IsOk, OnOk, OnErr, IsSome, IfSome, IfNone};
 ghost use Rattle.std.specs.List.{AllPairs, Contains};
 ghost use Rattle.std.specs.declared.cmp.Ordering.{Ordering};
@@ -26,15 +26,16 @@ use std::alloc::Global;
 use std::marker::Model;
 use std::ops::Bound;
 
-/// Places in the strictly ascending order of their keys, as a balanced tree with a cell for each place.
+/// Places in the strictly ascending order of their keys. It is a balanced tree with a cell for each place.
 ///
-/// The keys are passed to each call that compares them, and must be those that the places were listed by.
+/// Each call that compares keys is passed the keys. They must be those by which the places were listed.
 #[derive(Drop)]
 pub struct Ordered {
     cells: Cells,
     root: Option<usize>,
     len: usize,
-    // Whether the next place to be taken off is most likely the first, as the last one was.
+    // Whether the last removed place was probably the first one. If it was, the next removal tries the first place before it
+    // searches.
     takes_first: bool,
 }
 
@@ -51,7 +52,7 @@ impl Model for Ordered {
 }
 
 impl Ordered {
-    /// An index that lists no place and has no cells. It takes no memory.
+    /// Returns an index that lists no place and has no cells. Never allocates.
     pub fn new(alloc: Global) -> Self
         ensures places { result.places ≡ [] }
         ensures nodes { result.nodes ≡ [] }
@@ -65,11 +66,11 @@ impl Ordered {
         }
     }
 
-    /// The number of listed places, in constant time.
+    /// Returns the number of listed places, in constant time.
     pub fn len(&self) -> usize
         ensures len { result ≡ length self.now.places }
 
-        // What is true of each index.
+        // The following is true of every index.
         ensures balanced { (t : Tree) × IsBalancedIndex self.now t
             × (height t ≤ most_height (length self.now.places)) }
         ensures distinct { AllPairs (λ a b. a ≢ b) self.now.places }
@@ -78,7 +79,9 @@ impl Ordered {
         self.len
     }
 
-    /// Makes cells for each place below `to`, and no more. It takes memory only where some are missing, and a refusal changes nothing.
+    /// Makes a cell for each place below `to` that has none, and no further cell.
+    ///
+    /// Allocates only if cells are missing. If it runs out of memory, nothing changes.
     pub fn grow(&mut self, to: usize) -> Result<(), NoMemory>
         ensures places { self.new.places ≡ self.old.places }
         ensures cells { length self.old.nodes ≤ length self.new.nodes }
@@ -92,7 +95,7 @@ impl Ordered {
         self.cells.grow(to)
     }
 
-    /// Lists no place any more, in constant time. The cells stay.
+    /// Removes all places, in constant time. The cells stay.
     pub fn clear(&mut self)
         ensures places { self.new.places ≡ [] }
         ensures nodes { self.new.nodes ≡ self.old.nodes }
@@ -101,7 +104,7 @@ impl Ordered {
         self.len = 0;
     }
 
-    /// The listed place whose key the query asks for, in time logarithmic in the length.
+    /// Returns the listed place whose key is equal to the query, or `None`. Takes time logarithmic in the length.
     pub fn find<K: Keys, Q: Sought<K>, M: Meter>(
         &self,
         keys: &K,
@@ -124,7 +127,7 @@ impl Ordered {
         }
     }
 
-    /// A search that has not gone down yet, for `step` and `finish`.
+    /// Returns a search that has not gone down yet. It is for `step` and `finish`.
     pub fn start(&self) -> Descent
         ensures under_way { (go : ℕ → Ordering) (route : Route) →
             IsUnderWay self.now go result route }
@@ -133,7 +136,7 @@ impl Ordered {
         Descent::new(self.root)
     }
 
-    /// Goes down a level and notes the way, unless the search has come to its end. Answers whether it went.
+    /// Goes down one level and notes the route, unless the search is over. Returns whether it went down.
     pub fn step<K: Keys, M: Meter>(
         &self,
         keys: &K,
@@ -162,8 +165,8 @@ impl Ordered {
         }
     }
 
-    /// Goes all the way down from where the search has come: the listed place whose key is equal. Where there is none, the
-    /// route leads to where a place with this key would stand.
+    /// Completes a search from where it has come. Returns the listed place with an equal key, or `None`. If it returns `None`,
+    /// the route leads to where a place with this key belongs.
     pub fn finish<K: Keys, M: Meter>(
         &self,
         keys: &K,
@@ -193,7 +196,7 @@ impl Ordered {
         }
     }
 
-    /// Lists a place, at the end of its key's route: no comparison, time logarithmic in the length, and no memory.
+    /// Lists a place at the end of its key's route. Takes no comparison, and time logarithmic in the length. Never allocates.
     pub fn insert_at<K: Keys, M: Meter>(
         &mut self,
         keys: &K,
@@ -218,13 +221,13 @@ impl Ordered {
         ensures touches { M.touches meter.new ≤ M.touches meter.old
             + 64 * (most_height (length self.old.places) + 1) }
     {
-        // Cells are fewer than 2^64.
+        // The contract of this call says that there are fewer than 2^64 cells.
         let _ = self.cells.places();
         self.root = put_at(&mut self.cells, self.root, route, place, meter);
         self.len += 1;
     }
 
-    /// Lists a place at its key's position, in time logarithmic in the length. It takes no memory.
+    /// Lists a place at its key's position. Takes time logarithmic in the length. Never allocates.
     pub fn insert<K: Keys, M: Meter>(&mut self, keys: &K, place: usize, meter: &mut M)
         requires ascends { Ascends (K.key_at keys.now) K.order self.old.places }
         requires live { IsSome (K.key_at keys.now place) }
@@ -242,10 +245,10 @@ impl Ordered {
         ensures touches { M.touches meter.new ≤ M.touches meter.old
             + 64 * (most_height (length self.old.places) + 1) }
     {
-        // Cells are fewer than 2^64.
+        // The contract of this call says that there are fewer than 2^64 cells.
         let _ = self.cells.places();
         let mut route = Route::new();
-        // No key is equal.
+        // The search finds no place, because no listed key is equal.
         let _ = route_in_tree(
             &self.cells,
             self.root,
@@ -258,7 +261,7 @@ impl Ordered {
         self.len += 1;
     }
 
-    /// Takes a place off the list, in time logarithmic in the length. It takes no memory.
+    /// Removes a place. Takes time logarithmic in the length. Never allocates.
     pub fn remove<K: Keys, M: Meter>(&mut self, keys: &K, place: usize, meter: &mut M)
         requires ascends { Ascends (K.key_at keys.now) K.order self.old.places }
         requires listed { Contains self.old.places place }
@@ -272,7 +275,7 @@ impl Ordered {
             + 64 * (most_height (length self.old.places) + 1) }
     {
         let mut route = Route::new();
-        // It leads to the place.
+        // The search finds `place` itself.
         let _ = route_from_first(
             &self.cells,
             self.root,
@@ -286,7 +289,7 @@ impl Ordered {
         self.len -= 1;
     }
 
-    /// Takes the place whose key the query asks for off the list, and answers it. Where there is none, nothing is written.
+    /// Removes the place whose key is equal to the query, and returns it. If there is no such place, nothing is written.
     pub fn remove_key<K: Keys, Q: Sought<K>, M: Meter>(
         &mut self,
         keys: &K,
@@ -323,7 +326,7 @@ impl Ordered {
         Some(found)
     }
 
-    /// How many listed places have a key below what is sought, in time logarithmic in the length.
+    /// Returns the number of listed places whose key is below the query. Takes time logarithmic in the length.
     pub fn rank_of<K: Keys, Q: Sought<K>, M: Meter>(
         &self,
         keys: &K,
@@ -341,7 +344,8 @@ impl Ordered {
         rank_in_tree(&self.cells, self.root, &ToQuery { keys, query }, meter)
     }
 
-    /// How many listed places stand before the first one that the bound, taken as a start, lets in: in time logarithmic in the length.
+    /// Returns the rank of the first place in a range that starts at the bound. If no place is in the range, returns the length.
+    /// Takes time logarithmic in the length.
     pub fn rank_from<K: Keys, Q: Sought<K>, M: Meter>(
         &self,
         keys: &K,
@@ -373,7 +377,7 @@ impl Ordered {
         }
     }
 
-    /// The place at a rank, in time logarithmic in the length.
+    /// Returns the place at a rank. Takes time logarithmic in the length.
     pub fn place_at<M: Meter>(&self, rank: usize, meter: &mut M) -> usize
         requires { rank < length self.now.places }
         ensures place { slice_get self.now.places rank ≡ Some result }
@@ -384,9 +388,11 @@ impl Ordered {
         place_in_tree(&self.cells, self.root, rank, meter)
     }
 
-    /// Puts the places of some ranks in a row into a buffer, with this rank among them, and answers the first of these ranks and
-    /// how many they are: by one descent, in time logarithmic in the length, once for all of them. They are those of a tree of
-    /// at most so many places, the place before it and the one behind it.
+    /// Reads the places of consecutive ranks into a buffer, with `rank` among them. Returns the first of these ranks and how many
+    /// they are.
+    ///
+    /// The places are those of a subtree, the place before it and the place behind it. The subtree has at most `most` places. One
+    /// descent finds them all, in time logarithmic in the length.
     pub fn places_around<M: Meter>(
         &self,
         rank: usize,

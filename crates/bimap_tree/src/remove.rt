@@ -1,4 +1,4 @@
-//! Taking a place out of the tree. It knows no key and no order.
+//! Removes a place from the tree. The code here knows no key and no order.
 ghost use Rattle.std.specs.Prelude.{◌≡◌, ℕ, ◌+◌, ◌*◌, ◌<◌, ◌≤◌, Some, List, length};
 ghost use Rattle.bimap_tree.specs.Tree.{Tree, fork, height, root_of, size};
 ghost use Rattle.bimap_tree.specs.Path.{Path, plug, KeepsWhole};
@@ -11,7 +11,7 @@ use crate::rise::rise;
 use crate::route::Route;
 use bimap_base::{Cell, Meter, Nodes};
 
-// Notes the way down to a tree's first place, and answers that place and its depth.
+// Notes the route down to a tree's first place. Returns that place and its depth.
 pub fn first_in_tree<C: Cell, W: Steps, M: Meter>(
     cells: &Nodes<C>,
     at: usize,
@@ -37,7 +37,7 @@ pub fn first_in_tree<C: Cell, W: Steps, M: Meter>(
     (at, depth)
 }
 
-// Makes a place the child of the one above it on a way, if there is one.
+// Links `place` as the child of the place above it on the route. At depth 0 no place is above it, and nothing changes.
 fn replace_child<C: Cell, W: Steps, M: Meter>(
     cells: &mut Nodes<C>,
     notes: &W,
@@ -62,7 +62,8 @@ fn replace_child<C: Cell, W: Steps, M: Meter>(
     }
 }
 
-// Takes out the place at the end of a way, and answers the new root. Where it has two children, the first place to its right takes its position.
+// Removes the place at the end of a route, and returns the new root. If the place has two children, the first place of its
+// right subtree moves to its position.
 #[inline(always)]
 fn take_along<C: Cell, W: Steps, M: Meter>(
     cells: &mut Nodes<C>,
@@ -99,7 +100,7 @@ fn take_along<C: Cell, W: Steps, M: Meter>(
     rise(cells, notes, low, rest, last.height, false, meter)
 }
 
-// The same at the end of a route whose steps don't tell the places whole, as a call of its own.
+// Does what `take_along` does, if the entries of the route are too small for the places. It is never inlined.
 #[inline(never)]
 fn take_retraced<C: Cell, M: Meter>(
     cells: &mut Nodes<C>,
@@ -125,7 +126,7 @@ fn take_retraced<C: Cell, M: Meter>(
     take_along(cells, &mut notes, at, meter)
 }
 
-// Takes out the place at the end of a route, and answers the new root.
+// Removes the place at the end of a route, and returns the new root.
 pub fn take_at<C: Cell, M: Meter>(
     cells: &mut Nodes<C>,
     root: Option<usize>,

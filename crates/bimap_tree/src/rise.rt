@@ -1,4 +1,4 @@
-//! Going up a route, from a tree at its end that has grown or shrunk by one place. It knows no key and no order.
+//! Goes up a route from a tree at its end that has grown or shrunk by one place. The code here knows no key and no order.
 ghost use Rattle.std.specs.Prelude.{◌≡◌, ℕ, ◌+◌, ◌*◌, ◌<◌, ◌≤◌};
 ghost use Rattle.bimap_tree.specs.Tree.{Tree, leaf, fork, height, root_of, branch};
 ghost use Rattle.bimap_tree.specs.Link.{Measures, IsRebalanced};
@@ -10,7 +10,7 @@ use crate::notes::{Steps, fits, retraced};
 use crate::route::Route;
 use bimap_base::{Cell, Meter, Node, Nodes};
 
-// Links a place above a child that has grown or shrunk, and looks at its sister only where the place's height may move.
+// Links a place above a child that has grown or shrunk. Reads the other child only if the height of the place may change.
 #[inline(always)]
 fn rejoin<C: Cell, M: Meter>(
     cells: &mut Nodes<C>,
@@ -43,7 +43,8 @@ fn rejoin<C: Cell, M: Meter>(
     rebalance(cells, at, direction, child, sister, meter)
 }
 
-// Goes up where no height moves any more: links the child, and counts its places in each node of the way.
+// Goes up the rest of a route on which no height changes any more. Links the child, and corrects the size in each node of the
+// route.
 fn recount<C: Cell, W: Steps, M: Meter>(
     cells: &mut Nodes<C>,
     notes: &W,
@@ -78,7 +79,7 @@ fn recount<C: Cell, W: Steps, M: Meter>(
     Some(top)
 }
 
-// Goes up from a child that stands in place of a tree of the height `was`, and answers the new root.
+// Goes up from a child that has replaced a tree of the height `was`. Returns the new root.
 pub fn rise<C: Cell, W: Steps, M: Meter>(
     cells: &mut Nodes<C>,
     notes: &W,
@@ -114,7 +115,7 @@ pub fn rise<C: Cell, W: Steps, M: Meter>(
     recount(cells, notes, depth, child.root, grew, meter)
 }
 
-// Puts a place in at the end of a way that leads to no place, and answers the new root.
+// Inserts a place at the end of a route that leads to no place. Returns the new root.
 #[inline(always)]
 fn put_along<C: Cell, W: Steps, M: Meter>(
     cells: &mut Nodes<C>,
@@ -139,8 +140,8 @@ fn put_along<C: Cell, W: Steps, M: Meter>(
     rise(cells, notes, notes.depth(), alone, 0, true, meter)
 }
 
-// The same at the end of a route whose steps don't tell the places whole. It is a call of its own, so that no other makes room
-// for so long a way.
+// Does what `put_along` does, if the entries of the route are too small for the places. It is never inlined, which spares other
+// calls the stack space of a `LongRoute`.
 #[inline(never)]
 fn put_retraced<C: Cell, M: Meter>(
     cells: &mut Nodes<C>,
@@ -161,7 +162,7 @@ fn put_retraced<C: Cell, M: Meter>(
     put_along(cells, &notes, place, meter)
 }
 
-// Puts a place in at the end of a route that leads to no place, and answers the new root.
+// Inserts a place at the end of a route that leads to no place. Returns the new root.
 #[inline(always)]
 pub fn put_at<C: Cell, M: Meter>(
     cells: &mut Nodes<C>,

@@ -1,4 +1,4 @@
-//! The way of a search down a tree. It knows which way a key wants, and not the key.
+//! The route of a search down a tree. The code here knows in which direction a key lies, and not the key.
 ghost use Rattle.std.specs.Prelude.{◌≡◌, ℕ, ◌+◌, ◌*◌, ◌<◌, ◌≤◌};
 ghost use Rattle.std.specs.declared.cmp.Ordering.{Ordering};
 ghost use Rattle.bimap_tree.specs.Tree.{IsBalanced, Tree, leaf, Stands, height, reading, size};
@@ -13,18 +13,18 @@ use crate::remove::first_in_tree;
 use crate::search_key::SearchKey;
 use bimap_base::{Cell, Meter, Nodes};
 
-/// The way that a search went down an index: at each depth a place, and whether the way goes on to its right.
+/// The route of a search down an index. At each depth it stores a place, and whether the route goes on to the right of it.
 ///
-/// It is as long as the highest balanced tree of fewer than 2^64 places, and takes no memory from an allocator.
+/// It is long enough for the highest balanced tree of fewer than 2^64 places. Never allocates.
 #[derive(Drop)]
 pub struct Route {
-    // At each depth twice the place, modulo 2^31, and one more where the way goes on to its right.
+    // The entry of each depth. It is the place modulo 2^31, times 2, plus 1 if the route goes on to the right of the place.
     steps: [u32; 91],
     depth: usize,
 }
 
 impl Route {
-    /// A route of no steps, for `Ordered::step` and `finish` to write.
+    /// Returns a route without entries, for `Ordered::step` and `Ordered::finish` to write.
     pub fn new() -> Self
         ensures { (index : IndexView) (go : ℕ → Ordering) → IsBalancedIndex index leaf →
             IsRoute index go result }
@@ -35,8 +35,8 @@ impl Route {
         }
     }
 
-    // Whether the way most likely goes to the left all along. It looks at a few steps without a branch, and what it answers
-    // decides where a search begins, and nothing of what it finds.
+    // Returns whether the route probably goes only to the left. Looks at a few entries, without a branch. The result decides
+    // where a search begins, and never what it finds.
     pub(crate) fn goes_left(&self) -> bool {
         let depth = self.depth;
         if depth < 4 || depth > 91 {
@@ -67,17 +67,20 @@ impl Steps for Route {
     }
 }
 
-// A tree of so many places is large: most of its nodes are far, and the wait for one is longer than a wrong guess.
+// A tree with this many cells is large. Most of its nodes are outside the cache, and the wait for a node takes longer than a
+// mispredicted branch.
 const FAR: usize = 16_384;
 
-// Whether a turn to the right is a branch with an exit, of which the compiler makes no select: in a large tree, unless a key
-// is no wider than a word. A processor guesses the turn, and reads the next node while it awaits the keys. To compare keys of
-// a word takes no pointer, and wrong guesses cost more than the wait.
+// Returns whether a search goes to the right by a branch. Its loop has an extra exit on that side, which keeps the compiler
+// from using a conditional move. The result is true in a large tree with wide keys.
+//
+// The processor predicts the branch, and loads the next node while it waits for the keys. A comparison of keys that are not
+// wide follows no pointer. For such keys mispredicted branches cost more than the wait.
 pub fn branches_on_direction<C: Cell, S: SearchKey>(cells: &Nodes<C>) -> bool {
     S::has_wide_keys() && cells.places() >= FAR
 }
 
-// Goes on down to what is sought, noting the way, and answers the place there.
+// Goes on down to what is searched for, and notes the route. Returns the place there, or `None`.
 pub fn route_in_tree<C: Cell, S: SearchKey, M: Meter>(
     cells: &Nodes<C>,
     root: Option<usize>,
@@ -129,8 +132,8 @@ pub fn route_in_tree<C: Cell, S: SearchKey, M: Meter>(
     root
 }
 
-// Goes down to what is sought, noting the way, and answers the place there. Where that is most likely the first place, it is
-// looked at before any other.
+// Goes down to what is searched for, and notes the route. Returns the place there, or `None`. If that place is probably the
+// first one, tries the first place before any other.
 pub fn route_from_first<C: Cell, S: SearchKey, M: Meter>(
     cells: &Nodes<C>,
     root: Option<usize>,

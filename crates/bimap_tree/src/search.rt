@@ -1,4 +1,4 @@
-//! Searches down the tree. They know trees, and keys through `Keys` alone.
+//! Searches down the tree. The code here knows trees, and knows keys only through `Keys`.
 ghost use Rattle.std.specs.Prelude.{◌≡◌, ℕ, ◌+◌, ◌*◌, ◌<◌, ◌≤◌, IsSome, Some, slice_get};
 ghost use Rattle.bimap_base.specs.Keyed.{standing};
 ghost use Rattle.bimap_tree.specs.Tree.{Tree, Stands, height, size, reading};
@@ -10,7 +10,7 @@ use crate::route::branches_on_direction;
 use crate::search_key::{SearchKey, ToQuery};
 use bimap_base::{Cell, Keys, Meter, Nodes, Sought};
 
-// The place whose key the query asks for.
+// Returns the place whose key is equal to the query, or `None`.
 pub fn find_in_tree<C: Cell, K: Keys, Q: Sought<K>, M: Meter>(
     cells: &Nodes<C>,
     root: Option<usize>,
@@ -49,7 +49,7 @@ pub fn find_in_tree<C: Cell, K: Keys, Q: Sought<K>, M: Meter>(
     None
 }
 
-// The place at a rank.
+// Returns the place at a rank.
 pub fn place_in_tree<C: Cell, M: Meter>(
     cells: &Nodes<C>,
     root: Option<usize>,
@@ -81,7 +81,7 @@ pub fn place_in_tree<C: Cell, M: Meter>(
     unreachable!()
 }
 
-// How many places of the tree are below the key sought.
+// Returns the number of places in the tree whose key is below what is searched for.
 pub fn rank_in_tree<C: Cell, S: SearchKey, M: Meter>(
     cells: &Nodes<C>,
     root: Option<usize>,

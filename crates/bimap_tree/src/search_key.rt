@@ -1,4 +1,5 @@
-//! What a descent seeks: how a place stands to it. It knows keys through `Keys` alone, and no tree.
+//! What a descent searches for, and how the key of a place compares with it. The code here knows keys only through `Keys`, and no
+//! tree.
 ghost use Rattle.std.specs.Prelude.{◌≡◌, ℕ, ◌+◌, Some, IsSome};
 ghost use Rattle.std.specs.declared.cmp.Ordering.{Ordering};
 ghost use Rattle.bimap_base.specs.Keyed.{standing};
@@ -13,18 +14,19 @@ pub trait SearchKey {
 
     ghost go: { Self → ℕ → Ordering };
 
-    // How a place stands to what is sought.
+    // Returns how the key of a place compares with what is searched for.
     fn ordering<M: Meter>(&self, place: usize, meter: &mut M) -> Ordering
         requires { live self.now place }
         ensures ordering { result ≡ go self.now place }
         ensures comparisons { M.comparisons meter.new ≡ M.comparisons meter.old + 1 }
         ensures touches { M.touches meter.new ≡ M.touches meter.old };
 
-    // Whether a key is wider than a word, so that a comparison most likely follows a pointer.
+    // Returns whether the keys are wide. A comparison of wide keys probably follows a pointer.
     fn has_wide_keys() -> bool;
 }
 
-// A constant at each type. Its size is asked of an `Option` that holds none: `size_of` has no proof at a parameter.
+// Returns whether a key is wide. A key is wide if an `Option` of it is larger than an `Option<usize>`. The result is a constant
+// for each type. The size is measured at a value, because `size_of` of a type parameter has no proof.
 fn is_wide<K>() -> bool {
     let no_key: Option<ManuallyDrop<K>> = None;
     let size = size_of_val(&no_key);
@@ -52,7 +54,7 @@ impl<K: Keys> SearchKey for ToKey<'_, K> {
     }
 }
 
-// To the key that a query asks for.
+// A search for the key that is equal to a query.
 #[derive(Drop)]
 pub struct ToQuery<'a, K, Q> {
     pub keys: &'a K,
@@ -93,7 +95,7 @@ impl<K: Keys> SearchKey for ToPlace<'_, K> {
     }
 }
 
-// To the position just after the key that a query asks for.
+// A search for the position just after the key that is equal to a query.
 #[derive(Drop)]
 pub struct AfterQuery<'a, K, Q> {
     pub keys: &'a K,

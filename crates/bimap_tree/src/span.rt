@@ -1,4 +1,4 @@
-//! The ranks of a range of keys. It knows an index and its keys, and no node.
+//! The ranks of a range of keys. The code here knows an index and its keys, and no node.
 ghost use Rattle.std.specs.Prelude.{◌≤◌, ◌+◌, ◌*◌, length};
 ghost use Rattle.bimap_base.specs.Digits.{most_height};
 ghost use Rattle.bimap_base.specs.Keyed.{Ascends};
@@ -9,14 +9,14 @@ use crate::ordered::Ordered;
 use bimap_base::{Keys, Meter, Sought};
 use std::ops::Bound;
 
-/// The ranks from `front` up to `back`.
+/// The ranks from `front` up to, but without, `back`.
 #[derive(Clone, Copy, Drop)]
 pub struct Span {
     pub front: usize,
     pub back: usize,
 }
 
-// The first rank whose key is past an end.
+// Returns the first rank whose key is past an end. If no key is past it, returns the length.
 fn rank_of_end<K: Keys, Q: Sought<K>, M: Meter>(
     index: &Ordered,
     keys: &K,
@@ -39,8 +39,8 @@ fn rank_of_end<K: Keys, Q: Sought<K>, M: Meter>(
 }
 
 impl Span {
-    /// The ranks whose keys lie between two ends, by two searches and with no memory. Where the end lies before the
-    /// start, there are none.
+    /// Returns the ranks of the keys between two ends. If the end is before the start, there are none. Takes two searches. Never
+    /// allocates.
     pub fn of<K: Keys, Q: Sought<K>, M: Meter>(
         index: &Ordered,
         keys: &K,

@@ -1,4 +1,4 @@
-//! Places in order, many at a time. It knows trees and ranks, and no key.
+//! Reads places in order, many at a time. The code here knows trees and ranks, and no key.
 ghost use Rattle.std.specs.Prelude.{◌≡◌, ℕ, ◌+◌, ◌*◌, ◌<◌, ◌≤◌, ◌^◌, ◌++◌, ◌∷◌, Some, length};
 ghost use Rattle.bimap_base.specs.declared.cells.Node.{Node};
 ghost use Rattle.bimap_tree.specs.Filled.{CanFill, IsFilled, IsRow, place_in};
@@ -7,7 +7,8 @@ ghost use Rattle.bimap_tree.specs.Tree.{Tree, Stands, IsBalanced, node_of, heigh
 
 use bimap_base::{Cell, Meter, Node, Nodes};
 
-// A subtree of the index, whose first place has the rank `start`, with the place before its places and the one behind them.
+// A subtree of the index. `start` is the rank of its first place. `before` and `behind` are the listed places just before and
+// just after its places.
 #[derive(Clone, Copy)]
 pub struct RankedSubtree {
     start: usize,
@@ -17,7 +18,8 @@ pub struct RankedSubtree {
     node: Node,
 }
 
-// Puts a place behind those that stand there, if there is one. It has no branch: where there is none, what it writes isn't counted.
+// Appends a place to the first `filled` ones of the buffer, if there is a place. Returns how many there are then. It has no
+// branch, because without a place it writes 0 and does not count it.
 fn put(buffer: &mut [usize; 64], filled: usize, place: Option<usize>) -> usize
     requires room { filled < 63 }
     requires long { length buffer.old ≡ 64 }
@@ -27,7 +29,7 @@ fn put(buffer: &mut [usize; 64], filled: usize, place: Option<usize>) -> usize
     filled + place.is_some() as usize
 }
 
-// Puts the places of a tree of at most two levels, whose root's node is given.
+// Appends the places of a tree of at most two levels, whose root has this node.
 fn fill_two_levels(buffer: &mut [usize; 64], filled: usize, at: usize, node: Node) -> usize
     requires room { filled < 61 }
     requires long { length buffer.old ≡ 64 }
@@ -39,7 +41,7 @@ fn fill_two_levels(buffer: &mut [usize; 64], filled: usize, at: usize, node: Nod
     put(buffer, before + 1, node.right)
 }
 
-// Puts the places of a tree, whose root's node is given, behind those that stand there.
+// Appends the places of a tree, whose root has this node, to the first `filled` ones of the buffer.
 #[cycle(fill)]
 #[inline(always)]
 fn fill_tree<C: Cell, M: Meter>(
@@ -68,7 +70,8 @@ fn fill_tree<C: Cell, M: Meter>(
     fill_high(cells, at, left, right, buffer, filled, meter);
 }
 
-// The same of a tree whose root has these children. Both are read before either tree is walked, so that neither waits for the other, and the size of one tells where the other begins.
+// Appends the places of a tree whose root has two children. Reads the nodes of both children first. Neither subtree then waits
+// for the other, because the size of the left one says where the places of the right one begin.
 #[cycle(fill)]
 fn fill_high<C: Cell, M: Meter>(
     cells: &Nodes<C>,
@@ -98,7 +101,7 @@ fn fill_high<C: Cell, M: Meter>(
     fill_tree(cells, right, right_node, buffer, middle + 1, meter);
 }
 
-// Goes down to a tree of few places, among which, with the one before it and the one behind it, is the one at a rank.
+// Descends to a subtree of at most `most` places. The place at `rank` is in it, or it is the place just before or just behind it.
 fn subtree_around<C: Cell, M: Meter>(
     cells: &Nodes<C>,
     root: Option<usize>,
@@ -153,7 +156,9 @@ fn subtree_around<C: Cell, M: Meter>(
     subtree
 }
 
-// Puts the places of some ranks in a row into a buffer, this rank among them, and answers the first of these ranks and how many they are. They are those of a tree, the place before it and the one behind it, so that few branches are wrongly guessed.
+// Reads the places of consecutive ranks into a buffer, with `rank` among them. Returns the first of these ranks and their number.
+// The places are those of a subtree, the place before it and the place behind it. To read a whole subtree mispredicts few
+// branches.
 pub fn fill_around<C: Cell, M: Meter>(
     cells: &Nodes<C>,
     root: Option<usize>,

@@ -1,4 +1,4 @@
-//! The store with the sides of its pairs exchanged.
+//! Exchanges the sides of the pairs in a store.
 ghost use Rattle.std.specs.Prelude.{◌≡◌, IfOk, IfErr, map, option_map};
 ghost use Rattle.bimap_base.specs.Inverse.{inverse_pair};
 ghost use Rattle.bimap_base.specs.InverseSlots.{inverse_slot};
@@ -7,7 +7,7 @@ use super::{Pairs, Slot};
 use crate::refusal::NotInverted;
 
 impl<L, R> Slot<L, R> {
-    // The slot with the sides of its pair exchanged. It names the same next place.
+    // Returns the slot with the sides of its pair exchanged. A free slot still stores the same next place.
     fn into_inverse(self) -> Slot<R, L>
         ensures { result ≡ inverse_slot self }
     {
@@ -19,8 +19,9 @@ impl<L, R> Slot<L, R> {
 }
 
 impl<L: Drop, R: Drop> Pairs<L, R> {
-    /// The store with the sides of each pair exchanged, at the same places. It takes memory for as many places before it
-    /// moves a pair, and a refusal hands the very store back.
+    /// Returns the store with the sides of each pair exchanged. Each pair keeps its place.
+    ///
+    /// Allocates the places of the new store before it moves a pair. If it runs out of memory, it hands this store back.
     pub fn into_inverse(self) -> Result<Pairs<R, L>, NotInverted<Self>>
         ensures ok { IfOk result (λ inverse. inverse ≡ map (option_map inverse_pair) self) }
         ensures err { IfErr result (λ e. e.given ≡ self) }

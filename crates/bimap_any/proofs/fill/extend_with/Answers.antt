@@ -36,7 +36,7 @@ loop-left-preserved g c =
           g.met.L.Eq.laws g.met.R.Eq.laws (g.met.B.Bijection.apart c.loop-left.bimap) (g.met.B.Bijection.apart c.insert_with.new.self) (g.met.B.Bijection.fits c.loop-left.bimap) i.put_in e.allowed e.answer e.put e.room;
     }
 
--- the items before the refused one, which came last in order
+-- The items before the refused one came last, in order.
 stopped : (g : _) (c : In-Err g) → (s : IsExtensionStoppedUnder g.L.PartialEq.eq g.R.PartialEq.eq (g.I.IntoIterator.into_iter_gives c.args.items) g.I.IntoIter.Iterator.next_gives (g.B.Bijection.holding c.args.bimap.now) c.args.policy (record { taken = c.loop-left.taken; why = c.in-Err.why }) (g.B.Bijection.holding c.insert_with.new.self)) × (s.items ≡ c.loop-left.yielded)
 stopped g c =
     let first = g.B.Bijection.holding c.args.bimap.now in

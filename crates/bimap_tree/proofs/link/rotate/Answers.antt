@@ -39,7 +39,7 @@ read-parts-requires g c =
     let (a, b, u) = upper_of _ _ _ _ _ _ _ _ _ c.requires.2 c.requires.3 c.requires.5 c.read-upper.ensures.node c.children-outer_root.ensures.near c.children-outer_root.ensures.far in
     root_within _ _ b (Stands-at _ _ _ b c.in-Some.is u.inner_stands)
 
--- the inner tree is the higher one, and has two trees of its own
+-- The inner tree is the higher one, and has two subtrees of its own.
 the_inner : (g : Over) (c : After-children-near_root g) (n f : Tree) → CanRebalance c.args.cells.now c.args.place n f → root_of n ≡ Some c.args.heavy → height n ≡ height f + 2
     → (a : Tree) × (b : Tree) × (d : Tree) × Inner c.args.direction c.args.cells.now c.args.place c.args.heavy n f c.in-Some.middle c.children-outer_root.result.0 c.children-near_root.result.0 c.children-near_root.result.1 a b d
 the_inner g c n f h root two =

@@ -8,7 +8,7 @@ use Rattle.bimap_tree.proofs.remove.take_along.Goals as goal
 pub read-node-requires : goal.read-node-requires
 read-node-requires g c = at_within _ _ _ _ _ _ c.requires.take.3
 
--- no left child
+-- The place has no left child.
 pub measure-child-requires : goal.measure-child-requires
 measure-child-requires g c = (_, right_tree _ _ _ _ _ _ c.requires.take.3 _ c.read-node.ensures.node)
 
@@ -29,7 +29,7 @@ returns-then-is_none-clause-tree g c path l r h =
 pub returns-then-is_none-clause-touches : goal.returns-then-is_none-clause-touches
 returns-then-is_none-clause-touches g c path l r h = omega (arith, h.depth_is, c.depth-depth.ensures, steps_within path (fork l c.args.at r))
 
--- no right child
+-- The place has no right child.
 pub measure-child-requires-in_default : goal.measure-child-requires-in_default
 measure-child-requires-in_default g c = (_, left_tree _ _ _ _ _ _ c.requires.take.3 _ c.read-node.ensures.node)
 
@@ -48,7 +48,7 @@ returns-in_default-clause-tree g c path l r h =
 pub returns-in_default-clause-touches : goal.returns-in_default-clause-touches
 returns-in_default-clause-touches g c path l r h = omega (arith, h.depth_is, c.depth-depth.ensures, steps_within path (fork l c.args.at r))
 
--- both children
+-- The place has both children.
 pub overflow_add-depth : goal.overflow_add-depth
 overflow_add-depth g c = omega (arith, c.depth-depth.ensures, depth_few _ _ _ _ _ _ c.requires.take.3)
 

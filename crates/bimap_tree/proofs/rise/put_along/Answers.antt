@@ -4,7 +4,7 @@ use Rattle.bimap_tree.specs.Link.{Measures}
 use Rattle.bimap_tree.proofs.Rises.{can_put, put_risen}
 use Rattle.bimap_tree.proofs.rise.put_along.Goals as goal
 
--- nothing is told of no tree
+-- The `Subtree` without a root describes the empty tree.
 nothing : Measures record { root = None; height = 0; size = 0 } leaf
 nothing = record { root_is = refl; height_is = refl; size_is = refl }
 

@@ -1,4 +1,4 @@
--- A tally of one more. Assumes `Logic`.
+-- A tally that is greater by one. Assumes `Logic`.
 use Rattle.std.proofs.Common.{List, [], ◌∷◌, ◌++◌, ◌+◌, refl}
 use Rattle.std.proofs.raw_atomic.Walks.{proved_at}
 use contract.Running.{tables}

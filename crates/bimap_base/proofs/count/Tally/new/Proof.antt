@@ -1,4 +1,4 @@
--- A tally of none. Assumes `Logic`.
+-- A tally of 0. Assumes `Logic`.
 use Rattle.std.proofs.Common.{[], ◌∷◌, refl}
 use Rattle.std.proofs.raw_atomic.Walks.{proved_at}
 use contract.Running.{tables}

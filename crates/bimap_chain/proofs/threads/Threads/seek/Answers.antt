@@ -39,7 +39,7 @@ returns-then-same-clause-over g c =
     let along = c.loop-at.invariant.0 in
     ended_some _ _ _ _ _ _ _ along (arrived _ _ _ _ _ along.at_last along.within c.in-Some.is).0 c.in-Some.is (omega arith)
 
--- a key that is asked for has the number sought
+-- A key that is equal to the query has the number that is searched for.
 own : (g : Over) (c : After-len-end g) (k : g.row.S-Key.Denot) → IsTrue (g.S.Spread.same_key k c.args.query) → g.S.Spread.number_of c.args.spread.now k ≡ c.args.number
 own g c k t = g.met.S.Spread.alike c.args.spread.now k c.args.query t ∙ sym c.requires.number
 

@@ -17,7 +17,7 @@ pub route_from_first-requires : goal.route_from_first-requires
 route_from_first-requires g c =
     (tree_in (nodes_in c.self.inside.cells) c.self.inside.root, can_follow _ _ _ _ c.self.invariant c.self.view_is _ _ _ (can_seek _ _ _ _ c.self.invariant c.self.view_is _ _ _ g.met.Q.Sought.follows c.requires _))
 
--- what the search answers is the first equal one
+-- The search returns the first equal place.
 first : (g : Over) (c : After-route_from_first g) → c.route_from_first.result ≡ first_equal (λ q. standing g.Q.Sought.order (g.K.Keys.key_at c.args.keys.now q) (Some c.args.query)) c.args.self.now.places
 first g c =
     let f = can_follow _ _ _ _ c.self.invariant c.self.view_is _ _ c.new-route.result (can_seek _ _ _ _ c.self.invariant c.self.view_is _ _ _ g.met.Q.Sought.follows c.requires c.args.query) in
@@ -33,7 +33,7 @@ returns-in_err-found-clause-comparisons g c = omega (arith, c.route_from_first.e
 pub returns-in_err-found-clause-touches : goal.returns-in_err-found-clause-touches
 returns-in_err-found-clause-touches g c = omega (arith, c.route_from_first.ensures.touches _ c.self.invariant.index.tree, height_within _ _ _ _ c.self.invariant c.self.view_is)
 
--- the way that it went, to the place found
+-- The route of the search to the place that was found.
 the_notes : (g : Over) (c : In_ok-found g) → (low : Path) × (s : Tree) × IsFollowed (λ q. standing g.Q.Sought.order (g.K.Keys.key_at c.args.keys.now q) (Some c.args.query)) c.route_from_first.new.route c.route_from_first.new.route.depth (Some c.in_ok-found.found) (tree_in (nodes_in c.self.inside.cells) c.self.inside.root) low s
 the_notes g c =
     let f = can_follow _ _ _ _ c.self.invariant c.self.view_is _ _ c.new-route.result (can_seek _ _ _ _ c.self.invariant c.self.view_is _ _ _ g.met.Q.Sought.follows c.requires c.args.query) in
