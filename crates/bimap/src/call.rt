@@ -1,8 +1,8 @@
-//! The calls of a run and their replies. It doesn't know how they are performed.
+//! The calls of a run and their replies. Nothing here performs them.
 use bimap_base::{Overwritten, Policy};
 use thiserror::Error;
 
-/// A call on a bimap. A `Retain` has a key `K` for the test of pairs.
+/// A call on a map. A `Retain` has a key `K`, with which the test of pairs is called.
 #[derive(Debug, Drop, Eq, PartialEq)]
 pub enum Call<L, R, K> {
     /// `insert`, which replies `Inserted` or `NoRoom`.
@@ -19,7 +19,7 @@ pub enum Call<L, R, K> {
     ContainsLeft(L),
     /// `contains_right`, which replies `Holds`.
     ContainsRight(R),
-    /// `retain` of the pairs on which the test returns true with this key. It replies `Done`.
+    /// `retain` of the pairs for which the test returns true with this key. It replies `Done`.
     Retain(K),
     /// `clear`, which replies `Done`.
     Clear,
@@ -28,27 +28,27 @@ pub enum Call<L, R, K> {
 /// What a call returned.
 #[derive(Debug, Drop, Eq, PartialEq)]
 pub enum Reply<L, R> {
-    /// The pair was inserted, and overwrote these.
+    /// The pair was inserted, and overwrote these pairs.
     Inserted(Overwritten<L, R>),
-    /// The bimap contains neither value, and was out of memory. The pair is handed back.
+    /// The map contains neither value, and there was no memory. The pair is handed back.
     NoRoom(L, R),
     /// The pair was inserted, and overwrote none.
     Put,
-    /// The bimap contains one of the values, or both. The pair is handed back.
+    /// The map contains one of the values, or both. The pair is handed back.
     Occupied(L, R),
-    /// It contains the left, and the policy keeps it. The pair is handed back.
+    /// The map contains the left, and the policy keeps it. The pair is handed back.
     LeftHeld(L, R),
-    /// It contains the right, and the policy keeps it. The pair is handed back.
+    /// The map contains the right, and the policy keeps it. The pair is handed back.
     RightHeld(L, R),
     /// The pair that was removed, if there was one.
     Removed(Option<(L, R)>),
-    /// Whether the bimap contains the value.
+    /// Whether the map contains the value.
     Holds(bool),
     /// The call returns nothing.
     Done,
 }
 
-/// Out of memory for the replies. Nothing was called, and the calls are handed back.
+/// Out of memory for the replies. No call was performed. It hands the calls back.
 #[derive(Debug, Drop, Eq, Error, PartialEq)]
 #[error("out of memory for the replies")]
 pub struct RunRefused<L, R, K> {

@@ -1,4 +1,4 @@
-//! The facade: the bimaps' interface and plain types, lists of calls on any bimap, and their undoing.
+//! The facade: the maps with their interface and plain types, lists of calls on any map, and insertions undone.
 #![tactic(auto)]
 
 pub mod btree;
@@ -28,5 +28,5 @@ pub use call::{Call, Reply, RunRefused};
 pub use runs::{perform, run};
 pub use undone::{UndoRunStopped, undo_run};
 
-/// A bimap for where no order is wanted.
+/// A map for use without an order.
 pub type BiMap<L, R> = BiHashMap<L, R>;

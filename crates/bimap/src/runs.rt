@@ -1,4 +1,4 @@
-//! A list of calls, performed in order on any bimap. It doesn't know how a bimap keeps its pairs.
+//! A list of calls, performed in order on any map. It uses calls of `Bijection` alone.
 ghost use Rattle.std.specs.Prelude.{◌≡◌, ◌≤◌, [], length, Contains, IfOk, IfErr, OnErr, vec_len};
 ghost use Rattle.std.specs.List.{zip};
 ghost use Rattle.bimap.specs.Test.{Answers, IsDecided, IsTestOf};
@@ -12,9 +12,13 @@ use std::alloc::Global;
 
 /// Performs one call and returns its reply.
 ///
-/// It costs what the call costs. A refusal leaves the pairs as they were. `NoRoom` comes only where no place is free, and
-/// only there does the capacity grow, to its double or to four at most. The test says which pairs a `Retain` keeps: for its key and each pair it must have
-/// one answer.
+/// A `Retain` keeps the pairs for which the test returns true. The test may not have a state that changes: for one key
+/// and one pair it always returns the same value. A refused call leaves the pairs as they were.
+///
+/// Time: That of the call.
+///
+/// Memory: It allocates only for an insertion that overwrites nothing when the capacity is used up. The capacity then
+/// doubles, to at least 4.
 ///
 ///     let reply = perform(&mut seats, Call::InsertNoOverwrite('a', 1), &|_: &u32, _: &char, _: &u32| true);
 ///     // Reply::Put, or Reply::Occupied('a', 1), or Reply::NoRoom('a', 1)
@@ -73,8 +77,14 @@ pub fn perform<L: Eq + Drop, R: Eq + Drop, K: Drop, B: Bijection<L, R>, F: Fn(&K
 
 /// Performs the calls in order, as [`perform`] does, and returns a reply for each.
 ///
-/// It takes memory for all replies first, and reserves no places ahead. An `Err` hands the calls back, and nothing was
-/// called; a `NoRoom` doesn't end the run.
+/// The test may not have a state that changes, as for [`perform`]. It reserves no capacity for pairs ahead. A reply
+/// `NoRoom` does not end the run.
+///
+/// Time: That of the calls.
+///
+/// Memory: It allocates for all replies first, and then as each call does.
+///
+/// `Err`: Out of memory for the replies. It hands the calls back, and performed none.
 ///
 ///     // the key of a `Retain` is the least seat to keep
 ///     let calls = vec![in alloc; Call::Insert('d', 4), Call::Retain(2), Call::ContainsLeft('b')]?;

@@ -1,4 +1,4 @@
-//! A list of insertions, undone from its end on any bimap. It doesn't know how a bimap keeps its pairs.
+//! A list of insertions, undone from its end on any map. It uses calls of `Bijection` alone.
 ghost use Rattle.std.specs.Prelude.{◌≡◌, List, Contains, IsOk, OnOk, IfErr};
 ghost use Rattle.bimap_base.specs.Sets.{IsSameSet};
 ghost use Rattle.bimap.specs.Trail.{Leads, LeadsWithin, IsStopped, IsRoomAfterUndoing};
@@ -7,18 +7,23 @@ use bimap_any::Bijection;
 use bimap_base::Overwritten;
 use thiserror::Error;
 
-/// Out of memory for putting two pairs back. The entries that are not undone are handed back in order, that one last.
+/// Out of memory for putting two pairs back. It hands back the entries that are not undone, in order, that one last.
 #[derive(Debug, Drop, Eq, Error, PartialEq)]
 #[error("out of memory for putting two pairs back, {} left to undo", .rest.len())]
 pub struct UndoRunStopped<L, R> {
     pub rest: Vec<(L, Overwritten<L, R>)>,
 }
 
-/// Undoes insertions that led to what the bimap contains, the last one first. An entry is a left with what its
-/// insertion returned.
+/// Undoes a list of insertions, the last one first.
 ///
-/// Each costs an `undo_insert`, and is out of memory only for `Both` where no place is free. Only there does the capacity
-/// grow, to its double or to four at most.
+/// An entry is a left with what its insertion returned. The insertions have to be those that led to what the map
+/// contains, and the proof of the caller has to see it.
+///
+/// Time: That of an `undo_insert` for each entry.
+///
+/// Memory: It allocates only to put back `Both` when the capacity is used up. The capacity then doubles, to at least 4.
+///
+/// `Err`: Out of memory. It hands back the entries that are not undone, in order, and the later ones stay undone.
 ///
 ///     // `entries` of the insertion of 'a' with 1: [('a', Overwritten::Both(('a', 3), ('b', 1)))]
 ///     undo_run(&mut seats, entries)?;
@@ -36,7 +41,7 @@ pub fn undo_run<L: Eq + Drop, R: Eq + Drop, B: Bijection<L, R>>(
         (B.holding bimap.old) entries.items e.rest.items (B.holding bimap.new)) }
     ensures room { IsRoomAfterUndoing (B.holding bimap.old) entries.items (B.holding bimap.new) }
 
-    // Where no set on the way back needs another place, all is undone in the places that are there.
+    // If no set of pairs on the way back needs more capacity, all is undone and the capacity stays.
     ensures fits { (first : List (L × R)) →
         LeadsWithin L.eq R.eq (B.holding bimap.old).room first entries.items
         (B.holding bimap.old).pairs →

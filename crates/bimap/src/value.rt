@@ -1,4 +1,4 @@
-//! Bimaps as JSON objects and back, and pairs as arrays. It doesn't know how a bimap keeps its pairs.
+//! Maps as JSON objects and back, and pairs as JSON arrays. It uses calls of `Bijection` and iterators alone.
 mod document;
 mod kinds;
 mod numbers;

@@ -1,4 +1,4 @@
-//! Many pairs inserted into any bimap. It doesn't know how a bimap keeps them.
+//! Many pairs inserted into any map. It uses calls of `Bijection` alone.
 ghost use Rattle.std.specs.Prelude.{◌≡◌, [], OnOk, IfOk, IfErr};
 ghost use Rattle.std.specs.Iterator.{IsFiniteIterable};
 ghost use Rattle.bimap_any.specs.Extension.{IsExtension, IsExtensionStopped, IsExtensionUnder, IsExtensionStoppedUnder};
@@ -9,10 +9,13 @@ use crate::bijection::Bijection;
 use bimap_base::{ExtendStopped, ItemRefused, NotInsertedWith, OnHeld, Policy};
 use std::mem;
 
-/// Inserts each item in order, which overwrites what it shares a value with.
+/// Inserts each item in order, as `insert` does.
 ///
-/// Each costs an `insert`, and nothing is reserved ahead. An `Err` hands back the item that was out of memory: those
-/// before it stay, and no more are asked for.
+/// Time: That of `insert` for each item.
+///
+/// Memory: It allocates as `insert` does for each item. Nothing is reserved ahead.
+///
+/// `Err`: Out of memory at an item. It hands that item back with the number of items before it, which stay inserted.
 pub fn extend<L: Eq + Drop, R: Eq + Drop, B: Bijection<L, R>, I: IntoIterator<Item = (L, R)>>(
     bimap: &mut B,
     items: I,
@@ -47,11 +50,15 @@ pub fn extend<L: Eq + Drop, R: Eq + Drop, B: Bijection<L, R>, I: IntoIterator<It
     }
 }
 
-/// Inserts each item in order, where the policy lets it overwrite what it shares a value with, up to the first that is
-/// refused.
+/// Inserts each item in order under the policy, up to the first that is refused.
 ///
-/// Each costs an `insert_with`, and nothing is reserved ahead. An `Err` hands back the refused item: those before it
-/// stay, and no more are asked for.
+/// It asks the iterator for no item after a refused one.
+///
+/// Time: That of `insert_with` for each item.
+///
+/// Memory: It allocates as `insert_with` does for each item. Nothing is reserved ahead.
+///
+/// `Err`: The first refused item, with the reason and the number of items before it, which stay inserted.
 ///
 ///     // each left and each right once: the item 2 has the right of the item 0
 ///     let once = Policy { left: OnHeld::Refuse, right: OnHeld::Refuse };
@@ -93,7 +100,13 @@ pub fn extend_with<L: Eq + Drop, R: Eq + Drop, B: Bijection<L, R>, I: IntoIterat
     Ok(())
 }
 
-/// Inserts each item in order into an empty bimap, as [`extend`] does, and returns it. An `Err` drops it.
+/// Inserts each item in order into an empty map, as `insert` does, and returns the map.
+///
+/// Time: That of `insert` for each item.
+///
+/// Memory: It allocates as `insert` does for each item. Nothing is reserved ahead.
+///
+/// `Err`: Out of memory at an item. It hands that item back with the number of items before it, and drops the map.
 pub fn from_iter<
     L: Eq + Drop,
     R: Eq + Drop,
@@ -118,7 +131,13 @@ pub fn from_iter<
     }
 }
 
-/// Inserts each item in order into an empty bimap, as [`extend_with`] does, and returns it. An `Err` drops it.
+/// Inserts each item in order under the policy into an empty map, and returns the map.
+///
+/// Time: That of `insert_with` for each item.
+///
+/// Memory: It allocates as `insert_with` does for each item. Nothing is reserved ahead.
+///
+/// `Err`: The first refused item, with the reason and the number of items before it. The map is dropped.
 ///
 ///     // each left and each right once
 ///     let once = Policy { left: OnHeld::Refuse, right: OnHeld::Refuse };

@@ -1,4 +1,4 @@
-//! The partner of a value, put in if there is none, in any bimap. It doesn't know how a bimap keeps its pairs.
+//! The partner of a value, inserted if there is none, in any map. It uses calls of `Bijection` alone.
 ghost use Rattle.std.specs.Prelude.{◌≡◌, Contains};
 ghost use Rattle.bimap_base.specs.Sets.{LacksLeft};
 ghost use Rattle.bimap_base.specs.Holding.{IsInterning};
@@ -22,12 +22,18 @@ macro_rules! interned {
     }};
 }
 
-/// A bimap whose rights are copied, as numbers are.
+/// A map whose rights are `Copy`, as numbers are.
 pub trait Interning<L: Eq + Drop, R: Copy + Eq + Drop>: Bijection<L, R> {
-    /// Returns the right of an equal left; if there is none, inserts the pair and returns its right.
+    /// Returns the right of an equal left, or inserts the pair and returns its right.
     ///
-    /// As it stands here, it costs a look-up, and an insertion where it inserts, which alone needs a free place. An
-    /// `Err` hands the pair back: another pair has the right, or it was out of memory.
+    /// A map may implement it with fewer searches, as the five maps do.
+    ///
+    /// Time: That of a look-up, and of an insertion if it inserts.
+    ///
+    /// Memory: It allocates only if it inserts and the capacity is used up.
+    ///
+    /// `Err`: Another pair has the right (`Occupied`), or out of memory (`Memory`). It hands the pair back, and the map
+    /// is as before.
     ///
     ///     // the number of a name: the one that it has, or else the next
     ///     let number = numbers.get_by_left_or_insert("ann", next)?;
@@ -40,10 +46,16 @@ pub trait Interning<L: Eq + Drop, R: Copy + Eq + Drop>: Bijection<L, R> {
     }
 }
 
-/// Returns the right of an equal left; if there is none, inserts the left with a right that the closure makes, and
-/// returns it. Where there is one, the closure is not called.
+/// Returns the right of an equal left, or inserts the left with a right from the closure and returns that right.
 ///
-/// It costs and refuses as [`Interning::get_by_left_or_insert`] does.
+/// The closure is called only if the map does not contain the left.
+///
+/// Time: That of a look-up, and of an insertion if it inserts.
+///
+/// Memory: It allocates only if it inserts and the capacity is used up.
+///
+/// `Err`: Another pair has the right (`Occupied`), or out of memory (`Memory`). It hands the pair back, and the map is
+/// as before.
 ///
 ///     // a number is made for a new name alone
 ///     get_by_left_or_insert_with(&mut numbers, "ann", || 12); // Ok(12)
@@ -63,8 +75,14 @@ pub fn get_by_left_or_insert_with<
     interned!(bimap, get_by_left, left => right, make(); left, right)
 }
 
-/// Returns the left of an equal right; if there is none, inserts the pair and returns its left, as
-/// [`Interning::get_by_left_or_insert`] does of a left.
+/// Returns the left of an equal right, or inserts the pair and returns its left.
+///
+/// Time: That of a look-up, and of an insertion if it inserts.
+///
+/// Memory: It allocates only if it inserts and the capacity is used up.
+///
+/// `Err`: Another pair has the left (`Occupied`), or out of memory (`Memory`). It hands the pair back, and the map is
+/// as before.
 ///
 ///     // ann has the seat 12, and nobody the seat 7
 ///     get_by_right_or_insert(&mut seats, "bob", 12); // Ok("ann")

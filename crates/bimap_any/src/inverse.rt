@@ -1,4 +1,4 @@
-//! The view. It knows a bimap by its calls alone.
+//! The view. It uses calls of `Bijection` alone.
 ghost use Rattle.std.specs.Prelude.{◌≡◌, ◌∷◌, Contains, IfOk};
 ghost use Rattle.bimap_base.specs.Holding.{IsUndoing};
 ghost use Rattle.bimap_base.specs.Positions.{StandsUndone};
@@ -14,11 +14,11 @@ use crate::inverse::exchanged::{exchange_answer, exchange_pair};
 use crate::inverse::undo::undo;
 use bimap_base::{NoMemory, NotInsertedWith, Overwritten, Policy, UndoStopped};
 
-/// A borrowed bimap seen with its sides exchanged: its lefts are the rights of the one that it borrows, and each call is
-/// one of that, so that the changes stay in the bimap.
+/// A borrowed map seen with its sides exchanged: its lefts are the rights of the map, and its rights the lefts.
 ///
-/// A call costs what the bimap's own of the other side does, but for these: where both values of a pair are contained and
-/// kept, `insert_with` makes a search more, and `undo_insert` makes a removal and an insertion for each pair.
+/// Each call is a call of the map, so all changes stay in the map. It costs what the map's call of the other side
+/// costs, with two exceptions. `insert_with` may make one more search before it refuses a pair. `undo_insert` makes a
+/// removal, and an insertion for each pair that it puts back.
 ///
 ///     let mut rooms = Inverse::new(&mut seats);
 ///     rooms.get_by_left(&3); // Some(&'a')
@@ -30,7 +30,11 @@ pub struct Inverse<'a, B> {
 }
 
 impl<'a, B> Inverse<'a, B> {
-    /// Returns the bimap seen so. It moves no pair and takes no memory.
+    /// Returns the map seen with its sides exchanged.
+    ///
+    /// It moves no pair.
+    ///
+    /// Time: O(1).
     pub fn new(bimap: &'a mut B) -> Inverse<'a, B>
         ensures same { result.bimap.now ≡ bimap.old }
         ensures same_reference { result.bimap.ghost_name ≡ bimap.entry.ghost_name }

@@ -1,4 +1,4 @@
-//! A pair that may be contained already, in any bimap. It doesn't know how a bimap keeps its pairs.
+//! A pair that may be contained already, in any map. It uses calls of `Bijection` alone.
 ghost use Rattle.std.specs.Prelude.{◌≡◌, ◌↔◌, IsTrue, Contains};
 ghost use Rattle.bimap_any.specs.Put.{IsPutting};
 ghost use Rattle.bimap_any.specs.Same.{HasEqual};
@@ -6,7 +6,9 @@ ghost use Rattle.bimap_any.specs.Same.{HasEqual};
 use crate::bijection::Bijection;
 use bimap_base::{NotInsertedWith, OnHeld, Overwritten, Policy};
 
-/// Returns whether the bimap contains a pair that equals this one on both sides. It costs a look-up.
+/// Returns whether the map contains a pair that equals this one on both sides.
+///
+/// Time: That of a look-up by left.
 ///
 ///     let is_hers = contains_pair(&seats, &"ann", &12);
 pub fn contains_pair<L: Eq + Drop, R: Eq + Drop, B: Bijection<L, R>>(
@@ -25,8 +27,12 @@ pub fn contains_pair<L: Eq + Drop, R: Eq + Drop, B: Bijection<L, R>>(
 
 /// Inserts a pair as `insert_with` does, and overwrites an equal pair under any policy.
 ///
-/// It costs a look-up and an insertion. An `Err` hands the pair back: another pair has a value that the policy keeps,
-/// or it was out of memory.
+/// Time: That of a look-up by left, and of an insertion.
+///
+/// Memory: It allocates only if it overwrites nothing and the capacity is used up.
+///
+/// `Err`: Another pair has a value that the policy keeps (`LeftHeld`, `RightHeld`), or out of memory (`Memory`). It
+/// hands the pair back, and the map is as before.
 ///
 ///     // each left and each right once; ann has the seat 12
 ///     let once = Policy { left: OnHeld::Refuse, right: OnHeld::Refuse };

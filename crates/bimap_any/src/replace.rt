@@ -1,4 +1,4 @@
-//! One value of a pair replaced, in any bimap. It doesn't know how a bimap keeps its pairs.
+//! One value of a pair replaced, in any map. It uses calls of `Bijection` alone.
 ghost use Rattle.std.specs.Prelude.{◌≡◌, IfOk};
 ghost use Rattle.bimap_any.specs.Exchange.{IsReplacementOfLeft, IsReplacementOfRight};
 ghost use Rattle.bimap_base.specs.Positions.{ComesLastWith};
@@ -26,11 +26,14 @@ macro_rules! replaced {
     }};
 }
 
-/// Replaces the left of a pair and returns the old one, also where the new one equals it.
+/// Replaces the left of a pair and returns the old left.
 ///
-/// It costs two look-ups, a removal and an insertion, and is never out of memory; the capacity stays. An `Err` hands
-/// the new left back: the bimap doesn't contain the old one, or another pair has the new one. In insertion order the pair
-/// goes to the end.
+/// The new left may equal the old one. The capacity stays. In insertion order the pair goes to the end.
+///
+/// Time: That of two look-ups, a removal and an insertion.
+///
+/// `Err`: No pair has the old left (`Missing`), or another pair has the new left (`Held`). It hands the new left back,
+/// and the map is as before.
 ///
 ///     // a user gets another name, and keeps the number
 ///     let old = replace_left(&mut users, &"ann", "anna")?;
@@ -48,7 +51,14 @@ pub fn replace_left<L: Eq + Drop, R: Eq + Drop, B: Bijection<L, R>>(
     replaced!(bimap, from => to; contains_left, remove_by_left; left, right => left, to, right)
 }
 
-/// Replaces the right of a pair and returns the old one, as [`replace_left`] does a left.
+/// Replaces the right of a pair and returns the old right.
+///
+/// The new right may equal the old one. The capacity stays. In insertion order the pair goes to the end.
+///
+/// Time: That of two look-ups, a removal and an insertion.
+///
+/// `Err`: No pair has the old right (`Missing`), or another pair has the new right (`Held`). It hands the new right
+/// back, and the map is as before.
 ///
 ///     // a user moves to another seat
 ///     let old = replace_right(&mut seats, &12, 31)?;

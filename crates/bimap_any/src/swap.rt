@@ -1,4 +1,4 @@
-//! Two pairs that swap their rights, in any bimap. It doesn't know how a bimap keeps its pairs.
+//! Two pairs that swap their rights, in any map. It uses calls of `Bijection` alone.
 ghost use Rattle.std.specs.Prelude.{◌≡◌, false, OnOk};
 ghost use Rattle.bimap_any.specs.Exchange.{IsSwap};
 ghost use Rattle.bimap_base.specs.Positions.{ComeLastSwapped};
@@ -6,10 +6,15 @@ ghost use Rattle.bimap_base.specs.Positions.{ComeLastSwapped};
 use crate::bijection::Bijection;
 use bimap_base::NotSwapped;
 
-/// Gives each of two lefts the right of the other. Of two equal lefts nothing changes.
+/// Gives each of two lefts the right of the other.
 ///
-/// It costs two look-ups, two removals and two insertions, and is never out of memory; the capacity stays. An `Err`
-/// says which left the bimap doesn't contain. In insertion order both pairs go to the end, the pair of `other` first.
+/// If the two lefts are equal, nothing changes. The capacity stays. In insertion order both pairs go to the end, the
+/// pair of `other` first.
+///
+/// Time: That of two look-ups, two removals and two insertions.
+///
+/// `Err`: The map does not contain the first left (`FirstMissing`), or not the second (`SecondMissing`). The map is as
+/// before.
 ///
 ///     // ann and bob change seats, and zoe has none
 ///     swap_partners(&mut seats, &"ann", &"bob"); // Ok(())

@@ -1,24 +1,26 @@
-//! What an insertion overwrites.
+//! What an insertion overwrote.
 ghost use Rattle.std.specs.Prelude.{◌≡◌};
 ghost use Rattle.bimap_base.specs.Answer.{overwrites};
 
-/// The pairs that an insertion overwrote, with their old values.
+/// The pairs that an insertion overwrote, with their old values. It is `Copy` if `L` and `R` are.
 #[derive(Clone, Copy, Debug, Drop, Eq, Hash, PartialEq)]
 pub enum Overwritten<L, R> {
-    /// The bimap contained neither value.
+    /// The map contained neither value.
     Neither,
-    /// It contained the left, and not the right.
+    /// The map contained the left, and not the right. This is the pair of the left.
     Left(L, R),
-    /// It contained the right, and not the left.
+    /// The map contained the right, and not the left. This is the pair of the right.
     Right(L, R),
-    /// It contained both, in one pair.
+    /// The map contained both values, in one pair. This is that pair.
     Pair(L, R),
-    /// It contained both, in two pairs: first the one with the equal left.
+    /// The map contained both values, in two pairs. The pair of the left stands first.
     Both((L, R), (L, R)),
 }
 
 impl<L, R> Overwritten<L, R> {
     /// Returns whether a pair was overwritten.
+    ///
+    /// Time: O(1).
     pub fn did_overwrite(&self) -> bool
         ensures { result ≡ overwrites self.now }
     {

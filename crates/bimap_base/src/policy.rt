@@ -1,16 +1,16 @@
 //! Which values an insertion may overwrite.
 ghost use Rattle.std.specs.Prelude.{◌≡◌, ◌↔◌, IsTrue};
 
-/// What an insertion does where the bimap contains a value.
+/// What an insertion does on one side if the map already contains the value.
 #[derive(Clone, Copy, Debug, Eq, PartialEq)]
 pub enum OnHeld {
-    /// It overwrites the pair that has the value.
+    /// The insertion overwrites the pair that has the value.
     Overwrite,
-    /// It is refused.
+    /// The insertion is refused.
     Refuse,
 }
 
-/// What an insertion does where the bimap contains its left, and where it contains its right.
+/// What an insertion does on each side if the map already contains the value of that side.
 #[derive(Clone, Copy, Debug, Eq, PartialEq)]
 pub struct Policy {
     pub left: OnHeld,
@@ -19,6 +19,8 @@ pub struct Policy {
 
 impl OnHeld {
     /// Returns whether this is `Refuse`.
+    ///
+    /// Time: O(1).
     pub fn refuses(self) -> bool
         ensures { IsTrue result ↔ (self ≡ OnHeld.Refuse) }
     {

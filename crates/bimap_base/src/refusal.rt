@@ -1,4 +1,5 @@
-//! Why a call did nothing, or not all, and what it hands back. Its text names no value, so that it asks nothing of the sides.
+//! Why a call did nothing, or not all, and what it hands back. The text of a refusal names no value, so that it needs
+//! no `Display` of the sides.
 use crate::overwritten::Overwritten;
 use std::alloc::AllocError;
 use thiserror::Error;
@@ -14,7 +15,7 @@ impl From<AllocError> for NoMemory {
     }
 }
 
-/// Out of memory for a pair that would overwrite nothing. The pair is handed back, and nothing has changed.
+/// Out of memory for a pair that would overwrite nothing. It hands the pair back, and nothing has changed.
 #[derive(Debug, Drop, Eq, Error, PartialEq)]
 #[error("out of memory for the pair")]
 pub struct NoRoom<L, R> {
@@ -22,32 +23,33 @@ pub struct NoRoom<L, R> {
     pub right: R,
 }
 
-/// Why `insert_no_overwrite` refused a pair. The pair is handed back, and nothing has changed.
+/// Why `insert_no_overwrite` or a `get_by_.._or_insert` did not insert a pair. It hands the pair back, and nothing has
+/// changed.
 #[derive(Debug, Drop, Eq, Error, PartialEq)]
 pub enum NotInserted<L, R> {
-    /// The bimap contains one of the values, or both.
+    /// The map contains one of the values, or both.
     #[error("the left or the right is already contained")]
     Occupied(L, R),
-    /// It contains neither, and was out of memory.
+    /// The map contains neither value, and there was no memory.
     #[error("out of memory for the pair")]
     Memory(L, R),
 }
 
-/// Why `insert_with` refused a pair. The pair is handed back, and nothing has changed.
+/// Why `insert_with` refused a pair. It hands the pair back, and nothing has changed.
 #[derive(Debug, Drop, Eq, Error, PartialEq)]
 pub enum NotInsertedWith<L, R> {
-    /// The bimap contains the left, and the policy keeps it. It is asked before the right.
+    /// The map contains the left, and the policy keeps it. The left is asked first.
     #[error("the left is already contained")]
     LeftHeld(L, R),
-    /// It contains the right, and the policy keeps it.
+    /// The map contains the right, and the policy keeps it.
     #[error("the right is already contained")]
     RightHeld(L, R),
-    /// It contains neither, and was out of memory.
+    /// The map contains neither value, and there was no memory.
     #[error("out of memory for the pair")]
     Memory(L, R),
 }
 
-/// Out of memory for an item that would overwrite nothing. It is handed back, and those before it were inserted.
+/// Out of memory for an item that would overwrite nothing. It hands the item back. The items before it were inserted.
 #[derive(Debug, Drop, Eq, Error, PartialEq)]
 #[error("item {taken}: out of memory for the pair")]
 pub struct ExtendStopped<L, R> {
@@ -57,10 +59,10 @@ pub struct ExtendStopped<L, R> {
     pub right: R,
 }
 
-/// Why a value was not replaced. The new value is handed back, and nothing has changed.
+/// Why a value was not replaced. It hands the new value back, and nothing has changed.
 #[derive(Debug, Drop, Eq, Error, PartialEq)]
 pub enum NotReplaced<V> {
-    /// The bimap doesn't contain the old value. It is asked first.
+    /// The map does not contain the old value. The old value is asked first.
     #[error("the old value is not contained")]
     Missing(V),
     /// Another pair has the new value.
@@ -71,22 +73,22 @@ pub enum NotReplaced<V> {
 /// Why two lefts did not swap their rights. Nothing has changed.
 #[derive(Clone, Copy, Debug, Eq, Error, PartialEq)]
 pub enum NotSwapped {
-    /// The bimap doesn't contain the first left.
+    /// The map does not contain the first left.
     #[error("the first left is not contained")]
     FirstMissing,
-    /// It contains that one, and not the second.
+    /// The map contains the first left, and not the second.
     #[error("the second left is not contained")]
     SecondMissing,
 }
 
-/// Out of memory for exchanging the sides of pairs. What was to be turned round is handed back as it was.
+/// Out of memory for the inverse of a map. It hands the map back as it was.
 #[derive(Debug, Drop, Eq, Error, PartialEq)]
 #[error("out of memory for the inverse")]
 pub struct NotInverted<B> {
     pub given: B,
 }
 
-/// An item that the policy refused, or that was out of memory. The call says what became of those before it.
+/// An item that the policy refused, or for which there was no memory. The call says what became of the items before it.
 #[derive(Debug, Drop, Eq, Error, PartialEq)]
 #[error("item {taken}: {why}")]
 pub struct ItemRefused<L, R> {
@@ -96,7 +98,7 @@ pub struct ItemRefused<L, R> {
     pub why: NotInsertedWith<L, R>,
 }
 
-/// Out of memory for putting two pairs back. The answer is handed back, and nothing has changed.
+/// Out of memory for putting two pairs back. It hands the answer back, and nothing has changed.
 #[derive(Debug, Drop, Eq, Error, PartialEq)]
 #[error("out of memory for putting two pairs back")]
 pub struct UndoStopped<L, R> {

@@ -1,4 +1,4 @@
-//! Every bimap as a bijection, by calls of its own.
+//! Every map as a `Bijection`, by the map's own calls.
 ghost use Rattle.std.specs.Prelude.{[], Contains, IfOk};
 ghost use Rattle.bimap_base.specs.Holding.{IsUndoing};
 ghost use Rattle.bimap_base.specs.Positions.{StandsUndone};

@@ -1,4 +1,4 @@
-//! Many pairs inserted at once. It doesn't know how one is.
+//! Many pairs inserted at once, by calls of `bimap_base`.
 ghost use Rattle.std.specs.Prelude.{[], OnOk, IfOk, IfErr};
 ghost use Rattle.std.specs.Iterator.{IsFiniteIterable};
 ghost use Rattle.bimap_any.specs.Extension.{IsExtension, IsExtensionStopped};
@@ -13,10 +13,14 @@ use std::alloc::Global;
 impl<L: Eq + Drop, R: Eq + Drop, I: Index<L>, J: Index<R>> BijectiveMap<L, R, I, J> {
     ghost use Rattle.bimap_kinds.specs.Held.{holding};
 
-    /// Inserts each item in order, which overwrites what it shares a value with.
+    /// Inserts each item in order, as [`insert`](Self::insert) does.
     ///
-    /// Each costs an insertion, and nothing is reserved ahead. An `Err` hands back the item that was out of memory:
-    /// those before it stay, and no more are asked for.
+    /// Time: That of `insert` for each item.
+    ///
+    /// Memory: It allocates as `insert` does for each item. Nothing is reserved ahead.
+    ///
+    /// `Err`: Out of memory at an item. It hands that item back with the number of items before it, which stay
+    /// inserted.
     ///
     ///     seats.extend([('d', 4), ('e', 1)]); // Ok(())
     ///     seats.len(); // 4
@@ -50,7 +54,15 @@ impl<L: Eq + Drop, R: Eq + Drop, I: EmptyIndex<L> + Drop, J: EmptyIndex<R> + Dro
 > {
     ghost use Rattle.bimap_kinds.specs.Held.{holding};
 
-    /// Creates a bimap of the items, inserted in order as [`extend`](Self::extend) does. An `Err` leaves no bimap.
+    /// Returns a map of the items, whose hash builders are made by `Default`.
+    ///
+    /// It inserts each item in order, as [`extend`](Self::extend) does.
+    ///
+    /// Time: That of `insert` for each item.
+    ///
+    /// Memory: It allocates as `insert` does for each item. Nothing is reserved ahead.
+    ///
+    /// `Err`: Out of memory at an item. It hands that item back with the number of items before it, and drops the map.
     ///
     ///     let seats: BiBTreeMap<char, u32> = BiBTreeMap::from_iter(alloc, [('a', 3), ('b', 1), ('c', 2)])?;
     pub fn from_iter<A: IntoIterator<Item = (L, R)>>(

@@ -1,4 +1,4 @@
-//! Equality of a bimap whose walk has no order of values. It knows walks and look-ups, and no place.
+//! Equality of a map with a hashed left. It uses iterators and look-ups alone.
 ghost use Rattle.std.specs.Prelude.{◌≡◌, ◌↔◌, IsTrue, Contains};
 ghost use Rattle.bimap_any.specs.Same.{same, HasEqual};
 ghost use Rattle.bimap_any.proofs.SameSets.{same_per, same_equiv};
@@ -9,8 +9,11 @@ use crate::walked_index::WalkedIndex;
 use bimap_index::{HashIndex, Index, InsertionOrder};
 use std::hash::{BuildHasher, Hash};
 
-/// Two bimaps are equal if they have the same length and each pair of one equals a pair of the other on both sides,
-/// whatever the builders. It takes a look-up for each pair.
+/// Returns whether both maps have the same length, and each pair of one equals a pair of the other.
+///
+/// The hash builders do not matter.
+///
+/// Time: That of iterating over one map, and of a look-up by left in the other for each pair.
 impl<L: Eq + Hash, R: Eq, LS: BuildHasher, J: Index<R>> PartialEq
     for BijectiveMap<L, R, HashIndex<LS>, J> {
     ghost eq = { λ a b. same L.eq R.eq (holding a).pairs (holding b).pairs };
@@ -27,8 +30,11 @@ impl<L: Eq + Hash, R: Eq, LS: BuildHasher, J: Index<R>> Eq
     ghost laws = { same_equiv L.eq R.eq L.Eq.laws R.Eq.laws (λ b. (holding b).pairs) (λ b. b.apart) };
 }
 
-/// Two bimaps are equal if they have the same length and each pair of one equals a pair of the other on both sides,
-/// whatever their order. It takes a look-up for each pair.
+/// Returns whether both maps have the same length, and each pair of one equals a pair of the other.
+///
+/// The insertion order does not matter.
+///
+/// Time: That of iterating over one map, and of a look-up by left in the other for each pair.
 impl<L: Eq, R: Eq, I: Index<L>, J: Index<R>> PartialEq
     for BijectiveMap<L, R, InsertionOrder<I>, J> {
     ghost eq = { λ a b. same L.eq R.eq (holding a).pairs (holding b).pairs };
@@ -45,7 +51,7 @@ impl<L: Eq, R: Eq, I: Index<L>, J: Index<R>> Eq for BijectiveMap<L, R, Insertion
 }
 
 impl<L: Eq, R: Eq, I: WalkedIndex<L>, J: Index<R>> BijectiveMap<L, R, I, J> {
-    // Whether both have the same pairs, up to equality.
+    // Returns whether both maps have the same pairs, up to equality.
     fn has_equal_pairs(&self, other: &Self) -> bool
         ensures { result ≡ same L.eq R.eq (holding self.now).pairs (holding other.now).pairs }
     {
@@ -63,7 +69,7 @@ impl<L: Eq, R: Eq, I: WalkedIndex<L>, J: Index<R>> BijectiveMap<L, R, I, J> {
 }
 
 impl<L: Eq, R: Eq, I: Index<L>, J: Index<R>> BijectiveMap<L, R, I, J> {
-    // Whether a pair is held that equals this one on both sides.
+    // Returns whether the map contains a pair that equals this one on both sides.
     fn has_equal(&self, left: &L, right: &R) -> bool
         ensures { IsTrue result ↔ HasEqual L.eq R.eq (Contains (holding self.now).pairs)
             (left.now, right.now) }

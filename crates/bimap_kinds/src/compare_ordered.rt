@@ -1,5 +1,5 @@
-//! Equality, order and hashes of a bimap whose left is ordered: those of the pairs by ascending left. It knows walks, and no
-//! place.
+//! Equality, order and hashes of a map with an ordered left, by its pairs in ascending order of the lefts. It uses
+//! iterators alone.
 ghost use Rattle.std.specs.Prelude.{◌≡◌, ◌++◌, Some, refl};
 ghost use Rattle.std.specs.Cmp.Lexicographic.{pointwise};
 ghost use Rattle.std.specs.Hash as fed;
@@ -16,8 +16,9 @@ use bimap_walk::by_rank::Iter;
 use std::cmp::Ordering;
 use std::hash::{Hash, Hasher};
 
-/// Two bimaps are equal if they have the same length and each pair of one equals a pair of the other on both sides. It
-/// takes time proportional to the length.
+/// Returns whether both maps have the same length, and each pair of one equals a pair of the other.
+///
+/// Time: That of iterating over both maps.
 impl<L: Ord + Drop, R: Eq + Drop, J: Index<R>> PartialEq for BijectiveMap<L, R, Ordered, J> {
     ghost eq = { λ a b. same L.eq R.eq (holding a).pairs (holding b).pairs };
 
@@ -37,6 +38,9 @@ impl<L: Ord + Drop, R: Eq + Drop, J: Index<R>> Eq for BijectiveMap<L, R, Ordered
         (λ b. b.apart) };
 }
 
+/// Returns `Some` of what `cmp` returns.
+///
+/// Time: That of iterating over both maps.
 impl<L: Ord + Drop, R: Ord + Drop, J: Index<R>> PartialOrd for BijectiveMap<L, R, Ordered, J> {
     ghost partial_cmp = { λ a b. Some (lexicographic L.cmp R.cmp (holding a).pairs
         (holding b).pairs) };
@@ -49,8 +53,11 @@ impl<L: Ord + Drop, R: Ord + Drop, J: Index<R>> PartialOrd for BijectiveMap<L, R
     }
 }
 
-/// Compares the pairs by ascending left in turn, each by its left and then by its right. Where one bimap's pairs begin
-/// the other's, it is the lesser. It takes time proportional to the length.
+/// Compares the pairs by ascending left, each by its left and then by its right.
+///
+/// If the pairs of one map are the beginning of the other's, that map is the lesser.
+///
+/// Time: That of iterating over both maps.
 impl<L: Ord + Drop, R: Ord + Drop, J: Index<R>> Ord for BijectiveMap<L, R, Ordered, J> {
     ghost cmp = { λ a b. lexicographic L.cmp R.cmp (holding a).pairs (holding b).pairs };
 
@@ -67,7 +74,11 @@ impl<L: Ord + Drop, R: Ord + Drop, J: Index<R>> Ord for BijectiveMap<L, R, Order
     }
 }
 
-/// Equal bimaps hash alike, as equal values of each side do.
+/// Hashes the length, and then each pair by ascending left.
+///
+/// Equal maps hash alike.
+///
+/// Time: That of iterating, and of hashing each value.
 impl<L: Ord + Hash + Drop, R: Ord + Hash + Drop, J: Index<R>> Hash
     for BijectiveMap<L, R, Ordered, J> {
     ghost hash_input = { λ b. fed.slice (λ p. L.hash_input p.0 ++ R.hash_input p.1)
@@ -83,7 +94,7 @@ impl<L: Ord + Hash + Drop, R: Ord + Hash + Drop, J: Index<R>> Hash
     }
 }
 
-// Whether two pairs are equal on both sides.
+// Returns whether two pairs are equal on both sides.
 fn is_equal_pair<L: PartialEq, R: PartialEq>(first: (&L, &R), second: (&L, &R)) -> bool
     ensures { result ≡ pair_eq L.eq R.eq (first.entry.0.now, first.entry.1.now)
         (second.entry.0.now, second.entry.1.now) }
@@ -91,7 +102,7 @@ fn is_equal_pair<L: PartialEq, R: PartialEq>(first: (&L, &R), second: (&L, &R)) 
     first.0 == second.0 && first.1 == second.1
 }
 
-// Whether the pairs of two walks are equal one by one, and as many.
+// Returns whether two iterators give as many pairs, and equal ones at each step.
 fn are_equal<L: PartialEq + Drop, R: PartialEq + Drop>(
     first: Iter<'_, L, R>,
     mut second: Iter<'_, L, R>,
@@ -111,7 +122,7 @@ fn are_equal<L: PartialEq + Drop, R: PartialEq + Drop>(
     second.next().is_none()
 }
 
-// How one pair stands to another.
+// Returns the order of two pairs: by left, then by right.
 fn order_of_pair<L: Ord, R: Ord>(first: (&L, &R), second: (&L, &R)) -> Ordering
     ensures { result ≡ pair_cmp L.cmp R.cmp (first.entry.0.now, first.entry.1.now)
         (second.entry.0.now, second.entry.1.now) }
@@ -119,7 +130,7 @@ fn order_of_pair<L: Ord, R: Ord>(first: (&L, &R), second: (&L, &R)) -> Ordering
     first.0.cmp(second.0).then_with(|| first.1.cmp(second.1))
 }
 
-// The lexicographic order of the pairs of two walks.
+// Returns the lexicographic order of the pairs of two iterators.
 fn order_of<L: Ord + Drop, R: Ord + Drop>(
     first: Iter<'_, L, R>,
     mut second: Iter<'_, L, R>,
@@ -142,7 +153,7 @@ fn order_of<L: Ord + Drop, R: Ord + Drop>(
     }
 }
 
-// Hashes the pairs of a walk in turn.
+// Hashes the pairs of an iterator, one after the other.
 fn feed<L: Hash + Drop, R: Hash + Drop, H: Hasher>(pairs: Iter<'_, L, R>, state: &mut H)
     ensures { state.new ≡ fold H.write state.old
         (flat_map (λ p. L.hash_input p.0 ++ R.hash_input p.1) pairs.entry) }

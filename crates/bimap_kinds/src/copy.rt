@@ -1,4 +1,4 @@
-//! A copy of the whole.
+//! A clone of a map.
 ghost use Rattle.std.specs.Prelude.{◌≡◌, IfOk};
 ghost use Rattle.std.specs.List.{AllZip};
 ghost use Rattle.bimap_any.specs.Copies.{AreClonesEqual, IsCopy, IsPairClone};
@@ -16,10 +16,16 @@ impl<
 > BijectiveMap<L, R, I, J> {
     ghost use Rattle.bimap_kinds.specs.Held.{holding};
 
-    /// Returns a bimap of the clones of the pairs, equal to this one and with its capacity.
+    /// Returns a map of the clones of the pairs, which equals this map and has its capacity.
     ///
-    /// Each clone of a value has to equal it, and hashed sides get clones of the builders. It takes memory for the
-    /// whole capacity, beside that of the clones, and the time of [`iter`](Self::iter) and of an insertion for each pair.
+    /// Each clone of a value has to equal the value. Hashed sides get clones of the hash builders. Insertion order is
+    /// kept.
+    ///
+    /// Time: O(capacity), and that of cloning and inserting each pair.
+    ///
+    /// Memory: It allocates for the whole capacity, and what the clones of values and hash builders allocate.
+    ///
+    /// `Err`: Out of memory. There is no clone.
     ///
     ///     seats.clone()? == seats; // true
     pub fn clone(&self) -> Result<Self, NoMemory>

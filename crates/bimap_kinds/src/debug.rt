@@ -1,4 +1,4 @@
-//! The text of a bimap. It knows iterators, and no place.
+//! The text of a map. It uses iterators alone.
 ghost use Rattle.std.specs.Iterator.{IsFinite};
 
 use crate::map::BijectiveMap;
@@ -7,6 +7,10 @@ use bimap_index::Index;
 use std::fmt;
 
 /// Writes the pairs in the order of `iter`, as `{'a' <> 1, 'b' <> 2}`.
+///
+/// Time: That of iterating, and of writing each value.
+///
+/// `Err`: The formatter failed. A part may be written.
 impl<
     L: Eq + fmt::Debug + Drop,
     R: Eq + fmt::Debug + Drop,
@@ -18,7 +22,7 @@ impl<
     }
 }
 
-// Writes the pairs of a walk.
+// Writes the pairs of an iterator.
 fn write_pairs<
     'a,
     L: fmt::Debug + 'a,

@@ -1,4 +1,4 @@
-//! The ends of an ordered side, and the pairs by their rank on it, in logarithmic time. No capacity changes.
+//! The ends of an ordered side, and the pairs by their rank on it. No capacity changes.
 ghost use Rattle.std.specs.Prelude.{◌≡◌, suc, ◌+◌, ◌-◌, ◌*◌, ◌≤◌, ◌++◌, length, take, drop, slice_get, option_map, count_by, IfSome};
 ghost use Rattle.std.specs.Ordering.{is_lt};
 ghost use Rattle.std.specs.Map.Iter.{TakesFirst, TakesLast, deref_pair};
@@ -14,7 +14,9 @@ use bimap_tree::Ordered;
 impl<L: Ord, R: Eq, J: Index<R>> BijectiveMap<L, R, Ordered, J> {
     ghost use Rattle.bimap_kinds.specs.Held.{holding};
 
-    /// Returns the pair with the least left, or `None` if there are no pairs.
+    /// Returns the pair with the least left, or `None` if the map is empty.
+    ///
+    /// Time: O(log n), without comparing values.
     ///
     ///     seats.first_by_left(); // Some((&'a', &3))
     pub fn first_by_left(&self) -> Option<(&L, &R)>
@@ -23,7 +25,9 @@ impl<L: Ord, R: Eq, J: Index<R>> BijectiveMap<L, R, Ordered, J> {
         self.first_by_left_metered(&mut Count::new())
     }
 
-    /// Returns the pair with the greatest left, or `None` if there are no pairs.
+    /// Returns the pair with the greatest left, or `None` if the map is empty.
+    ///
+    /// Time: O(log n), without comparing values.
     ///
     ///     seats.last_by_left(); // Some((&'c', &2))
     pub fn last_by_left(&self) -> Option<(&L, &R)>
@@ -33,7 +37,9 @@ impl<L: Ord, R: Eq, J: Index<R>> BijectiveMap<L, R, Ordered, J> {
         self.last_by_left_metered(&mut Count::new())
     }
 
-    /// Returns the pair with exactly `rank` lefts below its own, or `None` from the length on.
+    /// Returns the pair with exactly `rank` lefts below its own, or `None` if `rank` is the length or more.
+    ///
+    /// Time: O(log n), without comparing values.
     ///
     ///     seats.pair_at_left_rank(1); // Some((&'b', &1))
     pub fn pair_at_left_rank(&self, rank: usize) -> Option<(&L, &R)>
@@ -42,7 +48,11 @@ impl<L: Ord, R: Eq, J: Index<R>> BijectiveMap<L, R, Ordered, J> {
         self.pair_at_left_rank_metered(rank, &mut Count::new())
     }
 
-    /// Returns how many lefts are below this one, which the bimap need not contain.
+    /// Returns how many lefts are below this one.
+    ///
+    /// The map need not contain it. The left is a `&L` or a borrowed form, as in [`get_by_left`](Self::get_by_left).
+    ///
+    /// Time: O(log n).
     ///
     ///     seats.left_rank(&'c'); // 2
     pub fn left_rank<Q: OrderQuery<L>>(&self, left: Q) -> usize
@@ -51,7 +61,11 @@ impl<L: Ord, R: Eq, J: Index<R>> BijectiveMap<L, R, Ordered, J> {
         self.left_rank_metered(left, &mut Count::new())
     }
 
-    /// Removes the pair with the least left and returns it, or `None` if there are no pairs.
+    /// Removes the pair with the least left and returns it, or returns `None` if the map is empty.
+    ///
+    /// The capacity stays.
+    ///
+    /// Time: O(log n) on the left. On the right O(log n) if ordered, expected O(1) if hashed.
     ///
     ///     seats.pop_first_by_left(); // Some(('a', 3))
     pub fn pop_first_by_left(&mut self) -> Option<(L, R)>
@@ -62,7 +76,11 @@ impl<L: Ord, R: Eq, J: Index<R>> BijectiveMap<L, R, Ordered, J> {
         self.pop_first_by_left_metered(&mut Count::new())
     }
 
-    /// Removes the pair with the greatest left and returns it, or `None` if there are no pairs.
+    /// Removes the pair with the greatest left and returns it, or returns `None` if the map is empty.
+    ///
+    /// The capacity stays.
+    ///
+    /// Time: O(log n) on the left. On the right O(log n) if ordered, expected O(1) if hashed.
     ///
     ///     seats.pop_last_by_left(); // Some(('c', 2))
     pub fn pop_last_by_left(&mut self) -> Option<(L, R)>
@@ -73,7 +91,7 @@ impl<L: Ord, R: Eq, J: Index<R>> BijectiveMap<L, R, Ordered, J> {
         self.pop_last_by_left_metered(&mut Count::new())
     }
 
-    /// [`first_by_left`](Self::first_by_left), counted. It compares nothing.
+    /// Is [`first_by_left`](Self::first_by_left) with a meter.
     pub fn first_by_left_metered<M: Meter>(&self, meter: &mut M) -> Option<(&L, &R)>
         ensures pair { option_map deref_pair result ≡ slice_get (holding self.now).pairs 0 }
         ensures comparisons { M.comparisons meter.new ≡ M.comparisons meter.old }
@@ -83,7 +101,7 @@ impl<L: Ord, R: Eq, J: Index<R>> BijectiveMap<L, R, Ordered, J> {
         self.pair_at_left_rank_metered(0, meter)
     }
 
-    /// [`last_by_left`](Self::last_by_left), counted. It compares nothing.
+    /// Is [`last_by_left`](Self::last_by_left) with a meter.
     pub fn last_by_left_metered<M: Meter>(&self, meter: &mut M) -> Option<(&L, &R)>
         ensures pair { option_map deref_pair result
             ≡ slice_get (holding self.now).pairs (length (holding self.now).pairs - 1) }
@@ -94,7 +112,7 @@ impl<L: Ord, R: Eq, J: Index<R>> BijectiveMap<L, R, Ordered, J> {
         self.pair_at_left_rank_metered(self.len().saturating_sub(1), meter)
     }
 
-    /// [`pair_at_left_rank`](Self::pair_at_left_rank), counted. It compares nothing.
+    /// Is [`pair_at_left_rank`](Self::pair_at_left_rank) with a meter.
     pub fn pair_at_left_rank_metered<M: Meter>(
         &self,
         rank: usize,
@@ -108,7 +126,7 @@ impl<L: Ord, R: Eq, J: Index<R>> BijectiveMap<L, R, Ordered, J> {
         pair_at_rank(&self.table.pairs, &self.table.left, rank, meter)
     }
 
-    /// [`left_rank`](Self::left_rank), counted.
+    /// Is [`left_rank`](Self::left_rank) with a meter.
     pub fn left_rank_metered<Q: OrderQuery<L>, M: Meter>(&self, left: Q, meter: &mut M) -> usize
         ensures rank { result ≡ count_by (λ p. is_lt (Q.order p.0 left))
             (holding self.now).pairs }
@@ -121,7 +139,7 @@ impl<L: Ord, R: Eq, J: Index<R>> BijectiveMap<L, R, Ordered, J> {
         self.table.left.rank_of(&lefts, left, meter)
     }
 
-    /// [`pop_first_by_left`](Self::pop_first_by_left), counted.
+    /// Is [`pop_first_by_left`](Self::pop_first_by_left) with a meter.
     pub fn pop_first_by_left_metered<M: Meter>(&mut self, meter: &mut M) -> Option<(L, R)>
         ensures taken { TakesFirst (λ p. p) (holding self.old).pairs result
             (holding self.new).pairs }
@@ -135,7 +153,7 @@ impl<L: Ord, R: Eq, J: Index<R>> BijectiveMap<L, R, Ordered, J> {
         self.take_at_left_rank(0, meter)
     }
 
-    /// [`pop_last_by_left`](Self::pop_last_by_left), counted.
+    /// Is [`pop_last_by_left`](Self::pop_last_by_left) with a meter.
     pub fn pop_last_by_left_metered<M: Meter>(&mut self, meter: &mut M) -> Option<(L, R)>
         ensures taken { TakesLast (λ p. p) (holding self.old).pairs result
             (holding self.new).pairs }
@@ -150,7 +168,7 @@ impl<L: Ord, R: Eq, J: Index<R>> BijectiveMap<L, R, Ordered, J> {
         self.take_at_left_rank(last, meter)
     }
 
-    // Takes out the pair of a rank, or answers `None` from the length on.
+    // Removes the pair of a rank and returns it, or returns `None` if the rank is the length or more.
     #[tactic(auto, unfolding(crate::specs::HeldTable::held))]
     fn take_at_left_rank<M: Meter>(&mut self, rank: usize, meter: &mut M) -> Option<(L, R)>
         ensures pair { result ≡ slice_get (holding self.old).pairs rank }
@@ -172,7 +190,9 @@ impl<L: Eq, R: Ord, I: Index<L>> BijectiveMap<L, R, I, Ordered> {
     ghost use Rattle.bimap_kinds.specs.Held.{holding, by_right};
     ghost use Rattle.bimap_kinds.specs.Sorted.{IsByRight};
 
-    /// Returns the pair with the least right, or `None` if there are no pairs.
+    /// Returns the pair with the least right, or `None` if the map is empty.
+    ///
+    /// Time: O(log n), without comparing values.
     ///
     ///     seats.first_by_right(); // Some((&'b', &1))
     pub fn first_by_right(&self) -> Option<(&L, &R)>
@@ -182,7 +202,9 @@ impl<L: Eq, R: Ord, I: Index<L>> BijectiveMap<L, R, I, Ordered> {
         self.first_by_right_metered(&mut Count::new())
     }
 
-    /// Returns the pair with the greatest right, or `None` if there are no pairs.
+    /// Returns the pair with the greatest right, or `None` if the map is empty.
+    ///
+    /// Time: O(log n), without comparing values.
     ///
     ///     seats.last_by_right(); // Some((&'a', &3))
     pub fn last_by_right(&self) -> Option<(&L, &R)>
@@ -193,7 +215,9 @@ impl<L: Eq, R: Ord, I: Index<L>> BijectiveMap<L, R, I, Ordered> {
         self.last_by_right_metered(&mut Count::new())
     }
 
-    /// Returns the pair with exactly `rank` rights below its own, or `None` from the length on.
+    /// Returns the pair with exactly `rank` rights below its own, or `None` if `rank` is the length or more.
+    ///
+    /// Time: O(log n), without comparing values.
     ///
     ///     seats.pair_at_right_rank(1); // Some((&'c', &2))
     pub fn pair_at_right_rank(&self, rank: usize) -> Option<(&L, &R)>
@@ -203,7 +227,11 @@ impl<L: Eq, R: Ord, I: Index<L>> BijectiveMap<L, R, I, Ordered> {
         self.pair_at_right_rank_metered(rank, &mut Count::new())
     }
 
-    /// Returns how many rights are below this one, which the bimap need not contain.
+    /// Returns how many rights are below this one.
+    ///
+    /// The map need not contain it. The right is a `&R` or a borrowed form, as in [`get_by_right`](Self::get_by_right).
+    ///
+    /// Time: O(log n).
     ///
     ///     seats.right_rank(&3); // 2
     pub fn right_rank<Q: OrderQuery<R>>(&self, right: Q) -> usize
@@ -213,7 +241,11 @@ impl<L: Eq, R: Ord, I: Index<L>> BijectiveMap<L, R, I, Ordered> {
         self.right_rank_metered(right, &mut Count::new())
     }
 
-    /// Removes the pair with the least right and returns it, or `None` if there are no pairs.
+    /// Removes the pair with the least right and returns it, or returns `None` if the map is empty.
+    ///
+    /// The capacity stays.
+    ///
+    /// Time: O(log n) on the right. On the left O(log n) if ordered, expected O(1) if hashed.
     ///
     ///     seats.pop_first_by_right(); // Some(('b', 1))
     pub fn pop_first_by_right(&mut self) -> Option<(L, R)>
@@ -226,7 +258,11 @@ impl<L: Eq, R: Ord, I: Index<L>> BijectiveMap<L, R, I, Ordered> {
         self.pop_first_by_right_metered(&mut Count::new())
     }
 
-    /// Removes the pair with the greatest right and returns it, or `None` if there are no pairs.
+    /// Removes the pair with the greatest right and returns it, or returns `None` if the map is empty.
+    ///
+    /// The capacity stays.
+    ///
+    /// Time: O(log n) on the right. On the left O(log n) if ordered, expected O(1) if hashed.
     ///
     ///     seats.pop_last_by_right(); // Some(('a', 3))
     pub fn pop_last_by_right(&mut self) -> Option<(L, R)>
@@ -239,7 +275,7 @@ impl<L: Eq, R: Ord, I: Index<L>> BijectiveMap<L, R, I, Ordered> {
         self.pop_last_by_right_metered(&mut Count::new())
     }
 
-    /// [`first_by_right`](Self::first_by_right), counted. It compares nothing.
+    /// Is [`first_by_right`](Self::first_by_right) with a meter.
     pub fn first_by_right_metered<M: Meter>(&self, meter: &mut M) -> Option<(&L, &R)>
         ensures pair { option_map deref_pair result ≡ slice_get (by_right self.now) 0 }
         ensures sorted { IsByRight R.cmp (holding self.now).pairs (by_right self.now) }
@@ -250,7 +286,7 @@ impl<L: Eq, R: Ord, I: Index<L>> BijectiveMap<L, R, I, Ordered> {
         self.pair_at_right_rank_metered(0, meter)
     }
 
-    /// [`last_by_right`](Self::last_by_right), counted. It compares nothing.
+    /// Is [`last_by_right`](Self::last_by_right) with a meter.
     pub fn last_by_right_metered<M: Meter>(&self, meter: &mut M) -> Option<(&L, &R)>
         ensures pair { option_map deref_pair result
             ≡ slice_get (by_right self.now) (length (by_right self.now) - 1) }
@@ -262,7 +298,7 @@ impl<L: Eq, R: Ord, I: Index<L>> BijectiveMap<L, R, I, Ordered> {
         self.pair_at_right_rank_metered(self.len().saturating_sub(1), meter)
     }
 
-    /// [`pair_at_right_rank`](Self::pair_at_right_rank), counted. It compares nothing.
+    /// Is [`pair_at_right_rank`](Self::pair_at_right_rank) with a meter.
     pub fn pair_at_right_rank_metered<M: Meter>(
         &self,
         rank: usize,
@@ -277,7 +313,7 @@ impl<L: Eq, R: Ord, I: Index<L>> BijectiveMap<L, R, I, Ordered> {
         pair_at_rank(&self.table.pairs, &self.table.right, rank, meter)
     }
 
-    /// [`right_rank`](Self::right_rank), counted.
+    /// Is [`right_rank`](Self::right_rank) with a meter.
     pub fn right_rank_metered<Q: OrderQuery<R>, M: Meter>(&self, right: Q, meter: &mut M) -> usize
         ensures rank { result ≡ count_by (λ p. is_lt (Q.order p.1 right)) (by_right self.now) }
         ensures sorted { IsByRight R.cmp (holding self.now).pairs (by_right self.now) }
@@ -290,7 +326,7 @@ impl<L: Eq, R: Ord, I: Index<L>> BijectiveMap<L, R, I, Ordered> {
         self.table.right.rank_of(&rights, right, meter)
     }
 
-    /// [`pop_first_by_right`](Self::pop_first_by_right), counted.
+    /// Is [`pop_first_by_right`](Self::pop_first_by_right) with a meter.
     pub fn pop_first_by_right_metered<M: Meter>(&mut self, meter: &mut M) -> Option<(L, R)>
         ensures taken { TakesFirst (λ p. p) (by_right self.old) result (by_right self.new) }
         ensures sorted { IsByRight R.cmp (holding self.old).pairs (by_right self.old) }
@@ -306,7 +342,7 @@ impl<L: Eq, R: Ord, I: Index<L>> BijectiveMap<L, R, I, Ordered> {
         self.take_at_right_rank(0, meter)
     }
 
-    /// [`pop_last_by_right`](Self::pop_last_by_right), counted.
+    /// Is [`pop_last_by_right`](Self::pop_last_by_right) with a meter.
     pub fn pop_last_by_right_metered<M: Meter>(&mut self, meter: &mut M) -> Option<(L, R)>
         ensures taken { TakesLast (λ p. p) (by_right self.old) result (by_right self.new) }
         ensures sorted { IsByRight R.cmp (holding self.old).pairs (by_right self.old) }
@@ -323,7 +359,7 @@ impl<L: Eq, R: Ord, I: Index<L>> BijectiveMap<L, R, I, Ordered> {
         self.take_at_right_rank(last, meter)
     }
 
-    // Takes out the pair of a rank, or answers `None` from the length on.
+    // Removes the pair of a rank and returns it, or returns `None` if the rank is the length or more.
     fn take_at_right_rank<M: Meter>(&mut self, rank: usize, meter: &mut M) -> Option<(L, R)>
         ensures pair { result ≡ slice_get (by_right self.old) rank }
         ensures rest { (by_right self.new) ≡ take rank (by_right self.old)

@@ -1,4 +1,4 @@
-//! Bimaps of two hashed sides with builders handed in.
+//! Maps of two hashed sides with hash builders handed in.
 ghost use Rattle.std.specs.Prelude.{◌≡◌, [], IfOk, IfErr, IsOk};
 ghost use Rattle.std.specs.Iterator.{IsFiniteIterable};
 ghost use Rattle.bimap_any.specs.Extension.{IsExtension, IsExtensionStopped};
@@ -13,7 +13,9 @@ use std::hash::{BuildHasher, Hash};
 impl<L: Eq + Hash, R: Eq + Hash, LS: BuildHasher, RS: BuildHasher> BiHashMap<L, R, LS, RS> {
     ghost use Rattle.bimap_kinds.specs.Held.{holding};
 
-    /// Creates an empty bimap without places, with these builders.
+    /// Returns an empty map of capacity 0, with these hash builders.
+    ///
+    /// Time: O(1).
     ///
     ///     let (left, right) = (RandomState::new(&rt)?, RandomState::new(&rt)?);
     ///     let mut seats = BiHashMap::with_hashers(alloc, left, right);
@@ -27,7 +29,13 @@ impl<L: Eq + Hash, R: Eq + Hash, LS: BuildHasher, RS: BuildHasher> BiHashMap<L, 
         BijectiveMap::over(alloc, left, right)
     }
 
-    /// Creates an empty bimap with exactly this capacity and these builders, as `with_capacity` does.
+    /// Returns an empty map of exactly this capacity, with these hash builders.
+    ///
+    /// Time: O(capacity).
+    ///
+    /// Memory: It allocates for the capacity, and not at all for 0.
+    ///
+    /// `Err`: Out of memory. There is no map, and the hash builders are dropped.
     ///
     ///     let (left, right) = (RandomState::new(&rt)?, RandomState::new(&rt)?);
     ///     let seats: BiHashMap<char, u32, RandomState, RandomState> = BiHashMap::with_capacity_and_hashers(alloc, 16, left, right)?;
@@ -52,7 +60,15 @@ impl<L: Eq + Hash, R: Eq + Hash, LS: BuildHasher, RS: BuildHasher> BiHashMap<L, 
         Ok(bimap)
     }
 
-    /// Creates a bimap of the items with these builders, as `from_iter` does.
+    /// Returns a map of the items, with these hash builders.
+    ///
+    /// It inserts each item in order, as `extend` does.
+    ///
+    /// Time: That of `insert` for each item.
+    ///
+    /// Memory: It allocates as `insert` does for each item. Nothing is reserved ahead.
+    ///
+    /// `Err`: Out of memory at an item. It hands that item back with the number of items before it, and drops the map.
     ///
     ///     let (left, right) = (RandomState::new(&rt)?, RandomState::new(&rt)?);
     ///     let seats = BiHashMap::from_iter_with_hashers(alloc, left, right, [('a', 3), ('b', 1)])?;

@@ -1,4 +1,4 @@
-//! Insertions. There is one, under a policy, and each of the others is it under a policy of its own.
+//! Insertions. `insert_with` inserts under a policy, and each other insertion is one under a policy of its own.
 ghost use Rattle.std.specs.Prelude.{◌≡◌, ◌+◌, ◌*◌, ◌≤◌, ◌++◌, ◌∷◌, [], Contains, length, IfOk, OnOk};
 ghost use Rattle.bimap_base.specs.Holding.{IsInsertion, IsInsertionWithoutOverwriting, IsInsertionUnder, IsInterning};
 ghost use Rattle.bimap_base.specs.Sets.{LacksLeft};
@@ -11,8 +11,17 @@ use bimap_index::Index;
 impl<L: Eq + Drop, R: Eq + Drop, I: Index<L>, J: Index<R>> BijectiveMap<L, R, I, J> {
     ghost use Rattle.bimap_kinds.specs.Held.{holding};
 
-    /// Inserts a pair and returns the pairs that it overwrote. It is out of memory only where it would overwrite none,
-    /// and no place is free.
+    /// Inserts a pair and returns the pairs that it overwrote.
+    ///
+    /// It overwrites each pair that shares a value with the new pair. In insertion order, a new pair that overwrites
+    /// the pair of the same left keeps that pair's position. Any other new pair goes to the end.
+    ///
+    /// Time: O(log n) with an ordered side, expected O(1) with two hashed sides. O(capacity) when the capacity grows.
+    ///
+    /// Memory: It allocates only if it overwrites nothing and the capacity is used up. The capacity then doubles, to at
+    /// least 4.
+    ///
+    /// `Err`: Out of memory. It hands the pair back, and the map is as before.
     ///
     ///     seats.insert('a', 1); // Ok(Overwritten::Both(('a', 3), ('b', 1)))
     pub fn insert(&mut self, left: L, right: R) -> Result<Overwritten<L, R>, NoRoom<L, R>>
@@ -24,7 +33,16 @@ impl<L: Eq + Drop, R: Eq + Drop, I: Index<L>, J: Index<R>> BijectiveMap<L, R, I,
         self.insert_metered(left, right, &mut Count::new())
     }
 
-    /// Inserts a pair if the bimap contains neither of its values.
+    /// Inserts a pair if the map contains neither of its values.
+    ///
+    /// In insertion order the pair goes to the end.
+    ///
+    /// Time: O(log n) with an ordered side, expected O(1) with two hashed sides. O(capacity) when the capacity grows.
+    ///
+    /// Memory: It allocates only if it inserts and the capacity is used up. The capacity then doubles, to at least 4.
+    ///
+    /// `Err`: The map contains one of the values (`Occupied`), or out of memory (`Memory`). It hands the pair back, and
+    /// the map is as before.
     ///
     ///     seats.insert_no_overwrite('d', 3); // Err(NotInserted::Occupied('d', 3))
     pub fn insert_no_overwrite(&mut self, left: L, right: R) -> Result<(), NotInserted<L, R>>
@@ -45,8 +63,19 @@ impl<L: Eq + Drop, R: Eq + Drop, I: Index<L>, J: Index<R>> BijectiveMap<L, R, I,
         }
     }
 
-    /// Inserts a pair where the policy lets it overwrite what it shares a value with, and returns the pairs that it
-    /// overwrote.
+    /// Inserts a pair if the policy allows it, and returns the pairs that it overwrote.
+    ///
+    /// For each side, the policy says what happens if the map already contains the value: its pair is overwritten, or
+    /// the new pair is refused. The left is asked first. Positions in insertion order are those of
+    /// [`insert`](Self::insert).
+    ///
+    /// Time: O(log n) with an ordered side, expected O(1) with two hashed sides. O(capacity) when the capacity grows.
+    ///
+    /// Memory: It allocates only if it overwrites nothing and the capacity is used up. The capacity then doubles, to at
+    /// least 4.
+    ///
+    /// `Err`: The policy keeps a contained value (`LeftHeld`, `RightHeld`), or out of memory (`Memory`). It hands the
+    /// pair back, and the map is as before.
     ///
     ///     let keep_right = Policy { left: OnHeld::Overwrite, right: OnHeld::Refuse };
     ///     seats.insert_with('d', 3, keep_right); // Err(NotInsertedWith::RightHeld('d', 3))
@@ -65,7 +94,7 @@ impl<L: Eq + Drop, R: Eq + Drop, I: Index<L>, J: Index<R>> BijectiveMap<L, R, I,
             .insert_with(left, right, policy, &mut Count::new())
     }
 
-    /// [`insert`](Self::insert), counted.
+    /// Is [`insert`](Self::insert) with a meter.
     pub fn insert_metered<M: Meter>(
         &mut self,
         left: L,
@@ -97,10 +126,17 @@ impl<L: Eq + Drop, R: Eq + Drop, I: Index<L>, J: Index<R>> BijectiveMap<L, R, I,
 impl<L: Eq + Drop, R: Copy + Eq + Drop, I: Index<L>, J: Index<R>> BijectiveMap<L, R, I, J> {
     ghost use Rattle.bimap_kinds.specs.Held.{holding};
 
-    /// Returns the right of an equal left; if there is none, inserts the pair and returns its right.
+    /// Returns the right of an equal left, or inserts the pair and returns its right.
     ///
-    /// It searches the right only to insert, and an `Err` says that another pair has the right, or that it was out of
-    /// memory.
+    /// It searches the right only if the map does not contain the left. In insertion order an inserted pair goes to the
+    /// end.
+    ///
+    /// Time: O(log n) with an ordered side, expected O(1) with two hashed sides. O(capacity) when the capacity grows.
+    ///
+    /// Memory: It allocates only if it inserts and the capacity is used up. The capacity then doubles, to at least 4.
+    ///
+    /// `Err`: Another pair has the right (`Occupied`), or out of memory (`Memory`). It hands the pair back, and the map
+    /// is as before.
     ///
     ///     seats.get_by_left_or_insert('a', 4); // Ok(3)
     ///     seats.get_by_left_or_insert('d', 4); // Ok(4)
@@ -115,7 +151,7 @@ impl<L: Eq + Drop, R: Copy + Eq + Drop, I: Index<L>, J: Index<R>> BijectiveMap<L
         self.get_by_left_or_insert_metered(left, right, &mut Count::new())
     }
 
-    /// [`get_by_left_or_insert`](Self::get_by_left_or_insert), counted.
+    /// Is [`get_by_left_or_insert`](Self::get_by_left_or_insert) with a meter.
     pub fn get_by_left_or_insert_metered<M: Meter>(
         &mut self,
         left: L,

@@ -1,4 +1,4 @@
-//! A bimap turned round.
+//! A map with its sides exchanged.
 ghost use Rattle.std.specs.Prelude.{◌≡◌, IfOk, IfErr, map};
 ghost use Rattle.bimap_base.specs.Inverse.{inverse_pair, IsInverse};
 
@@ -9,10 +9,16 @@ use bimap_index::Index;
 impl<L: Eq + Drop, R: Eq + Drop, I: Index<L>, J: Index<R>> BijectiveMap<L, R, I, J> {
     ghost use Rattle.bimap_kinds.specs.Held.{holding, by_right};
 
-    /// Returns the bimap turned round: its lefts are the rights of before, and its rights the lefts.
+    /// Returns the map with its sides exchanged, so that lefts become rights and rights become lefts.
     ///
-    /// Each side keeps its index, so that an ordered right becomes an ordered left. Pairs are moved, and no value is looked
-    /// at. It takes memory and time for the capacity, which stays. An `Err`, for memory alone, has the very bimap.
+    /// Each side keeps its index: an ordered right becomes an ordered left. Pairs are moved, and no value is compared.
+    /// The capacity stays.
+    ///
+    /// Time: O(capacity).
+    ///
+    /// Memory: It allocates for the capacity.
+    ///
+    /// `Err`: Out of memory. It hands the map back as it was.
     ///
     ///     let turned = seats.into_inverse()?;
     ///     turned.get_by_left(&3); // Some(&'a')

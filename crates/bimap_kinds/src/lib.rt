@@ -1,7 +1,8 @@
-//! Bimaps of any two kinds of index: ordered or hashed on either side.
+//! Maps over any two kinds of index. A left is ordered, hashed, or hashed in insertion order. A right is ordered or
+//! hashed.
 //!
-//! The examples of calls begin with a bimap `seats` of 'a' with 3, 'b' with 1 and 'c' with 2, inserted in turn. What a
-//! line returns stands behind it.
+//! The examples of calls begin with a map `seats`, into which 'a' with 3, 'b' with 1 and 'c' with 2 were inserted in
+//! this order. A comment behind a line shows what the line returns.
 #![tactic(auto)]
 
 mod bijection;

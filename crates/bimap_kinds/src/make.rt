@@ -1,4 +1,4 @@
-//! Empty bimaps.
+//! Empty maps.
 ghost use Rattle.std.specs.Prelude.{◌≡◌, [], None, IfOk, IsOk};
 
 use crate::map::BijectiveMap;
@@ -10,7 +10,7 @@ use std::alloc::Global;
 impl<L: Eq, R: Eq, I: Index<L>, J: Index<R>> BijectiveMap<L, R, I, J> {
     ghost use Rattle.bimap_kinds.specs.Held.{holding};
 
-    // The empty bimap over two indexes that list nothing.
+    // Returns the empty map over two indexes that list nothing.
     #[tactic(auto, unfolding(crate::specs::HeldTable::held))]
     pub(crate) fn over(alloc: Global, left: I, right: J) -> Self
         requires left { I.is_listing left (λ _. None) }
@@ -27,7 +27,11 @@ impl<L: Eq, R: Eq, I: Index<L>, J: Index<R>> BijectiveMap<L, R, I, J> {
 impl<L: Eq, R: Eq, I: EmptyIndex<L>, J: EmptyIndex<R>> BijectiveMap<L, R, I, J> {
     ghost use Rattle.bimap_kinds.specs.Held.{holding};
 
-    /// Creates an empty bimap without places, also of a kind that names builders of its own.
+    /// Returns an empty map of capacity 0, whose hash builders are made by `Default`.
+    ///
+    /// Use it for a map type that names hash builders of its own.
+    ///
+    /// Time: O(1).
     ///
     ///     let seats: BiHashMap<char, u32> = BiHashMap::empty(alloc);
     ///     seats.len(); // 0
@@ -42,7 +46,9 @@ impl<L: Eq, R: Eq, I: EmptyIndex<L>, J: EmptyIndex<R>> BijectiveMap<L, R, I, J> 
 impl<L: Eq, R: Eq, I: DefaultIndex<L>, J: DefaultIndex<R>> BijectiveMap<L, R, I, J> {
     ghost use Rattle.bimap_kinds.specs.Held.{holding};
 
-    /// Creates an empty bimap without places.
+    /// Returns an empty map of capacity 0, with the default hash builders.
+    ///
+    /// Time: O(1).
     ///
     ///     let seats: BiBTreeMap<char, u32> = BiBTreeMap::new(alloc);
     ///     seats.capacity(); // 0
@@ -53,7 +59,13 @@ impl<L: Eq, R: Eq, I: DefaultIndex<L>, J: DefaultIndex<R>> BijectiveMap<L, R, I,
         Self::empty(alloc)
     }
 
-    /// Creates an empty bimap with exactly this capacity. It takes memory and time for that, at 0 no memory.
+    /// Returns an empty map of exactly this capacity, with the default hash builders.
+    ///
+    /// Time: O(capacity).
+    ///
+    /// Memory: It allocates for the capacity, and not at all for 0.
+    ///
+    /// `Err`: Out of memory. There is no map.
     ///
     ///     let seats: BiBTreeMap<char, u32> = BiBTreeMap::with_capacity(alloc, 16)?;
     ///     seats.capacity(); // 16

@@ -1,4 +1,4 @@
-//! A bimap over any two indexes, and what callers know of its pairs.
+//! A map over any two indexes, and what callers know of its pairs.
 ghost use Rattle.std.specs.Prelude.{◌≡◌, ◌≤◌, length};
 ghost use Rattle.std.specs.List.{AllPairs};
 ghost use Rattle.std.specs.declared.cmp.Ordering.TheVariants.{Less};
@@ -11,36 +11,38 @@ use bimap_index::{HashIndex, Index, InsertionOrder};
 use bimap_tree::Ordered;
 use std::hash::{BuildHasherDefault, FoldHasher};
 
-/// A bimap: pairs of a left and a right, each found by either value, no two of which share one.
+/// A map that contains pairs of a left and a right, each found by either value. No two pairs share a value.
 ///
-/// A pair has a place, which is a slot of one vector, and an index of each side lists the places, in order or by hash.
-/// The capacity is the number of places. Of every call holds:
+/// A pair has a place, which is an entry of one vector. Each side has an index, which lists the places in order or by
+/// hash. The capacity is the number of places.
 ///
-/// - *Cost.* A search takes O(log n) on an ordered side, and on a hashed one expected O(1) where the hashes spread, at
-///   worst O(n), in the length n. A look-up makes one search, a removal one a side, an insertion one a side and a few
-///   more where it overwrites. An end or a rank of an ordered side takes O(log n). A method of its own that makes no
-///   search and states no cost takes constant time.
-/// - *Memory.* A call asks for memory only where its docs say so. An insertion does where it overwrites nothing and no
-///   place is free: the capacity then doubles, to 4 at least.
-/// - *`Err`.* It leaves the bimap as it was, but for [`extend`](Self::extend), and hands back what was given.
-/// - *Meters.* A call `.._metered` is the one without the ending, and counts its comparisons and touches of nodes.
+/// Four things hold of every call, where n is the length:
 ///
-/// Contracts bound these counts. They say nothing of time, nor of how far an insertion grows the capacity.
+/// - *Time.* The paragraph `Time:` of a call says what it costs. A search takes O(log n) on an ordered side. On a
+///   hashed side it takes expected O(1) if the hashes spread well, and O(n) at worst.
+/// - *Memory.* A call allocates only if it has a paragraph `Memory:`. An insertion allocates only if it overwrites
+///   nothing and the capacity is used up. The capacity then doubles, to at least 4.
+/// - *`Err`.* An `Err` leaves the pairs and the capacity as they were. [`extend`](Self::extend) is the exception: the
+///   items that it inserted before stay.
+/// - *Meters.* A call `.._metered` is the plain call with a meter, which counts comparisons of keys and touches of
+///   nodes.
+///
+/// Contracts bound these counts, and how far an insertion grows the capacity. They say nothing about time.
 pub struct BijectiveMap<L: Eq, R: Eq, I: Index<L>, J: Index<R>> {
     pub(crate) table: Table<L, R, I, J>,
     /// No two of the pairs share a value.
     pub ghost apart: { IsApart L.eq R.eq (held table).pairs } by { Prim.hlevel props },
-    /// The pairs ascend by left, where the left is ordered.
+    /// The pairs ascend by left, if the left is ordered.
     pub ghost ascending: { AllPairs (λ p q. I.walk_order table.left p.0 q.0 ≡ Less)
         (held table).pairs } by { Prim.hlevel props },
     /// There is a place for each pair.
     pub ghost fits: { length (held table).pairs ≤ (held table).room },
-    // Each index lists as many places as pairs are held, so what a table says of its indexes is said of the length.
+    // Each index lists as many places as there are pairs. So what a table says of its indexes holds for the length.
     ghost lefts: { length (I.places table.left) ≡ length (held table).pairs },
     ghost rights: { length (J.places table.right) ≡ length (held table).pairs },
 }
 
-// By hand, so that a proof sees one step where a bimap is dropped, and nothing of its inside.
+// Written by hand, so that a proof sees one step when a map is dropped, and none of its fields.
 impl<L: Eq + Drop, R: Eq + Drop, I: Index<L> + Drop, J: Index<R> + Drop> Drop
     for BijectiveMap<L, R, I, J> {
     fn drop(self) {
@@ -49,7 +51,7 @@ impl<L: Eq + Drop, R: Eq + Drop, I: Index<L> + Drop, J: Index<R> + Drop> Drop
 }
 
 impl<L: Eq, R: Eq, I: Index<L>, J: Index<R>> BijectiveMap<L, R, I, J> {
-    // The table alone.
+    // Returns the table alone.
     pub(crate) fn into_table(self) -> Table<L, R, I, J>
         ensures { result ≡ self.table }
     {
@@ -58,16 +60,16 @@ impl<L: Eq, R: Eq, I: Index<L>, J: Index<R>> BijectiveMap<L, R, I, J> {
     }
 }
 
-/// A bimap with both sides ordered: iterators and ranges go in order by either.
+/// A map with two ordered sides. It iterates in ascending order of the lefts, and has ranges of either side.
 pub type BiBTreeMap<L, R> = BijectiveMap<L, R, Ordered, Ordered>;
 
-/// A bimap with both sides hashed, for where no order is wanted.
+/// A map with two hashed sides, for use without an order.
 ///
-/// The default builders have a fixed seed: hand in a `RandomState` for a side whose values strangers choose.
+/// The default hash builders have a fixed seed. Hand in a `RandomState` for a side whose values strangers choose.
 pub type BiHashMap<L, R, LS = BuildHasherDefault<FoldHasher>, RS = BuildHasherDefault<FoldHasher>> =
     BijectiveMap<L, R, HashIndex<LS>, HashIndex<RS>>;
 
-/// A bimap with an ordered left and a hashed right.
+/// A map with an ordered left and a hashed right.
 pub type BiBTreeHashMap<L, R, RS = BuildHasherDefault<FoldHasher>> = BijectiveMap<
     L,
     R,
@@ -75,7 +77,7 @@ pub type BiBTreeHashMap<L, R, RS = BuildHasherDefault<FoldHasher>> = BijectiveMa
     HashIndex<RS>,
 >;
 
-/// A bimap with a hashed left and an ordered right.
+/// A map with a hashed left and an ordered right.
 pub type BiHashBTreeMap<L, R, LS = BuildHasherDefault<FoldHasher>> = BijectiveMap<
     L,
     R,
@@ -83,9 +85,9 @@ pub type BiHashBTreeMap<L, R, LS = BuildHasherDefault<FoldHasher>> = BijectiveMa
     Ordered,
 >;
 
-/// A bimap with both sides hashed that is walked in the order in which its pairs were inserted.
+/// A map with two hashed sides that iterates in insertion order.
 ///
-/// A pair that is inserted takes the turn of one of an equal left that it overwrites, and else comes last.
+/// A new pair that overwrites the pair of the same left keeps that pair's position. Any other new pair goes to the end.
 pub type BiInsertionOrderMap<
     L,
     R,

@@ -10,7 +10,12 @@ use bimap_index::{Index, Lookup};
 impl<L: Eq, R: Eq, I: Index<L>, J: Index<R>> BijectiveMap<L, R, I, J> {
     ghost use Rattle.bimap_kinds.specs.Held.{holding};
 
-    /// Removes the pair of a left and returns it, or `None` if the bimap doesn't contain the left.
+    /// Removes the pair of a left and returns it, or returns `None` if the map does not contain the left.
+    ///
+    /// The capacity stays, and so does the insertion order of the other pairs. The left is a `&L` or a borrowed form,
+    /// as in [`get_by_left`](Self::get_by_left).
+    ///
+    /// Time: O(log n) with an ordered side, expected O(1) with two hashed sides.
     ///
     ///     seats.remove_by_left(&'a'); // Some(('a', 3))
     pub fn remove_by_left<Q: Query<L>>(&mut self, left: Q) -> Option<(L, R)>
@@ -25,7 +30,12 @@ impl<L: Eq, R: Eq, I: Index<L>, J: Index<R>> BijectiveMap<L, R, I, J> {
         self.remove_by_left_metered(left, &mut Count::new())
     }
 
-    /// Removes the pair of a right and returns it, or `None` if the bimap doesn't contain the right.
+    /// Removes the pair of a right and returns it, or returns `None` if the map does not contain the right.
+    ///
+    /// The capacity stays, and so does the insertion order of the other pairs. The right is a `&R` or a borrowed form,
+    /// as in [`get_by_right`](Self::get_by_right).
+    ///
+    /// Time: O(log n) with an ordered side, expected O(1) with two hashed sides.
     ///
     ///     seats.remove_by_right(&4); // None
     pub fn remove_by_right<Q: Query<R>>(&mut self, right: Q) -> Option<(L, R)>
@@ -40,7 +50,9 @@ impl<L: Eq, R: Eq, I: Index<L>, J: Index<R>> BijectiveMap<L, R, I, J> {
         self.remove_by_right_metered(right, &mut Count::new())
     }
 
-    /// Removes all pairs and keeps the capacity, in time proportional to it.
+    /// Removes all pairs and keeps the capacity.
+    ///
+    /// Time: O(capacity).
     ///
     ///     seats.clear();
     ///     (seats.len(), seats.capacity()); // (0, 4)
@@ -54,7 +66,7 @@ impl<L: Eq, R: Eq, I: Index<L>, J: Index<R>> BijectiveMap<L, R, I, J> {
         self.table.clear();
     }
 
-    /// [`remove_by_left`](Self::remove_by_left), counted.
+    /// Is [`remove_by_left`](Self::remove_by_left) with a meter.
     pub fn remove_by_left_metered<Q: Query<L>, M: Meter>(
         &mut self,
         left: Q,
@@ -75,7 +87,7 @@ impl<L: Eq, R: Eq, I: Index<L>, J: Index<R>> BijectiveMap<L, R, I, J> {
         self.table.remove_by_left(left, meter)
     }
 
-    /// [`remove_by_right`](Self::remove_by_right), counted.
+    /// Is [`remove_by_right`](Self::remove_by_right) with a meter.
     pub fn remove_by_right_metered<Q: Query<R>, M: Meter>(
         &mut self,
         right: Q,

@@ -1,4 +1,4 @@
-//! Keeping what a closure wants, or taking it out.
+//! Pairs kept, or moved out, by the answers of a closure.
 ghost use Rattle.std.specs.Prelude.{◌≡◌, ◌+◌, ◌≤◌, ◌++◌, [], length, IsOk, OnOk, OnErr, vec_len, vec_capacity};
 ghost use Rattle.bimap_base.specs.Holding.{IsRetention, IsRetentionInOrder};
 ghost use Rattle.bimap_base.specs.Kept.{MayTest, MayTestInOrder};
@@ -13,11 +13,12 @@ use bimap_index::Index;
 impl<L: Eq + Drop, R: Eq + Drop, I: WalkedIndex<L>, J: Index<R>> BijectiveMap<L, R, I, J> {
     ghost use Rattle.bimap_kinds.specs.Held.{holding};
 
-    /// Keeps the pairs on which the closure returns true, asked once each in the order of [`iter`](Self::iter), where
-    /// `Bijection::retain` asks in no set order. The others keep their order.
+    /// Keeps the pairs for which the closure returns true.
     ///
-    /// It takes the time of [`iter`](Self::iter), and a removal for each pair that goes, on an ordered left a descent more.
-    /// The capacity stays.
+    /// The closure is called once on each pair, in the order of [`iter`](Self::iter). `Bijection::retain` calls it in
+    /// no set order. The pairs that stay keep their order, and the capacity stays.
+    ///
+    /// Time: That of iterating, and of a removal for each pair that goes.
     ///
     ///     seats.retain(|_: &char, seat: &u32| *seat >= 2);
     ///     seats.len(); // 2
@@ -28,11 +29,15 @@ impl<L: Eq + Drop, R: Eq + Drop, I: WalkedIndex<L>, J: Index<R>> BijectiveMap<L,
         I::partition_ordered(&mut self.table, false, f, &mut Dropped, &mut Count::new());
     }
 
-    /// Moves the pairs on which the closure returns true to the end of a list, asked once each in the order of
-    /// [`iter`](Self::iter).
+    /// Moves the pairs for which the closure returns true to the end of a `Vec`.
     ///
-    /// It costs what [`retain`](Self::retain) does. Room for as many pairs as there are is made in the list first, which
-    /// asks for memory only where there is less: after an `Err` the closure was not asked, and all is as it was.
+    /// The closure is called once on each pair, in the order of [`iter`](Self::iter). The capacity of the map stays.
+    ///
+    /// Time: That of iterating, and of a removal for each pair that goes.
+    ///
+    /// Memory: It allocates space in the `Vec` for all pairs of the map, unless the `Vec` has it.
+    ///
+    /// `Err`: Out of memory. The closure was not called, and the map and the items of the `Vec` are as before.
     ///
     ///     let mut early = Vec::new(alloc);
     ///     seats.extract_into(&mut early, |_: &char, seat: &u32| *seat < 3); // Ok(())
@@ -55,9 +60,15 @@ impl<L: Eq + Drop, R: Eq + Drop, I: WalkedIndex<L>, J: Index<R>> BijectiveMap<L,
         Ok(())
     }
 
-    /// Moves all pairs to the end of a list, in the order of [`iter`](Self::iter), and keeps the capacity.
+    /// Moves all pairs to the end of a `Vec`, in the order of [`iter`](Self::iter).
     ///
-    /// It costs a removal for each pair, and asks for memory as [`extract_into`](Self::extract_into) does.
+    /// The capacity of the map stays.
+    ///
+    /// Time: That of iterating, and of a removal for each pair.
+    ///
+    /// Memory: It allocates space in the `Vec` for all pairs of the map, unless the `Vec` has it.
+    ///
+    /// `Err`: Out of memory. The map and the items of the `Vec` are as before.
     ///
     ///     let mut all = Vec::new(alloc);
     ///     seats.drain_into(&mut all); // Ok(())
@@ -80,7 +91,7 @@ impl<L: Eq + Drop, R: Eq + Drop, I: WalkedIndex<L>, J: Index<R>> BijectiveMap<L,
 impl<L: Eq, R: Eq, I: Index<L>, J: Index<R>> BijectiveMap<L, R, I, J> {
     ghost use Rattle.bimap_kinds.specs.Held.{holding};
 
-    // Calls the closure once on each pair, in the order of the places.
+    // Keeps the pairs for which the closure returns true, and asks it in the order of the places.
     pub(crate) fn retain_by_place<F: FnMut(&L, &R) -> bool>(&mut self, f: F)
     where
         L: Drop,

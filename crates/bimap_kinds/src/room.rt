@@ -1,4 +1,4 @@
-//! The capacity of a bimap, made exact to the place.
+//! The capacity of a map, which is exact.
 ghost use Rattle.bimap_any.specs.Capacity.{IsReservation, IsShrink};
 
 use crate::map::BijectiveMap;
@@ -10,8 +10,13 @@ impl<L: Eq, R: Eq, I: Index<L>, J: Index<R>> BijectiveMap<L, R, I, J> {
 
     /// Grows the capacity to exactly the length plus `more`, unless it is that or more.
     ///
-    /// Where it grows, it takes memory and time for the new capacity. After an `Err` an index may keep the memory that
-    /// it got.
+    /// After an `Ok`, the next `more` insertions cannot run out of memory.
+    ///
+    /// Time: O(new capacity) if it grows, otherwise O(1).
+    ///
+    /// Memory: It allocates for the new capacity, if it grows.
+    ///
+    /// `Err`: Out of memory. Pairs and capacity are as before, and an index may keep the memory that it got.
     ///
     ///     seats.reserve(5); // Ok(())
     ///     seats.capacity(); // 8
@@ -30,10 +35,16 @@ impl<L: Eq + Drop, R: Eq + Drop, I: CompactedIndex<L>, J: CompactedIndex<R>> Bij
 > {
     ghost use Rattle.bimap_kinds.specs.Held.{holding};
 
-    /// Shrinks the capacity to exactly `least`, or to the length if that is more. It never grows.
+    /// Shrinks the capacity to exactly `least`, or to the length if that is more.
     ///
-    /// Where it shrinks, it takes memory for the new capacity and time for the old one, and O(n log n) for each ordered
-    /// side.
+    /// It never grows the capacity. In insertion order it also allocates 2 n numbers, which it frees at the end.
+    ///
+    /// Time: O(old capacity), and O(n log n) more for each ordered side and for insertion order. O(1) if nothing
+    /// shrinks.
+    ///
+    /// Memory: It allocates for the new capacity, if it shrinks.
+    ///
+    /// `Err`: Out of memory. The map is as before.
     ///
     ///     seats.shrink_to(0); // Ok(())
     ///     seats.capacity(); // 3
@@ -43,7 +54,16 @@ impl<L: Eq + Drop, R: Eq + Drop, I: CompactedIndex<L>, J: CompactedIndex<R>> Bij
         self.table.shrink_to(least, &mut Count::new())
     }
 
-    /// Shrinks the capacity to exactly the length, as [`shrink_to`](Self::shrink_to) does.
+    /// Shrinks the capacity to exactly the length.
+    ///
+    /// It does what [`shrink_to`](Self::shrink_to) does for 0.
+    ///
+    /// Time: O(old capacity), and O(n log n) more for each ordered side and for insertion order. O(1) if nothing
+    /// shrinks.
+    ///
+    /// Memory: It allocates for the new capacity, if it shrinks.
+    ///
+    /// `Err`: Out of memory. The map is as before.
     ///
     ///     seats.shrink_to_fit(); // Ok(())
     ///     seats.capacity(); // 3

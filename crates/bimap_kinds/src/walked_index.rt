@@ -1,4 +1,4 @@
-//! How each index is walked. It knows no rank, and no hash.
+//! How each index leads an iterator. It knows no rank, and no hash.
 ghost use Rattle.std.specs.Prelude.{◌≡◌, ℕ, is_some};
 ghost use Rattle.bimap_base.specs.PairsAt.{pairs_at};
 ghost use Rattle.bimap_base.specs.Slots.{pair_at};
@@ -11,11 +11,13 @@ use bimap_tree::Ordered;
 use bimap_walk::{ByPlace, Course, Iter, by_insertion, by_place, by_rank};
 use std::hash::{BuildHasher, Hash};
 
-/// An index that leads an iterator through the pairs of a store.
+/// An index that leads an iterator through the pairs of a store. Each of the five maps has one on its left.
 pub trait WalkedIndex<K: Eq>: PartedIndex<K> {
     type Way: Course + 'static;
 
     /// Returns an iterator over all pairs of a store, of which the index lists a side.
+    ///
+    /// Time: O(1).
     fn walk<'a, S: Side<K>, L, R>(
         &'a self,
         side: S,

@@ -19,10 +19,14 @@ use std::hash::{BuildHasher, Hash};
 use std::ops::{Bound, RangeBounds};
 
 impl<L: Eq, R: Eq, I: WalkedIndex<L>, J: Index<R>> BijectiveMap<L, R, I, J> {
-    /// Returns an iterator over the pairs: by ascending left and from both ends if the left is ordered, else in no set
-    /// order.
+    /// Returns an iterator over the pairs, each as `(&L, &R)`.
     ///
-    /// In order a step takes one descent at most; in no set order all steps take time proportional to the capacity.
+    /// With an ordered left it goes in ascending order of the lefts, and also from the back. A `BiInsertionOrderMap`
+    /// iterates in insertion order. Any other hashed left is iterated in the order of the places, which no contract
+    /// promises.
+    ///
+    /// Time: O(1) for the call. A step takes O(log n) at most with an ordered left, and all steps take O(capacity) with
+    /// a hashed left.
     ///
     ///     seats.iter().len(); // 3
     ///     seats.iter().next(); // Some((&'a', &3))
@@ -37,7 +41,9 @@ impl<L: Eq, R: Eq, I: WalkedIndex<L>, J: Index<R>> BijectiveMap<L, R, I, J> {
         table.left.walk(LeftSide::new(&table.pairs), &table.pairs)
     }
 
-    /// Returns an iterator over the lefts, in the order and at the cost of [`iter`](Self::iter).
+    /// Returns an iterator over the lefts, in the order of [`iter`](Self::iter).
+    ///
+    /// Time: That of [`iter`](Self::iter) and its steps.
     ///
     ///     seats.left_values().len(); // 3
     ///     seats.left_values().next(); // Some(&'a')
@@ -51,7 +57,9 @@ impl<L: Eq, R: Eq, I: WalkedIndex<L>, J: Index<R>> BijectiveMap<L, R, I, J> {
 }
 
 impl<L: Eq, R: Eq + Hash, I: WalkedIndex<L>, RS: BuildHasher> BijectiveMap<L, R, I, HashIndex<RS>> {
-    /// Returns an iterator over the rights, in the order and at the cost of [`iter`](Self::iter).
+    /// Returns an iterator over the rights, in the order of [`iter`](Self::iter).
+    ///
+    /// Time: That of [`iter`](Self::iter) and its steps.
     ///
     ///     seats.right_values().len(); // 3
     ///     seats.right_values().next(); // Some(&3)
@@ -66,9 +74,13 @@ impl<L: Eq, R: Eq + Hash, I: WalkedIndex<L>, RS: BuildHasher> BijectiveMap<L, R,
 }
 
 impl<L: Ord, R: Eq, J: Index<R>> BijectiveMap<L, R, Ordered, J> {
-    /// Returns an iterator over the pairs whose left lies in a range, by ascending left and from both ends.
+    /// Returns an iterator over the pairs whose left lies in a range, by ascending left and also from the back.
     ///
-    /// It makes two searches. Bounds at which `BTreeMap::range` panics are excluded by the condition `forward`.
+    /// The start may not be above the end, and two equal bounds may not both be excluded. `BTreeMap::range` panics at
+    /// such bounds. Here the condition `forward` excludes them, and the proof of the caller has to see it. For an
+    /// `a..=b` that was iterated to its end, nothing is promised about the pairs.
+    ///
+    /// Time: O(log n) for the call, and O(log n) at most for a step.
     ///
     ///     seats.left_range('b'..).next(); // Some((&'b', &1))
     pub fn left_range<A: RangeBounds<L>>(&self, range: A) -> LeftRange<'_, L, R>
@@ -82,10 +94,12 @@ impl<L: Ord, R: Eq, J: Index<R>> BijectiveMap<L, R, Ordered, J> {
         self.left_range_between(range.start_bound(), range.end_bound())
     }
 
-    /// Returns an iterator over the pairs whose left lies between two ends, by ascending left and from both ends.
+    /// Returns an iterator over the pairs whose left lies between two bounds, by ascending left and also from the back.
     ///
-    /// Each end is a reference to a left, or a borrowed form of one, so that no key is built. It makes two searches. Where
-    /// the end lies before the start, there is no pair, and nothing panics.
+    /// A bound has a `&L` or a borrowed form, as in [`get_by_left`](Self::get_by_left). If the bounds are reversed,
+    /// there is no pair.
+    ///
+    /// Time: O(log n) for the call, and O(log n) at most for a step.
     ///
     ///     numbers.left_range_between(Bound::Included("m"), Bound::Excluded("n")).len(); // 2
     pub fn left_range_between<Q: OrderQuery<L>>(
@@ -113,7 +127,9 @@ impl<L: Ord, R: Eq, J: Index<R>> BijectiveMap<L, R, Ordered, J> {
 }
 
 impl<L: Eq, R: Ord, I: Index<L>> BijectiveMap<L, R, I, Ordered> {
-    /// Returns an iterator over the rights, ascending and from both ends. A step takes one descent at most.
+    /// Returns an iterator over the rights, in ascending order and also from the back.
+    ///
+    /// Time: O(1) for the call, and O(log n) at most for a step.
     ///
     ///     seats.right_values().next(); // Some(&1)
     #[tactic(auto, unfolding(crate::specs::HeldTable::held_by_right))]
@@ -128,7 +144,11 @@ impl<L: Eq, R: Ord, I: Index<L>> BijectiveMap<L, R, I, Ordered> {
         Values::new(table.right.walk(rights, &table.pairs))
     }
 
-    /// Returns an iterator over the pairs whose right lies in a range, by ascending right, else as `left_range`.
+    /// Returns an iterator over the pairs whose right lies in a range, by ascending right and also from the back.
+    ///
+    /// The bounds are restricted as those of `left_range` are.
+    ///
+    /// Time: O(log n) for the call, and O(log n) at most for a step.
     ///
     ///     seats.right_range(2..).next(); // Some((&'c', &2))
     pub fn right_range<A: RangeBounds<R>>(&self, range: A) -> RightRange<'_, L, R>
@@ -143,8 +163,13 @@ impl<L: Eq, R: Ord, I: Index<L>> BijectiveMap<L, R, I, Ordered> {
         self.right_range_between(range.start_bound(), range.end_bound())
     }
 
-    /// Returns an iterator over the pairs whose right lies between two ends, by ascending right, else as
-    /// `left_range_between`.
+    /// Returns an iterator over the pairs whose right lies between two bounds, by ascending right and also from the
+    /// back.
+    ///
+    /// A bound has a `&R` or a borrowed form, as in [`get_by_right`](Self::get_by_right). If the bounds are reversed,
+    /// there is no pair.
+    ///
+    /// Time: O(log n) for the call, and O(log n) at most for a step.
     ///
     ///     seats.right_range_between(Bound::Excluded(&1), Bound::Unbounded).next(); // Some((&'c', &2))
     pub fn right_range_between<Q: OrderQuery<R>>(

@@ -1,13 +1,20 @@
-//! Copies of lefts, of which the record of an insertion has one.
+//! Copies of lefts. The record of an insertion has one.
 ghost use Rattle.std.specs.Prelude.{◌≡◌, true, Ok, IfOk};
 
 use bimap::NoMemory;
 use std::alloc::Global;
 
-/// A left that can be copied.
+/// A left that can be copied into the record.
 pub trait CopyLeft: Eq + Sized {
-    /// Returns a value equal to this one. A `String` takes memory for the text; a `char`, a `bool` or a number takes none, and is
-    /// never refused.
+    /// Returns a value equal to this one.
+    ///
+    /// A `char`, a `bool` or a number never returns an `Err`.
+    ///
+    /// Time: O(length of the text) for a `String`, and O(1) for the other types here.
+    ///
+    /// Memory: Of the types here, only `String` allocates.
+    ///
+    /// `Err`: Out of memory. There is no copy.
     fn copy_left(&self, alloc: Global) -> Result<Self, NoMemory>
         ensures { IfOk result (λ copy. Self.eq copy self.now ≡ true) };
 }

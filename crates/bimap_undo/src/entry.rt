@@ -1,17 +1,17 @@
-//! What the record says of one change of a bimap.
+//! What the record says of one change of a map.
 use bimap::Overwritten;
 
-/// A change of a bimap, with what takes it back: the exact values that it struck, replaced or took out.
+/// A change of a map, with what takes it back: the exact values that were overwritten, replaced or removed.
 ///
-/// The left of what was put in is a copy, equal to it. Its right is in the bimap, or in the entry of a later change that
-/// took it out.
+/// The left of an inserted pair is a copy, equal to the pair's left. The pair's right is in the map, or in the entry of
+/// a later change that removed it.
 #[derive(Debug, Drop, Eq, PartialEq)]
 pub enum Entry<L, R> {
-    /// A pair of this left was inserted, and overwrote these.
+    /// A pair of this left was inserted, and overwrote these pairs.
     Inserted(L, Overwritten<L, R>),
-    /// A pair got this left in the place of the second.
+    /// A pair got the first left in place of the second.
     LeftReplaced(L, L),
-    /// The pair of this left got another right in the place of this.
+    /// The pair of this left got another right in place of this one.
     RightReplaced(L, R),
     /// This pair was removed.
     Removed(L, R),

@@ -1,4 +1,4 @@
-//! A bimap that goes back to marks. It doesn't know how a bimap keeps its pairs.
+//! A map that goes back to marks. It uses calls of `Bijection` alone.
 #![tactic(auto)]
 
 mod copy_left;

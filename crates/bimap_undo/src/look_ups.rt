@@ -1,4 +1,4 @@
-//! Look-ups of a bimap with a record, under what any query asks for. They know which bimaps take a query.
+//! Look-ups of a map with a record, also by a borrowed form of a value. They know which maps take one.
 ghost use Rattle.bimap.specs.Holding.{IsFoundByLeft, IsFoundByRight};
 
 use crate::copy_left::CopyLeft;
@@ -10,8 +10,11 @@ impl<L: CopyLeft + Drop, R: Eq + Drop, I: Index<L> + Drop, J: Index<R> + Drop> U
     L,
     R,
 > {
-    /// Returns the right of a left, or `None` if the bimap doesn't contain the left. It costs the bimap's own look-up:
-    /// logarithmic time where lefts are ordered, constant time on average where they are hashed, and no memory.
+    /// Returns the right of a left, or `None` if the map does not contain the left.
+    ///
+    /// The left is a `&L` or a borrowed form, as in `BijectiveMap::get_by_left`.
+    ///
+    /// Time: O(log n) on an ordered left, expected O(1) on a hashed left.
     ///
     ///     seats.insert('a', 1)?;
     ///     seats.get_by_left(&'a'); // Some(&1)
@@ -24,7 +27,11 @@ impl<L: CopyLeft + Drop, R: Eq + Drop, I: Index<L> + Drop, J: Index<R> + Drop> U
         self.held().get_by_left(left)
     }
 
-    /// Returns the left of a right, or `None` if the bimap doesn't contain the right, at the cost of that look-up.
+    /// Returns the left of a right, or `None` if the map does not contain the right.
+    ///
+    /// The right is a `&R` or a borrowed form, as in `BijectiveMap::get_by_right`.
+    ///
+    /// Time: O(log n) on an ordered right, expected O(1) on a hashed right.
     pub fn get_by_right<Q: Query<R>>(&self, right: Q) -> Option<&L>
     where
         J: Lookup<R, Q>,

@@ -1,4 +1,4 @@
-//! Lists of operations on a bimap with a record, and the way back from them.
+//! Lists of operations on a map with a record, and the way back from them.
 ghost use Rattle.std.specs.Prelude.{◌≡◌, ◌≤◌, length, Contains, IfOk};
 ghost use Rattle.bimap_undo.specs.Marks.{KeepsMarks, IsReturn};
 ghost use Rattle.bimap_undo.specs.Operations.{StaysAbove, IsPerformed, ArePerformed};
@@ -9,37 +9,48 @@ use crate::undoable::Undoable;
 use bimap::{Bijection, NoMemory, NoRoom, NotInsertedWith, Policy};
 use std::alloc::Global;
 
-/// What is done to a bimap with a record.
+/// What is done to a map with a record.
 ///
-/// An `insert_all` is none of these: an operation that owns its items could not be copied. An `undo_last` is the
-/// `BackTo` of its mark, and a `forget` would forget the mark.
+/// There is no operation for `insert_all`, since an operation that owns its items could not be copied. An `undo_last`
+/// is the `BackTo` of its mark. There is none for `forget`, which would forget the mark.
 #[derive(Clone, Copy, Debug, Drop, Eq, PartialEq)]
 pub enum Operation<L, R> {
+    /// A call of [`insert`](Undoable::insert).
     Insert(L, R),
+    /// A call of [`insert_with`](Undoable::insert_with).
     InsertWith(L, R, Policy),
-    /// The left to replace, and the new one.
+    /// A call of [`replace_left`](Undoable::replace_left), with the left to replace and the new one.
     ReplaceLeft(L, L),
-    /// The right to replace, and the new one.
+    /// A call of [`replace_right`](Undoable::replace_right), with the right to replace and the new one.
     ReplaceRight(R, R),
+    /// A call of [`remove_by_left`](Undoable::remove_by_left).
     RemoveByLeft(L),
+    /// A call of [`remove_by_right`](Undoable::remove_by_right).
     RemoveByRight(R),
+    /// A call of [`back_to`](Undoable::back_to) with this mark.
     BackTo(usize),
 }
 
 /// What an operation returned: the result of the method of [`Undoable`] that performed it.
 #[derive(Debug, Drop, Eq, PartialEq)]
 pub enum Outcome<L, R> {
+    /// What [`insert`](Undoable::insert) returned.
     Insert(Result<bool, NoRoom<L, R>>),
+    /// What [`insert_with`](Undoable::insert_with) returned.
     InsertWith(Result<bool, NotInsertedWith<L, R>>),
+    /// What [`replace_left`](Undoable::replace_left) returned.
     ReplaceLeft(Result<(), NotRecorded<L>>),
+    /// What [`replace_right`](Undoable::replace_right) returned.
     ReplaceRight(Result<(), NotRecorded<R>>),
+    /// What [`remove_by_left`](Undoable::remove_by_left) returned.
     RemoveByLeft(Result<bool, NoMemory>),
+    /// What [`remove_by_right`](Undoable::remove_by_right) returned.
     RemoveByRight(Result<bool, NoMemory>),
     /// Whether the number was a mark. If it was not, nothing changed.
     BackTo(bool),
 }
 
-// Performs one operation. A mark above the number recorded changes nothing.
+// Performs one operation. Going back to a mark above the number of recorded changes changes nothing.
 fn perform<B: Bijection<L, R> + Drop, L: CopyLeft + Drop, R: Eq + Drop>(
     undoable: &mut Undoable<B, L, R>,
     operation: Operation<L, R>,
@@ -75,7 +86,7 @@ fn perform<B: Bijection<L, R> + Drop, L: CopyLeft + Drop, R: Eq + Drop>(
     }
 }
 
-// Performs the operations in order. Memory for all outcomes is taken first: an `Err` has performed none.
+// Performs the operations in order. It allocates for all outcomes first, so an `Err` has performed none.
 fn perform_all<B: Bijection<L, R> + Drop, L: CopyLeft + Drop, R: Eq + Drop>(
     alloc: Global,
     undoable: &mut Undoable<B, L, R>,
@@ -101,11 +112,14 @@ fn perform_all<B: Bijection<L, R> + Drop, L: CopyLeft + Drop, R: Eq + Drop>(
 
 /// Performs the operations in order, goes back to the mark, and returns what each operation returned.
 ///
-/// Afterwards the bimap contains what the mark stands for, whichever operations were refused. No operation may go back
-/// to a lower mark. One that goes back to a mark above the number recorded changes nothing.
+/// Afterwards the map contains what the mark stands for, whichever operations were refused. No operation may go back to
+/// a lower mark. One that goes back to a mark above the number of recorded changes changes nothing.
 ///
-/// It costs what the operations cost, and [`back_to`](Undoable::back_to). It takes memory for all outcomes first. An
-/// `Err` performs no operation, and goes back to the mark too.
+/// Time: That of the operations, and of [`back_to`](Undoable::back_to).
+///
+/// Memory: It allocates for all outcomes first, and then as each operation does.
+///
+/// `Err`: Out of memory for the outcomes. It performs no operation, and goes back to the mark too.
 pub fn there_and_back<B: Bijection<L, R> + Drop, L: CopyLeft + Drop, R: Eq + Drop>(
     alloc: Global,
     undoable: &mut Undoable<B, L, R>,

@@ -2,13 +2,13 @@
 use bimap::NotReplaced;
 use thiserror::Error;
 
-/// Why a value was not replaced under a record. The new value is handed back, and nothing has changed.
+/// Why a value was not replaced under a record. It hands the new value back, and nothing has changed.
 #[derive(Debug, Drop, Eq, Error, PartialEq)]
 pub enum NotRecorded<V> {
-    /// The bimap refuses it.
+    /// The map refuses the new value.
     #[error("{0}")]
     Refused(NotReplaced<V>),
-    /// There was no memory for the record, and the bimap may refuse it too.
+    /// There was no memory for the record. The map might have refused the new value too.
     #[error("out of memory")]
     Memory(V),
 }

@@ -1,4 +1,4 @@
-//! A bimap with a record of its changes. It doesn't know which bimap it is.
+//! A map with a record of its changes. It does not know which map it is.
 ghost use Rattle.std.specs.Prelude.{◌≡◌, ◌≤◌, ◌<◌, ◌-◌, List, [], length, drop, slice_get, Contains, OnOk, IfErr};
 ghost use Rattle.std.specs.Option.{option_copied};
 ghost use Rattle.std.specs.Iterator.{IsFiniteIterable};
@@ -17,15 +17,15 @@ use std::alloc::Global;
 use std::fmt;
 use std::marker::Model;
 
-/// A bimap that goes back to marks.
+/// A map that records its changes and goes back to marks.
 ///
-/// Each insertion, replacement and removal that isn't refused is recorded, and a mark is a number of recorded changes. It
-/// stands for the pairs at that time, with their exact values. The record grows by one [`Entry`] a change until
-/// [`back_to`](Undoable::back_to) shortens it or [`forget`](Undoable::forget) lets it go.
+/// It records each insertion, replacement and removal that is not refused. A mark is a number of recorded changes. It
+/// stands for the pairs at that time, with their exact values. The record grows by one [`Entry`] for each change.
+/// [`back_to`](Undoable::back_to) shortens it, and [`forget`](Undoable::forget) empties it.
 ///
-/// A call costs what the bimap's own costs, a removal a look-up more, and takes memory for its entry first: so it may
-/// be out of memory also where it would overwrite or be refused. An `Err` hands back what was given and changes
-/// nothing.
+/// A call costs what the map's own call costs, and a removal costs a look-up more. Each change first allocates for its
+/// entry. So a call may run out of memory even if it overwrites a pair or would be refused. An `Err` changes neither
+/// the pairs nor the record.
 ///
 ///     let mut seats = Undoable::new(alloc, BiBTreeMap::new(alloc));
 ///     seats.insert('a', 1)?;
@@ -35,8 +35,8 @@ use std::marker::Model;
 ///     seats.back_to(mark);
 ///     seats.held().get_by_left(&'a'); // Some(&1)
 ///
-/// What takes out many pairs, or an end of an order, is made of removals: there is no `retain` and no `clear`, since
-/// those of a bimap drop the pairs, which the record has to own.
+/// There is no `retain` and no `clear`. Those of a map drop the pairs, and the record has to own them. Remove the pairs
+/// one by one, as here:
 ///
 ///     // takes out the first pair of an ordered left
 ///     if let Some((&left, _)) = seats.held().first_by_left() {
@@ -56,12 +56,14 @@ impl<B: Bijection<L, R> + Drop, L: CopyLeft + Drop, R: Eq + Drop> Model for Undo
 
     ghost view = { λ u. marked (B.holding u.bimap) u.changes.items };
 
-    // each mark can be gone back to
+    // It can go back to each mark.
     ghost invariant = { λ u. HasMarks L.eq R.eq (marked (B.holding u.bimap) u.changes.items) };
 }
 
 impl<B: Bijection<L, R> + Drop, L: CopyLeft + Drop, R: Eq + Drop> Undoable<B, L, R> {
-    /// Returns the bimap with nothing recorded.
+    /// Returns the map with an empty record.
+    ///
+    /// Time: O(1).
     pub fn new(alloc: Global, bimap: B) -> Self
         ensures held { result.held ≡ B.holding bimap }
         ensures nothing_recorded { result.entries ≡ [] }
@@ -74,7 +76,15 @@ impl<B: Bijection<L, R> + Drop, L: CopyLeft + Drop, R: Eq + Drop> Undoable<B, L,
         }
     }
 
-    /// Inserts a pair and returns whether it overwrote any. Which, [`last_change`](Undoable::last_change) shows.
+    /// Inserts a pair and returns whether it overwrote any.
+    ///
+    /// [`last_change`](Undoable::last_change) shows which pairs it overwrote.
+    ///
+    /// Time: That of the map's `insert`, and of a copy of the left.
+    ///
+    /// Memory: It allocates for the record and the copy of the left, and for capacity as the map's `insert` does.
+    ///
+    /// `Err`: Out of memory. It hands the pair back, and nothing has changed.
     ///
     ///     seats.insert('a', 1); // Ok(false)
     ///     seats.insert('a', 2); // Ok(true)
@@ -93,8 +103,14 @@ impl<B: Bijection<L, R> + Drop, L: CopyLeft + Drop, R: Eq + Drop> Undoable<B, L,
         }
     }
 
-    /// Inserts a pair where the policy lets it overwrite what it shares a value with, and returns whether it overwrote
-    /// any.
+    /// Inserts a pair if the policy allows it, and returns whether it overwrote any.
+    ///
+    /// Time: That of the map's `insert_with`, and of a copy of the left.
+    ///
+    /// Memory: It allocates for the record and the copy of the left, and for capacity as the map's `insert_with` does.
+    ///
+    /// `Err`: The policy keeps a contained value (`LeftHeld`, `RightHeld`), or out of memory (`Memory`). It hands the
+    /// pair back, and nothing is recorded.
     ///
     ///     let keep = Policy { left: OnHeld::Refuse, right: OnHeld::Refuse };
     ///     seats.insert_with('a', 1, keep)?;
@@ -120,11 +136,17 @@ impl<B: Bijection<L, R> + Drop, L: CopyLeft + Drop, R: Eq + Drop> Undoable<B, L,
         Ok(overwrote)
     }
 
-    /// Inserts all items in order where the policy lets each overwrite what it shares a value with, or none of them.
+    /// Inserts all items in order under the policy, or none of them.
     ///
-    /// Each is an [`insert_with`](Undoable::insert_with), so that a mark may lie between them. The first that is
-    /// refused ends it and is handed back, no more are asked for, and [`back_to`](Undoable::back_to) takes those before
-    /// it back: the pairs and what marks stand for are those of before. The capacity may have grown.
+    /// Each is recorded as an [`insert_with`](Undoable::insert_with), so a mark may lie between them. It asks the
+    /// iterator for no item after a refused one. [`back_to`](Undoable::back_to) then takes back those before it.
+    ///
+    /// Time: That of `insert_with` for each item. After a refusal, that of `back_to` is added.
+    ///
+    /// Memory: It allocates as `insert_with` does for each item.
+    ///
+    /// `Err`: The first refused item, with the reason and its number. Pairs and marks are as before, and the capacity
+    /// may have grown.
     ///
     ///     let keep = Policy { left: OnHeld::Refuse, right: OnHeld::Refuse };
     ///     seats.insert('a', 1)?;
@@ -143,7 +165,7 @@ impl<B: Bijection<L, R> + Drop, L: CopyLeft + Drop, R: Eq + Drop> Undoable<B, L,
             (I.into_iter_gives items) I.IntoIter.next_gives self.old policy e self.new) }
     {
         let mark = self.mark();
-        // Of what a bimap contains, no two pairs share a value, and each has a place.
+        // The borrow gives the proof two facts of every map: no two pairs share a value, and each has a place.
         let _before = self.held();
         let mut taken = 0usize;
         for (left, right) in items {
@@ -157,10 +179,16 @@ impl<B: Bijection<L, R> + Drop, L: CopyLeft + Drop, R: Eq + Drop> Undoable<B, L,
         Ok(())
     }
 
-    /// Replaces the left of a pair, also by an equal one; the pair keeps its right, and the record the old left.
+    /// Replaces the left of a pair, which keeps its right.
     ///
-    /// It costs two look-ups, a removal and an insertion, and memory for the record alone. An `Err` hands the new left
-    /// back: no pair has the old one, or another has the new one, or there was no memory.
+    /// The new left may equal the old one. The record keeps the old left.
+    ///
+    /// Time: That of two look-ups, a removal and an insertion, and of a copy of the new left.
+    ///
+    /// Memory: It allocates for the record and the copy of the new left.
+    ///
+    /// `Err`: The map refuses the new left (`Refused`), or out of memory (`Memory`). It hands the new left back, and
+    /// nothing has changed.
     ///
     ///     seats.insert('a', 1)?;
     ///     seats.replace_left(&'a', 'b'); // Ok(())
@@ -183,7 +211,16 @@ impl<B: Bijection<L, R> + Drop, L: CopyLeft + Drop, R: Eq + Drop> Undoable<B, L,
         }
     }
 
-    /// Replaces the right of a pair, as [`replace_left`](Undoable::replace_left) does a left, by one look-up more.
+    /// Replaces the right of a pair, which keeps its left.
+    ///
+    /// The new right may equal the old one. The record keeps the old right, and a copy of the left.
+    ///
+    /// Time: That of three look-ups, a removal and an insertion, and of a copy of the left.
+    ///
+    /// Memory: It allocates for the record and the copy of the left.
+    ///
+    /// `Err`: The map refuses the new right (`Refused`), or out of memory (`Memory`). It hands the new right back, and
+    /// nothing has changed.
     ///
     ///     seats.insert('a', 1)?;
     ///     seats.replace_right(&1, 2); // Ok(())
@@ -208,8 +245,15 @@ impl<B: Bijection<L, R> + Drop, L: CopyLeft + Drop, R: Eq + Drop> Undoable<B, L,
         }
     }
 
-    /// Removes the pair of a left and returns whether there was one. If there was none, nothing is recorded and no
-    /// memory taken.
+    /// Removes the pair of a left and returns whether there was one.
+    ///
+    /// If there was none, nothing is recorded.
+    ///
+    /// Time: That of a look-up and a removal.
+    ///
+    /// Memory: It allocates for the record, if there is a pair to remove.
+    ///
+    /// `Err`: Out of memory. Nothing has changed.
     ///
     ///     seats.remove_by_left(&'a'); // Ok(true)
     pub fn remove_by_left(&mut self, left: &L) -> Result<bool, NoMemory>
@@ -224,8 +268,15 @@ impl<B: Bijection<L, R> + Drop, L: CopyLeft + Drop, R: Eq + Drop> Undoable<B, L,
         Ok(true)
     }
 
-    /// Removes the pair of a right and returns whether there was one. If there was none, nothing is recorded and no
-    /// memory taken.
+    /// Removes the pair of a right and returns whether there was one.
+    ///
+    /// If there was none, nothing is recorded.
+    ///
+    /// Time: That of a look-up and a removal.
+    ///
+    /// Memory: It allocates for the record, if there is a pair to remove.
+    ///
+    /// `Err`: Out of memory. Nothing has changed.
     ///
     ///     seats.remove_by_right(&2); // Ok(false)
     pub fn remove_by_right(&mut self, right: &R) -> Result<bool, NoMemory>
@@ -240,7 +291,11 @@ impl<B: Bijection<L, R> + Drop, L: CopyLeft + Drop, R: Eq + Drop> Undoable<B, L,
         Ok(true)
     }
 
-    /// Returns the number of recorded changes, in constant time. It and each lower number are marks.
+    /// Returns the number of recorded changes, which is the mark of the present state.
+    ///
+    /// Each lower number is a mark too.
+    ///
+    /// Time: O(1).
     ///
     ///     // after three changes
     ///     seats.mark(); // 3
@@ -253,12 +308,14 @@ impl<B: Bijection<L, R> + Drop, L: CopyLeft + Drop, R: Eq + Drop> Undoable<B, L,
             IsBefore L.eq R.eq self.now mark A → IsBefore L.eq R.eq self.now mark B →
             IsSameSet (Contains A) (Contains B) }
     {
-        // So its laws are known.
+        // The borrow gives the proof two facts of every map: no two pairs share a value, and each has a place.
         let _bimap = &self.bimap;
         self.changes.len()
     }
 
-    /// Returns the newest recorded change, in constant time, or `None` where none is recorded.
+    /// Returns the newest recorded change, or `None` if none is recorded.
+    ///
+    /// Time: O(1).
     ///
     ///     seats.insert('a', 1)?;
     ///     seats.insert('a', 2)?;
@@ -269,7 +326,11 @@ impl<B: Bijection<L, R> + Drop, L: CopyLeft + Drop, R: Eq + Drop> Undoable<B, L,
         self.changes.as_slice().last()
     }
 
-    /// Returns the changes recorded since a mark, the newest last, in constant time.
+    /// Returns the changes recorded since a mark, the newest last.
+    ///
+    /// The mark may not be above the number of recorded changes.
+    ///
+    /// Time: O(1).
     ///
     ///     seats.insert('a', 1)?;
     ///     let mark = seats.mark();
@@ -282,8 +343,12 @@ impl<B: Bijection<L, R> + Drop, L: CopyLeft + Drop, R: Eq + Drop> Undoable<B, L,
         &self.changes.as_slice()[mark..]
     }
 
-    /// Goes back to a mark: the bimap contains what it stands for, and the changes since are forgotten. It costs for each
-    /// of these one undoing or insertion, or a removal and an insertion, takes no memory and is never refused.
+    /// Goes back to a mark, so that the map contains exactly what the mark stands for.
+    ///
+    /// The changes since the mark are taken back and leave the record. It is never refused. The mark may not be above
+    /// the number of recorded changes. In insertion order the pairs come back, and not their positions.
+    ///
+    /// Time: That of an `undo_insert`, or of a removal and an insertion at most, for each change since the mark.
     pub fn back_to(&mut self, mark: usize)
         requires recorded { mark ≤ length self.old.entries }
         ensures gone_back { IsReturn L.eq R.eq self.old mark self.new }
@@ -296,6 +361,10 @@ impl<B: Bijection<L, R> + Drop, L: CopyLeft + Drop, R: Eq + Drop> Undoable<B, L,
     }
 
     /// Takes the last `n` changes back, as [`back_to`](Undoable::back_to) does.
+    ///
+    /// No more than the recorded changes may be taken back.
+    ///
+    /// Time: That of [`back_to`](Undoable::back_to) for `n` changes.
     ///
     ///     seats.insert('a', 1)?;
     ///     seats.insert('a', 2)?;
@@ -310,11 +379,12 @@ impl<B: Bijection<L, R> + Drop, L: CopyLeft + Drop, R: Eq + Drop> Undoable<B, L,
         self.back_to(mark);
     }
 
-    /// Lets all recorded changes go, with the values that they own: what the bimap contains is the new beginning, for
-    /// which mark 0 stands. It costs a drop for each, takes no memory, and keeps room for as many changes.
+    /// Empties the record, so that mark 0 stands for the pairs of now.
     ///
-    /// No mark of before can be gone back to. Its number is no mark until so many changes are recorded anew, and then it
-    /// stands for what was contained after these.
+    /// All values that the record owns are dropped. The record keeps its memory. All earlier marks end. A number above
+    /// 0 is a mark again when as many changes are recorded, and then it stands for the pairs after these changes.
+    ///
+    /// Time: O(number of recorded changes), each of which is dropped.
     ///
     ///     seats.insert('a', 1)?;
     ///     seats.forget();
@@ -326,14 +396,18 @@ impl<B: Bijection<L, R> + Drop, L: CopyLeft + Drop, R: Eq + Drop> Undoable<B, L,
         self.changes.clear();
     }
 
-    /// Returns a reference to the bimap.
+    /// Returns a reference to the map.
+    ///
+    /// Time: O(1).
     pub fn held(&self) -> &B
         ensures { B.holding result.now ≡ self.now.held }
     {
         &self.bimap
     }
 
-    /// Returns the bimap and drops the record.
+    /// Returns the map and drops the record.
+    ///
+    /// Time: O(number of recorded changes), each of which is dropped.
     pub fn into_inner(self) -> B
         ensures { B.holding result ≡ self.held }
     {
@@ -342,7 +416,11 @@ impl<B: Bijection<L, R> + Drop, L: CopyLeft + Drop, R: Eq + Drop> Undoable<B, L,
     }
 }
 
-/// Writes the bimap and the changes, as `Undoable { held: {'a' <> 1}, changes: [Inserted('a', Neither)] }`.
+/// Writes the map and the recorded changes, as `Undoable { held: {'a' <> 1}, changes: [Inserted('a', Neither)] }`.
+///
+/// Time: That of writing the map and each change.
+///
+/// `Err`: The formatter failed. A part may be written.
 impl<
     B: Bijection<L, R> + fmt::Debug + Drop,
     L: CopyLeft + fmt::Debug + Drop,
@@ -356,7 +434,7 @@ impl<
     }
 }
 
-// Takes one change back. The bimap has a place for each pair before it, so no memory is asked for.
+// Takes one change back. The map has a place for each pair from before the change, so nothing is allocated.
 fn take_back<B: Bijection<L, R>, L: Eq + Drop, R: Eq + Drop>(bimap: &mut B, entry: Entry<L, R>)
     requires { (A : List (L × R)) × IsApart L.eq R.eq A × (length A ≤ (B.holding bimap.old).room)
         × IsChange L.eq R.eq A entry (B.holding bimap.old).pairs }
@@ -382,7 +460,7 @@ fn take_back<B: Bijection<L, R>, L: Eq + Drop, R: Eq + Drop>(bimap: &mut B, entr
     }
 }
 
-// Inserts a pair where a place is free.
+// Inserts a pair while a place is free.
 fn put_back<B: Bijection<L, R>, L: Eq + Drop, R: Eq + Drop>(bimap: &mut B, left: L, right: R)
     requires free { length (B.holding bimap.old).pairs < (B.holding bimap.old).room }
     ensures put { IsWithPut L.eq R.eq (Contains (B.holding bimap.old).pairs) (left, right)

@@ -1,4 +1,4 @@
-//! Any bimap from the text of a JSON object. It doesn't know how an entry is read.
+//! Any map from the text of a JSON object. It does not know how an entry is read.
 ghost use Rattle.std.specs.Prelude.{◌≡◌, [], Some, IfOk, IfErr, OnOk};
 ghost use Rattle.serde_json.specs.Data.{Data};
 ghost use Rattle.bimap_base.specs.declared.policy.OnHeld.TheVariants.{Refuse};
@@ -14,7 +14,7 @@ use json::Scratch;
 use serde_json::Value;
 use std::alloc::Global;
 
-// Whether no object in a text has a name twice, which is asked where the policy keeps lefts.
+// Checks that no object in a text has a name twice, if the policy keeps lefts.
 fn check_names(alloc: Global, text: &str, policy: Policy) -> Result<(), JsonFault>
     ensures once { OnOk result (policy.left ≡ Refuse → IsNamedOnce text.now) }
     ensures fault { IfErr result (IsTextFault text.now policy) }
@@ -32,16 +32,21 @@ fn check_names(alloc: Global, text: &str, policy: Policy) -> Result<(), JsonFaul
     }
 }
 
-/// Inserts the entries of a JSON text's object into an empty bimap and returns it, as [`read_into_with`] does of a
-/// value. Of members with one name the last alone is an entry; where the policy keeps lefts such a name is a fault, in
-/// any object of the text.
+/// Inserts the entries of a JSON text's object into an empty map under the policy, and returns the map.
 ///
-/// The text's faults are looked for in this order: its grammar (`NotJson`), names that stand twice (`NameTwice`), then
-/// numbers out of range and too many levels (`NotJson`). So `{"a":1e999}` gives `NotJson`, and `{"b":1e999,"b":1}` gives
-/// `NameTwice` if the policy keeps lefts. After that come the faults of the value.
+/// Of members with one name, the last alone is an entry. If the policy keeps lefts, a name that stands twice is a
+/// fault, in any object of the text.
 ///
-/// Takes memory for all values of the text, and before that, where the policy keeps lefts, once more for comparing
-/// names. An `Err` drops the bimap.
+/// It looks for the faults of the text in this order: the grammar (`NotJson`), names that stand twice (`NameTwice`),
+/// then numbers out of range and too many levels (`NotJson`). So `{"a":1e999}` gives `NotJson`, and `{"b":1e999,"b":1}`
+/// gives `NameTwice` if the policy keeps lefts. After that come the faults of the value.
+///
+/// Time: That of parsing the text, and of `read_into_with`. If the policy keeps lefts, the text is parsed twice.
+///
+/// Memory: It allocates for all values of the text, for comparing names if the policy keeps lefts, and as
+/// `read_into_with` does.
+///
+/// `Err`: The first fault of the text or of its object, or out of memory (`Memory`). The map is dropped.
 ///
 ///     // no guest twice: {"A": 1, "B": 2, "A": 3} gives Err(JsonFault::NameTwice)
 ///     let once = Policy { left: OnHeld::Refuse, right: OnHeld::Refuse };

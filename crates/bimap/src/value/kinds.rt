@@ -1,4 +1,4 @@
-//! Each kind of bimap as a JSON object and back. It doesn't know how a side is written.
+//! Each kind of map as a JSON object and back. It does not know how a side is written.
 ghost use Rattle.std.specs.Prelude.{◌≡◌, Contains, IfErr, IfOk, OnOk};
 ghost use Rattle.serde_json.specs.View.{view};
 ghost use Rattle.bimap_any.specs.Same.{IsSame};
@@ -13,7 +13,13 @@ use serde_json::Value;
 use std::alloc::Global;
 use std::hash::{BuildHasher, Hash};
 
-/// Returns the object of the pairs, as [`JsonObject::to_value`] does, whatever the builders.
+/// Returns the JSON object of the pairs of a `BiHashMap`, whatever its hash builders.
+///
+/// Time: That of iterating, and of O(n log n) comparisons of key texts.
+///
+/// Memory: It allocates an object with an entry for each pair.
+///
+/// `Err`: Out of memory. There is no object.
 pub fn hash_to_value<
     L: JsonKey + Hash + Drop,
     R: JsonValue + Hash + Drop,
@@ -28,7 +34,15 @@ pub fn hash_to_value<
     write_walk(alloc, bimap.iter())
 }
 
-/// Creates the bimap of an object's entries, as [`JsonObject::from_value`] does, with these builders.
+/// Returns the `BiHashMap` of an object's entries, with these hash builders.
+///
+/// It inserts the entries as [`JsonObject::from_value`] does.
+///
+/// Time: That of reading and inserting each entry.
+///
+/// Memory: It allocates as each insertion does, and what reading each side allocates. Nothing is reserved ahead.
+///
+/// `Err`: The value is no object, an entry does not read, or out of memory (`Memory`). There is no map.
 pub fn from_value_with_hashers<
     L: JsonKey + Hash + Drop,
     R: JsonValue + Hash + Drop,
@@ -46,8 +60,13 @@ pub fn from_value_with_hashers<
     read_into(alloc, empty, value)
 }
 
-/// Writes a bimap as an object, reads it back with these builders and returns an equal bimap. An `Err` means out of
-/// memory.
+/// Writes a `BiHashMap` as an object, reads it back with these hash builders, and returns the equal map.
+///
+/// Time: That of `hash_to_value` and `from_value_with_hashers`.
+///
+/// Memory: It allocates as `hash_to_value` and `from_value_with_hashers` do.
+///
+/// `Err`: Out of memory (`Memory`). There is no new map.
 pub fn reread_with_hashers<
     L: JsonKey + Hash + Drop,
     R: JsonValue + Hash + Drop,

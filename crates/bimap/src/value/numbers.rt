@@ -14,31 +14,31 @@ use std::alloc::Global;
 use std::num::ParseIntError;
 use std::str::FromStr;
 
-/// A whole number as a key: what differs from one type to the other. It has the name of the trait that it gives, by which a
-/// missing bound is told.
+/// A whole number as a key: what differs from one type to the other. It has the name of the public trait, so that a
+/// compiler's message about a missing bound names that trait.
 pub trait JsonKey: Copy + Eq {
     /// What a number is written as, and what reads as it.
     ghost form: { NumberForm Self };
 
-    /// The key text of a number.
+    /// Returns the key text of a number.
     fn to_text(self, alloc: Global) -> Result<String, NoMemory>
         ensures text { IfOk result (λ s. string_bytes s ≡ form.writes_key self) }
         ensures reads_back { OnOk result (ReadsBack Self.eq
             (form.reads_key (form.writes_key self)) self) };
 
-    /// The number that a key text reads as.
+    /// Returns the number that a key text reads as.
     fn of_text(text: &str) -> Option<Self>
         ensures { ReadsSome (form.reads_key text.now) result };
 }
 
-/// The same of a value.
+/// A whole number as a value: what differs from one type to the other.
 pub trait JsonValue: JsonKey {
-    /// The JSON value of a number.
+    /// Returns the JSON value of a number.
     fn to_value(self) -> Value
         ensures json { view result ≡ Self.form.writes self }
         ensures reads_back { ReadsBack Self.eq (Self.form.reads (Self.form.writes self)) self };
 
-    /// The number that a JSON value reads as.
+    /// Returns the number that a JSON value reads as.
     fn of_value(value: &Value) -> Option<Self>
         ensures { ReadsSome (Self.form.reads (view value.now)) result };
 }
@@ -81,7 +81,7 @@ impl<N: JsonValue> sides::JsonValue for N {
     }
 }
 
-// Whether a number has no other spelling: no plus, no needless zero, and no zero after a minus.
+// Returns whether a text is a number's one spelling: no plus, no needless zero, and no zero after a minus.
 fn is_plain(text: &[u8]) -> bool
     ensures { IsTrue result ↔ IsPlain text.now }
 {

@@ -1,4 +1,4 @@
-//! Any bimap as a JSON object and back. It doesn't know how a bimap keeps its pairs, nor how a side is written.
+//! Any map as a JSON object and back. It does not know how a side is written.
 ghost use Rattle.std.specs.Prelude.{◌≡◌, ◌↔◌, List, [], Contains, IfOk, IfErr, OnOk};
 ghost use Rattle.std.specs.Iterator.{Drains, IsFiniteIterable};
 ghost use denote.Ref.{Bor};
@@ -14,8 +14,7 @@ use std::alloc::Global;
 use std::mem;
 use thiserror::Error;
 
-/// Why no bimap was read. An entry is named by its number, from 0, in ascending byte order of the keys; those before it
-/// were inserted.
+/// Why no map was read. An entry is named by its number, from 0, in ascending byte order of the keys.
 #[derive(Clone, Copy, Debug, Eq, Error, PartialEq)]
 pub enum JsonFault {
     /// The text is no JSON, or none that `Value::from_str` reads.
@@ -33,22 +32,29 @@ pub enum JsonFault {
     /// The key reads as a left, and the value as no right.
     #[error("entry {0}: the value is no right")]
     BadValue(usize),
-    /// The bimap contains the left by then, and the policy keeps it. It is asked before the right.
+    /// The map contains the left by then, and the policy keeps it. The left is asked first.
     #[error("entry {0}: the left is already contained")]
     LeftHeld(usize),
-    /// It contains the right, and the policy keeps it.
+    /// The map contains the right by then, and the policy keeps it.
     #[error("entry {0}: the right is already contained")]
     RightHeld(usize),
-    /// Out of memory, before any fault was met: at an entry whose key reads as a left, or while a text was read.
+    /// Out of memory, before any fault was met. It is met at an entry whose key reads as a left, or while a text is
+    /// read.
     #[error("out of memory")]
     Memory,
 }
 
-/// A bimap as a JSON object, with an entry for each pair: its key is the left, and its value the right. Writing and
-/// reading take memory for each pair, and an `Err` leaves nothing. A reading reserves no places ahead.
+/// A map as a JSON object, with an entry for each pair. The key of an entry is the left, and its value is the right.
 pub trait JsonObject<L: JsonKey + Drop, R: JsonValue + Drop>: Bijection<L, R> + Sized {
-    /// Returns the object of the pairs. Each of its entries reads as a pair that equals the one it was written of on
-    /// both sides.
+    /// Returns the JSON object of the pairs.
+    ///
+    /// Each entry reads as a pair that equals the one from which it was written, on both sides.
+    ///
+    /// Time: That of iterating, and of O(n log n) comparisons of key texts.
+    ///
+    /// Memory: It allocates an object with an entry for each pair.
+    ///
+    /// `Err`: Out of memory. There is no object.
     ///
     ///     let value = seats.to_value(alloc)?;
     ///     // {"a":3,"b":1,"c":2}
@@ -58,8 +64,16 @@ pub trait JsonObject<L: JsonKey + Drop, R: JsonValue + Drop>: Bijection<L, R> + 
         ensures reads_back { OnOk result (EachReadsBack L.writes_key R.writes L.reads_key R.reads
             L.eq R.eq (Self.holding self.now).pairs) };
 
-    /// Creates the bimap of an object's entries, inserted in ascending byte order of their keys. A later one overwrites
-    /// those that it shares a value with. A `BiInsertionOrderMap` keeps that order.
+    /// Returns the map of an object's entries.
+    ///
+    /// It inserts them in ascending byte order of their keys. An entry overwrites the earlier ones with which it shares
+    /// a value. A `BiInsertionOrderMap` keeps this order.
+    ///
+    /// Time: That of reading and inserting each entry.
+    ///
+    /// Memory: It allocates as each insertion does, and what reading each side allocates. Nothing is reserved ahead.
+    ///
+    /// `Err`: The value is no object, an entry does not read, or out of memory (`Memory`). There is no map.
     ///
     ///     // of {"A": 1, "B": 2, "C": 1}
     ///     let seats: BiBTreeMap<char, u32> = BiBTreeMap::from_value(alloc, &value)?;
@@ -71,7 +85,15 @@ pub trait JsonObject<L: JsonKey + Drop, R: JsonValue + Drop>: Bijection<L, R> + 
             (view value.now) (Self.holding bimap).pairs) };
 }
 
-/// Returns the object of the pairs that an iterator gives. Of pairs with one key text it has the last.
+/// Returns the JSON object of the pairs that an iterator gives.
+///
+/// Of pairs with one key text it contains the last.
+///
+/// Time: That of iterating, and of O(n log n) comparisons of key texts.
+///
+/// Memory: It allocates an object with an entry for each pair.
+///
+/// `Err`: Out of memory. There is no object.
 pub fn write_walk<'a, L: JsonKey + 'a, R: JsonValue + 'a, I: IntoIterator<Item = (&'a L, &'a R)>>(
     alloc: Global,
     walk: I,
@@ -95,8 +117,15 @@ pub fn write_walk<'a, L: JsonKey + 'a, R: JsonValue + 'a, I: IntoIterator<Item =
     Ok(Value::Object(map))
 }
 
-/// Inserts an object's entries into an empty bimap and returns it, as [`JsonObject::from_value`] does. An `Err` drops
-/// it.
+/// Inserts an object's entries into an empty map, and returns the map.
+///
+/// It inserts the entries as [`JsonObject::from_value`] does.
+///
+/// Time: That of reading and inserting each entry.
+///
+/// Memory: It allocates as each insertion does, and what reading each side allocates. Nothing is reserved ahead.
+///
+/// `Err`: The value is no object, an entry does not read, or out of memory (`Memory`). The map is dropped.
 pub fn read_into<L: JsonKey + Drop, R: JsonValue + Drop, B: Bijection<L, R> + Drop>(
     alloc: Global,
     empty: B,
@@ -115,9 +144,16 @@ pub fn read_into<L: JsonKey + Drop, R: JsonValue + Drop, B: Bijection<L, R> + Dr
     read_into_with(alloc, empty, value, policy)
 }
 
-/// Inserts an object's entries into an empty bimap in ascending byte order of their keys, where the policy lets each
-/// overwrite what it shares a value with, and returns it. An `Err` names the first entry that doesn't read or is
-/// refused, and drops the bimap.
+/// Inserts an object's entries into an empty map under the policy, and returns the map.
+///
+/// It inserts the entries in ascending byte order of their keys.
+///
+/// Time: That of reading and inserting each entry.
+///
+/// Memory: It allocates as each insertion does, and what reading each side allocates. Nothing is reserved ahead.
+///
+/// `Err`: The value is no object, an entry does not read or is refused, or out of memory (`Memory`). The map is
+/// dropped.
 ///
 ///     // no seat twice: {"A": 1, "B": 2, "C": 1} gives Err(JsonFault::RightHeld(2))
 ///     let once = Policy { left: OnHeld::Refuse, right: OnHeld::Refuse };
@@ -162,7 +198,13 @@ pub fn read_into_with<L: JsonKey + Drop, R: JsonValue + Drop, B: Bijection<L, R>
     Ok(bimap)
 }
 
-/// Writes a bimap as an object, reads it back and returns an equal bimap. An `Err` means out of memory.
+/// Writes a map as an object, reads it back, and returns the equal map.
+///
+/// Time: That of `to_value` and `from_value`.
+///
+/// Memory: It allocates as `to_value` and `from_value` do.
+///
+/// `Err`: Out of memory (`Memory`). There is no new map.
 ///
 ///     let copy = reread(alloc, &seats)?;
 ///     // copy equals seats

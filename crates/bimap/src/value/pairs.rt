@@ -1,4 +1,4 @@
-//! Pairs as a JSON array and back, which keeps their order. It doesn't know how a side is written.
+//! Pairs as a JSON array and back, which keeps their order. It does not know how a side is written.
 ghost use Rattle.std.specs.Prelude.{◌≡◌, List, IfOk, IfSome, IfNone, map};
 ghost use Rattle.std.specs.Iterator.{Drains, IsFiniteIterable};
 ghost use denote.Ref.{Bor};
@@ -25,15 +25,15 @@ pub enum PairsFault {
     /// The first of the two reads as no left.
     #[error("item {0}: the first is no left")]
     BadLeft(usize),
-    /// The first reads as a left, and the second as no right.
+    /// The first of the two reads as a left, and the second as no right.
     #[error("item {0}: the second is no right")]
     BadRight(usize),
-    /// Out of memory, before any fault was met: at an array of two whose first reads as a left.
+    /// Out of memory, before any fault was met. It is met at an array of two whose first reads as a left.
     #[error("out of memory")]
     Memory,
 }
 
-// The array of two values.
+// Returns the array of two values.
 fn array_of_two(alloc: Global, first: Value, second: Value) -> Result<Value, NoMemory>
     ensures { IfOk result (λ v. view v ≡ two (view first) (view second)) }
 {
@@ -44,9 +44,15 @@ fn array_of_two(alloc: Global, first: Value, second: Value) -> Result<Value, NoM
     Ok(Value::Array(items))
 }
 
-/// Returns the array of the pairs that an iterator gives, in their order, each as an array of its left and its right.
+/// Returns the JSON array of the pairs that an iterator gives, in their order.
 ///
-/// Takes time proportional to the number of pairs, and memory for each. An `Err` leaves nothing.
+/// Each pair is an array of its left and its right.
+///
+/// Time: O(number of pairs), and that of writing each side.
+///
+/// Memory: It allocates the array and an array of two for each pair.
+///
+/// `Err`: Out of memory. There is no array.
 ///
 ///     let value = write_pairs(alloc, seats.iter())?;
 ///     // [["c",2],["a",3]]
@@ -74,7 +80,7 @@ pub fn write_pairs<
     Ok(Value::Array(items))
 }
 
-// The two of an array of two.
+// Returns the two values of an array of two.
 fn as_two(value: &Value) -> Option<(&Value, &Value)>
     ensures is_two { IfSome result (λ p. view value.now ≡ two (view p.0.now) (view p.1.now)) }
     ensures none { IfNone result (¬ IsTwo (view value.now)) }
@@ -86,11 +92,16 @@ fn as_two(value: &Value) -> Option<(&Value, &Value)>
     Some((&items[0], &items[1]))
 }
 
-/// Returns the pairs of an array of arrays of two, in their order. `from_iter` and `from_iter_with` make a bimap of
-/// them, and `BiInsertionOrderMap` keeps the order.
+/// Returns the pairs of a JSON array of arrays of two, in their order.
 ///
-/// Takes time proportional to the length, and memory for each pair. An `Err` names the first item that doesn't read, and
-/// leaves nothing.
+/// `from_iter` and `from_iter_with` make a map of them, and a `BiInsertionOrderMap` keeps the order.
+///
+/// Time: O(length of the array), and that of reading each side.
+///
+/// Memory: It allocates the `Vec`, and what reading each side allocates.
+///
+/// `Err`: The value is no array, an item does not read, or out of memory (`Memory`). It names the first such item, and
+/// there are no pairs.
 ///
 ///     // of [["c", 2], ["a", 3]]
 ///     let pairs: Vec<(char, u32)> = read_pairs(alloc, &value)?;

@@ -1,4 +1,4 @@
-//! How one side of a bimap is written in JSON and read back.
+//! How one side of a map is written in JSON and read back.
 ghost use Rattle.std.specs.Prelude.{◌≡◌, ℕ, List, IfOk, OnOk, string_bytes};
 ghost use Rattle.serde_json.specs.Data.{Data};
 ghost use Rattle.serde_json.specs.View.{view};
@@ -12,7 +12,7 @@ use thiserror::Error;
 /// Why nothing was read.
 #[derive(Clone, Copy, Debug, Eq, Error, PartialEq)]
 pub enum ReadFault {
-    /// The text or JSON value reads as nothing.
+    /// The text or JSON value reads as no value of this type.
     #[error("no value of this type")]
     Bad,
     /// Out of memory. The text or JSON value reads as a value.
@@ -22,11 +22,11 @@ pub enum ReadFault {
 
 /// A left in JSON: the key of an entry.
 ///
-/// What is written of a value reads as an equal value, and as no other. So lefts that are not equal have different
+/// What a value is written as reads as an equal value, and as no other. So lefts that are not equal have different
 /// keys.
 ///
-/// A type of one's own says what it is written as (`writes_key`) and what a text reads as (`reads_key`), and mostly
-/// asks a type that has the trait. Here a seat is written as its number:
+/// A type of yours says what it is written as (`writes_key`) and what a text reads as (`reads_key`). Most such types
+/// call a type that has the trait. Here a seat is written as its number:
 ///
 /// ```
 /// ghost use Rattle.bimap.specs.JsonTexts.{IsUnsignedText};
@@ -63,18 +63,33 @@ pub trait JsonKey: Eq + Sized {
     ghost reads_key: { List ℕ → Self → Type 0 };
 
     /// Returns the key text of a value.
+    ///
+    /// Time: O(length of the text).
+    ///
+    /// Memory: It allocates the text.
+    ///
+    /// `Err`: Out of memory. There is no text.
     fn to_key(&self, alloc: Global) -> Result<String, NoMemory>
         ensures text { IfOk result (λ s. string_bytes s ≡ writes_key self.now) }
         ensures reads_back { OnOk result (ReadsBack Self.eq
             (reads_key (writes_key self.now)) self.now) };
 
-    /// Returns the value that a key text reads as, or `Bad` exactly where it reads as none. It runs out of memory only for
-    /// a text that reads as some value.
+    /// Returns the value that a key text reads as.
+    ///
+    /// It runs out of memory only for a text that reads as some value.
+    ///
+    /// Time: O(length of the text).
+    ///
+    /// Memory: Of the types here, only `String` allocates.
+    ///
+    /// `Err`: The text reads as no value (`Bad`), or out of memory (`Memory`).
     fn from_key(alloc: Global, text: &str) -> Result<Self, ReadFault>
         ensures { Reads (reads_key text.now) result };
 }
 
-/// A right in JSON: the value of an entry, for which holds what does for a [`JsonKey`].
+/// A right in JSON: the value of an entry.
+///
+/// As for a [`JsonKey`], what a value is written as reads as an equal value, and as no other.
 pub trait JsonValue: Eq + Sized {
     /// What a value is written as.
     ghost writes: { Self → Data };
@@ -83,12 +98,25 @@ pub trait JsonValue: Eq + Sized {
     ghost reads: { Data → Self → Type 0 };
 
     /// Returns the JSON value of a value.
+    ///
+    /// Time: O(length of the text) for a `String`, and O(1) for the other types here.
+    ///
+    /// Memory: Of the types here, only `String` and `char` allocate.
+    ///
+    /// `Err`: Out of memory. There is no JSON value.
     fn to_json(&self, alloc: Global) -> Result<Value, NoMemory>
         ensures json { IfOk result (λ v. view v ≡ writes self.now) }
         ensures reads_back { OnOk result (ReadsBack Self.eq (reads (writes self.now)) self.now) };
 
-    /// Returns the value that a JSON value reads as, or `Bad` exactly where it reads as none. It runs out of memory only
-    /// for a JSON value that reads as some value.
+    /// Returns the value that a JSON value reads as.
+    ///
+    /// It runs out of memory only for a JSON value that reads as some value.
+    ///
+    /// Time: O(length of the text) for a `String`, and O(1) for the other types here.
+    ///
+    /// Memory: Of the types here, only `String` allocates.
+    ///
+    /// `Err`: The JSON value reads as no value (`Bad`), or out of memory (`Memory`).
     fn from_json(alloc: Global, value: &Value) -> Result<Self, ReadFault>
         ensures { Reads (reads (view value.now)) result };
 }

@@ -1,4 +1,4 @@
-//! Characters, texts and truths as sides.
+//! Characters, texts and truth values as sides.
 ghost use Rattle.std.specs.Prelude.{◌≡◌, string_bytes, IfOk, IfErr, IsOk};
 ghost use Rattle.std.specs.Bool.{beq};
 ghost use Rattle.std.specs.Char.{encode_utf8};

@@ -1,11 +1,11 @@
-//! What a call of a bimap is handed and returns, with its sides exchanged.
+//! What a call of a map takes and returns, with its sides exchanged.
 ghost use Rattle.std.specs.Prelude.{◌≡◌, option_map};
 ghost use Rattle.bimap_base.specs.Inverse.{inverse_pair};
 ghost use Rattle.bimap_any.specs.Exchanged.{inverse_answer};
 
 use bimap_base::Overwritten;
 
-// The pair, if there is one.
+// Returns the pair with its sides exchanged, if there is one.
 pub(crate) fn exchange_pair<L, R>(pair: Option<(L, R)>) -> Option<(R, L)>
     ensures { result ≡ option_map inverse_pair pair }
 {
@@ -15,7 +15,7 @@ pub(crate) fn exchange_pair<L, R>(pair: Option<(L, R)>) -> Option<(R, L)>
     }
 }
 
-// The pairs that an insertion overwrote: the one with the left stands first.
+// Returns the overwritten pairs with their sides exchanged. In `Both`, the pair of the new left stands first.
 pub(crate) fn exchange_answer<L, R>(answer: Overwritten<L, R>) -> Overwritten<R, L>
     ensures { result ≡ inverse_answer answer }
 {

@@ -1,5 +1,5 @@
-//! An insertion undone by a removal and by insertions, with the sides of the bimap exchanged: its own `undo_insert` would ask
-//! for the left of the pair, which is still contained.
+//! An insertion undone by a removal and by insertions, with the sides of the map exchanged. The map's own `undo_insert`
+//! takes the left of a pair, and here its right is given.
 ghost use Rattle.std.specs.Prelude.{◌≡◌, ◌<◌, length, Contains, Some, OnOk, OnErr};
 ghost use Rattle.bimap_base.specs.Holding.{IsFull, IsRoomAfter, IsRemovalByLeft, IsUndoing};
 ghost use Rattle.bimap_base.specs.Sets.{HasLeft, NoneShares};
@@ -11,7 +11,7 @@ use crate::bijection::Bijection;
 use crate::inverse::exchanged::exchange_pair;
 use bimap_base::{NoMemory, Overwritten, UndoStopped};
 
-// Makes sure that a place is free. Where none is, the places double.
+// Makes sure that a place is free. If none is, the capacity doubles.
 fn make_place<L: Eq + Drop, R: Eq + Drop, B: Bijection<L, R>>(bimap: &mut B) -> Result<(), NoMemory>
     ensures ok { OnOk result (length (B.holding bimap.new).pairs < (B.holding bimap.new).room) }
     ensures pairs { (B.holding bimap.new).pairs ≡ (B.holding bimap.old).pairs }
@@ -27,7 +27,7 @@ fn make_place<L: Eq + Drop, R: Eq + Drop, B: Bijection<L, R>>(bimap: &mut B) -> 
     bimap.reserve(len.max(1))
 }
 
-// Takes out the pair of a left that is contained.
+// Removes the pair of a left that the map contains, and returns it.
 fn take<L: Eq + Drop, R: Eq + Drop, B: Bijection<L, R>>(bimap: &mut B, left: &R) -> (R, L)
     requires held { HasLeft R.eq (Contains (inverse_holding (B.holding bimap.old)).pairs)
         left.now }
@@ -41,7 +41,7 @@ fn take<L: Eq + Drop, R: Eq + Drop, B: Bijection<L, R>>(bimap: &mut B, left: &R)
     }
 }
 
-// Puts in a pair that shares no value with any, where a place is free.
+// Inserts a pair that shares no value with any other, while a place is free.
 fn put_back<L: Eq + Drop, R: Eq + Drop, B: Bijection<L, R>>(bimap: &mut B, left: R, right: L)
     requires free { length (B.holding bimap.old).pairs < (B.holding bimap.old).room }
     requires alone { NoneShares R.eq L.eq (Contains (inverse_holding (B.holding bimap.old)).pairs)
@@ -56,7 +56,7 @@ fn put_back<L: Eq + Drop, R: Eq + Drop, B: Bijection<L, R>>(bimap: &mut B, left:
     }
 }
 
-// Takes out the pair of the left, and puts those of the answer in.
+// Removes the pair of the left, and inserts the pairs of the answer.
 pub(crate) fn undo<L: Eq + Drop, R: Eq + Drop, B: Bijection<L, R>>(
     bimap: &mut B,
     left: &R,
