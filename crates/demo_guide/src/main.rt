@@ -1,10 +1,13 @@
-//! The examples of docs/GUIDE.md, one function for each section.
+//! The examples of docs/GUIDE.md: the whole program in `main`, and one function for each other section.
 #![tactic(auto)]
 
 use anyhow::Result;
+use bimap::BiBTreeMap;
+
+// For the other sections.
 use bimap::value::{JsonObject, Value, read_pairs, read_text_with, write_pairs};
 use bimap::{
-    BiBTreeMap, BiHashBTreeMap, BiHashMap, BiInsertionOrderMap, Bijection, Call, OnHeld, Policy,
+    BiHashBTreeMap, BiHashMap, BiInsertionOrderMap, Bijection, Call, OnHeld, Overwritten, Policy,
     extend_with, replace_left, run, swap_partners,
 };
 use bimap_undo::Undoable;
@@ -41,6 +44,9 @@ fn insert(rt: &(impl Print + AllocGlobal)) -> Result<()> {
     println!(rt; "{:?}", seats.insert("cat", 3)?.did_overwrite())?; // false
     println!(rt; "{:?}", seats.insert_no_overwrite("dan", 3))?; // Err(Occupied("dan", 3))
     println!(rt; "{seats:?}")?; // {"ann" <> 7, "cat" <> 3}
+    if let Overwritten::Left(guest, seat) = seats.insert("cat", 5)? {
+        println!(rt; "{guest} had the seat {seat}")?; // cat had the seat 3
+    }
     Ok(())
 }
 
@@ -196,7 +202,7 @@ fn any_map(rt: &(impl Print + AllocGlobal)) -> Result<()> {
 }
 
 // Your own key types
-#[derive(Clone, Copy, Debug, Drop, Eq, Hash, Ord, PartialEq, PartialOrd)]
+#[derive(Clone, Copy, Debug, Eq, Hash, Ord, PartialEq, PartialOrd)]
 struct Seat {
     row: u8,
     number: u8,
@@ -212,6 +218,10 @@ fn own_types(rt: &(impl Print + AllocGlobal)) -> Result<()> {
 }
 
 fn main(rt: HostRuntime) -> Result<()> {
+    let mut seats: BiBTreeMap<&str, u32> = BiBTreeMap::new(rt.alloc());
+    seats.insert("ann", 12)?;
+    println!(rt; "{seats:?}")?; // {"ann" <> 12}
+
     make(&rt)?;
     look_up(&rt)?;
     insert(&rt)?;
