@@ -22,6 +22,8 @@ where
     pub fn hollow(&self) -> Result<Self, NoMemory>
         ensures pairs { IfOk result (λ copy. pairs_in copy.pairs ≡ []) }
         ensures room { IfOk result (λ copy. length copy.pairs ≡ length self.now.pairs) }
+        ensures left_finds { IfOk result (λ copy. I.finds_as self.now.left copy.left) }
+        ensures right_finds { IfOk result (λ copy. J.finds_as self.now.right copy.right) }
     {
         let alloc = self.pairs.allocator();
         let left_index = self.left.copied(alloc)?;
@@ -43,6 +45,8 @@ where
             ≤ length (pairs_in self.old.pairs) + 1) }
         ensures room { length (pairs_in self.old.pairs) < length self.old.pairs →
             length self.new.pairs ≡ length self.old.pairs }
+        ensures left_finds_by { I.finds_by self.new.left ≡ I.finds_by self.old.left }
+        ensures right_finds_by { J.finds_by self.new.right ≡ J.finds_by self.old.right }
     {
         let policy = Policy {
             left: OnHeld::Overwrite,

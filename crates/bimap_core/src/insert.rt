@@ -38,6 +38,8 @@ impl<L: Eq, R: Eq, I: Index<L>, J: Index<R>> Table<L, R, I, J> {
             (pairs_at self.new.pairs (I.places self.new.left))) }
         ensures slots { OnErr result (self.new.pairs ≡ self.old.pairs) }
         ensures places { OnErr result (I.places self.new.left ≡ I.places self.old.left) }
+        ensures left_finds_by { I.finds_by self.new.left ≡ I.finds_by self.old.left }
+        ensures right_finds_by { J.finds_by self.new.right ≡ J.finds_by self.old.right }
         ensures comparisons { M.comparisons meter.new ≤ M.comparisons meter.old
             + 3 * I.effort (length (I.places self.old.left))
             + 5 * J.effort (length (J.places self.old.right)) }

@@ -49,6 +49,7 @@ pub(crate) fn unlist<K: Eq, I: Index<K>, S: Side<K>, M: Meter>(
     ensures places { MatchBool is_new
         (I.appends → IsTakenOut (I.places index.old) place (I.places index.new))
         (I.places index.new ≡ I.places index.old) }
+    ensures finds_by { I.finds_by index.new ≡ I.finds_by index.old }
     ensures cells { I.cells index.new ≡ I.cells index.old }
     ensures effort { I.effort (length (I.places index.new))
         ≤ I.effort (length (I.places index.old)) }
@@ -77,6 +78,7 @@ pub(crate) fn relist<K: Eq, I: Index<K>, S: Side<K>, M: Meter>(
     ensures listing { I.is_listing index.new (S.key_at side) }
     ensures places { MatchOption spot.entry (I.places index.new ≡ I.places index.old)
         (λ _. I.appends → I.places index.new ≡ I.places index.old ++ place ∷ []) }
+    ensures finds_by { I.finds_by index.new ≡ I.finds_by index.old }
     ensures cells { I.cells index.new ≡ I.cells index.old }
     ensures comparisons { M.comparisons meter.new ≤ M.comparisons meter.old
         + (if is_some spot.entry then I.effort (length (I.places index.old)) else 0) }

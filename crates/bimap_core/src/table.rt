@@ -36,7 +36,9 @@ impl<L: Eq, R: Eq, I: Index<L>, J: Index<R>> Table<L, R, I, J> {
     pub fn new(alloc: Global, left: I, right: J) -> Self
         requires left { I.is_listing left (λ _. None) }
         requires right { J.is_listing right (λ _. None) }
-        ensures { result.pairs ≡ [] }
+        ensures pairs { result.pairs ≡ [] }
+        ensures left { result.left ≡ left }
+        ensures right { result.right ≡ right }
     {
         Table {
             pairs: Pairs::new(alloc),

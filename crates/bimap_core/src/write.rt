@@ -37,6 +37,8 @@ impl<L: Eq, R: Eq, I: Index<L>, J: Index<R>> Table<L, R, I, J> {
             (I.places self.new.left ≡ I.places self.old.left)
             (λ _. I.appends → ComesLast (I.places self.old.left) place place
             (I.places self.new.left)) }
+        ensures left_finds_by { I.finds_by self.new.left ≡ I.finds_by self.old.left }
+        ensures right_finds_by { J.finds_by self.new.right ≡ J.finds_by self.old.right }
         ensures comparisons { M.comparisons meter.new ≤ M.comparisons meter.old
             + 2 * (if is_some spots.entry.0
             then I.effort (length (I.places self.old.left)) else 0)
@@ -67,6 +69,8 @@ impl<L: Eq, R: Eq, I: Index<L>, J: Index<R>> Table<L, R, I, J> {
         ensures pairs { self.new.pairs ≡ slice_set self.old.pairs place None }
         ensures left_places { I.appends → IsTakenOut (I.places self.old.left) place
             (I.places self.new.left) }
+        ensures left_finds_by { I.finds_by self.new.left ≡ I.finds_by self.old.left }
+        ensures right_finds_by { J.finds_by self.new.right ≡ J.finds_by self.old.right }
         ensures right_spots { (key : R) (spot : J.Spot) → J.is_for self.old.right key spot →
             J.is_for self.new.right key spot }
         ensures right_effort { J.effort (length (J.places self.new.right))
@@ -103,6 +107,8 @@ impl<L: Eq, R: Eq, I: Index<L>, J: Index<R>> Table<L, R, I, J> {
         ensures pairs { self.new.pairs ≡ slice_set self.old.pairs result (Some (left, right)) }
         ensures left_places { I.appends → I.places self.new.left
             ≡ I.places self.old.left ++ result ∷ [] }
+        ensures left_finds_by { I.finds_by self.new.left ≡ I.finds_by self.old.left }
+        ensures right_finds_by { J.finds_by self.new.right ≡ J.finds_by self.old.right }
         ensures comparisons { M.comparisons meter.new ≡ M.comparisons meter.old }
         ensures touches { M.touches meter.new ≤ M.touches meter.old
             + 64 * (I.effort (length (I.places self.old.left)) + 1)
@@ -131,6 +137,8 @@ impl<L: Eq, R: Eq, I: Index<L>, J: Index<R>> Table<L, R, I, J> {
             J.leads self.new.right (right_at self.new.pairs) key spot }
         ensures left_places { I.places self.new.left ≡ I.places self.old.left }
         ensures right_places { J.places self.new.right ≡ J.places self.old.right }
+        ensures left_finds_by { I.finds_by self.new.left ≡ I.finds_by self.old.left }
+        ensures right_finds_by { J.finds_by self.new.right ≡ J.finds_by self.old.right }
         ensures err { OnErr result (self.new.pairs ≡ self.old.pairs) }
     {
         self.left.grow(to)?;
@@ -152,6 +160,8 @@ impl<L: Eq, R: Eq, I: Index<L>, J: Index<R>> Table<L, R, I, J> {
             J.leads self.new.right (right_at self.new.pairs) key spot }
         ensures left_places { I.places self.new.left ≡ I.places self.old.left }
         ensures right_places { J.places self.new.right ≡ J.places self.old.right }
+        ensures left_finds_by { I.finds_by self.new.left ≡ I.finds_by self.old.left }
+        ensures right_finds_by { J.finds_by self.new.right ≡ J.finds_by self.old.right }
         ensures full { OnErr result (pair_count self.old.pairs ≡ length self.old.pairs) }
         ensures err { OnErr result (self.new.pairs ≡ self.old.pairs) }
     {

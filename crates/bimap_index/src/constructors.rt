@@ -37,6 +37,10 @@ pub trait CopiedIndex<K: Eq>: Index<K> {
         ensures cells { IfOk result (λ index. Self.cells index ≡ 0) }
         ensures finds { IfOk result (λ index. finds_as self.now index) }
         ensures err { IfErr result (λ _. ¬ is_infallible self.now) };
+
+    /// If a copy and a later index find keys by the same builder, the later index finds keys as the copy does.
+    ghost finds_on: { (index copy later : Self) → Self.finds_by later ≡ Self.finds_by copy →
+        finds_as index copy → finds_as index later };
 }
 
 /// An index that can follow a store whose pairs are moved to its first places.
@@ -69,6 +73,7 @@ pub trait CompactedIndex<K: Eq>: Index<K> {
             Self.is_listing self.new (pair_at moved) →
             pairs_in moved ≡ pairs_in keys →
             pairs_at moved (Self.places self.new) ≡ pairs_at keys (Self.places self.old) }
+        ensures finds_by { Self.finds_by self.new ≡ Self.finds_by self.old }
         ensures cells { (to : ℕ) → is_compacted self.old to compacted → Self.cells self.new ≡ to }
         ensures comparisons { M.comparisons meter.new ≤ M.comparisons meter.old
             + length (Self.places self.old) * Self.effort (length (Self.places self.old)) }

@@ -2,7 +2,7 @@
 ghost use Rattle.std.specs.Prelude.{◌≡◌, ◌+◌, ◌≤◌, ◌%◌, ⊤, ℕ, Option, [], length, IfSome, IfNone};
 ghost use Rattle.std.specs.declared.cmp.Ordering.TheVariants.{Less};
 ghost use Rattle.std.specs.List.{fold};
-ghost use Rattle.std.proofs.Common.{ap};
+ghost use Rattle.std.proofs.Common.{ap, subst, sym};
 ghost use Rattle.bimap_base.specs.Numbered.{number_by};
 ghost use Rattle.bimap_base.specs.Places.{pairs_in, compacted};
 ghost use Rattle.bimap_index.specs.ByHash.{ListsByHash, places_from};
@@ -71,6 +71,7 @@ impl<B: BuildHasher> HashIndex<B> {
             ListsByHash K.eq (number_by B.Hasher.finish B.Hasher.write B.build_hasher
             K.hash_input self.new.builder) self.new.hashed f) }
         ensures unchanged { IfNone result (self.new ≡ self.old) }
+        ensures builder { self.new.builder ≡ self.old.builder }
         ensures cells { length self.new.hashed ≡ length self.old.hashed }
         ensures comparisons { M.comparisons _meter.new ≤ M.comparisons _meter.old }
         ensures touches { M.touches _meter.new ≤ M.touches _meter.old + 64 }
@@ -107,6 +108,10 @@ impl<K: Eq + Hash, B: BuildHasher> Index<K> for HashIndex<B> {
     ghost cells = { λ h. length h.hashed };
 
     ghost effort = { λ n. 0 };
+
+    ghost Finder = { B };
+
+    ghost finds_by = { λ h. h.builder };
 
     fn spot(&self) -> u32 {
         0
@@ -211,6 +216,8 @@ impl<K: Eq + Hash, B: BuildHasher + Clone> CopiedIndex<K> for HashIndex<B> {
     ghost finds_as = { λ h copy. B.is_clone h.builder copy.builder };
 
     ghost is_infallible = { λ h. B.is_infallible h.builder };
+
+    ghost finds_on = { λ h copy later same finds. subst (B.is_clone h.builder) (sym same) finds };
 
     fn copied(&self, alloc: Global) -> Result<Self, NoMemory> {
         let builder = self.builder.clone()?;

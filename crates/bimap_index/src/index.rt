@@ -52,6 +52,13 @@ pub trait Index<K: Eq> {
     /// The number of comparisons that one search may take, given the number of listed places.
     ghost effort: { ℕ → ℕ };
 
+    /// The type of what an index finds keys by. A hashed index finds them by its hash builder, an ordered one by the
+    /// keys alone.
+    ghost Finder: { Type 0 };
+
+    /// What this index finds keys by. No call changes it.
+    ghost finds_by: { Self → Finder };
+
     /// Returns a spot of no key. `step` and `finish` write it.
     fn spot(&self) -> Self::Spot;
 
@@ -140,6 +147,7 @@ pub trait Index<K: Eq> {
         requires cell { place < cells self.old }
         ensures listing { is_listing self.new (S.key_at side) }
         ensures last { appends → places self.new ≡ places self.old ++ place ∷ [] }
+        ensures finds_by { finds_by self.new ≡ finds_by self.old }
         ensures cells { cells self.new ≡ cells self.old }
         ensures comparisons { M.comparisons meter.new ≡ M.comparisons meter.old }
         ensures touches { M.touches meter.new ≤ M.touches meter.old
@@ -158,6 +166,7 @@ pub trait Index<K: Eq> {
         requires cell { place < cells self.old }
         ensures listing { is_listing self.new (S.key_at side) }
         ensures last { appends → places self.new ≡ places self.old ++ place ∷ [] }
+        ensures finds_by { finds_by self.new ≡ finds_by self.old }
         ensures cells { cells self.new ≡ cells self.old }
         ensures comparisons { M.comparisons meter.new ≤ M.comparisons meter.old
             + effort (length (places self.old)) }
@@ -173,6 +182,7 @@ pub trait Index<K: Eq> {
         ensures others { appends → IsTakenOut (places self.old) place (places self.new) }
         ensures is_for { (key : K) (spot : Self.Spot) → is_for self.old key spot →
             is_for self.new key spot }
+        ensures finds_by { finds_by self.new ≡ finds_by self.old }
         ensures cells { cells self.new ≡ cells self.old }
         ensures effort { effort (length (places self.new)) ≤ effort (length (places self.old)) }
         ensures comparisons { M.comparisons meter.new ≤ M.comparisons meter.old
@@ -189,6 +199,7 @@ pub trait Index<K: Eq> {
         ensures others { appends → IfSome result (λ place. IsTakenOut (places self.old) place
             (places self.new)) }
         ensures unchanged { IfNone result (self.new ≡ self.old) }
+        ensures finds_by { finds_by self.new ≡ finds_by self.old }
         ensures cells { cells self.new ≡ cells self.old }
         ensures comparisons { M.comparisons meter.new ≤ M.comparisons meter.old
             + effort (length (places self.old)) }
@@ -204,6 +215,7 @@ pub trait Index<K: Eq> {
         ensures is_for { (key : K) (spot : Self.Spot) → is_for self.old key spot →
             is_for self.new key spot }
         ensures places { places self.new ≡ places self.old }
+        ensures finds_by { finds_by self.new ≡ finds_by self.old }
         ensures cells { cells self.old ≤ cells self.new }
         ensures ok { OnOk result (to ≤ cells self.new) }
         ensures enough { to ≤ cells self.old → IsOk result }
@@ -212,6 +224,7 @@ pub trait Index<K: Eq> {
     /// Removes all places from the list. The cells stay.
     fn clear(&mut self)
         ensures listing { is_listing self.new (λ _. None) }
+        ensures finds_by { finds_by self.new ≡ finds_by self.old }
         ensures cells { cells self.new ≡ cells self.old };
 
     /// The listed places are those that have a key.

@@ -87,6 +87,7 @@ impl<I> InsertionOrder<I> {
         ensures others { IfSome result (λ place. IsTakenOut self.old.list.places place
             self.new.list.places) }
         ensures unchanged { IfNone result (self.new ≡ self.old) }
+        ensures finds_by { I.finds_by self.new.index ≡ I.finds_by self.old.index }
         ensures cells { I.cells self.new.index ≡ I.cells self.old.index }
         ensures list_cells { self.new.list.cells ≡ self.old.list.cells }
         ensures comparisons { M.comparisons meter.new ≤ M.comparisons meter.old
@@ -125,6 +126,10 @@ impl<K: Eq, I: Index<K>> Index<K> for InsertionOrder<I> {
     ghost cells = { λ o. min (I.cells o.index) o.list.cells };
 
     ghost effort = { I.effort };
+
+    ghost Finder = { I.Finder };
+
+    ghost finds_by = { λ o. I.finds_by o.index };
 
     fn spot(&self) -> I::Spot {
         self.index.spot()
@@ -233,6 +238,9 @@ impl<K: Eq, I: CopiedIndex<K> + Drop> CopiedIndex<K> for InsertionOrder<I> {
     ghost finds_as = { λ o copy. I.finds_as o.index copy.index };
 
     ghost is_infallible = { λ o. I.is_infallible o.index };
+
+    ghost finds_on = { λ o copy later same finds. I.finds_on o.index copy.index later.index same
+        finds };
 
     fn copied(&self, alloc: Global) -> Result<Self, NoMemory> {
         let index = self.index.copied(alloc)?;

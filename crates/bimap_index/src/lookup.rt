@@ -28,6 +28,7 @@ pub trait Lookup<K: Eq, Q: Query<K>>: Index<K> {
         ensures others { Self.appends → IfSome result (λ place.
             IsTakenOut (Self.places self.old) place (Self.places self.new)) }
         ensures unchanged { IfNone result (self.new ≡ self.old) }
+        ensures finds_by { Self.finds_by self.new ≡ Self.finds_by self.old }
         ensures cells { Self.cells self.new ≡ Self.cells self.old }
         ensures comparisons { M.comparisons meter.new ≤ M.comparisons meter.old
             + Self.effort (length (Self.places self.old)) }

@@ -79,6 +79,10 @@ impl<K: Ord> Index<K> for Ordered {
 
     ghost effort = { most_height };
 
+    ghost Finder = { ⊤ };
+
+    ghost finds_by = { λ o. tt };
+
     fn spot(&self) -> Route {
         Route::new()
     }
@@ -188,6 +192,8 @@ impl<K: Ord> CopiedIndex<K> for Ordered {
     ghost finds_as = { λ o copy. ⊤ };
 
     ghost is_infallible = { λ o. ⊤ };
+
+    ghost finds_on = { λ o copy later same finds. tt };
 
     fn copied(&self, alloc: Global) -> Result<Self, NoMemory> {
         Ok(Ordered::new(alloc))

@@ -18,7 +18,8 @@ impl<
 
     /// Returns a map of the clones of the pairs, which equals this map and has its capacity.
     ///
-    /// Each clone of a value has to equal the value. Hashed sides get clones of the hash builders. Insertion order is
+    /// Each clone of a value has to equal the value. The hash builders of the clone are clones of
+    /// this map's builders. Insertion order is
     /// kept.
     ///
     /// Time: O(capacity), and that of cloning and inserting each pair.
@@ -35,6 +36,9 @@ impl<
         ensures position { I.appends → IfOk result (λ copy. AllZip
             (IsPairClone L.is_clone R.is_clone) (holding self.now).pairs (holding copy).pairs) }
         ensures room { IfOk result (λ copy. (holding copy).room ≡ (holding self.now).room) }
+        ensures left_finds { IfOk result (λ copy. I.finds_as self.now.table.left copy.table.left) }
+        ensures right_finds { IfOk result (λ copy. J.finds_as self.now.table.right
+            copy.table.right) }
     {
         let mut table = self.table.hollow()?;
         let mut walk = self.iter();

@@ -19,6 +19,8 @@ loop-left-init g c =
       copied = subst (λ rest. IsCopiedUpTo g.L.Clone.is_clone g.R.Clone.is_clone old rest (pairs_in table.pairs)) (sym c.iter-walk.ensures.rest) (copied_none g.L.Clone.is_clone g.R.Clone.is_clone old (pairs_in table.pairs) none);
       position = λ appends. along_none g.L.Clone.is_clone g.R.Clone.is_clone old c.iter-walk.result _ c.iter-walk.ensures.rest (none_walked table.pairs (g.I.Index.places table.left) (left_walk table g.met.I.Index.listed g.met.I.Index.distinct g.met.I.Index.settled) none);
       room = c.in_ok-table.ensures.room;
+      left_finds = c.in_ok-table.ensures.left_finds;
+      right_finds = c.in_ok-table.ensures.right_finds;
       count = omega (arith, ap length none, ap length c.iter-walk.ensures.rest);
     }
 
@@ -37,6 +39,8 @@ loop-left-preserved g c =
       copied = copied_more g.L.PartialEq.eq g.R.PartialEq.eq g.met.L.Eq.laws g.met.R.Eq.laws g.L.Clone.is_clone g.R.Clone.is_clone old c.next.new.self held (pairs_in c.add.new.self.pairs) pair clone map.apart c.requires.equal here (c.in_ok-clone.ensures.cases, c.in_ok-clone-2.ensures.cases) c.in_ok-add.ensures.put;
       position = λ appends. along_more g.L.Clone.is_clone g.R.Clone.is_clone old c.loop-left.walk c.next.new.self _ _ pair clone (i.position appends) c.in-Some.ensures.steps (c.in_ok-clone.ensures.cases, c.in_ok-clone-2.ensures.cases) (c.in_ok-add.ensures.position appends none);
       room = c.add.ensures.room (omega (arith, i.count, i.room, ap length c.in-Some.ensures.steps, map.fits)) ∙ i.room;
+      left_finds = g.met.I.CopiedIndex.finds_on _ c.loop-left.table.left _ c.add.ensures.left_finds_by i.left_finds;
+      right_finds = g.met.J.CopiedIndex.finds_on _ c.loop-left.table.right _ c.add.ensures.right_finds_by i.right_finds;
       count = omega (arith, i.count, c.in_ok-add.ensures.count, ap length c.in-Some.ensures.steps);
     }
 

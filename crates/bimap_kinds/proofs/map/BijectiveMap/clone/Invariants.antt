@@ -11,6 +11,8 @@ invariant-loop-left g l = record {
   copied : IsCopiedUpTo g.L.Clone.is_clone g.R.Clone.is_clone (holding l.self).pairs l.walk (pairs_in l.table.pairs);
   position : g.I.Index.appends → IsClonedAlong g.L.Clone.is_clone g.R.Clone.is_clone (holding l.self).pairs l.walk (pairs_at l.table.pairs (g.I.Index.places l.table.left));
   room : length l.table.pairs ≡ (holding l.self).room;
+  left_finds : g.I.CopiedIndex.finds_as l.self.table.left l.table.left;
+  right_finds : g.J.CopiedIndex.finds_as l.self.table.right l.table.right;
   count : length (pairs_in l.table.pairs) + length l.walk ≤ length (holding l.self).pairs;
 }
 
