@@ -1,4 +1,4 @@
-"""The functions of a text in the layout of `rt fmt`, by the names under which the check has them, and a text without their bodies."""
+"""Finds the functions of a text in the layout of `rt fmt`, under the names that the check uses, and removes their bodies."""
 import os
 import re
 
@@ -8,7 +8,7 @@ def module_of(path, folder):
 
 
 def owner_of(head, module, homes):
-    """The name under which the check has the functions of an `impl` or a `trait`."""
+    """Returns the name under which the check lists the functions of an `impl` or a `trait`."""
     trait = re.match(r"(?:pub )?(?:unsafe )?trait (\w+)", head)
     if trait:
         return f"{module}::{trait[1]}"
@@ -19,7 +19,7 @@ def owner_of(head, module, homes):
         if not depth:
             break
     given, head = re.findall(r"[<,] *(?:const )?'?(\w+)", head[:at]), re.sub(r" where .*| ?\{.*", "", head[at:]).strip()
-    # (a `drop` is named as a method of the type)
+    # The check lists a `drop` as a method of the type.
     of, _, to = head.removeprefix("Drop for ").rpartition(" for ")
     kind, words = re.match(r"(&)?(?:'\w+ )?(\w+)", to), re.findall(r"\w+", to.partition("<")[2])
     own = [it for it in words if it not in ("_", *given)]
@@ -33,7 +33,7 @@ def owner_of(head, module, homes):
 
 
 def body_of(lines, at, indent):
-    """The lines of the body of the function that begins at a line: the first one and the one after the last, or None."""
+    """Returns the lines of the body of the function that begins at a line, as a range, or None if it has no body."""
     for first, line in enumerate(lines[at:], at + 1):
         if line == indent + "{" or line.endswith(" {") and not re.match(r" *(requires|ensures|ghost)\b", line):
             last = next((it for it in range(first, len(lines)) if lines[it] == indent + "}"), None)
@@ -44,7 +44,7 @@ def body_of(lines, at, indent):
 
 
 def functions_of(lines, module, homes):
-    """Of each function in the layout of `rt fmt`: its line, the name under which the check has it, and its body."""
+    """Yields each function: its line, the name that the check uses, and the range of its body."""
     owner, at = None, 0
     while at < len(lines):
         line, end = lines[at], None
@@ -64,8 +64,11 @@ def functions_of(lines, module, homes):
 
 
 def left_out(text, module, homes, kept, bare):
-    """A text in which a function has no body, but where it is called as one of those that are kept or stands in a cycle, and the names
-    of those without one. Of those in `bare` no goal is proved but by its answer."""
+    """Returns the text without the bodies of most functions, and the names of these functions.
+
+    A function keeps its body if its last name is in `kept`, or if it stands in a cycle. A goal of a function in `bare` is proved
+    only by its answer.
+    """
     lines, names = text.split("\n"), []
     for at, name, body in reversed([*functions_of(lines, module, homes)]):
         indent = re.match(" *", lines[at])[0]

@@ -1,4 +1,4 @@
-"""What a check needs: the built libraries below a crate, and a processor and memory for it."""
+"""Provides what a check needs: the built libraries below a crate, a processor, and memory."""
 import contextlib
 import os
 import re
@@ -8,7 +8,7 @@ import time
 
 KIT = os.path.dirname(subprocess.run(["rt", "doc"], stdout=subprocess.PIPE, text=True, check=True).stdout.split()[0])
 CORES = len(os.sched_getaffinity(0))
-#    What one check may take of memory.
+#    The memory that one check may use, in bytes.
 MEMORY = 4_000_000_000
 
 
@@ -18,7 +18,7 @@ def read(path):
 
 
 class Lanes:
-    """As many checks at a time as there are processors and memory for, the crate with the most checks ahead first."""
+    """Lets as many checks run at a time as there are processors and memory. The crate with the most checks ahead is first."""
 
     def __init__(self):
         self.turn, self.running, self.waiting = threading.Condition(), 0, []
@@ -43,7 +43,7 @@ class Lanes:
 
 
 class Libraries:
-    """The libraries of the repository, as crates.txt has them, and where they are built."""
+    """The libraries of the repository, as crates.txt lists them, and where they are built."""
 
     def __init__(self, built, log):
         self.built, self.log, self.needs = built or os.getcwd(), log, {}
@@ -54,7 +54,7 @@ class Libraries:
                 self.needs[name.split()[0]] = needs.split()
 
     def below(self, crate):
-        """The repository's libraries below a crate, each after those that it stands on."""
+        """Returns the libraries of the repository that a crate needs. Each comes after those that it needs itself."""
         found = []
         for it in self.needs[crate]:
             if it in self.needs:
@@ -78,7 +78,7 @@ class Libraries:
             time.sleep(1)
 
     def words(self, crate):
-        """The words by which the checker finds a crate's text and the libraries below it."""
+        """Returns the arguments by which the checker finds the text of a crate and the libraries below it."""
         root = "src/main.rt" if os.path.isfile(f"crates/{crate}/src/main.rt") else "src/lib.rt"
         words = ["--crate-name", crate, root, "--links", f"{crate}=", "-L", f"dependency={KIT}/rlibs"]
         for it in ["std", *self.needs[crate]]:

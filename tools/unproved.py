@@ -1,11 +1,14 @@
-"""What a program prints as `rt try` compiles it: no function is proved, and nothing is kept."""
+"""Runs a program that `rt try` compiles. No function is proved, and nothing is kept."""
 import re
 import subprocess
 import tempfile
 
 
 def run(home, inputs, seconds):
-    """For each input, what the program in that folder prints, and how its run ended: an empty text where it ended well. The program is compiled once."""
+    """Compiles the program in a folder once and runs it on each input.
+
+    Yields what each run printed, and how it ended. The second is an empty text if the run ended with status 0.
+    """
     with tempfile.TemporaryDirectory() as room:
         for at, text in enumerate(inputs):
             with open(f"{room}/{at}", "w", encoding="utf-8") as file:
@@ -16,6 +19,6 @@ def run(home, inputs, seconds):
     told = {it[1]: it for it in re.findall(r"(?ms)(.*?)^case=(\d+) (run=.*?)$", ran.stderr)}
     for at in range(len(inputs)):
         said, _, how = told.get(str(at), (ran.stderr, "", "it was not run"))
-        # (of a run that broke off, the last lines that it printed are told)
+        # If a run broke off, `rt try` shows the last lines that it printed.
         output = outputs.get(str(at)) or "\n".join(re.findall(r"(?m)^\| (.*)", said))
         yield output, "" if how.startswith("run=ended status=0 ") else f"{how}: {said.strip()[-400:]}"

@@ -1,4 +1,4 @@
-/* Guests with seats: each guest has one, and each seat one guest.
+/* Guests and their seats. A guest has one seat, and a seat has one guest.
  *
  *     cc example.c libjetukoma.a -o example && ./example
  */
@@ -19,7 +19,7 @@ int main(void) {
     if (jetukoma_btree_bytes_u64_new(&seats)) return 1;
     seat("ann", 12);
     seat("bob", 7);
-    seat("ann", 7); /* ann leaves 12, and bob has none now */
+    seat("ann", 7); /* ann leaves seat 12, and bob has no seat now */
     seat("cy", 12);
 
     uint8_t guest[8];

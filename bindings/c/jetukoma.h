@@ -1,20 +1,4 @@
-/* Bimaps whose calls are proved: each pair's left has one right, and each right one left.
- *
- * A handle is the caller's, and `{0}` is no table: `.._new` makes one, `.._free` frees it, and the handle has none then. A
- * handle with a table may be moved, and not copied, and its fields are not the caller's. It may go to another thread; one
- * thread at a time uses it. A table's memory is from `malloc`, and goes back by `.._free`. What a call writes is the caller's.
- *
- * Each call returns one of the statuses below, and takes any values, also null pointers. It writes its out-parameters on
- * JETUKOMA_DONE alone, unless its text says otherwise. Nothing that one call is handed may overlap, and a pointer to so many
- * values is to have them. No call may be made from a signal handler.
- *
- * Bytes go in as a pointer, which is not null, with their number, and are copied. They are ordered one by one, so a text in
- * UTF-8 by its code points. They come out to the front of a buffer, with their number; where that is more than the buffer has,
- * it alone is written, and the status is JETUKOMA_BUFFER_TOO_SHORT.
- *
- * A search takes logarithmic time where both sides are ordered, and expected constant time where both are hashed. A look-up
- * makes one, an insertion and a removal one a side. `.._new`, `.._reserve`, insertions and JSON ask for memory, and so do
- * look-ups and removals by bytes that are longer than any before; no other call does.
+/* Two-way maps whose calls are proved. A left has one right, and a right has one left.
  *
  *     jetukoma_btree_u64_u64 seats = {0};
  *     uint64_t guest;
@@ -24,7 +8,24 @@
  *         jetukoma_btree_u64_u64_free(&seats);
  *     }
  *
- * To keep those pairs alone of which a function says so, walk row by row, and remove the others of a row before the next:
+ * The caller owns the handle. A handle `{0}` has no table. `.._new` makes a table, and `.._free` frees it. After that the handle
+ * has no table. You may move a handle with a table. You must not copy it or use its fields. You may use a handle from any
+ * thread, but from one thread at a time. The memory of a table comes from `malloc`, and `.._free` returns it. The caller owns
+ * what a call writes.
+ *
+ * Each call returns one of the statuses below. A call accepts all values, and it tests for null pointers. It writes its
+ * out-parameters on JETUKOMA_DONE alone, unless its text says otherwise. The things that you pass to one call must not overlap.
+ * A pointer that comes with a number must point to this number of values. Do not make a call from a signal handler.
+ *
+ * Pass bytes as a pointer, which is not null, and their number. A call copies them. Byte strings are compared byte by byte, so
+ * texts in UTF-8 are in the order of their code points. A call writes bytes to the front of a buffer, and their number. If the
+ * buffer is too short, the call writes the number alone and returns JETUKOMA_BUFFER_TOO_SHORT.
+ *
+ * A search takes logarithmic time if both sides are ordered, and expected constant time if both are hashed. A look-up makes one
+ * search. An insertion and a removal make one on each side. `.._new`, `.._reserve`, insertions and the JSON calls allocate. So do
+ * look-ups and removals by bytes that are longer than any before. No other call allocates.
+ *
+ * To remove all pairs that a test refuses, iterate row by row. Remove the refused pairs of a row before you read the next row:
  *
  *     jetukoma_u64_u64_pair row[64];
  *     for (size_t at = 0, count; !jetukoma_btree_u64_u64_fill(&seats, at, row, 64, &count) && count;) {
@@ -33,7 +34,8 @@
  *             else jetukoma_btree_u64_u64_remove_by_left(&seats, row[i].left, &row[i]);
  *     }
  *
- * Made by tools/exports from crates/bimap_c. `#define JETUKOMA_API` before the include makes true functions of the inline ones.
+ * tools/exports makes this file from crates/bimap_c. The functions are inline. If you define JETUKOMA_API as nothing before the
+ * include, they are ordinary functions.
  */
 #ifndef JETUKOMA_H
 #define JETUKOMA_H
@@ -48,19 +50,21 @@ extern "C" {
 #endif
 
 enum {
-    /* The call did what it says. */
+    /* The call did what its description says. */
     JETUKOMA_DONE = 0,
-    /* Out of memory, and nothing has changed. A call of many items keeps those before the one that wanted memory. */
+    /* Out of memory. Nothing has changed. A call with many items keeps the items before the one that ran out of
+     * memory. */
     JETUKOMA_NO_MEMORY = 1,
-    /* The handle has no table of the call's kind, or is null; of `free`: it has no table; of `new`: it has one
-     * already. Nothing has changed. */
+    /* The handle is null or has no table of this kind. `free` returns this if the handle has no table. `new` returns
+     * it if the handle has a table already. Nothing has changed. */
     JETUKOMA_NO_TABLE = 2,
-    /* A value is contained, and may not be overwritten; a flag is above 1; a pointer to a value is null; or there is
-     * no JSON of this table, or no table of this text. Nothing has changed. */
+    /* The call was refused, and nothing has changed. A value is contained and must not be overwritten, a flag is
+     * above 1, or a pointer to a value is null. For JSON: the table cannot be written as JSON, or the text is no
+     * table. */
     JETUKOMA_REFUSED = 3,
-    /* The buffer is too short, and the length wanted is written. Nothing else has changed. */
+    /* The buffer is too short. The call has written the length that it needs. Nothing else has changed. */
     JETUKOMA_BUFFER_TOO_SHORT = 4,
-    /* No such pair is contained, and nothing has changed. */
+    /* No such pair is contained. Nothing has changed. */
     JETUKOMA_NOT_FOUND = 5,
 };
 
@@ -70,9 +74,10 @@ typedef struct {
     uint64_t right;
 } jetukoma_u64_u64_pair;
 
-/* The pairs that an insertion overwrote. `kind` is 0 for none, 1 for the pair of the left alone, 2 for that of the
- * right alone, 3 for the one pair of both, all as `first`, and 4 for that of the left, `first`, and that of the
- * right, `second`. A pair that there is not is two zeros. */
+/* The pairs that an insertion overwrote. `kind` is 0 if there are none. It is 1 for the pair of the left alone, 2
+ * for the pair of the right alone, and 3 for one pair with both values. In these cases the pair is `first`. `kind`
+ * is 4 for two pairs: `first` is the pair of the left, and `second` is the pair of the right. A pair that does not
+ * exist is two zeros. */
 typedef struct {
     uint32_t kind;
     jetukoma_u64_u64_pair first;
@@ -85,22 +90,23 @@ typedef struct {
     bool live;
 } jetukoma_btree_u64_u64;
 
-/* Makes an empty table of no places, in constant time, behind a handle that has none. 1: no memory; 2: the handle
- * has a table. */
+/* Makes an empty table of capacity 0 for a handle that has no table. It takes constant time. Returns 1 if there is
+ * no memory, and 2 if the handle has a table. */
 uint32_t jetukoma_btree_u64_u64_new_unchecked(jetukoma_btree_u64_u64 *handle);
 JETUKOMA_API uint32_t jetukoma_btree_u64_u64_new(jetukoma_btree_u64_u64 *handle) {
     if (!handle) return JETUKOMA_NO_TABLE;
     return jetukoma_btree_u64_u64_new_unchecked(handle);
 }
 
-/* Frees the table, in time in proportion to its places; the handle has none then. 2: it has none. */
+/* Frees the table. The handle has no table then. The time grows with the capacity. Returns 2 if the handle has no
+ * table. */
 uint32_t jetukoma_btree_u64_u64_free_unchecked(jetukoma_btree_u64_u64 *handle);
 JETUKOMA_API uint32_t jetukoma_btree_u64_u64_free(jetukoma_btree_u64_u64 *handle) {
     if (!handle) return JETUKOMA_NO_TABLE;
     return jetukoma_btree_u64_u64_free_unchecked(handle);
 }
 
-/* Writes the number of pairs, in constant time. */
+/* Writes the number of pairs. It takes constant time. */
 uint32_t jetukoma_btree_u64_u64_len_unchecked(jetukoma_btree_u64_u64 *handle, size_t *len);
 JETUKOMA_API uint32_t jetukoma_btree_u64_u64_len(jetukoma_btree_u64_u64 *handle, size_t *len) {
     if (!handle) return JETUKOMA_NO_TABLE;
@@ -108,7 +114,7 @@ JETUKOMA_API uint32_t jetukoma_btree_u64_u64_len(jetukoma_btree_u64_u64 *handle,
     return jetukoma_btree_u64_u64_len_unchecked(handle, len);
 }
 
-/* Writes the number of places for pairs, in constant time. */
+/* Writes the capacity, which is the number of pairs for which there is memory. It takes constant time. */
 uint32_t jetukoma_btree_u64_u64_capacity_unchecked(jetukoma_btree_u64_u64 *handle, size_t *capacity);
 JETUKOMA_API uint32_t jetukoma_btree_u64_u64_capacity(jetukoma_btree_u64_u64 *handle, size_t *capacity) {
     if (!handle) return JETUKOMA_NO_TABLE;
@@ -116,16 +122,17 @@ JETUKOMA_API uint32_t jetukoma_btree_u64_u64_capacity(jetukoma_btree_u64_u64 *ha
     return jetukoma_btree_u64_u64_capacity_unchecked(handle, capacity);
 }
 
-/* Makes places for the pairs and `more` pairs, exactly, unless they are there. No call but this and an insertion
- * asks for memory, and none of the next `more` insertions does. 1: no memory. */
+/* Makes the capacity at least the number of pairs plus `more`. It makes it no greater than needed. None of the next
+ * `more` insertions can then run out of memory. Only this call, insertions and `new` allocate. Returns 1 if there is
+ * no memory. */
 uint32_t jetukoma_btree_u64_u64_reserve_unchecked(jetukoma_btree_u64_u64 *handle, size_t more);
 JETUKOMA_API uint32_t jetukoma_btree_u64_u64_reserve(jetukoma_btree_u64_u64 *handle, size_t more) {
     if (!handle) return JETUKOMA_NO_TABLE;
     return jetukoma_btree_u64_u64_reserve_unchecked(handle, more);
 }
 
-/* Inserts a pair, and writes the pairs that it overwrote. Of memory it asks where it overwrites none and no place is
- * free. 1: no memory. */
+/* Inserts a pair, and writes the pairs that it overwrote. It allocates only if it overwrites none and there is no
+ * spare capacity. Returns 1 if there is no memory. */
 uint32_t jetukoma_btree_u64_u64_insert_unchecked(jetukoma_btree_u64_u64 *handle, uint64_t left, uint64_t right, jetukoma_u64_u64_overwritten *overwritten);
 JETUKOMA_API uint32_t jetukoma_btree_u64_u64_insert(jetukoma_btree_u64_u64 *handle, uint64_t left, uint64_t right, jetukoma_u64_u64_overwritten *overwritten) {
     if (!handle) return JETUKOMA_NO_TABLE;
@@ -133,16 +140,16 @@ JETUKOMA_API uint32_t jetukoma_btree_u64_u64_insert(jetukoma_btree_u64_u64 *hand
     return jetukoma_btree_u64_u64_insert_unchecked(handle, left, right, overwritten);
 }
 
-/* Inserts a pair if neither value is contained. 1: no memory; 3: a value is contained. */
+/* Inserts a pair if neither value is contained. Returns 1 if there is no memory, and 3 if a value is contained. */
 uint32_t jetukoma_btree_u64_u64_insert_no_overwrite_unchecked(jetukoma_btree_u64_u64 *handle, uint64_t left, uint64_t right);
 JETUKOMA_API uint32_t jetukoma_btree_u64_u64_insert_no_overwrite(jetukoma_btree_u64_u64 *handle, uint64_t left, uint64_t right) {
     if (!handle) return JETUKOMA_NO_TABLE;
     return jetukoma_btree_u64_u64_insert_no_overwrite_unchecked(handle, left, right);
 }
 
-/* Inserts a pair, and writes the pairs that it overwrote. A flag of 1 refuses where the value of its side is
- * contained, and one of 0 overwrites. 1: no memory; 3: a value is contained that its flag keeps, or a flag is above
- * 1. */
+/* Inserts as `insert` does, under a policy of two flags. If the flag of a side is 1, a contained value of this side
+ * refuses the insertion. If it is 0, the value is overwritten. Returns 1 if there is no memory. Returns 3 if the
+ * insertion is refused or a flag is above 1. */
 uint32_t jetukoma_btree_u64_u64_insert_with_unchecked(jetukoma_btree_u64_u64 *handle, uint64_t left, uint64_t right, uint8_t left_refuses, uint8_t right_refuses, jetukoma_u64_u64_overwritten *overwritten);
 JETUKOMA_API uint32_t jetukoma_btree_u64_u64_insert_with(jetukoma_btree_u64_u64 *handle, uint64_t left, uint64_t right, uint8_t left_refuses, uint8_t right_refuses, jetukoma_u64_u64_overwritten *overwritten) {
     if (!handle) return JETUKOMA_NO_TABLE;
@@ -150,8 +157,8 @@ JETUKOMA_API uint32_t jetukoma_btree_u64_u64_insert_with(jetukoma_btree_u64_u64 
     return jetukoma_btree_u64_u64_insert_with_unchecked(handle, left, right, left_refuses, right_refuses, overwritten);
 }
 
-/* Inserts pairs in order, each as `insert` does, and writes how many were inserted. 1: no memory for the next one;
- * those before it stay, and `taken` is written too. */
+/* Inserts pairs in order, each as `insert` does, and writes to `taken` how many were inserted. Returns 1 if there is
+ * no memory for the next pair. The pairs before it stay, and `taken` is written then too. */
 uint32_t jetukoma_btree_u64_u64_insert_many_unchecked(jetukoma_btree_u64_u64 *handle, const jetukoma_u64_u64_pair *pairs, size_t pairs_len, size_t *taken);
 JETUKOMA_API uint32_t jetukoma_btree_u64_u64_insert_many(jetukoma_btree_u64_u64 *handle, const jetukoma_u64_u64_pair *pairs, size_t pairs_len, size_t *taken) {
     if (!handle) return JETUKOMA_NO_TABLE;
@@ -159,7 +166,7 @@ JETUKOMA_API uint32_t jetukoma_btree_u64_u64_insert_many(jetukoma_btree_u64_u64 
     return jetukoma_btree_u64_u64_insert_many_unchecked(handle, pairs, pairs_len, taken);
 }
 
-/* Writes the right of a left, found by a search. 5: the left is not contained. */
+/* Writes the right of a left. Returns 5 if the left is not contained. */
 uint32_t jetukoma_btree_u64_u64_get_by_left_unchecked(jetukoma_btree_u64_u64 *handle, uint64_t left, uint64_t *right);
 JETUKOMA_API uint32_t jetukoma_btree_u64_u64_get_by_left(jetukoma_btree_u64_u64 *handle, uint64_t left, uint64_t *right) {
     if (!handle) return JETUKOMA_NO_TABLE;
@@ -167,7 +174,7 @@ JETUKOMA_API uint32_t jetukoma_btree_u64_u64_get_by_left(jetukoma_btree_u64_u64 
     return jetukoma_btree_u64_u64_get_by_left_unchecked(handle, left, right);
 }
 
-/* Writes the left of a right, found by a search. 5: the right is not contained. */
+/* Writes the left of a right. Returns 5 if the right is not contained. */
 uint32_t jetukoma_btree_u64_u64_get_by_right_unchecked(jetukoma_btree_u64_u64 *handle, uint64_t right, uint64_t *left);
 JETUKOMA_API uint32_t jetukoma_btree_u64_u64_get_by_right(jetukoma_btree_u64_u64 *handle, uint64_t right, uint64_t *left) {
     if (!handle) return JETUKOMA_NO_TABLE;
@@ -175,21 +182,21 @@ JETUKOMA_API uint32_t jetukoma_btree_u64_u64_get_by_right(jetukoma_btree_u64_u64
     return jetukoma_btree_u64_u64_get_by_right_unchecked(handle, right, left);
 }
 
-/* Returns 0 if the left is contained, and 5 if not. */
+/* Returns 0 if the left is contained, and 5 if it is not. */
 uint32_t jetukoma_btree_u64_u64_contains_left_unchecked(jetukoma_btree_u64_u64 *handle, uint64_t left);
 JETUKOMA_API uint32_t jetukoma_btree_u64_u64_contains_left(jetukoma_btree_u64_u64 *handle, uint64_t left) {
     if (!handle) return JETUKOMA_NO_TABLE;
     return jetukoma_btree_u64_u64_contains_left_unchecked(handle, left);
 }
 
-/* Returns 0 if the right is contained, and 5 if not. */
+/* Returns 0 if the right is contained, and 5 if it is not. */
 uint32_t jetukoma_btree_u64_u64_contains_right_unchecked(jetukoma_btree_u64_u64 *handle, uint64_t right);
 JETUKOMA_API uint32_t jetukoma_btree_u64_u64_contains_right(jetukoma_btree_u64_u64 *handle, uint64_t right) {
     if (!handle) return JETUKOMA_NO_TABLE;
     return jetukoma_btree_u64_u64_contains_right_unchecked(handle, right);
 }
 
-/* Removes the pair of a left, and writes it. 5: the left is not contained. */
+/* Removes the pair of a left, and writes it. Returns 5 if the left is not contained. */
 uint32_t jetukoma_btree_u64_u64_remove_by_left_unchecked(jetukoma_btree_u64_u64 *handle, uint64_t left, jetukoma_u64_u64_pair *pair);
 JETUKOMA_API uint32_t jetukoma_btree_u64_u64_remove_by_left(jetukoma_btree_u64_u64 *handle, uint64_t left, jetukoma_u64_u64_pair *pair) {
     if (!handle) return JETUKOMA_NO_TABLE;
@@ -197,7 +204,7 @@ JETUKOMA_API uint32_t jetukoma_btree_u64_u64_remove_by_left(jetukoma_btree_u64_u
     return jetukoma_btree_u64_u64_remove_by_left_unchecked(handle, left, pair);
 }
 
-/* Removes the pair of a right, and writes it. 5: the right is not contained. */
+/* Removes the pair of a right, and writes it. Returns 5 if the right is not contained. */
 uint32_t jetukoma_btree_u64_u64_remove_by_right_unchecked(jetukoma_btree_u64_u64 *handle, uint64_t right, jetukoma_u64_u64_pair *pair);
 JETUKOMA_API uint32_t jetukoma_btree_u64_u64_remove_by_right(jetukoma_btree_u64_u64 *handle, uint64_t right, jetukoma_u64_u64_pair *pair) {
     if (!handle) return JETUKOMA_NO_TABLE;
@@ -205,16 +212,16 @@ JETUKOMA_API uint32_t jetukoma_btree_u64_u64_remove_by_right(jetukoma_btree_u64_
     return jetukoma_btree_u64_u64_remove_by_right_unchecked(handle, right, pair);
 }
 
-/* Removes all pairs, in time in proportion to the places, which stay. */
+/* Removes all pairs. The capacity does not change. The time grows with the capacity. */
 uint32_t jetukoma_btree_u64_u64_clear_unchecked(jetukoma_btree_u64_u64 *handle);
 JETUKOMA_API uint32_t jetukoma_btree_u64_u64_clear(jetukoma_btree_u64_u64 *handle) {
     if (!handle) return JETUKOMA_NO_TABLE;
     return jetukoma_btree_u64_u64_clear_unchecked(handle);
 }
 
-/* Writes pairs by ascending left, from the one with `start` lefts below its own on, to the front of a row, as many
- * as there are and it has room for, and how many they are. It makes a search, and then takes a descent a pair at
- * most. */
+/* Writes pairs in ascending order of their lefts to the front of a row, until the row is full or there are no more.
+ * It begins at the pair whose left has exactly `start` lefts below it. It writes to `filled` how many pairs it
+ * wrote. It takes one search, and at most one descent in the tree for each pair. */
 uint32_t jetukoma_btree_u64_u64_fill_unchecked(jetukoma_btree_u64_u64 *handle, size_t start, jetukoma_u64_u64_pair *row, size_t row_len, size_t *filled);
 JETUKOMA_API uint32_t jetukoma_btree_u64_u64_fill(jetukoma_btree_u64_u64 *handle, size_t start, jetukoma_u64_u64_pair *row, size_t row_len, size_t *filled) {
     if (!handle) return JETUKOMA_NO_TABLE;
@@ -222,7 +229,7 @@ JETUKOMA_API uint32_t jetukoma_btree_u64_u64_fill(jetukoma_btree_u64_u64 *handle
     return jetukoma_btree_u64_u64_fill_unchecked(handle, start, row, row_len, filled);
 }
 
-/* Writes the pairs whose left is `from` or above, by ascending left, as `fill` does. */
+/* Writes the pairs whose left is at least `from`, as `fill` does. */
 uint32_t jetukoma_btree_u64_u64_fill_from_unchecked(jetukoma_btree_u64_u64 *handle, uint64_t from, jetukoma_u64_u64_pair *row, size_t row_len, size_t *filled);
 JETUKOMA_API uint32_t jetukoma_btree_u64_u64_fill_from(jetukoma_btree_u64_u64 *handle, uint64_t from, jetukoma_u64_u64_pair *row, size_t row_len, size_t *filled) {
     if (!handle) return JETUKOMA_NO_TABLE;
@@ -230,7 +237,7 @@ JETUKOMA_API uint32_t jetukoma_btree_u64_u64_fill_from(jetukoma_btree_u64_u64 *h
     return jetukoma_btree_u64_u64_fill_from_unchecked(handle, from, row, row_len, filled);
 }
 
-/* Writes how many lefts are below this one, contained or not. */
+/* Writes how many lefts are less than this one, which need not be contained. */
 uint32_t jetukoma_btree_u64_u64_left_rank_unchecked(jetukoma_btree_u64_u64 *handle, uint64_t left, size_t *rank);
 JETUKOMA_API uint32_t jetukoma_btree_u64_u64_left_rank(jetukoma_btree_u64_u64 *handle, uint64_t left, size_t *rank) {
     if (!handle) return JETUKOMA_NO_TABLE;
@@ -238,7 +245,7 @@ JETUKOMA_API uint32_t jetukoma_btree_u64_u64_left_rank(jetukoma_btree_u64_u64 *h
     return jetukoma_btree_u64_u64_left_rank_unchecked(handle, left, rank);
 }
 
-/* Removes the pair of the least left, and writes it. 5: there are no pairs. */
+/* Removes the pair of the least left, and writes it. Returns 5 if there are no pairs. */
 uint32_t jetukoma_btree_u64_u64_pop_first_unchecked(jetukoma_btree_u64_u64 *handle, jetukoma_u64_u64_pair *pair);
 JETUKOMA_API uint32_t jetukoma_btree_u64_u64_pop_first(jetukoma_btree_u64_u64 *handle, jetukoma_u64_u64_pair *pair) {
     if (!handle) return JETUKOMA_NO_TABLE;
@@ -246,7 +253,7 @@ JETUKOMA_API uint32_t jetukoma_btree_u64_u64_pop_first(jetukoma_btree_u64_u64 *h
     return jetukoma_btree_u64_u64_pop_first_unchecked(handle, pair);
 }
 
-/* Removes the pair of the greatest left, and writes it. 5: there are no pairs. */
+/* Removes the pair of the greatest left, and writes it. Returns 5 if there are no pairs. */
 uint32_t jetukoma_btree_u64_u64_pop_last_unchecked(jetukoma_btree_u64_u64 *handle, jetukoma_u64_u64_pair *pair);
 JETUKOMA_API uint32_t jetukoma_btree_u64_u64_pop_last(jetukoma_btree_u64_u64 *handle, jetukoma_u64_u64_pair *pair) {
     if (!handle) return JETUKOMA_NO_TABLE;
@@ -260,22 +267,23 @@ typedef struct {
     bool live;
 } jetukoma_hash_u64_u64;
 
-/* Makes an empty table of no places, in constant time, behind a handle that has none. 1: no memory; 2: the handle
- * has a table. */
+/* Makes an empty table of capacity 0 for a handle that has no table. It takes constant time. Returns 1 if there is
+ * no memory, and 2 if the handle has a table. */
 uint32_t jetukoma_hash_u64_u64_new_unchecked(jetukoma_hash_u64_u64 *handle);
 JETUKOMA_API uint32_t jetukoma_hash_u64_u64_new(jetukoma_hash_u64_u64 *handle) {
     if (!handle) return JETUKOMA_NO_TABLE;
     return jetukoma_hash_u64_u64_new_unchecked(handle);
 }
 
-/* Frees the table, in time in proportion to its places; the handle has none then. 2: it has none. */
+/* Frees the table. The handle has no table then. The time grows with the capacity. Returns 2 if the handle has no
+ * table. */
 uint32_t jetukoma_hash_u64_u64_free_unchecked(jetukoma_hash_u64_u64 *handle);
 JETUKOMA_API uint32_t jetukoma_hash_u64_u64_free(jetukoma_hash_u64_u64 *handle) {
     if (!handle) return JETUKOMA_NO_TABLE;
     return jetukoma_hash_u64_u64_free_unchecked(handle);
 }
 
-/* Writes the number of pairs, in constant time. */
+/* Writes the number of pairs. It takes constant time. */
 uint32_t jetukoma_hash_u64_u64_len_unchecked(jetukoma_hash_u64_u64 *handle, size_t *len);
 JETUKOMA_API uint32_t jetukoma_hash_u64_u64_len(jetukoma_hash_u64_u64 *handle, size_t *len) {
     if (!handle) return JETUKOMA_NO_TABLE;
@@ -283,7 +291,7 @@ JETUKOMA_API uint32_t jetukoma_hash_u64_u64_len(jetukoma_hash_u64_u64 *handle, s
     return jetukoma_hash_u64_u64_len_unchecked(handle, len);
 }
 
-/* Writes the number of places for pairs, in constant time. */
+/* Writes the capacity, which is the number of pairs for which there is memory. It takes constant time. */
 uint32_t jetukoma_hash_u64_u64_capacity_unchecked(jetukoma_hash_u64_u64 *handle, size_t *capacity);
 JETUKOMA_API uint32_t jetukoma_hash_u64_u64_capacity(jetukoma_hash_u64_u64 *handle, size_t *capacity) {
     if (!handle) return JETUKOMA_NO_TABLE;
@@ -291,16 +299,17 @@ JETUKOMA_API uint32_t jetukoma_hash_u64_u64_capacity(jetukoma_hash_u64_u64 *hand
     return jetukoma_hash_u64_u64_capacity_unchecked(handle, capacity);
 }
 
-/* Makes places for the pairs and `more` pairs, exactly, unless they are there. No call but this and an insertion
- * asks for memory, and none of the next `more` insertions does. 1: no memory. */
+/* Makes the capacity at least the number of pairs plus `more`. It makes it no greater than needed. None of the next
+ * `more` insertions can then run out of memory. Only this call, insertions and `new` allocate. Returns 1 if there is
+ * no memory. */
 uint32_t jetukoma_hash_u64_u64_reserve_unchecked(jetukoma_hash_u64_u64 *handle, size_t more);
 JETUKOMA_API uint32_t jetukoma_hash_u64_u64_reserve(jetukoma_hash_u64_u64 *handle, size_t more) {
     if (!handle) return JETUKOMA_NO_TABLE;
     return jetukoma_hash_u64_u64_reserve_unchecked(handle, more);
 }
 
-/* Inserts a pair, and writes the pairs that it overwrote. Of memory it asks where it overwrites none and no place is
- * free. 1: no memory. */
+/* Inserts a pair, and writes the pairs that it overwrote. It allocates only if it overwrites none and there is no
+ * spare capacity. Returns 1 if there is no memory. */
 uint32_t jetukoma_hash_u64_u64_insert_unchecked(jetukoma_hash_u64_u64 *handle, uint64_t left, uint64_t right, jetukoma_u64_u64_overwritten *overwritten);
 JETUKOMA_API uint32_t jetukoma_hash_u64_u64_insert(jetukoma_hash_u64_u64 *handle, uint64_t left, uint64_t right, jetukoma_u64_u64_overwritten *overwritten) {
     if (!handle) return JETUKOMA_NO_TABLE;
@@ -308,16 +317,16 @@ JETUKOMA_API uint32_t jetukoma_hash_u64_u64_insert(jetukoma_hash_u64_u64 *handle
     return jetukoma_hash_u64_u64_insert_unchecked(handle, left, right, overwritten);
 }
 
-/* Inserts a pair if neither value is contained. 1: no memory; 3: a value is contained. */
+/* Inserts a pair if neither value is contained. Returns 1 if there is no memory, and 3 if a value is contained. */
 uint32_t jetukoma_hash_u64_u64_insert_no_overwrite_unchecked(jetukoma_hash_u64_u64 *handle, uint64_t left, uint64_t right);
 JETUKOMA_API uint32_t jetukoma_hash_u64_u64_insert_no_overwrite(jetukoma_hash_u64_u64 *handle, uint64_t left, uint64_t right) {
     if (!handle) return JETUKOMA_NO_TABLE;
     return jetukoma_hash_u64_u64_insert_no_overwrite_unchecked(handle, left, right);
 }
 
-/* Inserts a pair, and writes the pairs that it overwrote. A flag of 1 refuses where the value of its side is
- * contained, and one of 0 overwrites. 1: no memory; 3: a value is contained that its flag keeps, or a flag is above
- * 1. */
+/* Inserts as `insert` does, under a policy of two flags. If the flag of a side is 1, a contained value of this side
+ * refuses the insertion. If it is 0, the value is overwritten. Returns 1 if there is no memory. Returns 3 if the
+ * insertion is refused or a flag is above 1. */
 uint32_t jetukoma_hash_u64_u64_insert_with_unchecked(jetukoma_hash_u64_u64 *handle, uint64_t left, uint64_t right, uint8_t left_refuses, uint8_t right_refuses, jetukoma_u64_u64_overwritten *overwritten);
 JETUKOMA_API uint32_t jetukoma_hash_u64_u64_insert_with(jetukoma_hash_u64_u64 *handle, uint64_t left, uint64_t right, uint8_t left_refuses, uint8_t right_refuses, jetukoma_u64_u64_overwritten *overwritten) {
     if (!handle) return JETUKOMA_NO_TABLE;
@@ -325,8 +334,8 @@ JETUKOMA_API uint32_t jetukoma_hash_u64_u64_insert_with(jetukoma_hash_u64_u64 *h
     return jetukoma_hash_u64_u64_insert_with_unchecked(handle, left, right, left_refuses, right_refuses, overwritten);
 }
 
-/* Inserts pairs in order, each as `insert` does, and writes how many were inserted. 1: no memory for the next one;
- * those before it stay, and `taken` is written too. */
+/* Inserts pairs in order, each as `insert` does, and writes to `taken` how many were inserted. Returns 1 if there is
+ * no memory for the next pair. The pairs before it stay, and `taken` is written then too. */
 uint32_t jetukoma_hash_u64_u64_insert_many_unchecked(jetukoma_hash_u64_u64 *handle, const jetukoma_u64_u64_pair *pairs, size_t pairs_len, size_t *taken);
 JETUKOMA_API uint32_t jetukoma_hash_u64_u64_insert_many(jetukoma_hash_u64_u64 *handle, const jetukoma_u64_u64_pair *pairs, size_t pairs_len, size_t *taken) {
     if (!handle) return JETUKOMA_NO_TABLE;
@@ -334,7 +343,7 @@ JETUKOMA_API uint32_t jetukoma_hash_u64_u64_insert_many(jetukoma_hash_u64_u64 *h
     return jetukoma_hash_u64_u64_insert_many_unchecked(handle, pairs, pairs_len, taken);
 }
 
-/* Writes the right of a left, found by a search. 5: the left is not contained. */
+/* Writes the right of a left. Returns 5 if the left is not contained. */
 uint32_t jetukoma_hash_u64_u64_get_by_left_unchecked(jetukoma_hash_u64_u64 *handle, uint64_t left, uint64_t *right);
 JETUKOMA_API uint32_t jetukoma_hash_u64_u64_get_by_left(jetukoma_hash_u64_u64 *handle, uint64_t left, uint64_t *right) {
     if (!handle) return JETUKOMA_NO_TABLE;
@@ -342,7 +351,7 @@ JETUKOMA_API uint32_t jetukoma_hash_u64_u64_get_by_left(jetukoma_hash_u64_u64 *h
     return jetukoma_hash_u64_u64_get_by_left_unchecked(handle, left, right);
 }
 
-/* Writes the left of a right, found by a search. 5: the right is not contained. */
+/* Writes the left of a right. Returns 5 if the right is not contained. */
 uint32_t jetukoma_hash_u64_u64_get_by_right_unchecked(jetukoma_hash_u64_u64 *handle, uint64_t right, uint64_t *left);
 JETUKOMA_API uint32_t jetukoma_hash_u64_u64_get_by_right(jetukoma_hash_u64_u64 *handle, uint64_t right, uint64_t *left) {
     if (!handle) return JETUKOMA_NO_TABLE;
@@ -350,21 +359,21 @@ JETUKOMA_API uint32_t jetukoma_hash_u64_u64_get_by_right(jetukoma_hash_u64_u64 *
     return jetukoma_hash_u64_u64_get_by_right_unchecked(handle, right, left);
 }
 
-/* Returns 0 if the left is contained, and 5 if not. */
+/* Returns 0 if the left is contained, and 5 if it is not. */
 uint32_t jetukoma_hash_u64_u64_contains_left_unchecked(jetukoma_hash_u64_u64 *handle, uint64_t left);
 JETUKOMA_API uint32_t jetukoma_hash_u64_u64_contains_left(jetukoma_hash_u64_u64 *handle, uint64_t left) {
     if (!handle) return JETUKOMA_NO_TABLE;
     return jetukoma_hash_u64_u64_contains_left_unchecked(handle, left);
 }
 
-/* Returns 0 if the right is contained, and 5 if not. */
+/* Returns 0 if the right is contained, and 5 if it is not. */
 uint32_t jetukoma_hash_u64_u64_contains_right_unchecked(jetukoma_hash_u64_u64 *handle, uint64_t right);
 JETUKOMA_API uint32_t jetukoma_hash_u64_u64_contains_right(jetukoma_hash_u64_u64 *handle, uint64_t right) {
     if (!handle) return JETUKOMA_NO_TABLE;
     return jetukoma_hash_u64_u64_contains_right_unchecked(handle, right);
 }
 
-/* Removes the pair of a left, and writes it. 5: the left is not contained. */
+/* Removes the pair of a left, and writes it. Returns 5 if the left is not contained. */
 uint32_t jetukoma_hash_u64_u64_remove_by_left_unchecked(jetukoma_hash_u64_u64 *handle, uint64_t left, jetukoma_u64_u64_pair *pair);
 JETUKOMA_API uint32_t jetukoma_hash_u64_u64_remove_by_left(jetukoma_hash_u64_u64 *handle, uint64_t left, jetukoma_u64_u64_pair *pair) {
     if (!handle) return JETUKOMA_NO_TABLE;
@@ -372,7 +381,7 @@ JETUKOMA_API uint32_t jetukoma_hash_u64_u64_remove_by_left(jetukoma_hash_u64_u64
     return jetukoma_hash_u64_u64_remove_by_left_unchecked(handle, left, pair);
 }
 
-/* Removes the pair of a right, and writes it. 5: the right is not contained. */
+/* Removes the pair of a right, and writes it. Returns 5 if the right is not contained. */
 uint32_t jetukoma_hash_u64_u64_remove_by_right_unchecked(jetukoma_hash_u64_u64 *handle, uint64_t right, jetukoma_u64_u64_pair *pair);
 JETUKOMA_API uint32_t jetukoma_hash_u64_u64_remove_by_right(jetukoma_hash_u64_u64 *handle, uint64_t right, jetukoma_u64_u64_pair *pair) {
     if (!handle) return JETUKOMA_NO_TABLE;
@@ -380,16 +389,16 @@ JETUKOMA_API uint32_t jetukoma_hash_u64_u64_remove_by_right(jetukoma_hash_u64_u6
     return jetukoma_hash_u64_u64_remove_by_right_unchecked(handle, right, pair);
 }
 
-/* Removes all pairs, in time in proportion to the places, which stay. */
+/* Removes all pairs. The capacity does not change. The time grows with the capacity. */
 uint32_t jetukoma_hash_u64_u64_clear_unchecked(jetukoma_hash_u64_u64 *handle);
 JETUKOMA_API uint32_t jetukoma_hash_u64_u64_clear(jetukoma_hash_u64_u64 *handle) {
     if (!handle) return JETUKOMA_NO_TABLE;
     return jetukoma_hash_u64_u64_clear_unchecked(handle);
 }
 
-/* Writes pairs in the order of their places, after the first `start`, to the front of a row, as many as there are
- * and it has room for, and how many they are. Each call passes over all places before: a whole walk wants one row,
- * or few. */
+/* Writes pairs to the front of a row, until the row is full or there are no more. It leaves out the first `start`
+ * pairs. It writes to `filled` how many pairs it wrote. The order is not specified, and it stays the same until the
+ * table changes. Each call passes over the pairs that it leaves out. To read all pairs, use one long row or a few. */
 uint32_t jetukoma_hash_u64_u64_fill_unchecked(jetukoma_hash_u64_u64 *handle, size_t start, jetukoma_u64_u64_pair *row, size_t row_len, size_t *filled);
 JETUKOMA_API uint32_t jetukoma_hash_u64_u64_fill(jetukoma_hash_u64_u64 *handle, size_t start, jetukoma_u64_u64_pair *row, size_t row_len, size_t *filled) {
     if (!handle) return JETUKOMA_NO_TABLE;
@@ -403,22 +412,23 @@ typedef struct {
     bool live;
 } jetukoma_btree_bytes_bytes;
 
-/* Makes an empty table of no places, in constant time, behind a handle that has none. 1: no memory; 2: the handle
- * has a table. */
+/* Makes an empty table of capacity 0 for a handle that has no table. It takes constant time. Returns 1 if there is
+ * no memory, and 2 if the handle has a table. */
 uint32_t jetukoma_btree_bytes_bytes_new_unchecked(jetukoma_btree_bytes_bytes *handle);
 JETUKOMA_API uint32_t jetukoma_btree_bytes_bytes_new(jetukoma_btree_bytes_bytes *handle) {
     if (!handle) return JETUKOMA_NO_TABLE;
     return jetukoma_btree_bytes_bytes_new_unchecked(handle);
 }
 
-/* Frees the table with its bytes, in time in proportion to its places; the handle has none then. 2: it has none. */
+/* Frees the table and all its bytes. The handle has no table then. The time grows with the capacity. Returns 2 if
+ * the handle has no table. */
 uint32_t jetukoma_btree_bytes_bytes_free_unchecked(jetukoma_btree_bytes_bytes *handle);
 JETUKOMA_API uint32_t jetukoma_btree_bytes_bytes_free(jetukoma_btree_bytes_bytes *handle) {
     if (!handle) return JETUKOMA_NO_TABLE;
     return jetukoma_btree_bytes_bytes_free_unchecked(handle);
 }
 
-/* Writes the number of pairs, in constant time. */
+/* Writes the number of pairs. It takes constant time. */
 uint32_t jetukoma_btree_bytes_bytes_len_unchecked(jetukoma_btree_bytes_bytes *handle, size_t *len);
 JETUKOMA_API uint32_t jetukoma_btree_bytes_bytes_len(jetukoma_btree_bytes_bytes *handle, size_t *len) {
     if (!handle) return JETUKOMA_NO_TABLE;
@@ -426,7 +436,7 @@ JETUKOMA_API uint32_t jetukoma_btree_bytes_bytes_len(jetukoma_btree_bytes_bytes 
     return jetukoma_btree_bytes_bytes_len_unchecked(handle, len);
 }
 
-/* Writes the number of places for pairs, in constant time. */
+/* Writes the capacity, which is the number of pairs for which there is memory. It takes constant time. */
 uint32_t jetukoma_btree_bytes_bytes_capacity_unchecked(jetukoma_btree_bytes_bytes *handle, size_t *capacity);
 JETUKOMA_API uint32_t jetukoma_btree_bytes_bytes_capacity(jetukoma_btree_bytes_bytes *handle, size_t *capacity) {
     if (!handle) return JETUKOMA_NO_TABLE;
@@ -434,19 +444,20 @@ JETUKOMA_API uint32_t jetukoma_btree_bytes_bytes_capacity(jetukoma_btree_bytes_b
     return jetukoma_btree_bytes_bytes_capacity_unchecked(handle, capacity);
 }
 
-/* Makes places for the pairs and `more` pairs, exactly, unless they are there. Of the next `more` insertions each
- * asks for memory for its bytes alone. 1: no memory. */
+/* Makes the capacity at least the number of pairs plus `more`. It makes it no greater than needed. Each of the next
+ * `more` insertions then allocates only for its bytes. Returns 1 if there is no memory. */
 uint32_t jetukoma_btree_bytes_bytes_reserve_unchecked(jetukoma_btree_bytes_bytes *handle, size_t more);
 JETUKOMA_API uint32_t jetukoma_btree_bytes_bytes_reserve(jetukoma_btree_bytes_bytes *handle, size_t more) {
     if (!handle) return JETUKOMA_NO_TABLE;
     return jetukoma_btree_bytes_bytes_reserve_unchecked(handle, more);
 }
 
-/* Inserts copies of the left and the right, which overwrite the pairs that they share a value with, and writes of
- * which kind those are: 0 for none, 1 for the pair of the left alone, 2 for that of the right alone, 3 for the one
- * pair of both, and 4 for that of the left and that of the right. They are kept, as what was struck out, until the
- * next insertion, removal or clear that is done. It asks for memory for the bytes, and where it overwrites none and
- * no place is free. 1: no memory. */
+/* Inserts copies of the left and the right. They overwrite the pairs with which they share a value. `kind` says
+ * which pairs those are: 0 for none, 1 for the pair of the left alone, 2 for the pair of the right alone, 3 for one
+ * pair with both values, and 4 for the pair of the left and the pair of the right. The table keeps the overwritten
+ * pairs until the next insertion, removal or clear that is done. `overwritten_left` and `overwritten_right` copy
+ * them. The call allocates for the bytes. It allocates for the pair only if it overwrites none and there is no spare
+ * capacity. Returns 1 if there is no memory. */
 uint32_t jetukoma_btree_bytes_bytes_insert_unchecked(jetukoma_btree_bytes_bytes *handle, const uint8_t *left, size_t left_len, const uint8_t *right, size_t right_len, uint32_t *kind);
 JETUKOMA_API uint32_t jetukoma_btree_bytes_bytes_insert(jetukoma_btree_bytes_bytes *handle, const uint8_t *left, size_t left_len, const uint8_t *right, size_t right_len, uint32_t *kind) {
     if (!handle) return JETUKOMA_NO_TABLE;
@@ -454,8 +465,8 @@ JETUKOMA_API uint32_t jetukoma_btree_bytes_bytes_insert(jetukoma_btree_bytes_byt
     return jetukoma_btree_bytes_bytes_insert_unchecked(handle, left, left_len, right, right_len, kind);
 }
 
-/* Inserts copies of the left and the right if neither is contained. Nothing is struck out then. 1: no memory; 3: a
- * value is contained. */
+/* Inserts copies of the left and the right if neither is contained. The table keeps no overwritten pair then.
+ * Returns 1 if there is no memory, and 3 if a value is contained. */
 uint32_t jetukoma_btree_bytes_bytes_insert_no_overwrite_unchecked(jetukoma_btree_bytes_bytes *handle, const uint8_t *left, size_t left_len, const uint8_t *right, size_t right_len);
 JETUKOMA_API uint32_t jetukoma_btree_bytes_bytes_insert_no_overwrite(jetukoma_btree_bytes_bytes *handle, const uint8_t *left, size_t left_len, const uint8_t *right, size_t right_len) {
     if (!handle) return JETUKOMA_NO_TABLE;
@@ -463,8 +474,9 @@ JETUKOMA_API uint32_t jetukoma_btree_bytes_bytes_insert_no_overwrite(jetukoma_bt
     return jetukoma_btree_bytes_bytes_insert_no_overwrite_unchecked(handle, left, left_len, right, right_len);
 }
 
-/* Inserts as `insert` does. A flag of 1 refuses where the value of its side is contained, and one of 0 overwrites.
- * 1: no memory; 3: a value is contained that its flag keeps, or a flag is above 1. */
+/* Inserts as `insert` does, under a policy of two flags. If the flag of a side is 1, a contained value of this side
+ * refuses the insertion. If it is 0, the value is overwritten. Returns 1 if there is no memory. Returns 3 if the
+ * insertion is refused or a flag is above 1. */
 uint32_t jetukoma_btree_bytes_bytes_insert_with_unchecked(jetukoma_btree_bytes_bytes *handle, const uint8_t *left, size_t left_len, const uint8_t *right, size_t right_len, uint8_t left_refuses, uint8_t right_refuses, uint32_t *kind);
 JETUKOMA_API uint32_t jetukoma_btree_bytes_bytes_insert_with(jetukoma_btree_bytes_bytes *handle, const uint8_t *left, size_t left_len, const uint8_t *right, size_t right_len, uint8_t left_refuses, uint8_t right_refuses, uint32_t *kind) {
     if (!handle) return JETUKOMA_NO_TABLE;
@@ -472,9 +484,9 @@ JETUKOMA_API uint32_t jetukoma_btree_bytes_bytes_insert_with(jetukoma_btree_byte
     return jetukoma_btree_bytes_bytes_insert_with_unchecked(handle, left, left_len, right, right_len, left_refuses, right_refuses, kind);
 }
 
-/* Writes the right of a left, found by a search, to the front of a buffer, and its length. It asks for memory where
- * the left is longer than any value that was looked up or removed before. 1: no memory for that; 4: the buffer is
- * too short, and the length alone is written; 5: the left is not contained. */
+/* Writes the right of a left to the front of a buffer, and its length. It allocates if the left is longer than every
+ * value that was looked up or removed before. Returns 1 if there is no memory for that, 4 if the buffer is too
+ * short, and 5 if the left is not contained. On 4 it has written the length alone. */
 uint32_t jetukoma_btree_bytes_bytes_get_by_left_unchecked(jetukoma_btree_bytes_bytes *handle, const uint8_t *left, size_t left_len, uint8_t *buf, size_t buf_len, size_t *len);
 JETUKOMA_API uint32_t jetukoma_btree_bytes_bytes_get_by_left(jetukoma_btree_bytes_bytes *handle, const uint8_t *left, size_t left_len, uint8_t *buf, size_t buf_len, size_t *len) {
     if (!handle) return JETUKOMA_NO_TABLE;
@@ -482,8 +494,9 @@ JETUKOMA_API uint32_t jetukoma_btree_bytes_bytes_get_by_left(jetukoma_btree_byte
     return jetukoma_btree_bytes_bytes_get_by_left_unchecked(handle, left, left_len, buf, buf_len, len);
 }
 
-/* Writes the left of a right, found by a search, to the front of a buffer, and its length. 4: the buffer is too
- * short, and the length alone is written; 5: the right is not contained; 1: no memory, as for `get_by_left`. */
+/* Writes the left of a right to the front of a buffer, and its length. It allocates as `get_by_left` does. Returns 1
+ * if there is no memory for that, 4 if the buffer is too short, and 5 if the right is not contained. On 4 it has
+ * written the length alone. */
 uint32_t jetukoma_btree_bytes_bytes_get_by_right_unchecked(jetukoma_btree_bytes_bytes *handle, const uint8_t *right, size_t right_len, uint8_t *buf, size_t buf_len, size_t *len);
 JETUKOMA_API uint32_t jetukoma_btree_bytes_bytes_get_by_right(jetukoma_btree_bytes_bytes *handle, const uint8_t *right, size_t right_len, uint8_t *buf, size_t buf_len, size_t *len) {
     if (!handle) return JETUKOMA_NO_TABLE;
@@ -491,7 +504,8 @@ JETUKOMA_API uint32_t jetukoma_btree_bytes_bytes_get_by_right(jetukoma_btree_byt
     return jetukoma_btree_bytes_bytes_get_by_right_unchecked(handle, right, right_len, buf, buf_len, len);
 }
 
-/* Returns 0 if the left is contained, and 5 if not. 1: no memory, as for `get_by_left`. */
+/* Returns 0 if the left is contained, and 5 if it is not. It allocates as `get_by_left` does. Returns 1 if there is
+ * no memory for that. */
 uint32_t jetukoma_btree_bytes_bytes_contains_left_unchecked(jetukoma_btree_bytes_bytes *handle, const uint8_t *left, size_t left_len);
 JETUKOMA_API uint32_t jetukoma_btree_bytes_bytes_contains_left(jetukoma_btree_bytes_bytes *handle, const uint8_t *left, size_t left_len) {
     if (!handle) return JETUKOMA_NO_TABLE;
@@ -499,7 +513,8 @@ JETUKOMA_API uint32_t jetukoma_btree_bytes_bytes_contains_left(jetukoma_btree_by
     return jetukoma_btree_bytes_bytes_contains_left_unchecked(handle, left, left_len);
 }
 
-/* Returns 0 if the right is contained, and 5 if not. 1: no memory, as for `get_by_left`. */
+/* Returns 0 if the right is contained, and 5 if it is not. It allocates as `get_by_left` does. Returns 1 if there is
+ * no memory for that. */
 uint32_t jetukoma_btree_bytes_bytes_contains_right_unchecked(jetukoma_btree_bytes_bytes *handle, const uint8_t *right, size_t right_len);
 JETUKOMA_API uint32_t jetukoma_btree_bytes_bytes_contains_right(jetukoma_btree_bytes_bytes *handle, const uint8_t *right, size_t right_len) {
     if (!handle) return JETUKOMA_NO_TABLE;
@@ -507,8 +522,9 @@ JETUKOMA_API uint32_t jetukoma_btree_bytes_bytes_contains_right(jetukoma_btree_b
     return jetukoma_btree_bytes_bytes_contains_right_unchecked(handle, right, right_len);
 }
 
-/* Removes the pair of a left, which is kept as what was struck out. 1: no memory, as for `get_by_left`; 5: the left
- * is not contained. */
+/* Removes the pair of a left. The table keeps the pair, so that `overwritten_left` and `overwritten_right` copy it.
+ * The call allocates as `get_by_left` does. Returns 1 if there is no memory for that, and 5 if the left is not
+ * contained. */
 uint32_t jetukoma_btree_bytes_bytes_remove_by_left_unchecked(jetukoma_btree_bytes_bytes *handle, const uint8_t *left, size_t left_len);
 JETUKOMA_API uint32_t jetukoma_btree_bytes_bytes_remove_by_left(jetukoma_btree_bytes_bytes *handle, const uint8_t *left, size_t left_len) {
     if (!handle) return JETUKOMA_NO_TABLE;
@@ -516,8 +532,9 @@ JETUKOMA_API uint32_t jetukoma_btree_bytes_bytes_remove_by_left(jetukoma_btree_b
     return jetukoma_btree_bytes_bytes_remove_by_left_unchecked(handle, left, left_len);
 }
 
-/* Removes the pair of a right, which is kept as what was struck out. 1: no memory, as for `get_by_left`; 5: the
- * right is not contained. */
+/* Removes the pair of a right. The table keeps the pair, so that `overwritten_left` and `overwritten_right` copy it.
+ * The call allocates as `get_by_left` does. Returns 1 if there is no memory for that, and 5 if the right is not
+ * contained. */
 uint32_t jetukoma_btree_bytes_bytes_remove_by_right_unchecked(jetukoma_btree_bytes_bytes *handle, const uint8_t *right, size_t right_len);
 JETUKOMA_API uint32_t jetukoma_btree_bytes_bytes_remove_by_right(jetukoma_btree_bytes_bytes *handle, const uint8_t *right, size_t right_len) {
     if (!handle) return JETUKOMA_NO_TABLE;
@@ -525,9 +542,10 @@ JETUKOMA_API uint32_t jetukoma_btree_bytes_bytes_remove_by_right(jetukoma_btree_
     return jetukoma_btree_bytes_bytes_remove_by_right_unchecked(handle, right, right_len);
 }
 
-/* Writes the left of a pair that was struck out last to the front of a buffer, and its length. The index is 0 for
- * the pair of a removal, for the one pair that an insertion overwrote and for that of the left, and 1 for that of
- * the right beside it. 4: the buffer is too short, and the length alone is written; 5: there is no such pair. */
+/* Writes the left of a pair that the last change overwrote or removed to the front of a buffer, and its length. If
+ * the change was an insertion that overwrote two pairs, index 0 is the pair of the left, and index 1 is the pair of
+ * the right. Otherwise index 0 is the pair. Returns 4 if the buffer is too short, and 5 if there is no such pair. On
+ * 4 it has written the length alone. */
 uint32_t jetukoma_btree_bytes_bytes_overwritten_left_unchecked(jetukoma_btree_bytes_bytes *handle, size_t index, uint8_t *buf, size_t buf_len, size_t *len);
 JETUKOMA_API uint32_t jetukoma_btree_bytes_bytes_overwritten_left(jetukoma_btree_bytes_bytes *handle, size_t index, uint8_t *buf, size_t buf_len, size_t *len) {
     if (!handle) return JETUKOMA_NO_TABLE;
@@ -535,7 +553,8 @@ JETUKOMA_API uint32_t jetukoma_btree_bytes_bytes_overwritten_left(jetukoma_btree
     return jetukoma_btree_bytes_bytes_overwritten_left_unchecked(handle, index, buf, buf_len, len);
 }
 
-/* Writes the right of a pair that was struck out last, as `overwritten_left` its left. */
+/* Writes the right of a pair that the last change overwrote or removed to the front of a buffer, and its length. The
+ * index and the statuses are those of `overwritten_left`. */
 uint32_t jetukoma_btree_bytes_bytes_overwritten_right_unchecked(jetukoma_btree_bytes_bytes *handle, size_t index, uint8_t *buf, size_t buf_len, size_t *len);
 JETUKOMA_API uint32_t jetukoma_btree_bytes_bytes_overwritten_right(jetukoma_btree_bytes_bytes *handle, size_t index, uint8_t *buf, size_t buf_len, size_t *len) {
     if (!handle) return JETUKOMA_NO_TABLE;
@@ -543,15 +562,17 @@ JETUKOMA_API uint32_t jetukoma_btree_bytes_bytes_overwritten_right(jetukoma_btre
     return jetukoma_btree_bytes_bytes_overwritten_right_unchecked(handle, index, buf, buf_len, len);
 }
 
-/* Removes all pairs, in time in proportion to the places, which stay. Nothing is struck out then. */
+/* Removes all pairs. The capacity does not change. The time grows with the capacity. The table keeps no overwritten
+ * pair then. */
 uint32_t jetukoma_btree_bytes_bytes_clear_unchecked(jetukoma_btree_bytes_bytes *handle);
 JETUKOMA_API uint32_t jetukoma_btree_bytes_bytes_clear(jetukoma_btree_bytes_bytes *handle) {
     if (!handle) return JETUKOMA_NO_TABLE;
     return jetukoma_btree_bytes_bytes_clear_unchecked(handle);
 }
 
-/* Writes the pair with exactly `rank` lefts below its own, each value to the front of its buffer, and the lengths.
- * It makes a search. 4: a buffer is too short, and the lengths alone are written; 5: there are no more pairs. */
+/* Writes the pair whose left has exactly `rank` lefts below it. It writes each value to the front of its buffer, and
+ * the two lengths. It takes one search. Returns 4 if a buffer is too short, and 5 if there are no more pairs. On 4
+ * it has written the lengths alone. */
 uint32_t jetukoma_btree_bytes_bytes_pair_at_rank_unchecked(jetukoma_btree_bytes_bytes *handle, size_t rank, uint8_t *left_buf, size_t left_buf_len, size_t *left_len, uint8_t *right_buf, size_t right_buf_len, size_t *right_len);
 JETUKOMA_API uint32_t jetukoma_btree_bytes_bytes_pair_at_rank(jetukoma_btree_bytes_bytes *handle, size_t rank, uint8_t *left_buf, size_t left_buf_len, size_t *left_len, uint8_t *right_buf, size_t right_buf_len, size_t *right_len) {
     if (!handle) return JETUKOMA_NO_TABLE;
@@ -559,7 +580,8 @@ JETUKOMA_API uint32_t jetukoma_btree_bytes_bytes_pair_at_rank(jetukoma_btree_byt
     return jetukoma_btree_bytes_bytes_pair_at_rank_unchecked(handle, rank, left_buf, left_buf_len, left_len, right_buf, right_buf_len, right_len);
 }
 
-/* Writes how many lefts are below this one, byte by byte, contained or not. 1: no memory, as for `get_by_left`. */
+/* Writes how many lefts are less than this one, compared byte by byte. This one need not be contained. It allocates
+ * as `get_by_left` does. Returns 1 if there is no memory for that. */
 uint32_t jetukoma_btree_bytes_bytes_left_rank_unchecked(jetukoma_btree_bytes_bytes *handle, const uint8_t *left, size_t left_len, size_t *rank);
 JETUKOMA_API uint32_t jetukoma_btree_bytes_bytes_left_rank(jetukoma_btree_bytes_bytes *handle, const uint8_t *left, size_t left_len, size_t *rank) {
     if (!handle) return JETUKOMA_NO_TABLE;
@@ -567,14 +589,16 @@ JETUKOMA_API uint32_t jetukoma_btree_bytes_bytes_left_rank(jetukoma_btree_bytes_
     return jetukoma_btree_bytes_bytes_left_rank_unchecked(handle, left, left_len, rank);
 }
 
-/* Removes the pair of the least left, which is kept as what was struck out. 5: there are no pairs. */
+/* Removes the pair of the least left. The table keeps it, so that `overwritten_left` and `overwritten_right` copy
+ * it. Returns 5 if there are no pairs. */
 uint32_t jetukoma_btree_bytes_bytes_pop_first_unchecked(jetukoma_btree_bytes_bytes *handle);
 JETUKOMA_API uint32_t jetukoma_btree_bytes_bytes_pop_first(jetukoma_btree_bytes_bytes *handle) {
     if (!handle) return JETUKOMA_NO_TABLE;
     return jetukoma_btree_bytes_bytes_pop_first_unchecked(handle);
 }
 
-/* Removes the pair of the greatest left, which is kept as what was struck out. 5: there are no pairs. */
+/* Removes the pair of the greatest left. The table keeps it, so that `overwritten_left` and `overwritten_right` copy
+ * it. Returns 5 if there are no pairs. */
 uint32_t jetukoma_btree_bytes_bytes_pop_last_unchecked(jetukoma_btree_bytes_bytes *handle);
 JETUKOMA_API uint32_t jetukoma_btree_bytes_bytes_pop_last(jetukoma_btree_bytes_bytes *handle) {
     if (!handle) return JETUKOMA_NO_TABLE;
@@ -587,22 +611,23 @@ typedef struct {
     bool live;
 } jetukoma_hash_bytes_bytes;
 
-/* Makes an empty table of no places, in constant time, behind a handle that has none. 1: no memory; 2: the handle
- * has a table. */
+/* Makes an empty table of capacity 0 for a handle that has no table. It takes constant time. Returns 1 if there is
+ * no memory, and 2 if the handle has a table. */
 uint32_t jetukoma_hash_bytes_bytes_new_unchecked(jetukoma_hash_bytes_bytes *handle);
 JETUKOMA_API uint32_t jetukoma_hash_bytes_bytes_new(jetukoma_hash_bytes_bytes *handle) {
     if (!handle) return JETUKOMA_NO_TABLE;
     return jetukoma_hash_bytes_bytes_new_unchecked(handle);
 }
 
-/* Frees the table with its bytes, in time in proportion to its places; the handle has none then. 2: it has none. */
+/* Frees the table and all its bytes. The handle has no table then. The time grows with the capacity. Returns 2 if
+ * the handle has no table. */
 uint32_t jetukoma_hash_bytes_bytes_free_unchecked(jetukoma_hash_bytes_bytes *handle);
 JETUKOMA_API uint32_t jetukoma_hash_bytes_bytes_free(jetukoma_hash_bytes_bytes *handle) {
     if (!handle) return JETUKOMA_NO_TABLE;
     return jetukoma_hash_bytes_bytes_free_unchecked(handle);
 }
 
-/* Writes the number of pairs, in constant time. */
+/* Writes the number of pairs. It takes constant time. */
 uint32_t jetukoma_hash_bytes_bytes_len_unchecked(jetukoma_hash_bytes_bytes *handle, size_t *len);
 JETUKOMA_API uint32_t jetukoma_hash_bytes_bytes_len(jetukoma_hash_bytes_bytes *handle, size_t *len) {
     if (!handle) return JETUKOMA_NO_TABLE;
@@ -610,7 +635,7 @@ JETUKOMA_API uint32_t jetukoma_hash_bytes_bytes_len(jetukoma_hash_bytes_bytes *h
     return jetukoma_hash_bytes_bytes_len_unchecked(handle, len);
 }
 
-/* Writes the number of places for pairs, in constant time. */
+/* Writes the capacity, which is the number of pairs for which there is memory. It takes constant time. */
 uint32_t jetukoma_hash_bytes_bytes_capacity_unchecked(jetukoma_hash_bytes_bytes *handle, size_t *capacity);
 JETUKOMA_API uint32_t jetukoma_hash_bytes_bytes_capacity(jetukoma_hash_bytes_bytes *handle, size_t *capacity) {
     if (!handle) return JETUKOMA_NO_TABLE;
@@ -618,19 +643,20 @@ JETUKOMA_API uint32_t jetukoma_hash_bytes_bytes_capacity(jetukoma_hash_bytes_byt
     return jetukoma_hash_bytes_bytes_capacity_unchecked(handle, capacity);
 }
 
-/* Makes places for the pairs and `more` pairs, exactly, unless they are there. Of the next `more` insertions each
- * asks for memory for its bytes alone. 1: no memory. */
+/* Makes the capacity at least the number of pairs plus `more`. It makes it no greater than needed. Each of the next
+ * `more` insertions then allocates only for its bytes. Returns 1 if there is no memory. */
 uint32_t jetukoma_hash_bytes_bytes_reserve_unchecked(jetukoma_hash_bytes_bytes *handle, size_t more);
 JETUKOMA_API uint32_t jetukoma_hash_bytes_bytes_reserve(jetukoma_hash_bytes_bytes *handle, size_t more) {
     if (!handle) return JETUKOMA_NO_TABLE;
     return jetukoma_hash_bytes_bytes_reserve_unchecked(handle, more);
 }
 
-/* Inserts copies of the left and the right, which overwrite the pairs that they share a value with, and writes of
- * which kind those are: 0 for none, 1 for the pair of the left alone, 2 for that of the right alone, 3 for the one
- * pair of both, and 4 for that of the left and that of the right. They are kept, as what was struck out, until the
- * next insertion, removal or clear that is done. It asks for memory for the bytes, and where it overwrites none and
- * no place is free. 1: no memory. */
+/* Inserts copies of the left and the right. They overwrite the pairs with which they share a value. `kind` says
+ * which pairs those are: 0 for none, 1 for the pair of the left alone, 2 for the pair of the right alone, 3 for one
+ * pair with both values, and 4 for the pair of the left and the pair of the right. The table keeps the overwritten
+ * pairs until the next insertion, removal or clear that is done. `overwritten_left` and `overwritten_right` copy
+ * them. The call allocates for the bytes. It allocates for the pair only if it overwrites none and there is no spare
+ * capacity. Returns 1 if there is no memory. */
 uint32_t jetukoma_hash_bytes_bytes_insert_unchecked(jetukoma_hash_bytes_bytes *handle, const uint8_t *left, size_t left_len, const uint8_t *right, size_t right_len, uint32_t *kind);
 JETUKOMA_API uint32_t jetukoma_hash_bytes_bytes_insert(jetukoma_hash_bytes_bytes *handle, const uint8_t *left, size_t left_len, const uint8_t *right, size_t right_len, uint32_t *kind) {
     if (!handle) return JETUKOMA_NO_TABLE;
@@ -638,8 +664,8 @@ JETUKOMA_API uint32_t jetukoma_hash_bytes_bytes_insert(jetukoma_hash_bytes_bytes
     return jetukoma_hash_bytes_bytes_insert_unchecked(handle, left, left_len, right, right_len, kind);
 }
 
-/* Inserts copies of the left and the right if neither is contained. Nothing is struck out then. 1: no memory; 3: a
- * value is contained. */
+/* Inserts copies of the left and the right if neither is contained. The table keeps no overwritten pair then.
+ * Returns 1 if there is no memory, and 3 if a value is contained. */
 uint32_t jetukoma_hash_bytes_bytes_insert_no_overwrite_unchecked(jetukoma_hash_bytes_bytes *handle, const uint8_t *left, size_t left_len, const uint8_t *right, size_t right_len);
 JETUKOMA_API uint32_t jetukoma_hash_bytes_bytes_insert_no_overwrite(jetukoma_hash_bytes_bytes *handle, const uint8_t *left, size_t left_len, const uint8_t *right, size_t right_len) {
     if (!handle) return JETUKOMA_NO_TABLE;
@@ -647,8 +673,9 @@ JETUKOMA_API uint32_t jetukoma_hash_bytes_bytes_insert_no_overwrite(jetukoma_has
     return jetukoma_hash_bytes_bytes_insert_no_overwrite_unchecked(handle, left, left_len, right, right_len);
 }
 
-/* Inserts as `insert` does. A flag of 1 refuses where the value of its side is contained, and one of 0 overwrites.
- * 1: no memory; 3: a value is contained that its flag keeps, or a flag is above 1. */
+/* Inserts as `insert` does, under a policy of two flags. If the flag of a side is 1, a contained value of this side
+ * refuses the insertion. If it is 0, the value is overwritten. Returns 1 if there is no memory. Returns 3 if the
+ * insertion is refused or a flag is above 1. */
 uint32_t jetukoma_hash_bytes_bytes_insert_with_unchecked(jetukoma_hash_bytes_bytes *handle, const uint8_t *left, size_t left_len, const uint8_t *right, size_t right_len, uint8_t left_refuses, uint8_t right_refuses, uint32_t *kind);
 JETUKOMA_API uint32_t jetukoma_hash_bytes_bytes_insert_with(jetukoma_hash_bytes_bytes *handle, const uint8_t *left, size_t left_len, const uint8_t *right, size_t right_len, uint8_t left_refuses, uint8_t right_refuses, uint32_t *kind) {
     if (!handle) return JETUKOMA_NO_TABLE;
@@ -656,9 +683,9 @@ JETUKOMA_API uint32_t jetukoma_hash_bytes_bytes_insert_with(jetukoma_hash_bytes_
     return jetukoma_hash_bytes_bytes_insert_with_unchecked(handle, left, left_len, right, right_len, left_refuses, right_refuses, kind);
 }
 
-/* Writes the right of a left, found by a search, to the front of a buffer, and its length. It asks for memory where
- * the left is longer than any value that was looked up or removed before. 1: no memory for that; 4: the buffer is
- * too short, and the length alone is written; 5: the left is not contained. */
+/* Writes the right of a left to the front of a buffer, and its length. It allocates if the left is longer than every
+ * value that was looked up or removed before. Returns 1 if there is no memory for that, 4 if the buffer is too
+ * short, and 5 if the left is not contained. On 4 it has written the length alone. */
 uint32_t jetukoma_hash_bytes_bytes_get_by_left_unchecked(jetukoma_hash_bytes_bytes *handle, const uint8_t *left, size_t left_len, uint8_t *buf, size_t buf_len, size_t *len);
 JETUKOMA_API uint32_t jetukoma_hash_bytes_bytes_get_by_left(jetukoma_hash_bytes_bytes *handle, const uint8_t *left, size_t left_len, uint8_t *buf, size_t buf_len, size_t *len) {
     if (!handle) return JETUKOMA_NO_TABLE;
@@ -666,8 +693,9 @@ JETUKOMA_API uint32_t jetukoma_hash_bytes_bytes_get_by_left(jetukoma_hash_bytes_
     return jetukoma_hash_bytes_bytes_get_by_left_unchecked(handle, left, left_len, buf, buf_len, len);
 }
 
-/* Writes the left of a right, found by a search, to the front of a buffer, and its length. 4: the buffer is too
- * short, and the length alone is written; 5: the right is not contained; 1: no memory, as for `get_by_left`. */
+/* Writes the left of a right to the front of a buffer, and its length. It allocates as `get_by_left` does. Returns 1
+ * if there is no memory for that, 4 if the buffer is too short, and 5 if the right is not contained. On 4 it has
+ * written the length alone. */
 uint32_t jetukoma_hash_bytes_bytes_get_by_right_unchecked(jetukoma_hash_bytes_bytes *handle, const uint8_t *right, size_t right_len, uint8_t *buf, size_t buf_len, size_t *len);
 JETUKOMA_API uint32_t jetukoma_hash_bytes_bytes_get_by_right(jetukoma_hash_bytes_bytes *handle, const uint8_t *right, size_t right_len, uint8_t *buf, size_t buf_len, size_t *len) {
     if (!handle) return JETUKOMA_NO_TABLE;
@@ -675,7 +703,8 @@ JETUKOMA_API uint32_t jetukoma_hash_bytes_bytes_get_by_right(jetukoma_hash_bytes
     return jetukoma_hash_bytes_bytes_get_by_right_unchecked(handle, right, right_len, buf, buf_len, len);
 }
 
-/* Returns 0 if the left is contained, and 5 if not. 1: no memory, as for `get_by_left`. */
+/* Returns 0 if the left is contained, and 5 if it is not. It allocates as `get_by_left` does. Returns 1 if there is
+ * no memory for that. */
 uint32_t jetukoma_hash_bytes_bytes_contains_left_unchecked(jetukoma_hash_bytes_bytes *handle, const uint8_t *left, size_t left_len);
 JETUKOMA_API uint32_t jetukoma_hash_bytes_bytes_contains_left(jetukoma_hash_bytes_bytes *handle, const uint8_t *left, size_t left_len) {
     if (!handle) return JETUKOMA_NO_TABLE;
@@ -683,7 +712,8 @@ JETUKOMA_API uint32_t jetukoma_hash_bytes_bytes_contains_left(jetukoma_hash_byte
     return jetukoma_hash_bytes_bytes_contains_left_unchecked(handle, left, left_len);
 }
 
-/* Returns 0 if the right is contained, and 5 if not. 1: no memory, as for `get_by_left`. */
+/* Returns 0 if the right is contained, and 5 if it is not. It allocates as `get_by_left` does. Returns 1 if there is
+ * no memory for that. */
 uint32_t jetukoma_hash_bytes_bytes_contains_right_unchecked(jetukoma_hash_bytes_bytes *handle, const uint8_t *right, size_t right_len);
 JETUKOMA_API uint32_t jetukoma_hash_bytes_bytes_contains_right(jetukoma_hash_bytes_bytes *handle, const uint8_t *right, size_t right_len) {
     if (!handle) return JETUKOMA_NO_TABLE;
@@ -691,8 +721,9 @@ JETUKOMA_API uint32_t jetukoma_hash_bytes_bytes_contains_right(jetukoma_hash_byt
     return jetukoma_hash_bytes_bytes_contains_right_unchecked(handle, right, right_len);
 }
 
-/* Removes the pair of a left, which is kept as what was struck out. 1: no memory, as for `get_by_left`; 5: the left
- * is not contained. */
+/* Removes the pair of a left. The table keeps the pair, so that `overwritten_left` and `overwritten_right` copy it.
+ * The call allocates as `get_by_left` does. Returns 1 if there is no memory for that, and 5 if the left is not
+ * contained. */
 uint32_t jetukoma_hash_bytes_bytes_remove_by_left_unchecked(jetukoma_hash_bytes_bytes *handle, const uint8_t *left, size_t left_len);
 JETUKOMA_API uint32_t jetukoma_hash_bytes_bytes_remove_by_left(jetukoma_hash_bytes_bytes *handle, const uint8_t *left, size_t left_len) {
     if (!handle) return JETUKOMA_NO_TABLE;
@@ -700,8 +731,9 @@ JETUKOMA_API uint32_t jetukoma_hash_bytes_bytes_remove_by_left(jetukoma_hash_byt
     return jetukoma_hash_bytes_bytes_remove_by_left_unchecked(handle, left, left_len);
 }
 
-/* Removes the pair of a right, which is kept as what was struck out. 1: no memory, as for `get_by_left`; 5: the
- * right is not contained. */
+/* Removes the pair of a right. The table keeps the pair, so that `overwritten_left` and `overwritten_right` copy it.
+ * The call allocates as `get_by_left` does. Returns 1 if there is no memory for that, and 5 if the right is not
+ * contained. */
 uint32_t jetukoma_hash_bytes_bytes_remove_by_right_unchecked(jetukoma_hash_bytes_bytes *handle, const uint8_t *right, size_t right_len);
 JETUKOMA_API uint32_t jetukoma_hash_bytes_bytes_remove_by_right(jetukoma_hash_bytes_bytes *handle, const uint8_t *right, size_t right_len) {
     if (!handle) return JETUKOMA_NO_TABLE;
@@ -709,9 +741,10 @@ JETUKOMA_API uint32_t jetukoma_hash_bytes_bytes_remove_by_right(jetukoma_hash_by
     return jetukoma_hash_bytes_bytes_remove_by_right_unchecked(handle, right, right_len);
 }
 
-/* Writes the left of a pair that was struck out last to the front of a buffer, and its length. The index is 0 for
- * the pair of a removal, for the one pair that an insertion overwrote and for that of the left, and 1 for that of
- * the right beside it. 4: the buffer is too short, and the length alone is written; 5: there is no such pair. */
+/* Writes the left of a pair that the last change overwrote or removed to the front of a buffer, and its length. If
+ * the change was an insertion that overwrote two pairs, index 0 is the pair of the left, and index 1 is the pair of
+ * the right. Otherwise index 0 is the pair. Returns 4 if the buffer is too short, and 5 if there is no such pair. On
+ * 4 it has written the length alone. */
 uint32_t jetukoma_hash_bytes_bytes_overwritten_left_unchecked(jetukoma_hash_bytes_bytes *handle, size_t index, uint8_t *buf, size_t buf_len, size_t *len);
 JETUKOMA_API uint32_t jetukoma_hash_bytes_bytes_overwritten_left(jetukoma_hash_bytes_bytes *handle, size_t index, uint8_t *buf, size_t buf_len, size_t *len) {
     if (!handle) return JETUKOMA_NO_TABLE;
@@ -719,7 +752,8 @@ JETUKOMA_API uint32_t jetukoma_hash_bytes_bytes_overwritten_left(jetukoma_hash_b
     return jetukoma_hash_bytes_bytes_overwritten_left_unchecked(handle, index, buf, buf_len, len);
 }
 
-/* Writes the right of a pair that was struck out last, as `overwritten_left` its left. */
+/* Writes the right of a pair that the last change overwrote or removed to the front of a buffer, and its length. The
+ * index and the statuses are those of `overwritten_left`. */
 uint32_t jetukoma_hash_bytes_bytes_overwritten_right_unchecked(jetukoma_hash_bytes_bytes *handle, size_t index, uint8_t *buf, size_t buf_len, size_t *len);
 JETUKOMA_API uint32_t jetukoma_hash_bytes_bytes_overwritten_right(jetukoma_hash_bytes_bytes *handle, size_t index, uint8_t *buf, size_t buf_len, size_t *len) {
     if (!handle) return JETUKOMA_NO_TABLE;
@@ -727,7 +761,8 @@ JETUKOMA_API uint32_t jetukoma_hash_bytes_bytes_overwritten_right(jetukoma_hash_
     return jetukoma_hash_bytes_bytes_overwritten_right_unchecked(handle, index, buf, buf_len, len);
 }
 
-/* Removes all pairs, in time in proportion to the places, which stay. Nothing is struck out then. */
+/* Removes all pairs. The capacity does not change. The time grows with the capacity. The table keeps no overwritten
+ * pair then. */
 uint32_t jetukoma_hash_bytes_bytes_clear_unchecked(jetukoma_hash_bytes_bytes *handle);
 JETUKOMA_API uint32_t jetukoma_hash_bytes_bytes_clear(jetukoma_hash_bytes_bytes *handle) {
     if (!handle) return JETUKOMA_NO_TABLE;
@@ -740,22 +775,23 @@ typedef struct {
     bool live;
 } jetukoma_btree_bytes_u64;
 
-/* Makes an empty table of no places, in constant time, behind a handle that has none. 1: no memory; 2: the handle
- * has a table. */
+/* Makes an empty table of capacity 0 for a handle that has no table. It takes constant time. Returns 1 if there is
+ * no memory, and 2 if the handle has a table. */
 uint32_t jetukoma_btree_bytes_u64_new_unchecked(jetukoma_btree_bytes_u64 *handle);
 JETUKOMA_API uint32_t jetukoma_btree_bytes_u64_new(jetukoma_btree_bytes_u64 *handle) {
     if (!handle) return JETUKOMA_NO_TABLE;
     return jetukoma_btree_bytes_u64_new_unchecked(handle);
 }
 
-/* Frees the table with its bytes, in time in proportion to its places; the handle has none then. 2: it has none. */
+/* Frees the table and all its bytes. The handle has no table then. The time grows with the capacity. Returns 2 if
+ * the handle has no table. */
 uint32_t jetukoma_btree_bytes_u64_free_unchecked(jetukoma_btree_bytes_u64 *handle);
 JETUKOMA_API uint32_t jetukoma_btree_bytes_u64_free(jetukoma_btree_bytes_u64 *handle) {
     if (!handle) return JETUKOMA_NO_TABLE;
     return jetukoma_btree_bytes_u64_free_unchecked(handle);
 }
 
-/* Writes the number of pairs, in constant time. */
+/* Writes the number of pairs. It takes constant time. */
 uint32_t jetukoma_btree_bytes_u64_len_unchecked(jetukoma_btree_bytes_u64 *handle, size_t *len);
 JETUKOMA_API uint32_t jetukoma_btree_bytes_u64_len(jetukoma_btree_bytes_u64 *handle, size_t *len) {
     if (!handle) return JETUKOMA_NO_TABLE;
@@ -763,7 +799,7 @@ JETUKOMA_API uint32_t jetukoma_btree_bytes_u64_len(jetukoma_btree_bytes_u64 *han
     return jetukoma_btree_bytes_u64_len_unchecked(handle, len);
 }
 
-/* Writes the number of places for pairs, in constant time. */
+/* Writes the capacity, which is the number of pairs for which there is memory. It takes constant time. */
 uint32_t jetukoma_btree_bytes_u64_capacity_unchecked(jetukoma_btree_bytes_u64 *handle, size_t *capacity);
 JETUKOMA_API uint32_t jetukoma_btree_bytes_u64_capacity(jetukoma_btree_bytes_u64 *handle, size_t *capacity) {
     if (!handle) return JETUKOMA_NO_TABLE;
@@ -771,19 +807,20 @@ JETUKOMA_API uint32_t jetukoma_btree_bytes_u64_capacity(jetukoma_btree_bytes_u64
     return jetukoma_btree_bytes_u64_capacity_unchecked(handle, capacity);
 }
 
-/* Makes places for the pairs and `more` pairs, exactly, unless they are there. Of the next `more` insertions each
- * asks for memory for its bytes alone. 1: no memory. */
+/* Makes the capacity at least the number of pairs plus `more`. It makes it no greater than needed. Each of the next
+ * `more` insertions then allocates only for its bytes. Returns 1 if there is no memory. */
 uint32_t jetukoma_btree_bytes_u64_reserve_unchecked(jetukoma_btree_bytes_u64 *handle, size_t more);
 JETUKOMA_API uint32_t jetukoma_btree_bytes_u64_reserve(jetukoma_btree_bytes_u64 *handle, size_t more) {
     if (!handle) return JETUKOMA_NO_TABLE;
     return jetukoma_btree_bytes_u64_reserve_unchecked(handle, more);
 }
 
-/* Inserts a copy of the left with the right, which overwrites the pairs that they share a value with, and writes of
- * which kind those are: 0 for none, 1 for the pair of the left alone, 2 for that of the right alone, 3 for the one
- * pair of both, and 4 for that of the left and that of the right. They are kept, as what was struck out, until the
- * next insertion, removal or clear that is done. It asks for memory for the bytes, and where it overwrites none and
- * no place is free. 1: no memory. */
+/* Inserts a copy of the left with the right. They overwrite the pairs with which they share a value. `kind` says
+ * which pairs those are: 0 for none, 1 for the pair of the left alone, 2 for the pair of the right alone, 3 for one
+ * pair with both values, and 4 for the pair of the left and the pair of the right. The table keeps the overwritten
+ * pairs until the next insertion, removal or clear that is done. `overwritten_left` and `overwritten_right` copy
+ * them. The call allocates for the bytes. It allocates for the pair only if it overwrites none and there is no spare
+ * capacity. Returns 1 if there is no memory. */
 uint32_t jetukoma_btree_bytes_u64_insert_unchecked(jetukoma_btree_bytes_u64 *handle, const uint8_t *left, size_t left_len, uint64_t right, uint32_t *kind);
 JETUKOMA_API uint32_t jetukoma_btree_bytes_u64_insert(jetukoma_btree_bytes_u64 *handle, const uint8_t *left, size_t left_len, uint64_t right, uint32_t *kind) {
     if (!handle) return JETUKOMA_NO_TABLE;
@@ -791,8 +828,8 @@ JETUKOMA_API uint32_t jetukoma_btree_bytes_u64_insert(jetukoma_btree_bytes_u64 *
     return jetukoma_btree_bytes_u64_insert_unchecked(handle, left, left_len, right, kind);
 }
 
-/* Inserts a copy of the left with the right if neither is contained. Nothing is struck out then. 1: no memory; 3: a
- * value is contained. */
+/* Inserts a copy of the left with the right if neither is contained. The table keeps no overwritten pair then.
+ * Returns 1 if there is no memory, and 3 if a value is contained. */
 uint32_t jetukoma_btree_bytes_u64_insert_no_overwrite_unchecked(jetukoma_btree_bytes_u64 *handle, const uint8_t *left, size_t left_len, uint64_t right);
 JETUKOMA_API uint32_t jetukoma_btree_bytes_u64_insert_no_overwrite(jetukoma_btree_bytes_u64 *handle, const uint8_t *left, size_t left_len, uint64_t right) {
     if (!handle) return JETUKOMA_NO_TABLE;
@@ -800,8 +837,9 @@ JETUKOMA_API uint32_t jetukoma_btree_bytes_u64_insert_no_overwrite(jetukoma_btre
     return jetukoma_btree_bytes_u64_insert_no_overwrite_unchecked(handle, left, left_len, right);
 }
 
-/* Inserts as `insert` does. A flag of 1 refuses where the value of its side is contained, and one of 0 overwrites.
- * 1: no memory; 3: a value is contained that its flag keeps, or a flag is above 1. */
+/* Inserts as `insert` does, under a policy of two flags. If the flag of a side is 1, a contained value of this side
+ * refuses the insertion. If it is 0, the value is overwritten. Returns 1 if there is no memory. Returns 3 if the
+ * insertion is refused or a flag is above 1. */
 uint32_t jetukoma_btree_bytes_u64_insert_with_unchecked(jetukoma_btree_bytes_u64 *handle, const uint8_t *left, size_t left_len, uint64_t right, uint8_t left_refuses, uint8_t right_refuses, uint32_t *kind);
 JETUKOMA_API uint32_t jetukoma_btree_bytes_u64_insert_with(jetukoma_btree_bytes_u64 *handle, const uint8_t *left, size_t left_len, uint64_t right, uint8_t left_refuses, uint8_t right_refuses, uint32_t *kind) {
     if (!handle) return JETUKOMA_NO_TABLE;
@@ -809,8 +847,8 @@ JETUKOMA_API uint32_t jetukoma_btree_bytes_u64_insert_with(jetukoma_btree_bytes_
     return jetukoma_btree_bytes_u64_insert_with_unchecked(handle, left, left_len, right, left_refuses, right_refuses, kind);
 }
 
-/* Writes the right of a left, found by a search. It asks for memory where the left is longer than any that was
- * looked up or removed before. 1: no memory for that; 5: the left is not contained. */
+/* Writes the right of a left. It allocates if the left is longer than every left that was looked up or removed
+ * before. Returns 1 if there is no memory for that, and 5 if the left is not contained. */
 uint32_t jetukoma_btree_bytes_u64_get_by_left_unchecked(jetukoma_btree_bytes_u64 *handle, const uint8_t *left, size_t left_len, uint64_t *right);
 JETUKOMA_API uint32_t jetukoma_btree_bytes_u64_get_by_left(jetukoma_btree_bytes_u64 *handle, const uint8_t *left, size_t left_len, uint64_t *right) {
     if (!handle) return JETUKOMA_NO_TABLE;
@@ -818,8 +856,8 @@ JETUKOMA_API uint32_t jetukoma_btree_bytes_u64_get_by_left(jetukoma_btree_bytes_
     return jetukoma_btree_bytes_u64_get_by_left_unchecked(handle, left, left_len, right);
 }
 
-/* Writes the left of a right, found by a search, to the front of a buffer, and its length. 4: the buffer is too
- * short, and the length alone is written; 5: the right is not contained. */
+/* Writes the left of a right to the front of a buffer, and its length. Returns 4 if the buffer is too short, and 5
+ * if the right is not contained. On 4 it has written the length alone. */
 uint32_t jetukoma_btree_bytes_u64_get_by_right_unchecked(jetukoma_btree_bytes_u64 *handle, uint64_t right, uint8_t *buf, size_t buf_len, size_t *len);
 JETUKOMA_API uint32_t jetukoma_btree_bytes_u64_get_by_right(jetukoma_btree_bytes_u64 *handle, uint64_t right, uint8_t *buf, size_t buf_len, size_t *len) {
     if (!handle) return JETUKOMA_NO_TABLE;
@@ -827,7 +865,8 @@ JETUKOMA_API uint32_t jetukoma_btree_bytes_u64_get_by_right(jetukoma_btree_bytes
     return jetukoma_btree_bytes_u64_get_by_right_unchecked(handle, right, buf, buf_len, len);
 }
 
-/* Returns 0 if the left is contained, and 5 if not. 1: no memory, as for `get_by_left`. */
+/* Returns 0 if the left is contained, and 5 if it is not. It allocates as `get_by_left` does. Returns 1 if there is
+ * no memory for that. */
 uint32_t jetukoma_btree_bytes_u64_contains_left_unchecked(jetukoma_btree_bytes_u64 *handle, const uint8_t *left, size_t left_len);
 JETUKOMA_API uint32_t jetukoma_btree_bytes_u64_contains_left(jetukoma_btree_bytes_u64 *handle, const uint8_t *left, size_t left_len) {
     if (!handle) return JETUKOMA_NO_TABLE;
@@ -835,15 +874,16 @@ JETUKOMA_API uint32_t jetukoma_btree_bytes_u64_contains_left(jetukoma_btree_byte
     return jetukoma_btree_bytes_u64_contains_left_unchecked(handle, left, left_len);
 }
 
-/* Returns 0 if the right is contained, and 5 if not. */
+/* Returns 0 if the right is contained, and 5 if it is not. */
 uint32_t jetukoma_btree_bytes_u64_contains_right_unchecked(jetukoma_btree_bytes_u64 *handle, uint64_t right);
 JETUKOMA_API uint32_t jetukoma_btree_bytes_u64_contains_right(jetukoma_btree_bytes_u64 *handle, uint64_t right) {
     if (!handle) return JETUKOMA_NO_TABLE;
     return jetukoma_btree_bytes_u64_contains_right_unchecked(handle, right);
 }
 
-/* Removes the pair of a left, which is kept as what was struck out. 1: no memory, as for `get_by_left`; 5: the left
- * is not contained. */
+/* Removes the pair of a left. The table keeps the pair, so that `overwritten_left` and `overwritten_right` copy it.
+ * The call allocates as `get_by_left` does. Returns 1 if there is no memory for that, and 5 if the left is not
+ * contained. */
 uint32_t jetukoma_btree_bytes_u64_remove_by_left_unchecked(jetukoma_btree_bytes_u64 *handle, const uint8_t *left, size_t left_len);
 JETUKOMA_API uint32_t jetukoma_btree_bytes_u64_remove_by_left(jetukoma_btree_bytes_u64 *handle, const uint8_t *left, size_t left_len) {
     if (!handle) return JETUKOMA_NO_TABLE;
@@ -851,16 +891,18 @@ JETUKOMA_API uint32_t jetukoma_btree_bytes_u64_remove_by_left(jetukoma_btree_byt
     return jetukoma_btree_bytes_u64_remove_by_left_unchecked(handle, left, left_len);
 }
 
-/* Removes the pair of a right, which is kept as what was struck out. 5: the right is not contained. */
+/* Removes the pair of a right. The table keeps the pair, so that `overwritten_left` and `overwritten_right` copy it.
+ * Returns 5 if the right is not contained. */
 uint32_t jetukoma_btree_bytes_u64_remove_by_right_unchecked(jetukoma_btree_bytes_u64 *handle, uint64_t right);
 JETUKOMA_API uint32_t jetukoma_btree_bytes_u64_remove_by_right(jetukoma_btree_bytes_u64 *handle, uint64_t right) {
     if (!handle) return JETUKOMA_NO_TABLE;
     return jetukoma_btree_bytes_u64_remove_by_right_unchecked(handle, right);
 }
 
-/* Writes the left of a pair that was struck out last to the front of a buffer, and its length. The index is 0 for
- * the pair of a removal, for the one pair that an insertion overwrote and for that of the left, and 1 for that of
- * the right beside it. 4: the buffer is too short, and the length alone is written; 5: there is no such pair. */
+/* Writes the left of a pair that the last change overwrote or removed to the front of a buffer, and its length. If
+ * the change was an insertion that overwrote two pairs, index 0 is the pair of the left, and index 1 is the pair of
+ * the right. Otherwise index 0 is the pair. Returns 4 if the buffer is too short, and 5 if there is no such pair. On
+ * 4 it has written the length alone. */
 uint32_t jetukoma_btree_bytes_u64_overwritten_left_unchecked(jetukoma_btree_bytes_u64 *handle, size_t index, uint8_t *buf, size_t buf_len, size_t *len);
 JETUKOMA_API uint32_t jetukoma_btree_bytes_u64_overwritten_left(jetukoma_btree_bytes_u64 *handle, size_t index, uint8_t *buf, size_t buf_len, size_t *len) {
     if (!handle) return JETUKOMA_NO_TABLE;
@@ -868,7 +910,8 @@ JETUKOMA_API uint32_t jetukoma_btree_bytes_u64_overwritten_left(jetukoma_btree_b
     return jetukoma_btree_bytes_u64_overwritten_left_unchecked(handle, index, buf, buf_len, len);
 }
 
-/* Writes the right of a pair that was struck out last. 5: there is no such pair. */
+/* Writes the right of a pair that the last change overwrote or removed. The index is that of `overwritten_left`.
+ * Returns 5 if there is no such pair. */
 uint32_t jetukoma_btree_bytes_u64_overwritten_right_unchecked(jetukoma_btree_bytes_u64 *handle, size_t index, uint64_t *right);
 JETUKOMA_API uint32_t jetukoma_btree_bytes_u64_overwritten_right(jetukoma_btree_bytes_u64 *handle, size_t index, uint64_t *right) {
     if (!handle) return JETUKOMA_NO_TABLE;
@@ -876,16 +919,17 @@ JETUKOMA_API uint32_t jetukoma_btree_bytes_u64_overwritten_right(jetukoma_btree_
     return jetukoma_btree_bytes_u64_overwritten_right_unchecked(handle, index, right);
 }
 
-/* Removes all pairs, in time in proportion to the places, which stay. Nothing is struck out then. */
+/* Removes all pairs. The capacity does not change. The time grows with the capacity. The table keeps no overwritten
+ * pair then. */
 uint32_t jetukoma_btree_bytes_u64_clear_unchecked(jetukoma_btree_bytes_u64 *handle);
 JETUKOMA_API uint32_t jetukoma_btree_bytes_u64_clear(jetukoma_btree_bytes_u64 *handle) {
     if (!handle) return JETUKOMA_NO_TABLE;
     return jetukoma_btree_bytes_u64_clear_unchecked(handle);
 }
 
-/* Writes the pairs as the text of a JSON object, a name and its number each, by the bytes of the names, to the front
- * of a buffer, and its length. It asks for memory for all of them. 1: no memory; 3: a left is no UTF-8; 4: the
- * buffer is too short, and the length alone is written. */
+/* Writes the pairs as the text of a JSON object to the front of a buffer, and its length. Each pair is a name and
+ * its number. The names are in ascending order of their bytes. The call allocates for all pairs. Returns 1 if there
+ * is no memory, 3 if a left is not UTF-8, and 4 if the buffer is too short. On 4 it has written the length alone. */
 uint32_t jetukoma_btree_bytes_u64_to_json_unchecked(jetukoma_btree_bytes_u64 *handle, uint8_t *buf, size_t buf_len, size_t *len);
 JETUKOMA_API uint32_t jetukoma_btree_bytes_u64_to_json(jetukoma_btree_bytes_u64 *handle, uint8_t *buf, size_t buf_len, size_t *len) {
     if (!handle) return JETUKOMA_NO_TABLE;
@@ -893,8 +937,9 @@ JETUKOMA_API uint32_t jetukoma_btree_bytes_u64_to_json(jetukoma_btree_bytes_u64 
     return jetukoma_btree_bytes_u64_to_json_unchecked(handle, buf, buf_len, len);
 }
 
-/* Reads the text of such an object into the table, in place of its pairs. Nothing is struck out then. It asks for
- * memory for all of them. 1: no memory; 3: the text is no such object, or has a name or a number twice. */
+/* Reads the text of such an object. Its pairs replace those of the table, and the table keeps no overwritten pair
+ * then. The call allocates for all pairs. Returns 1 if there is no memory. Returns 3 if the text is no such object,
+ * or if it has a name or a number twice. */
 uint32_t jetukoma_btree_bytes_u64_from_json_unchecked(jetukoma_btree_bytes_u64 *handle, const uint8_t *text, size_t text_len);
 JETUKOMA_API uint32_t jetukoma_btree_bytes_u64_from_json(jetukoma_btree_bytes_u64 *handle, const uint8_t *text, size_t text_len) {
     if (!handle) return JETUKOMA_NO_TABLE;
@@ -902,9 +947,9 @@ JETUKOMA_API uint32_t jetukoma_btree_bytes_u64_from_json(jetukoma_btree_bytes_u6
     return jetukoma_btree_bytes_u64_from_json_unchecked(handle, text, text_len);
 }
 
-/* Writes the pair with exactly `rank` lefts below its own: its left to the front of a buffer, the left's length, and
- * the right. It makes a search. 4: the buffer is too short, and the length alone is written; 5: there are no more
- * pairs. */
+/* Writes the pair whose left has exactly `rank` lefts below it. It writes the left to the front of a buffer, and its
+ * length, and the right. It takes one search. Returns 4 if the buffer is too short, and 5 if there are no more
+ * pairs. On 4 it has written the length alone. */
 uint32_t jetukoma_btree_bytes_u64_pair_at_rank_unchecked(jetukoma_btree_bytes_u64 *handle, size_t rank, uint8_t *buf, size_t buf_len, size_t *len, uint64_t *right);
 JETUKOMA_API uint32_t jetukoma_btree_bytes_u64_pair_at_rank(jetukoma_btree_bytes_u64 *handle, size_t rank, uint8_t *buf, size_t buf_len, size_t *len, uint64_t *right) {
     if (!handle) return JETUKOMA_NO_TABLE;
@@ -912,7 +957,8 @@ JETUKOMA_API uint32_t jetukoma_btree_bytes_u64_pair_at_rank(jetukoma_btree_bytes
     return jetukoma_btree_bytes_u64_pair_at_rank_unchecked(handle, rank, buf, buf_len, len, right);
 }
 
-/* Writes how many lefts are below this one, byte by byte, contained or not. 1: no memory, as for `get_by_left`. */
+/* Writes how many lefts are less than this one, compared byte by byte. This one need not be contained. It allocates
+ * as `get_by_left` does. Returns 1 if there is no memory for that. */
 uint32_t jetukoma_btree_bytes_u64_left_rank_unchecked(jetukoma_btree_bytes_u64 *handle, const uint8_t *left, size_t left_len, size_t *rank);
 JETUKOMA_API uint32_t jetukoma_btree_bytes_u64_left_rank(jetukoma_btree_bytes_u64 *handle, const uint8_t *left, size_t left_len, size_t *rank) {
     if (!handle) return JETUKOMA_NO_TABLE;
@@ -920,14 +966,16 @@ JETUKOMA_API uint32_t jetukoma_btree_bytes_u64_left_rank(jetukoma_btree_bytes_u6
     return jetukoma_btree_bytes_u64_left_rank_unchecked(handle, left, left_len, rank);
 }
 
-/* Removes the pair of the least left, which is kept as what was struck out. 5: there are no pairs. */
+/* Removes the pair of the least left. The table keeps it, so that `overwritten_left` and `overwritten_right` copy
+ * it. Returns 5 if there are no pairs. */
 uint32_t jetukoma_btree_bytes_u64_pop_first_unchecked(jetukoma_btree_bytes_u64 *handle);
 JETUKOMA_API uint32_t jetukoma_btree_bytes_u64_pop_first(jetukoma_btree_bytes_u64 *handle) {
     if (!handle) return JETUKOMA_NO_TABLE;
     return jetukoma_btree_bytes_u64_pop_first_unchecked(handle);
 }
 
-/* Removes the pair of the greatest left, which is kept as what was struck out. 5: there are no pairs. */
+/* Removes the pair of the greatest left. The table keeps it, so that `overwritten_left` and `overwritten_right` copy
+ * it. Returns 5 if there are no pairs. */
 uint32_t jetukoma_btree_bytes_u64_pop_last_unchecked(jetukoma_btree_bytes_u64 *handle);
 JETUKOMA_API uint32_t jetukoma_btree_bytes_u64_pop_last(jetukoma_btree_bytes_u64 *handle) {
     if (!handle) return JETUKOMA_NO_TABLE;
@@ -940,22 +988,23 @@ typedef struct {
     bool live;
 } jetukoma_hash_bytes_u64;
 
-/* Makes an empty table of no places, in constant time, behind a handle that has none. 1: no memory; 2: the handle
- * has a table. */
+/* Makes an empty table of capacity 0 for a handle that has no table. It takes constant time. Returns 1 if there is
+ * no memory, and 2 if the handle has a table. */
 uint32_t jetukoma_hash_bytes_u64_new_unchecked(jetukoma_hash_bytes_u64 *handle);
 JETUKOMA_API uint32_t jetukoma_hash_bytes_u64_new(jetukoma_hash_bytes_u64 *handle) {
     if (!handle) return JETUKOMA_NO_TABLE;
     return jetukoma_hash_bytes_u64_new_unchecked(handle);
 }
 
-/* Frees the table with its bytes, in time in proportion to its places; the handle has none then. 2: it has none. */
+/* Frees the table and all its bytes. The handle has no table then. The time grows with the capacity. Returns 2 if
+ * the handle has no table. */
 uint32_t jetukoma_hash_bytes_u64_free_unchecked(jetukoma_hash_bytes_u64 *handle);
 JETUKOMA_API uint32_t jetukoma_hash_bytes_u64_free(jetukoma_hash_bytes_u64 *handle) {
     if (!handle) return JETUKOMA_NO_TABLE;
     return jetukoma_hash_bytes_u64_free_unchecked(handle);
 }
 
-/* Writes the number of pairs, in constant time. */
+/* Writes the number of pairs. It takes constant time. */
 uint32_t jetukoma_hash_bytes_u64_len_unchecked(jetukoma_hash_bytes_u64 *handle, size_t *len);
 JETUKOMA_API uint32_t jetukoma_hash_bytes_u64_len(jetukoma_hash_bytes_u64 *handle, size_t *len) {
     if (!handle) return JETUKOMA_NO_TABLE;
@@ -963,7 +1012,7 @@ JETUKOMA_API uint32_t jetukoma_hash_bytes_u64_len(jetukoma_hash_bytes_u64 *handl
     return jetukoma_hash_bytes_u64_len_unchecked(handle, len);
 }
 
-/* Writes the number of places for pairs, in constant time. */
+/* Writes the capacity, which is the number of pairs for which there is memory. It takes constant time. */
 uint32_t jetukoma_hash_bytes_u64_capacity_unchecked(jetukoma_hash_bytes_u64 *handle, size_t *capacity);
 JETUKOMA_API uint32_t jetukoma_hash_bytes_u64_capacity(jetukoma_hash_bytes_u64 *handle, size_t *capacity) {
     if (!handle) return JETUKOMA_NO_TABLE;
@@ -971,19 +1020,20 @@ JETUKOMA_API uint32_t jetukoma_hash_bytes_u64_capacity(jetukoma_hash_bytes_u64 *
     return jetukoma_hash_bytes_u64_capacity_unchecked(handle, capacity);
 }
 
-/* Makes places for the pairs and `more` pairs, exactly, unless they are there. Of the next `more` insertions each
- * asks for memory for its bytes alone. 1: no memory. */
+/* Makes the capacity at least the number of pairs plus `more`. It makes it no greater than needed. Each of the next
+ * `more` insertions then allocates only for its bytes. Returns 1 if there is no memory. */
 uint32_t jetukoma_hash_bytes_u64_reserve_unchecked(jetukoma_hash_bytes_u64 *handle, size_t more);
 JETUKOMA_API uint32_t jetukoma_hash_bytes_u64_reserve(jetukoma_hash_bytes_u64 *handle, size_t more) {
     if (!handle) return JETUKOMA_NO_TABLE;
     return jetukoma_hash_bytes_u64_reserve_unchecked(handle, more);
 }
 
-/* Inserts a copy of the left with the right, which overwrites the pairs that they share a value with, and writes of
- * which kind those are: 0 for none, 1 for the pair of the left alone, 2 for that of the right alone, 3 for the one
- * pair of both, and 4 for that of the left and that of the right. They are kept, as what was struck out, until the
- * next insertion, removal or clear that is done. It asks for memory for the bytes, and where it overwrites none and
- * no place is free. 1: no memory. */
+/* Inserts a copy of the left with the right. They overwrite the pairs with which they share a value. `kind` says
+ * which pairs those are: 0 for none, 1 for the pair of the left alone, 2 for the pair of the right alone, 3 for one
+ * pair with both values, and 4 for the pair of the left and the pair of the right. The table keeps the overwritten
+ * pairs until the next insertion, removal or clear that is done. `overwritten_left` and `overwritten_right` copy
+ * them. The call allocates for the bytes. It allocates for the pair only if it overwrites none and there is no spare
+ * capacity. Returns 1 if there is no memory. */
 uint32_t jetukoma_hash_bytes_u64_insert_unchecked(jetukoma_hash_bytes_u64 *handle, const uint8_t *left, size_t left_len, uint64_t right, uint32_t *kind);
 JETUKOMA_API uint32_t jetukoma_hash_bytes_u64_insert(jetukoma_hash_bytes_u64 *handle, const uint8_t *left, size_t left_len, uint64_t right, uint32_t *kind) {
     if (!handle) return JETUKOMA_NO_TABLE;
@@ -991,8 +1041,8 @@ JETUKOMA_API uint32_t jetukoma_hash_bytes_u64_insert(jetukoma_hash_bytes_u64 *ha
     return jetukoma_hash_bytes_u64_insert_unchecked(handle, left, left_len, right, kind);
 }
 
-/* Inserts a copy of the left with the right if neither is contained. Nothing is struck out then. 1: no memory; 3: a
- * value is contained. */
+/* Inserts a copy of the left with the right if neither is contained. The table keeps no overwritten pair then.
+ * Returns 1 if there is no memory, and 3 if a value is contained. */
 uint32_t jetukoma_hash_bytes_u64_insert_no_overwrite_unchecked(jetukoma_hash_bytes_u64 *handle, const uint8_t *left, size_t left_len, uint64_t right);
 JETUKOMA_API uint32_t jetukoma_hash_bytes_u64_insert_no_overwrite(jetukoma_hash_bytes_u64 *handle, const uint8_t *left, size_t left_len, uint64_t right) {
     if (!handle) return JETUKOMA_NO_TABLE;
@@ -1000,8 +1050,9 @@ JETUKOMA_API uint32_t jetukoma_hash_bytes_u64_insert_no_overwrite(jetukoma_hash_
     return jetukoma_hash_bytes_u64_insert_no_overwrite_unchecked(handle, left, left_len, right);
 }
 
-/* Inserts as `insert` does. A flag of 1 refuses where the value of its side is contained, and one of 0 overwrites.
- * 1: no memory; 3: a value is contained that its flag keeps, or a flag is above 1. */
+/* Inserts as `insert` does, under a policy of two flags. If the flag of a side is 1, a contained value of this side
+ * refuses the insertion. If it is 0, the value is overwritten. Returns 1 if there is no memory. Returns 3 if the
+ * insertion is refused or a flag is above 1. */
 uint32_t jetukoma_hash_bytes_u64_insert_with_unchecked(jetukoma_hash_bytes_u64 *handle, const uint8_t *left, size_t left_len, uint64_t right, uint8_t left_refuses, uint8_t right_refuses, uint32_t *kind);
 JETUKOMA_API uint32_t jetukoma_hash_bytes_u64_insert_with(jetukoma_hash_bytes_u64 *handle, const uint8_t *left, size_t left_len, uint64_t right, uint8_t left_refuses, uint8_t right_refuses, uint32_t *kind) {
     if (!handle) return JETUKOMA_NO_TABLE;
@@ -1009,8 +1060,8 @@ JETUKOMA_API uint32_t jetukoma_hash_bytes_u64_insert_with(jetukoma_hash_bytes_u6
     return jetukoma_hash_bytes_u64_insert_with_unchecked(handle, left, left_len, right, left_refuses, right_refuses, kind);
 }
 
-/* Writes the right of a left, found by a search. It asks for memory where the left is longer than any that was
- * looked up or removed before. 1: no memory for that; 5: the left is not contained. */
+/* Writes the right of a left. It allocates if the left is longer than every left that was looked up or removed
+ * before. Returns 1 if there is no memory for that, and 5 if the left is not contained. */
 uint32_t jetukoma_hash_bytes_u64_get_by_left_unchecked(jetukoma_hash_bytes_u64 *handle, const uint8_t *left, size_t left_len, uint64_t *right);
 JETUKOMA_API uint32_t jetukoma_hash_bytes_u64_get_by_left(jetukoma_hash_bytes_u64 *handle, const uint8_t *left, size_t left_len, uint64_t *right) {
     if (!handle) return JETUKOMA_NO_TABLE;
@@ -1018,8 +1069,8 @@ JETUKOMA_API uint32_t jetukoma_hash_bytes_u64_get_by_left(jetukoma_hash_bytes_u6
     return jetukoma_hash_bytes_u64_get_by_left_unchecked(handle, left, left_len, right);
 }
 
-/* Writes the left of a right, found by a search, to the front of a buffer, and its length. 4: the buffer is too
- * short, and the length alone is written; 5: the right is not contained. */
+/* Writes the left of a right to the front of a buffer, and its length. Returns 4 if the buffer is too short, and 5
+ * if the right is not contained. On 4 it has written the length alone. */
 uint32_t jetukoma_hash_bytes_u64_get_by_right_unchecked(jetukoma_hash_bytes_u64 *handle, uint64_t right, uint8_t *buf, size_t buf_len, size_t *len);
 JETUKOMA_API uint32_t jetukoma_hash_bytes_u64_get_by_right(jetukoma_hash_bytes_u64 *handle, uint64_t right, uint8_t *buf, size_t buf_len, size_t *len) {
     if (!handle) return JETUKOMA_NO_TABLE;
@@ -1027,7 +1078,8 @@ JETUKOMA_API uint32_t jetukoma_hash_bytes_u64_get_by_right(jetukoma_hash_bytes_u
     return jetukoma_hash_bytes_u64_get_by_right_unchecked(handle, right, buf, buf_len, len);
 }
 
-/* Returns 0 if the left is contained, and 5 if not. 1: no memory, as for `get_by_left`. */
+/* Returns 0 if the left is contained, and 5 if it is not. It allocates as `get_by_left` does. Returns 1 if there is
+ * no memory for that. */
 uint32_t jetukoma_hash_bytes_u64_contains_left_unchecked(jetukoma_hash_bytes_u64 *handle, const uint8_t *left, size_t left_len);
 JETUKOMA_API uint32_t jetukoma_hash_bytes_u64_contains_left(jetukoma_hash_bytes_u64 *handle, const uint8_t *left, size_t left_len) {
     if (!handle) return JETUKOMA_NO_TABLE;
@@ -1035,15 +1087,16 @@ JETUKOMA_API uint32_t jetukoma_hash_bytes_u64_contains_left(jetukoma_hash_bytes_
     return jetukoma_hash_bytes_u64_contains_left_unchecked(handle, left, left_len);
 }
 
-/* Returns 0 if the right is contained, and 5 if not. */
+/* Returns 0 if the right is contained, and 5 if it is not. */
 uint32_t jetukoma_hash_bytes_u64_contains_right_unchecked(jetukoma_hash_bytes_u64 *handle, uint64_t right);
 JETUKOMA_API uint32_t jetukoma_hash_bytes_u64_contains_right(jetukoma_hash_bytes_u64 *handle, uint64_t right) {
     if (!handle) return JETUKOMA_NO_TABLE;
     return jetukoma_hash_bytes_u64_contains_right_unchecked(handle, right);
 }
 
-/* Removes the pair of a left, which is kept as what was struck out. 1: no memory, as for `get_by_left`; 5: the left
- * is not contained. */
+/* Removes the pair of a left. The table keeps the pair, so that `overwritten_left` and `overwritten_right` copy it.
+ * The call allocates as `get_by_left` does. Returns 1 if there is no memory for that, and 5 if the left is not
+ * contained. */
 uint32_t jetukoma_hash_bytes_u64_remove_by_left_unchecked(jetukoma_hash_bytes_u64 *handle, const uint8_t *left, size_t left_len);
 JETUKOMA_API uint32_t jetukoma_hash_bytes_u64_remove_by_left(jetukoma_hash_bytes_u64 *handle, const uint8_t *left, size_t left_len) {
     if (!handle) return JETUKOMA_NO_TABLE;
@@ -1051,16 +1104,18 @@ JETUKOMA_API uint32_t jetukoma_hash_bytes_u64_remove_by_left(jetukoma_hash_bytes
     return jetukoma_hash_bytes_u64_remove_by_left_unchecked(handle, left, left_len);
 }
 
-/* Removes the pair of a right, which is kept as what was struck out. 5: the right is not contained. */
+/* Removes the pair of a right. The table keeps the pair, so that `overwritten_left` and `overwritten_right` copy it.
+ * Returns 5 if the right is not contained. */
 uint32_t jetukoma_hash_bytes_u64_remove_by_right_unchecked(jetukoma_hash_bytes_u64 *handle, uint64_t right);
 JETUKOMA_API uint32_t jetukoma_hash_bytes_u64_remove_by_right(jetukoma_hash_bytes_u64 *handle, uint64_t right) {
     if (!handle) return JETUKOMA_NO_TABLE;
     return jetukoma_hash_bytes_u64_remove_by_right_unchecked(handle, right);
 }
 
-/* Writes the left of a pair that was struck out last to the front of a buffer, and its length. The index is 0 for
- * the pair of a removal, for the one pair that an insertion overwrote and for that of the left, and 1 for that of
- * the right beside it. 4: the buffer is too short, and the length alone is written; 5: there is no such pair. */
+/* Writes the left of a pair that the last change overwrote or removed to the front of a buffer, and its length. If
+ * the change was an insertion that overwrote two pairs, index 0 is the pair of the left, and index 1 is the pair of
+ * the right. Otherwise index 0 is the pair. Returns 4 if the buffer is too short, and 5 if there is no such pair. On
+ * 4 it has written the length alone. */
 uint32_t jetukoma_hash_bytes_u64_overwritten_left_unchecked(jetukoma_hash_bytes_u64 *handle, size_t index, uint8_t *buf, size_t buf_len, size_t *len);
 JETUKOMA_API uint32_t jetukoma_hash_bytes_u64_overwritten_left(jetukoma_hash_bytes_u64 *handle, size_t index, uint8_t *buf, size_t buf_len, size_t *len) {
     if (!handle) return JETUKOMA_NO_TABLE;
@@ -1068,7 +1123,8 @@ JETUKOMA_API uint32_t jetukoma_hash_bytes_u64_overwritten_left(jetukoma_hash_byt
     return jetukoma_hash_bytes_u64_overwritten_left_unchecked(handle, index, buf, buf_len, len);
 }
 
-/* Writes the right of a pair that was struck out last. 5: there is no such pair. */
+/* Writes the right of a pair that the last change overwrote or removed. The index is that of `overwritten_left`.
+ * Returns 5 if there is no such pair. */
 uint32_t jetukoma_hash_bytes_u64_overwritten_right_unchecked(jetukoma_hash_bytes_u64 *handle, size_t index, uint64_t *right);
 JETUKOMA_API uint32_t jetukoma_hash_bytes_u64_overwritten_right(jetukoma_hash_bytes_u64 *handle, size_t index, uint64_t *right) {
     if (!handle) return JETUKOMA_NO_TABLE;
@@ -1076,16 +1132,17 @@ JETUKOMA_API uint32_t jetukoma_hash_bytes_u64_overwritten_right(jetukoma_hash_by
     return jetukoma_hash_bytes_u64_overwritten_right_unchecked(handle, index, right);
 }
 
-/* Removes all pairs, in time in proportion to the places, which stay. Nothing is struck out then. */
+/* Removes all pairs. The capacity does not change. The time grows with the capacity. The table keeps no overwritten
+ * pair then. */
 uint32_t jetukoma_hash_bytes_u64_clear_unchecked(jetukoma_hash_bytes_u64 *handle);
 JETUKOMA_API uint32_t jetukoma_hash_bytes_u64_clear(jetukoma_hash_bytes_u64 *handle) {
     if (!handle) return JETUKOMA_NO_TABLE;
     return jetukoma_hash_bytes_u64_clear_unchecked(handle);
 }
 
-/* Writes the pairs as the text of a JSON object, a name and its number each, by the bytes of the names, to the front
- * of a buffer, and its length. It asks for memory for all of them. 1: no memory; 3: a left is no UTF-8; 4: the
- * buffer is too short, and the length alone is written. */
+/* Writes the pairs as the text of a JSON object to the front of a buffer, and its length. Each pair is a name and
+ * its number. The names are in ascending order of their bytes. The call allocates for all pairs. Returns 1 if there
+ * is no memory, 3 if a left is not UTF-8, and 4 if the buffer is too short. On 4 it has written the length alone. */
 uint32_t jetukoma_hash_bytes_u64_to_json_unchecked(jetukoma_hash_bytes_u64 *handle, uint8_t *buf, size_t buf_len, size_t *len);
 JETUKOMA_API uint32_t jetukoma_hash_bytes_u64_to_json(jetukoma_hash_bytes_u64 *handle, uint8_t *buf, size_t buf_len, size_t *len) {
     if (!handle) return JETUKOMA_NO_TABLE;
@@ -1093,8 +1150,9 @@ JETUKOMA_API uint32_t jetukoma_hash_bytes_u64_to_json(jetukoma_hash_bytes_u64 *h
     return jetukoma_hash_bytes_u64_to_json_unchecked(handle, buf, buf_len, len);
 }
 
-/* Reads the text of such an object into the table, in place of its pairs. Nothing is struck out then. It asks for
- * memory for all of them. 1: no memory; 3: the text is no such object, or has a name or a number twice. */
+/* Reads the text of such an object. Its pairs replace those of the table, and the table keeps no overwritten pair
+ * then. The call allocates for all pairs. Returns 1 if there is no memory. Returns 3 if the text is no such object,
+ * or if it has a name or a number twice. */
 uint32_t jetukoma_hash_bytes_u64_from_json_unchecked(jetukoma_hash_bytes_u64 *handle, const uint8_t *text, size_t text_len);
 JETUKOMA_API uint32_t jetukoma_hash_bytes_u64_from_json(jetukoma_hash_bytes_u64 *handle, const uint8_t *text, size_t text_len) {
     if (!handle) return JETUKOMA_NO_TABLE;

@@ -1,6 +1,10 @@
-/* Tries each call of jetukoma.h, on each type: every status, null pointers, lengths of 0 and beyond memory, flags that are
- * none, a table freed twice and used after it; calls by chance beside a model, so many of each type as the program is told, or
- * 100,000; a JSON object of a tenth as many pairs; and each request for memory refused in turn.
+/* Tests each call of jetukoma.h on each type of table.
+ *
+ * - It tests every status, null pointers, lengths of 0, lengths that exceed the memory, and bad flags. It tests a table that is
+ *   freed twice and used after that.
+ * - It makes random calls beside a model. The first argument is their number for each type, by default 100,000.
+ * - It writes and reads a JSON object with a pair for every ten of these calls.
+ * - It refuses each allocation once.
  *
  *     cc -std=c11 -Wl,--wrap=malloc,--wrap=realloc,--wrap=free test.c libjetukoma.a -o test
  */
@@ -20,7 +24,7 @@ static void test(const char *type, const char *name, void (*run)(void)) {
     else tests_passed++;
 }
 
-/* The program's memory, of which so many requests are granted, and how many blocks are out. */
+/* The memory of the program. `granted` allocations succeed, and `blocks` are in use. */
 static size_t granted = SIZE_MAX, blocks;
 void *__real_malloc(size_t);
 void *__real_realloc(void *, size_t);
@@ -35,7 +39,7 @@ void *__wrap_realloc(void *old, size_t bytes) {
 }
 void __wrap_free(void *it) { blocks -= it != NULL, __real_free(it); }
 
-/* Values are numbered from 0 to MANY - 1. As u64 they are scattered, as bytes number n has n bytes, so that 0 has none. */
+/* Values are numbered from 0 to MANY - 1. As u64 they are scattered. As bytes, number n has n bytes, and number 0 is empty. */
 enum { MANY = 40, NONE = -1, STRANGE = -2 };
 static uint64_t number(int value) { return value * UINT64_C(0x9E3779B97F4A7C15); }
 static int of_number(uint64_t it) {
@@ -53,7 +57,7 @@ static int below_bytes(int a, int b) {
     return order ? order < 0 : a < b;
 }
 
-/* The model, what an insertion tells, and what the last call that changed something did. */
+/* The model, what an insertion writes, and what the last call that changed something overwrote or removed. */
 struct pair { int left, right; };
 struct told { uint32_t kind; struct pair first, second; };
 static const struct pair no_pair = {NONE, NONE};
@@ -118,7 +122,7 @@ static int chance(int below) {
 #undef KIND
 #undef ORDERED
 
-/* A handle whose table is of another type has none for a call, but `free`. */
+/* For every call but `free`, a handle with a table of another type has no table. */
 static void of_another_type(void) {
     jetukoma_btree_bytes_u64 t = {0};
     void *it = &t;

@@ -1,4 +1,4 @@
-/* The calls of a bimap of byte strings on the left, and numbers or byte strings on the right, as test_calls.h makes them. */
+/* The calls that test_calls.h makes, for maps with byte strings on the left, and with numbers or byte strings on the right. */
 #define BYTES 1
 #define LEFT(it) bytes(it), (size_t)(it)
 #if RIGHT_IS_BYTES
@@ -17,7 +17,7 @@
 typedef TYPE(KIND, SIDES) OUR(table);
 typedef struct { uint8_t bytes[MANY]; size_t len; uint64_t number; } OUR(out);
 
-/* The pair that the last call took out or overwrote. */
+/* The pair that the last call removed or overwrote. */
 static struct pair OUR(gone)(OUR(table) *table, size_t index) {
     OUR(out) left, right;
     size_t len = 0;
@@ -88,7 +88,7 @@ static uint32_t OUR(walk)(OUR(table) *table, struct pair *row, size_t *count) {
 #endif
 
 #if !RIGHT_IS_BYTES
-/* What is written as JSON, and what is read. Whatever is refused changes nothing. */
+/* Writes JSON and reads it. A refused call must change nothing. */
 static void OUR(reads)(OUR(table) *table, const char *text, uint32_t status, const char *written) {
     char out[80];
     size_t len = 0;
@@ -116,12 +116,12 @@ static void OUR(json)(void) {
     CHECK(CALL(to_json)(&t, out, 80, NULL) == JETUKOMA_REFUSED && CALL(from_json)(&t, out, SIZE_MAX) == JETUKOMA_REFUSED);
     CHECK(CALL(to_json)(&t, out, strlen(ann) - 1, &len) == JETUKOMA_BUFFER_TOO_SHORT && len == strlen(ann) && out[0] == 77);
     CHECK(!CALL(to_json)(&t, out, strlen(ann), &len) && !memcmp(out, ann, len));
-    /* a left that is no text can't be written */
+    /* A left that is not UTF-8 cannot be written. */
     CHECK(!CALL(insert_no_overwrite)(&t, (const uint8_t *)"\xff", 1, 1));
     out[0] = 77, len = 99;
     CHECK(CALL(to_json)(&t, out, 80, &len) == JETUKOMA_REFUSED && out[0] == 77 && len == 99);
     OUR(reads)(&t, both, 0, both);
-    /* memory refused in turn */
+    /* Each allocation is refused once. */
     for (size_t most = 0, refused = 1; refused && most < 1000; most++) {
         granted = most;
         uint32_t written = CALL(to_json)(&t, out, 80, &len);
@@ -135,7 +135,7 @@ static void OUR(json)(void) {
     CHECK(!CALL(free)(&t) && blocks == 0);
 }
 
-/* An object with a pair for every ten calls by chance, written and read back. */
+/* Writes an object with a pair for every ten of the random calls, and reads it. */
 static void OUR(large_json)(void) {
     OUR(table) t = {0}, back = {0};
     size_t pairs = (size_t)calls / 10, room = pairs * 32 + 2, len = 0, n = 0;
@@ -167,7 +167,7 @@ static void OUR(own)(OUR(table) *table, uint32_t status) {
     CHECK(CALL(left_rank)(table, LEFT(3), &rank) == status && rank == (status ? 99 : 0));
 #endif
     if (status) return;
-    /* no bytes go in and come out, and a buffer of none holds them */
+    /* An empty byte string is inserted and looked up. A buffer of length 0 is long enough for it. */
     uint8_t byte = 77;
     CHECK(!CALL(insert_no_overwrite)(table, &byte, 0, RIGHT(4)) && !CALL(get_by_right)(table, RIGHT(4), &byte, 0, &len) && len == 0 && byte == 77);
     CHECK(!CALL(remove_by_right)(table, RIGHT(4)));

@@ -1,4 +1,4 @@
-/* The tests of one type, over its calls by the numbers of values. */
+/* The tests of one type of table. The calls here take the numbers of values. */
 static void OUR(statuses)(void) {
     OUR(table) t = {0};
     size_t n = 99;
@@ -10,7 +10,7 @@ static void OUR(statuses)(void) {
     CHECK(CALL(new)(NULL) == JETUKOMA_NO_TABLE && CALL(free)(NULL) == JETUKOMA_NO_TABLE && CALL(clear)(NULL) == JETUKOMA_NO_TABLE);
     CHECK(CALL(len)(NULL, &n) == JETUKOMA_NO_TABLE && CALL(capacity)(NULL, &n) == JETUKOMA_NO_TABLE && n == 99);
     CHECK(CALL(reserve)(NULL, 1) == JETUKOMA_NO_TABLE && CALL(free)(&t) == JETUKOMA_NO_TABLE);
-    /* with no table, with one, and after it was freed twice */
+    /* The handle has no table, then it has one, and then the table was freed twice. */
     for (int round = 0; round < 3; round++) {
         uint32_t status = round == 1 ? 0 : JETUKOMA_NO_TABLE, missing = status ? status : JETUKOMA_NOT_FOUND;
         uint32_t refused = status ? status : JETUKOMA_REFUSED;
@@ -46,7 +46,7 @@ static void OUR(statuses)(void) {
     CHECK(blocks == 0);
 }
 
-/* Whether the table has the model's pairs, and no more. */
+/* Returns whether the table has exactly the pairs of the model. */
 static void OUR(same)(OUR(table) *t) {
     size_t len, capacity;
     CHECK(!CALL(len)(t, &len) && len == (size_t)held && !CALL(capacity)(t, &capacity) && capacity >= len);
@@ -64,7 +64,7 @@ static void OUR(same)(OUR(table) *t) {
     }
 }
 
-/* One call by chance, of the table and of the model. */
+/* Makes one random call on the table and on the model. */
 static void OUR(one)(OUR(table) *t) {
     int left = chance(MANY), right = chance(MANY), l = chance(2), r = chance(2), it = NONE;
     struct told told = {0, no_pair, no_pair}, wanted = told;
@@ -106,7 +106,7 @@ static void OUR(calls)(void) {
     CHECK(!CALL(free)(&t) && blocks == 0);
 }
 
-/* The same with each number of requests granted: what is refused changes nothing, and goes well once there is memory. */
+/* Makes the calls with each number of granted allocations. A refused call must change nothing. With memory it must succeed. */
 static void OUR(memory)(void) {
     int refused = 1;
     for (size_t most = 0; refused && failed < 20; most++) {
@@ -121,7 +121,7 @@ static void OUR(memory)(void) {
             granted = 0;
         }
 #if BYTES
-        /* bytes that are longer than any looked up or removed before want memory for that */
+        /* A call allocates if its bytes are longer than any that were looked up or removed before. */
         size_t saved = granted;
         int right = NONE;
         granted = 0;
@@ -149,14 +149,14 @@ static void OUR(memory)(void) {
             granted = 0;
         }
 #if !BYTES
-        /* an insertion that overwrites asks for none */
+        /* An insertion that overwrites never allocates. */
         granted = 0;
         CHECK(!OUR(insert)(&t, 3, 20, &told) && !model_insert(3, 20, 0, 0, &wanted) && same_told(told, wanted));
 #endif
         granted = SIZE_MAX;
         OUR(same)(&t);
 #if !BYTES
-        /* of many pairs those before the refusal are in */
+        /* The table has the pairs before the refused one. */
         jetukoma_u64_u64_pair row[64];
         size_t taken = 99, len, filled;
         for (uint64_t at = 0; at < 64; at++) row[at].left = row[at].right = at * 2 + 1;

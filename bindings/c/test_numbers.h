@@ -1,4 +1,4 @@
-/* The calls of a bimap of numbers, as test_calls.h makes them: by the numbers of values. */
+/* The calls that test_calls.h makes, for maps of two numbers. They take the numbers of values. */
 #define SIDES u64_u64
 #define BYTES 0
 #define CALL(it) NAME(KIND, SIDES, it)
@@ -47,7 +47,7 @@ static uint32_t OUR(walk)(OUR(table) *table, struct pair *row, size_t *count) {
     uint32_t status = CALL(fill)(table, 0, its, MANY + 1, count);
     if (status) return status;
     for (size_t at = 0; at < *count; at++) row[at] = OUR(named)(its[at]);
-    /* from each place on, the same pairs */
+    /* `fill` from a random start gives the same pairs from there on. */
     size_t start = *count ? (size_t)chance((int)*count) : 3, filled;
     CHECK(!CALL(fill)(table, start, from, MANY + 1, &filled) && filled == (start < *count ? *count - start : 0));
     CHECK(!filled || !memcmp(from, its + start, filled * sizeof *its));
@@ -71,8 +71,8 @@ static uint32_t OUR(pop)(OUR(table) *table, int first, struct pair *pair) {
 }
 #endif
 
-/* What this type has alone, answered by a table, by a handle with none, and by null. */
-/* Pairs are kept as the header shows it. */
+/* Tests the calls of this type alone: on a table, on a handle without one, and on null. */
+/* Removes pairs by a test, as the header shows. */
 static int OUR(keeps)(jetukoma_u64_u64_pair it) { return it.left % 3 == 0; }
 static void OUR(retain)(void) {
     OUR(table) t = {0};

@@ -1,4 +1,4 @@
-//! Links libjetukoma.a, which stands in lib/ beside this file, or in the folder that JETUKOMA_LIB names.
+//! Links libjetukoma.a. The file is in lib/ beside this file, or in the folder that the variable JETUKOMA_LIB names.
 use std::{env, path::absolute};
 
 fn main() {

@@ -1,5 +1,5 @@
-// Boost.Bimap beside this repository's: `boost PAIRS times KEYS KIND` makes the calls of `crates/tool_bench` over it: the same keys,
-// the same order, the same lines. `boost` alone prints its version.
+// Runs the calls of `crates/tool_bench` on Boost.Bimap. `boost PAIRS times KEYS KIND` uses the same keys in the same
+// order, and prints the same lines. `boost` alone prints its version.
 #include <boost/bimap.hpp>
 #include <boost/bimap/set_of.hpp>
 #include <boost/bimap/unordered_set_of.hpp>
@@ -39,7 +39,7 @@ template <class Work> void timed(const char *kind, const char *call, uint64_t pa
     std::printf("%s %s %.1f %llu\n", kind, call, time.count() / (pairs ? pairs : 1), (unsigned long long)found);
 }
 
-// The bytes of memory that the process has for itself.
+// Returns how many bytes of memory the process has for itself.
 static uint64_t memory() {
     unsigned long long size, all, shared, own = 0;
     if (FILE *file = std::fopen("/proc/self/statm", "r")) {
@@ -53,7 +53,8 @@ template <class Bimap, bool is_left_ordered> void measure(const char *kind, Keys
     typedef typename Bimap::value_type Pair;
     uint64_t n = keys.pairs;
     Bimap bimap;
-    // An insertion that overwrites: what holds either value goes. Counts those that struck a pair.
+    // An insertion that overwrites. It first erases the pairs that have one of the values. It counts the insertions
+    // that overwrite.
     auto insert = [&](uint64_t apart) {
         uint64_t struck = 0;
         for (uint64_t at = 0; at < n; at++) {

@@ -1,5 +1,8 @@
-"""The calls of crates/tool_bench from Python: `times.py PAIRS times KEYS KIND` makes them on a kind of the package jetukoma, or
-on bidict's where that is named. All items go in at once, again so, and come out so; look-ups and removals are a call each."""
+"""Makes the calls of crates/tool_bench from Python.
+
+`times.py PAIRS times KEYS KIND` uses a map of the package jetukoma, or of bidict if KIND is `bidict`. One call inserts all items, and
+one call returns them all. Look-ups and removals make one call for each item.
+"""
 import sys
 import time
 
@@ -7,7 +10,7 @@ WORD = 1 << 64
 
 
 def memory():
-    """The bytes of memory that the process has for itself."""
+    """Returns how many bytes of memory the process has for itself."""
     with open("/proc/self/statm", encoding="ascii") as file:
         held, shared = file.read().split()[1:3]
     return (int(held) - int(shared)) * 4096

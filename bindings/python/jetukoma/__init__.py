@@ -1,5 +1,5 @@
-"""Two-way maps: every key has one value, and every value one key. The methods are bidict's, and what answers them is a library
-in which each function is proved.
+"""Two-way maps: a key has one value, and a value has one key. The methods have the names of bidict. The library that does the
+work is proved, function by function.
 
     >>> from jetukoma import BiBTreeMap
     >>> seats = BiBTreeMap({"ann": 12, "bob": 7}, keys=str)
@@ -9,21 +9,25 @@ in which each function is proved.
     >>> seats
     BiBTreeMap({'ann': 7}, keys=str)
 
-Keys and values are ints from 0 to 2**64 - 1, unless the constructor is told otherwise: `keys=str` or `keys=bytes` with ints
-for values, or the other way round, and bytes or str on both sides. `BiBTreeMap` walks by ascending keys, or values where these
-alone are texts or bytes, and by the bytes of a text's UTF-8; `BiHashMap` in no promised order, and of texts or bytes not at
-all. A walk shows what was contained when it began.
+Types. By default, keys and values are ints from 0 to 2**64 - 1. `keys=str` or `keys=bytes` makes a map from texts or bytes to
+ints. `values=str` or `values=bytes` makes a map from ints to texts or bytes. Both sides may be str or bytes.
 
-A key of another type, or out of range, is not contained; to put one in is a TypeError, an OverflowError or, of a text that
-has no UTF-8, a UnicodeError, and nothing has changed. So it is after each exception, but for a MemoryError among many items,
-of which those before may be in. One thread at a time uses a map.
+Iteration. `BiBTreeMap` iterates in ascending order of its keys. If only the values are texts or bytes, it iterates in ascending
+order of its values. Texts are compared by the bytes of their UTF-8. `BiHashMap` iterates in no particular order. A `BiHashMap` with
+texts or bytes cannot be iterated. An iterator shows the items that the map had when the iteration began.
+
+Errors. A key of another type, or an int out of range, is not contained. To insert such a key is a TypeError or an OverflowError. To
+insert a text that has no UTF-8 is a UnicodeError. After an exception the map has not changed. There is one exception: after a
+MemoryError in a call with many items, the map may have the items before the one that failed.
+
+Threads. Only one thread at a time may use a map.
 """
 from collections.abc import ItemsView, Mapping, MutableMapping
 from weakref import ref
 
 from ._library import MISSING, SIDES, NumberTable, Table, row_of
 
-# What a look-up raises of what no map of its types contains.
+# The exceptions of a look-up with a key that no map of these types can contain.
 NEVER_CONTAINED = (TypeError, OverflowError, UnicodeError)
 
 __all__ = [
@@ -37,7 +41,7 @@ __all__ = [
 
 
 class DuplicationError(Exception):
-    """A value may not be contained twice."""
+    """A map cannot contain a value twice."""
 
 
 class KeyDuplicationError(DuplicationError):
@@ -49,7 +53,7 @@ class ValueDuplicationError(DuplicationError):
 
 
 class KeyAndValueDuplicationError(KeyDuplicationError, ValueDuplicationError):
-    """One item has the key, and another one the value."""
+    """One item has the key, and another item has the value."""
 
 
 class _Items(ItemsView):
@@ -77,7 +81,7 @@ class _Bimap(MutableMapping):
 
     @property
     def inverse(self):
-        """The same items, by their values."""
+        """Returns the map from values to keys. It has the same items and follows each change."""
         other = self._inverse
         if other is None and self._inverse_of:
             other = self._inverse_of()
@@ -104,7 +108,7 @@ class _Bimap(MutableMapping):
             return False
 
     def get(self, key, default=None):
-        """The value of a key, or the default."""
+        """Returns the value of a key, or the default."""
         try:
             value = self._find(key)
         except NEVER_CONTAINED:
@@ -133,11 +137,11 @@ class _Bimap(MutableMapping):
         return reversed(self._columns()[0])
 
     def items(self):
-        """The items, as a dict shows them."""
+        """Returns a view of the items, as a dict does."""
         return _Items(self)
 
     def values(self):
-        """The values, as a dict shows its keys."""
+        """Returns a view of the values. It is like the view of the keys of a dict."""
         return self.inverse.keys()
 
     def _insert(self, key, value, key_refuses, value_refuses):
@@ -151,31 +155,31 @@ class _Bimap(MutableMapping):
             _judge(keys.plain(key), values.plain(value), self._find(key), self._find_key(value), key_refuses)
 
     def put(self, key, value):
-        """Inserts an item. If another one has the key or the value, it is a DuplicationError."""
+        """Inserts an item. Raises a DuplicationError if another item has the key or the value."""
         self._put(key, value, True)
 
     def __setitem__(self, key, value):
-        """Inserts an item in place of one that has the key. If another one has the value, it is a ValueDuplicationError."""
+        """Inserts an item and overwrites the item of the key. Raises a ValueDuplicationError if another item has the value."""
         self._put(key, value, False)
 
     def forceput(self, key, value):
-        """Inserts an item in place of those that have the key or the value."""
+        """Inserts an item and overwrites the items that have the key or the value."""
         self._insert(key, value, False, False)
 
     def putall(self, items):
-        """Inserts items in turn, each as by put, or none of them."""
+        """Inserts all items in order, each as `put` does, or none of them."""
         self._put_all(items, {}, True)
 
     def update(self, items=(), /, **more):
-        """Sets items in turn, or none of them."""
+        """Sets all items in order, each as `map[key] = value` does, or none of them."""
         self._put_all(items, more, False)
 
     def forceupdate(self, items=(), /, **more):
-        """Inserts items in turn, each as by forceput."""
+        """Inserts items in order, each as `forceput` does."""
         self._insert_all(*self._prepared(items, more))
 
     def _prepared(self, items, more):
-        """The items as a list, and as a row where all are numbers. Each is of the types of this map."""
+        """Returns the items as a list, with the types of this map. If all are numbers, it returns a row of numbers too."""
         if isinstance(items, Mapping):
             items = items.items()
         elif hasattr(items, "keys"):
@@ -192,7 +196,7 @@ class _Bimap(MutableMapping):
 
     def _put_all(self, items, more, key_refuses):
         items, row = self._prepared(items, more)
-        # many numbers are put into a copy, which takes the table's place if none was a duplicate
+        # Many numbers are inserted into a copy. If none was a duplicate, the copy replaces the table.
         if row and len(items) * 16 >= len(self):
             copy = self._table.copy()
             copy.insert_many(row)
@@ -202,7 +206,7 @@ class _Bimap(MutableMapping):
         self._insert_all(items, row)
 
     def _check(self, items, key_refuses):
-        """Refuses what would be a duplicate when its turn comes, and changes nothing."""
+        """Raises an error if one of the items would be a duplicate when it is inserted. Changes nothing."""
         values, keys = {}, {}
         for key, value in items:
             old_value = values[key] if key in values else self._find(key)
@@ -221,7 +225,7 @@ class _Bimap(MutableMapping):
         self.pop(key)
 
     def pop(self, key, default=MISSING):
-        """Removes the item of a key and returns its value; without one the default, or else it is a KeyError."""
+        """Removes the item of a key and returns its value. Without such an item it returns the default, or raises a KeyError."""
         try:
             value = self._take(key)
         except NEVER_CONTAINED:
@@ -231,7 +235,7 @@ class _Bimap(MutableMapping):
         return default if value is MISSING else value
 
     def popitem(self, last=True):
-        """Removes the last item of the walk, or the first, and returns it."""
+        """Removes the last item in the order of iteration, or the first, and returns it."""
         if not self:
             raise KeyError("popitem(): the map is empty")
         item = self._table.at_rank(len(self) - 1 if last else 0)[:: -1 if self._side else 1]
@@ -239,7 +243,7 @@ class _Bimap(MutableMapping):
         return item
 
     def retain(self, keep):
-        """Keeps the items of which keep(key, value) says so. It asks of each once, and then removes the others."""
+        """Keeps the items for which `keep(key, value)` is true. It calls `keep` once for each item, and then removes the others."""
         gone = [key for key, value in self._walk() if not keep(key, value)]
         for key in gone:
             self._take(key)
@@ -249,18 +253,18 @@ class _Bimap(MutableMapping):
         self._table.clear()
 
     def to_json(self):
-        """The text of a JSON object with a name and its number for each item, of texts or bytes with ints."""
+        """Returns the items as the text of a JSON object. The keys must be texts or bytes, and the values must be ints."""
         return self._table.to_json()
 
     @classmethod
     def from_json(cls, text, *, keys=str):
-        """The map of such a text. It is a ValueError if the text is none, or has a name or a number twice."""
+        """Returns the map of such a text. Raises a ValueError if the text is another one, or has a name or a number twice."""
         it = cls(keys=keys)
         it._table.from_json(text)
         return it
 
     def copy(self):
-        """A map with the same items."""
+        """Returns a map with the same items."""
         return _made(type(self), self, *self._types())
 
     __copy__ = copy
@@ -278,14 +282,17 @@ class _Bimap(MutableMapping):
 
 
 class BiBTreeMap(_Bimap):
-    """A two-way map that is walked by ascending keys, or values where these alone are texts or bytes. So is its inverse."""
+    """A two-way map that iterates in ascending order of its keys. If only its values are texts or bytes, the order is theirs.
+
+    Its inverse iterates in the same order.
+    """
 
     __slots__ = ()
     _kind = "btree"
 
 
 class BiHashMap(_Bimap):
-    """A two-way map that takes constant time where the hashes spread. To pop an item takes time by its capacity."""
+    """A two-way map whose calls take expected constant time. The time of `popitem` grows with the capacity."""
 
     __slots__ = ()
     _kind = "hash"
@@ -296,7 +303,7 @@ def _made(type, items, keys, values):
 
 
 def _judge(key, value, old_value, old_key, key_refuses):
-    """Refuses an item that would be a duplicate, given what its key and its value are paired with."""
+    """Raises an error if an item would be a duplicate. `old_value` and `old_key` are the partners of its key and its value."""
     if old_value is not MISSING and old_value == value:
         return
     if old_key is MISSING:

@@ -1,4 +1,4 @@
-"""The calls of the library, by ctypes. What is passed is made here: a plain int would pass as one of 32 bits."""
+"""The calls of the library, by ctypes. This module makes each argument, since ctypes would pass a plain int as 32 bits."""
 import os
 from array import array
 from ctypes import PyDLL, Structure, byref, c_bool, c_size_t, c_uint64, c_void_p, create_string_buffer, memmove
@@ -8,7 +8,7 @@ from operator import index
 NO_MEMORY, REFUSED, BUFFER_TOO_SHORT, NOT_FOUND = 1, 3, 4, 5
 MISSING = object()
 
-# (PyDLL keeps the interpreter's lock, so no two threads make a call at once)
+# PyDLL keeps the interpreter's lock, so two threads never make a call at the same time.
 library = PyDLL(os.path.join(os.environ.get("JETUKOMA_LIB") or os.path.dirname(__file__), "libjetukoma.so"))
 
 
@@ -17,7 +17,7 @@ class Handle(Structure):
 
 
 class Numbers:
-    """A side of ints from 0 to 2**64 - 1: how one is passed, and how one comes out."""
+    """A side of ints from 0 to 2**64 - 1. It passes a value to a call, and reads a value that a call wrote."""
 
     name = "u64"
 
@@ -26,7 +26,7 @@ class Numbers:
         self.out = (byref(self._got),)
 
     def plain(self, value):
-        """The value as it comes out again."""
+        """Returns the value as a call would write it."""
         return number(value)
 
     def give(self, value):
@@ -37,10 +37,11 @@ class Numbers:
         return self._got.value
 
     def grow(self):
-        """Numbers have room."""
+        """Does nothing, since a number always fits."""
 
 
 def number(value):
+    """Returns the value as an int from 0 to 2**64 - 1."""
     value = index(value)
     if value >> 64:
         raise OverflowError(f"{value} is not from 0 to 2**64 - 1")
@@ -48,7 +49,7 @@ def number(value):
 
 
 class Bytes:
-    """A side of byte strings, the same."""
+    """A side of byte strings, with the methods of `Numbers`."""
 
     name = "bytes"
 
@@ -57,7 +58,7 @@ class Bytes:
         self.grow()
 
     def grow(self):
-        """Makes the buffer as long as the last call wanted."""
+        """Makes the buffer as long as the last call needed."""
         self._room = create_string_buffer(max(64, self._len.value))
         self.out = (self._room, c_size_t(len(self._room)), byref(self._len))
 
@@ -73,7 +74,7 @@ class Bytes:
 
 
 class Texts(Bytes):
-    """A side of texts, as their UTF-8."""
+    """A side of texts, which are passed as UTF-8."""
 
     def plain(self, value):
         return str.encode(sort_of(str, value)).decode()
@@ -86,8 +87,9 @@ class Texts(Bytes):
 
 
 def sort_of(type_, value):
+    """Returns the value, which must have this type."""
     if not isinstance(value, type_):
-        raise TypeError(f"{type_.__name__} wanted, and not {type(value).__name__}")
+        raise TypeError(f"expected {type_.__name__}, not {type(value).__name__}")
     return value
 
 
@@ -95,7 +97,10 @@ SIDES = {int: Numbers, bytes: Bytes, str: Texts}
 
 
 class Table:
-    """A table with bytes or texts on the left. What is said of a side, 0 the left one, is a function of its values."""
+    """A table with bytes or texts on the left. Side 0 is the left, and side 1 is the right.
+
+    `finder`, `asker`, `taker` and `inserter` return a function, so that the work that is the same for each call is done once.
+    """
 
     numbers = False
 
@@ -133,17 +138,17 @@ class Table:
         return look
 
     def finder(self, side):
-        """The partner of a value, or MISSING."""
+        """Returns the function that returns the partner of a value, or MISSING."""
         look, give = self._looker(side), self.sides[side].give
         return lambda value: look(*give(value))
 
     def asker(self, side):
-        """Whether a value is contained."""
+        """Returns the function that returns whether a value is contained."""
         call, at, give = self.call("contains_", side), self._at, self.sides[side].give
         return lambda value: found(call(at, *give(value)))
 
     def taker(self, side):
-        """The partner of a value whose pair is removed, or MISSING."""
+        """Returns the function that removes the pair of a value and returns the partner, or MISSING."""
         look, call, at, give = self._looker(side), self.call("remove_by_", side), self._at, self.sides[side].give
 
         def take(value):
@@ -154,35 +159,35 @@ class Table:
         return take
 
     def inserter(self):
-        """Whether a pair was inserted; it is handed over with what its left and its right refuse."""
+        """Returns the function that inserts a pair, with the flags of its left and its right, and returns whether it did."""
         call, at, told, (left, right) = self.call("insert_with"), self._at, byref(c_uint64()), self.sides
         return lambda l, r, *refuses: inserted(call(at, *left.give(l), *right.give(r), *refuses, told))
 
     def _json(self, name):
         if self.numbers or self.sides[1].name != "u64":
-            raise TypeError("JSON is of texts or bytes with ints")
+            raise TypeError("JSON needs texts or bytes as keys, and ints as values")
         return self.call(name)
 
     def to_json(self):
-        """The pairs as the text of a JSON object."""
+        """Returns the pairs as the text of a JSON object."""
         call, side = self._json("to_json"), self.sides[0]
         while (status := call(self._at, *side.out)) == BUFFER_TOO_SHORT:
             side.grow()
         if status == REFUSED:
-            raise UnicodeError("these bytes are no UTF-8")
+            raise UnicodeError("a key is not UTF-8")
         sure(status)
         return Bytes.got(side).decode()
 
     def from_json(self, text):
-        """Takes the pairs of such a text in place of those that it has."""
+        """Replaces the pairs by those of such a text."""
         text = str.encode(sort_of(str, text))
         if not inserted(self._json("from_json")(self._at, text, c_size_t(len(text)))):
-            raise ValueError("this is no JSON object of names and numbers, each once")
+            raise ValueError("the text is not a JSON object of names and numbers, or one of them occurs twice")
 
     def rows(self):
-        """The lefts and the rights, in the walk's order."""
+        """Returns the lefts and the rights in the order of iteration."""
         if self.kind != "btree":
-            raise TypeError("a hashed map of bytes or texts can't be walked")
+            raise TypeError("a hashed map of bytes or texts cannot be iterated")
         pairs = [self.at_rank(rank) for rank in range(len(self))]
         return [left for left, _ in pairs], [right for _, right in pairs]
 
@@ -198,7 +203,7 @@ class Table:
 
 
 class NumberTable(Table):
-    """A table with numbers on both sides. Many cross at once, and one goes the short way."""
+    """A table with numbers on both sides. One call passes many pairs, and a call with one pair makes fewer steps."""
 
     numbers = True
 
@@ -234,13 +239,13 @@ class NumberTable(Table):
         return insert
 
     def copy(self):
-        """A table with the same pairs."""
+        """Returns a table with the same pairs."""
         other = NumberTable(self.kind, self.types)
         other.insert_many(self.fill(0, len(self)))
         return other
 
     def exchange(self, other):
-        """Exchanges what the two contain."""
+        """Exchanges the contents of the two tables."""
         mine, theirs = bytes(self._handle), bytes(other._handle)
         memmove(self._at, theirs, len(theirs))
         memmove(other._at, mine, len(mine))
@@ -253,29 +258,30 @@ class NumberTable(Table):
         return tuple(self.fill(rank, 1))
 
     def fill(self, start, count):
-        """So many pairs from the start-th on, a left and a right in turn. So many are there."""
+        """Returns this number of pairs, from the start-th on, as a row in which lefts and rights alternate. The table has them."""
         row = array("Q", bytes(16 * count))
-        # (an empty array stands at null)
+        # The address of an empty array is null.
         if count:
             at = c_void_p(row.buffer_info()[0])
             sure(self.call("fill")(self._at, c_size_t(start), at, c_size_t(count), byref(self._size)))
         return row
 
     def insert_many(self, row):
-        """Inserts pairs in turn, each overwriting. Where there is no memory, those before are in."""
+        """Inserts pairs in order. They may overwrite. If there is no memory for a pair, the pairs before it are in the table."""
         if row:
             at = c_void_p(row.buffer_info()[0])
             sure(self.call("insert_many")(self._at, at, c_size_t(len(row) // 2), byref(self._size)))
 
 
 def row_of(pairs):
-    """The pairs of numbers in a row."""
+    """Returns the pairs of numbers as a row."""
     if set(map(len, pairs)) - {2}:
         raise ValueError("an item is not a pair")
     return array("Q", chain.from_iterable(pairs))
 
 
 def sure(status):
+    """Raises an error unless the call was done."""
     if status == NO_MEMORY:
         raise MemoryError
     if status:
@@ -283,6 +289,7 @@ def sure(status):
 
 
 def inserted(status):
+    """Returns whether an insertion was made. Raises an error unless it was made or refused."""
     if status == REFUSED:
         return False
     sure(status)
@@ -290,6 +297,7 @@ def inserted(status):
 
 
 def found(status):
+    """Returns whether a value was found. Raises an error unless it was found or not."""
     if status == NOT_FOUND:
         return False
     sure(status)

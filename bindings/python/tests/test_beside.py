@@ -1,4 +1,4 @@
-"""Bad input, the types of sides, many items, and calls by chance beside two dicts."""
+"""Tests bad input, the types of sides, many items, and random calls beside two dicts."""
 import copy
 import json
 import pickle
@@ -14,7 +14,7 @@ KINDS = [BiBTreeMap, BiHashMap]
 
 
 def of(type, number):
-    """A value of a type."""
+    """Returns a value of a type."""
     return number << 40 if type is int else "é" * number if type is str else bytes([number % 3]) * number
 
 

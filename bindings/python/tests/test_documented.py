@@ -1,4 +1,4 @@
-"""What the documentation of bidict says of its calls, at the types that are here."""
+"""Tests what the documentation of bidict says about its calls, at the types that this package has."""
 import doctest
 import unittest
 from collections.abc import MutableMapping
@@ -28,7 +28,7 @@ class Hashed:
 
 
 class Numbers:
-    """The tests of maps of numbers, of either kind."""
+    """The tests of maps of numbers, for each kind of map."""
 
     def setUp(self):
         self.one_two = self.Map({1: 10, 2: 20})
@@ -126,7 +126,7 @@ class Numbers:
         with self.assertRaises(KeyAndValueDuplicationError):
             self.one_two.update({1: 20})
         self.assertEqual(self.one_two, {1: 10, 2: 20})
-        # 10 is free when its turn comes
+        # 10 is free when this item is inserted.
         self.one_two.update([(1, 11), (3, 10)])
         self.assertEqual(self.one_two, {1: 11, 2: 20, 3: 10})
         self.assertEqual(self.Map([(1, 10), (1, 20)]), {1: 20})

@@ -1,5 +1,5 @@
-//! Two-way maps: every left has one right, and every right one left. The calls are those of the crate `bimap`, and what
-//! answers them is a library in which each function is proved.
+//! Two-way maps. A left has one right, and a right has one left. The calls have the names of the crate `bimap`. The library
+//! that does the work is proved, function by function.
 //!
 //! ```
 //! use jetukoma::{BiBTreeMap, Overwritten};
@@ -12,16 +12,18 @@
 //! assert_eq!(format!("{seats:?}"), r#"{"ann" <> 7}"#);
 //! ```
 //!
-//! # Which sides
-//! `u64` with `u64`, `Vec<u8>` or `String` with `u64`, and `Vec<u8>` with `Vec<u8>`. [`BiBTreeMap`] orders its pairs by the
-//! left, bytes one by one; [`BiHashMap`] hashes both sides. A hashed map of bytes can't be walked.
+//! # The types of the sides
+//! The pairs of types are `u64` with `u64`, `Vec<u8>` or `String` with `u64`, and `Vec<u8>` with `Vec<u8>`. [`BiBTreeMap`] has
+//! its pairs in ascending order of their lefts. Bytes are compared one by one. [`BiHashMap`] hashes both sides. You cannot
+//! iterate over a hashed map of bytes.
 //!
 //! # What differs from `bimap`
-//! - Values stand in the library: look-ups and walks give copies of them, by value.
-//! - Where there is no memory, what is named as in `bimap` ends the process, as std's collections do; a call named `try_..`
-//!   returns that instead, with the pair that it was given, and has changed nothing. An insertion that overwrites numbers asks
-//!   for none. A look-up or a removal by bytes asks for some if these are longer than any before.
-//! - A map goes to another thread, and is not shared between two: it is `Send` and not `Sync`.
+//! - The library contains the values. Look-ups and iterators return copies of them, by value.
+//! - If there is no memory, a call that `bimap` has too ends the process, as the collections of std do. A call named `try_..`
+//!   returns an error with the pair that it was given, and nothing has changed.
+//! - An insertion that overwrites numbers never allocates. A look-up or a removal by bytes allocates if these bytes are longer
+//!   than any before.
+//! - A map can be sent to another thread. Two threads cannot share it: it is `Send` and not `Sync`.
 //!
 //! ```compile_fail,E0277
 //! fn shared<T: Sync>() {}
@@ -38,16 +40,16 @@ pub use map::BijectiveMap;
 pub use sides::{Key, PairedWith, Value};
 pub use walk::{IntoIter, Iter, Walk};
 
-/// The kind of a map that orders both sides.
+/// The kind of a map with two ordered sides.
 pub enum Ordered {}
 
-/// The kind of a map that hashes both sides.
+/// The kind of a map with two hashed sides.
 pub enum Hashed {}
 
-/// A map that is walked by ascending left.
+/// A map that iterates in ascending order of its lefts.
 pub type BiBTreeMap<L, R> = BijectiveMap<L, R, Ordered>;
 
-/// A map that takes constant time where the hashes spread.
+/// A map whose calls take expected constant time.
 pub type BiHashMap<L, R> = BijectiveMap<L, R, Hashed>;
 
 /// The same as [`BiHashMap`].
@@ -58,18 +60,18 @@ pub type BiMap<L, R> = BiHashMap<L, R>;
 pub enum Overwritten<L, R> {
     /// Neither value was contained.
     Neither,
-    /// The left was, in this pair.
+    /// The left was contained, in this pair.
     Left(L, R),
-    /// The right was, in this pair.
+    /// The right was contained, in this pair.
     Right(L, R),
-    /// Both were, in this one pair.
+    /// Both values were contained, in this one pair.
     Pair(L, R),
-    /// Both were: the left in the first pair, and the right in the second.
+    /// Both values were contained: the left in the first pair, and the right in the second pair.
     Both((L, R), (L, R)),
 }
 
 impl<L, R> Overwritten<L, R> {
-    /// Whether a pair was overwritten.
+    /// Returns whether a pair was overwritten.
     pub fn did_overwrite(&self) -> bool {
         !matches!(self, Overwritten::Neither)
     }
@@ -91,21 +93,21 @@ impl<L, R> Overwritten<L, R> {
     }
 }
 
-/// What an insertion does where the map contains a value.
+/// What an insertion does if the map contains a value already.
 #[derive(Clone, Copy, Debug, Eq, PartialEq)]
 pub enum OnHeld {
     /// It overwrites the pair that has the value.
     Overwrite,
-    /// It is refused.
+    /// The insertion is refused.
     Refuse,
 }
 
-/// What an insertion does where the map contains its left, and where it contains its right.
+/// What an insertion does if the map contains its left, and if the map contains its right.
 #[derive(Clone, Copy, Debug, Eq, PartialEq)]
 pub struct Policy {
-    /// Where it contains the left.
+    /// If the map contains the left.
     pub left: OnHeld,
-    /// Where it contains the right.
+    /// If the map contains the right.
     pub right: OnHeld,
 }
 
@@ -124,10 +126,10 @@ impl Policy {
     }
 }
 
-/// Why a pair was not inserted. It is handed back, and the map is as it was.
+/// Why a pair was not inserted. It contains the pair, and the map has not changed.
 #[derive(Clone, Copy, Debug, Eq, Hash, PartialEq)]
 pub enum NotInserted<L, R> {
-    /// A value is contained that may not be overwritten.
+    /// The map contains one of the values, and it must not be overwritten.
     Occupied(L, R),
     /// There was no memory.
     Memory(L, R),

@@ -1,17 +1,17 @@
-//! The calls of the C library, made safe. A table stands behind a `Handle` from the time that it is made.
+//! The calls of the C library, made safe. A `Handle` has a table from the time that it is made.
 use std::ffi::c_void;
 use std::marker::PhantomData;
 use std::ptr::null_mut;
 
 use crate::{Overwritten, Policy};
 
-/// Why a call was refused.
+/// The reasons for which a call is refused.
 pub enum Refusal {
     Memory,
     Held,
 }
 
-/// What the library keeps a table behind. The type says which calls it is for.
+/// The handle of a table. Its type says which calls it is for.
 #[repr(C)]
 pub struct Handle<B: Library> {
     at: *mut c_void,
@@ -19,7 +19,7 @@ pub struct Handle<B: Library> {
     calls: PhantomData<B>,
 }
 
-// SAFETY: the library lets a handle go to another thread; it has no memory that belongs to one.
+// SAFETY: the library allows a handle to go to another thread. It has no memory that belongs to one thread.
 unsafe impl<B: Library> Send for Handle<B> {}
 
 impl<B: Library> Handle<B> {
@@ -40,7 +40,7 @@ impl<B: Library> Drop for Handle<B> {
     }
 }
 
-/// A value as the library knows it: `u64`, or bytes.
+/// A value as the library knows it, which is `u64` or bytes.
 type Owned<V> = <V as ToOwned>::Owned;
 type Found<B> = (Owned<<B as Library>::Left>, Owned<<B as Library>::Right>);
 type Told<B> = Overwritten<Owned<<B as Library>::Left>, Owned<<B as Library>::Right>>;
@@ -66,21 +66,21 @@ pub trait Library: Sized {
     fn remove_by_right(handle: &mut Handle<Self>, right: &Self::Right) -> Asked<Found<Self>>;
 }
 
-/// Those of a table that can be walked.
+/// The calls of a table that can be iterated.
 pub trait Walked: Library {
-    /// The longest row to ask for: a hashed table comes to the start of each row from the first place.
+    /// The longest row to ask for. A hashed table goes from its first pair to the start of each row.
     const LONGEST: usize;
-    /// The pairs from the start-th on, at most so many.
+    /// Returns at most this many pairs, from the start-th pair on.
     fn row(handle: &mut Handle<Self>, start: usize, most: usize) -> Vec<Found<Self>>;
 }
 
-/// Those of a table of bytes and numbers.
+/// The calls of a table of bytes and numbers.
 pub trait Json: Library {
     fn to_json(handle: &mut Handle<Self>) -> Result<Vec<u8>, Refusal>;
     fn from_json(handle: &mut Handle<Self>, text: &[u8]) -> Result<(), Refusal>;
 }
 
-/// Those of a table of two ordered sides.
+/// The calls of a table with two ordered sides.
 pub trait InOrder: Walked {
     fn left_rank(handle: &mut Handle<Self>, left: &Self::Left) -> Result<usize, Refusal>;
     fn pop_first(handle: &mut Handle<Self>) -> Option<Found<Self>>;
@@ -131,7 +131,7 @@ fn overwritten<L, R>(kind: u32, mut pair: impl FnMut(usize) -> (L, R)) -> Overwr
     }
 }
 
-/// A number that the library writes.
+/// Returns a number that the library writes.
 #[inline]
 fn number(call: impl FnOnce(*mut u64) -> u32) -> Asked<u64> {
     let mut it = 0;
@@ -143,7 +143,7 @@ fn size(call: impl FnOnce(*mut usize) -> u32) -> Result<usize, Refusal> {
     done(call(&mut it)).map(|()| it)
 }
 
-/// Bytes that the library writes, into a buffer that is long enough at the second time.
+/// Returns bytes that the library writes. If the buffer is too short the first time, it is long enough the second time.
 fn bytes(mut call: impl FnMut(*mut u8, usize, *mut usize) -> u32) -> Asked<Vec<u8>> {
     let mut buffer = vec![0; 32];
     loop {
@@ -168,8 +168,9 @@ macro_rules! external {
     };
 }
 
-// SAFETY, of each call below: the handle is this type's, behind a `&mut`; references and slices are handed over as pointers
-// with their lengths, and the library keeps none of them. It calls nothing of the program but malloc, realloc and free.
+// SAFETY of each call below: the handle has this type and is behind a `&mut`. References and slices are passed as
+// pointers with their lengths, and the library keeps none of them. Of the program it calls only malloc, realloc and
+// free.
 
 /// The calls that take no value.
 macro_rules! plain {
@@ -178,7 +179,7 @@ macro_rules! plain {
             done(unsafe { new(handle) })
         }
         fn free(handle: &mut Handle<Self>) {
-            // (a handle whose table was not made has none)
+            // A handle whose table could not be made has no table.
             unsafe { free(handle) };
         }
         fn len(handle: &mut Handle<Self>) -> usize {

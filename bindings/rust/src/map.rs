@@ -12,15 +12,16 @@ use crate::sides::{Key, PairedWith, Value};
 use crate::walk::{IntoIter, Iter, Walk};
 use crate::{Hashed, NoMemory, NotInserted, Ordered, Overwritten, Policy};
 
-/// A two-way map between lefts `L` and rights `R`, of the kind `K`: [`BiBTreeMap`](crate::BiBTreeMap) or
-/// [`BiHashMap`](crate::BiHashMap).
+/// A two-way map between lefts `L` and rights `R`. The kind `K` says whether it is a [`BiBTreeMap`](crate::BiBTreeMap)
+/// or a [`BiHashMap`](crate::BiHashMap).
 pub struct BijectiveMap<L: PairedWith<R, K>, R: Value, K> {
-    // A look-up takes the table out of its handle and puts it back, so a shared map is written too. No two calls are under way
-    // at once: the cell keeps the map to one thread, and the library calls nothing of the program but its allocator.
+    // A look-up takes the table out of its handle and puts it back, so it writes to a shared map too. Two calls never
+    // run at the same time: the cell keeps the map on one thread, and of the program the library calls only the
+    // allocator.
     handle: UnsafeCell<Handle<L::Library>>,
 }
 
-/// Ends the process as std's collections do.
+/// Ends the process, as the collections of std do when memory runs out.
 fn ended<T>(_: Refusal) -> T {
     handle_alloc_error(Layout::new::<[u64; 2]>())
 }
@@ -32,16 +33,17 @@ fn pair<L: Value, R: Value>((left, right): (<L::Raw as ToOwned>::Owned, <R::Raw 
 impl<L: PairedWith<R, K>, R: Value, K> BijectiveMap<L, R, K> {
     #[allow(clippy::mut_from_ref)]
     fn handle(&self) -> &mut Handle<L::Library> {
-        // SAFETY: each call below takes it once and lets it go before it returns, on the one thread that has the map.
+        // SAFETY: each call below takes the handle once and gives it up before it returns, on the one thread that has
+        // the map.
         unsafe { &mut *self.handle.get() }
     }
 
-    /// Makes an empty map, of capacity 0.
+    /// Makes an empty map of capacity 0.
     pub fn new() -> Self {
         Self::try_new().unwrap_or_else(|NoMemory| ended(Refusal::Memory))
     }
 
-    /// The same, where memory may be refused.
+    /// Makes an empty map of capacity 0, or returns `NoMemory`.
     pub fn try_new() -> Result<Self, NoMemory> {
         let handle = Handle::new().map_err(|_| NoMemory)?;
         Ok(BijectiveMap {
@@ -49,7 +51,7 @@ impl<L: PairedWith<R, K>, R: Value, K> BijectiveMap<L, R, K> {
         })
     }
 
-    /// Makes an empty map with places for so many pairs.
+    /// Makes an empty map with this capacity.
     pub fn with_capacity(capacity: usize) -> Self {
         let mut map = Self::new();
         map.reserve(capacity);
@@ -66,22 +68,22 @@ impl<L: PairedWith<R, K>, R: Value, K> BijectiveMap<L, R, K> {
         self.len() == 0
     }
 
-    /// Returns the number of places for pairs.
+    /// Returns the capacity, which is the number of pairs for which there is memory.
     pub fn capacity(&self) -> usize {
         L::Library::capacity(self.handle())
     }
 
-    /// Makes places for so many pairs more, unless they are there.
+    /// Makes the capacity at least the number of pairs plus `more`.
     pub fn reserve(&mut self, more: usize) {
         self.try_reserve(more).unwrap_or_else(|NoMemory| ended(Refusal::Memory))
     }
 
-    /// The same, where memory may be refused.
+    /// Does what [`reserve`](Self::reserve) does, or returns `NoMemory`.
     pub fn try_reserve(&mut self, more: usize) -> Result<(), NoMemory> {
         L::Library::reserve(self.handle(), more).map_err(|_| NoMemory)
     }
 
-    /// Removes all pairs. The capacity stays.
+    /// Removes all pairs. The capacity does not change.
     pub fn clear(&mut self) {
         L::Library::clear(self.handle())
     }
@@ -150,25 +152,25 @@ impl<L: PairedWith<R, K>, R: Value, K> BijectiveMap<L, R, K> {
         self.put(&left, &right, Policy::OVERWRITE).unwrap_or_else(ended)
     }
 
-    /// The same, where memory may be refused.
+    /// Does what [`insert`](Self::insert) does, or returns the pair if there is no memory.
     #[inline]
     pub fn try_insert(&mut self, left: L, right: R) -> Result<Overwritten<L, R>, NotInserted<L, R>> {
         self.try_insert_with(left, right, Policy::OVERWRITE)
     }
 
-    /// Inserts a pair if neither value is contained, or else hands it back.
+    /// Inserts a pair if neither value is contained. Otherwise it returns the pair in an `Err`.
     #[inline]
     pub fn insert_no_overwrite(&mut self, left: L, right: R) -> Result<(), (L, R)> {
         self.insert_with(left, right, Policy::REFUSE).map(drop)
     }
 
-    /// The same, where memory may be refused.
+    /// Does what [`insert_no_overwrite`](Self::insert_no_overwrite) does, or returns the pair if there is no memory.
     #[inline]
     pub fn try_insert_no_overwrite(&mut self, left: L, right: R) -> Result<(), NotInserted<L, R>> {
         self.try_insert_with(left, right, Policy::REFUSE).map(drop)
     }
 
-    /// Inserts a pair, overwriting where the policy lets it, or else hands it back.
+    /// Inserts a pair under a policy. If the policy refuses the pair, it returns the pair in an `Err`.
     #[inline]
     pub fn insert_with(&mut self, left: L, right: R, policy: Policy) -> Result<Overwritten<L, R>, (L, R)> {
         self.try_insert_with(left, right, policy).map_err(|why| match why {
@@ -177,7 +179,7 @@ impl<L: PairedWith<R, K>, R: Value, K> BijectiveMap<L, R, K> {
         })
     }
 
-    /// The same, where memory may be refused.
+    /// Does what [`insert_with`](Self::insert_with) does, or returns the pair if there is no memory.
     #[inline]
     pub fn try_insert_with(&mut self, left: L, right: R, policy: Policy) -> Result<Overwritten<L, R>, NotInserted<L, R>> {
         match self.put(&left, &right, policy) {
@@ -198,17 +200,18 @@ impl<L: PairedWith<R, K, Library: Walked>, R: Value, K> BijectiveMap<L, R, K> {
         L::Library::row(self.handle(), start, most).into_iter().map(pair).collect()
     }
 
-    /// Walks the pairs, by ascending left where that is ordered.
+    /// Returns an iterator over the pairs. If the left side is ordered, the pairs are in ascending order of their
+    /// lefts.
     pub fn iter(&self) -> Iter<'_, L, R, K> {
         Walk::new(self, 0, self.len())
     }
 
-    /// Walks the lefts, in the order of [`iter`](Self::iter).
+    /// Returns an iterator over the lefts, in the order of [`iter`](Self::iter).
     pub fn left_values(&self) -> impl Iterator<Item = L> {
         self.iter().map(|(left, _)| left)
     }
 
-    /// Keeps the pairs of which `f` says so. It asks of each pair once.
+    /// Keeps the pairs for which `f` returns `true`. It calls `f` once for each pair.
     pub fn retain<F: FnMut(&L, &R) -> bool>(&mut self, mut f: F) {
         let gone: Vec<L> = self.iter().filter(|(left, right)| !f(left, right)).map(|(left, _)| left).collect();
         for left in &gone {
@@ -218,7 +221,8 @@ impl<L: PairedWith<R, K, Library: Walked>, R: Value, K> BijectiveMap<L, R, K> {
 }
 
 impl<L: PairedWith<u64, K, Library: Json>, K> BijectiveMap<L, u64, K> {
-    /// Returns the pairs as a JSON object, a name and its number each, or `None` where a left is no UTF-8.
+    /// Returns the pairs as a JSON object with a name and its number for each pair. Returns `None` if a left is not
+    /// UTF-8.
     pub fn to_json(&self) -> Option<String> {
         match L::Library::to_json(self.handle()) {
             Ok(text) => Some(String::from_utf8(text).expect("JSON is UTF-8")),
@@ -227,7 +231,7 @@ impl<L: PairedWith<u64, K, Library: Json>, K> BijectiveMap<L, u64, K> {
         }
     }
 
-    /// Makes the map of such a JSON object, or returns `None` where the text is none, or has a name or a number twice.
+    /// Makes the map of such a JSON object. Returns `None` if the text is another one, or has a name or a number twice.
     pub fn from_json(text: &str) -> Option<Self> {
         let map = Self::new();
         match L::Library::from_json(map.handle(), text.as_bytes()) {
@@ -239,14 +243,14 @@ impl<L: PairedWith<u64, K, Library: Json>, K> BijectiveMap<L, u64, K> {
 }
 
 impl<R: Value + Ord, L: PairedWith<R, Ordered, Library: InOrder>> BijectiveMap<L, R, Ordered> {
-    /// Walks the rights, ascending. They are copied and put in order first.
+    /// Returns an iterator over the rights in ascending order. It copies and sorts them first.
     pub fn right_values(&self) -> impl Iterator<Item = R> {
         let mut all: Vec<R> = self.iter().map(|(_, right)| right).collect();
         all.sort_unstable();
         all.into_iter()
     }
 
-    /// Walks the pairs whose left is within the bounds. Reversed bounds have none.
+    /// Returns an iterator over the pairs whose left is within the bounds. If the bounds run backwards, there are none.
     pub fn left_range<A: RangeBounds<L>>(&self, bounds: A) -> Iter<'_, L, R, Ordered> {
         let below = |left: &L, and_itself: bool| self.left_rank(left) + (and_itself && self.contains_left(left)) as usize;
         let start = match bounds.start_bound() {
@@ -262,7 +266,7 @@ impl<R: Value + Ord, L: PairedWith<R, Ordered, Library: InOrder>> BijectiveMap<L
         Walk::new(self, start, end.max(start))
     }
 
-    /// Returns how many lefts are below this one, contained or not.
+    /// Returns how many lefts are less than this one, which need not be contained.
     pub fn left_rank<Q: Key<Raw = L::Raw> + ?Sized>(&self, left: &Q) -> usize
     where
         L: Borrow<Q>,
@@ -282,7 +286,7 @@ impl<R: Value + Ord, L: PairedWith<R, Ordered, Library: InOrder>> BijectiveMap<L
 }
 
 impl<R: Value, L: PairedWith<R, Hashed, Library: Walked>> BijectiveMap<L, R, Hashed> {
-    /// Walks the rights, in the order of [`iter`](Self::iter).
+    /// Returns an iterator over the rights, in the order of [`iter`](Self::iter).
     pub fn right_values(&self) -> impl Iterator<Item = R> {
         self.iter().map(|(_, right)| right)
     }
@@ -320,7 +324,7 @@ impl<L: PairedWith<R, K, Library: Walked>, R: Value + PartialEq, K> PartialEq fo
 
 impl<L: PairedWith<R, K, Library: Walked>, R: Value + Eq, K> Eq for BijectiveMap<L, R, K> {}
 
-/// By the pairs in turn, the least left first.
+/// Compares the pairs in ascending order of their lefts.
 impl<L: PairedWith<R, Ordered, Library: Walked> + Ord, R: Value + Ord> Ord for BijectiveMap<L, R, Ordered> {
     fn cmp(&self, other: &Self) -> Ordering {
         self.iter().cmp(other.iter())
@@ -339,7 +343,7 @@ impl<L: PairedWith<R, Ordered, Library: Walked> + Hash, R: Value + Hash> Hash fo
     }
 }
 
-/// Each pair is put in as by `insert`, in turn, and may overwrite earlier ones.
+/// Inserts each pair in order, as `insert` does. A pair may overwrite earlier ones.
 impl<L: PairedWith<R, K>, R: Value, K> Extend<(L, R)> for BijectiveMap<L, R, K> {
     fn extend<I: IntoIterator<Item = (L, R)>>(&mut self, pairs: I) {
         for (left, right) in pairs {

@@ -2,27 +2,28 @@
 use crate::library::{BTreeBytesBytes, BTreeBytesU64, BTreeU64U64, HashBytesBytes, HashBytesU64, HashU64U64, Library};
 use crate::{Hashed, Ordered};
 
-// (What nobody outside can name, nobody outside can implement.)
+// Nobody outside this crate can name this trait, so nobody outside can implement it.
 mod sealed {
     pub trait Raw {
-        /// What the library knows of a value.
+        /// The value as the library knows it.
         type Raw: ?Sized + ToOwned;
         fn raw(&self) -> &Self::Raw;
     }
     pub trait Paired<R, K> {}
 }
 
-/// What a value may be looked up by: `u64`, `str`, `[u8]`, `String` and `Vec<u8>`. It is for these types alone.
+/// A value by which another value can be looked up: `u64`, `str`, `[u8]`, `String` or `Vec<u8>`. You cannot implement
+/// this trait for other types.
 pub trait Key: sealed::Raw {}
 
-/// A value of a side: `u64`, `String` or `Vec<u8>`. It is for these types alone.
+/// A value of a side: `u64`, `String` or `Vec<u8>`. You cannot implement this trait for other types.
 pub trait Value: Key + Sized {
     #[doc(hidden)]
     fn of(it: <Self::Raw as ToOwned>::Owned) -> Self;
 }
 
-/// A left, with the rights that a map of the kind `K` pairs it with: `u64` with `u64`, `Vec<u8>` and `String` with `u64`, and
-/// `Vec<u8>` with `Vec<u8>`. It is for these types alone.
+/// A left, with the rights that a map of the kind `K` can have for it. The pairs of types are `u64` with `u64`,
+/// `Vec<u8>` and `String` with `u64`, and `Vec<u8>` with `Vec<u8>`. You cannot implement this trait for other types.
 pub trait PairedWith<R: Value, K>: Value + sealed::Paired<R, K> {
     #[doc(hidden)]
     type Library: Library<Left = Self::Raw, Right = R::Raw>;

@@ -1,4 +1,4 @@
-//! Walks over the pairs of a map, a row of them at a time.
+//! Iterators over the pairs of a map. They read a row of pairs at a time.
 use std::borrow::Borrow;
 use std::iter::FusedIterator;
 use std::marker::PhantomData;
@@ -8,7 +8,7 @@ use crate::BijectiveMap;
 use crate::library::Walked;
 use crate::sides::{PairedWith, Value};
 
-/// A walk over the pairs of a map that is lent or owned.
+/// An iterator over the pairs of a borrowed or an owned map.
 pub struct Walk<M, L, R, K> {
     map: M,
     row: vec::IntoIter<(L, R)>,
@@ -18,10 +18,10 @@ pub struct Walk<M, L, R, K> {
     kind: PhantomData<K>,
 }
 
-/// A walk over the pairs of a map.
+/// An iterator over the pairs of a map.
 pub type Iter<'a, L, R, K> = Walk<&'a BijectiveMap<L, R, K>, L, R, K>;
 
-/// A walk over the pairs of a map that it owns.
+/// An iterator over the pairs of a map that it owns.
 pub type IntoIter<L, R, K> = Walk<BijectiveMap<L, R, K>, L, R, K>;
 
 impl<M, L, R, K> Walk<M, L, R, K> {

@@ -1,4 +1,5 @@
-//! What the crate `bimap` doesn't have: policies, refusals of memory, threads; and calls by chance beside two maps of std.
+//! Tests what the crate `bimap` does not have: policies, refusals of memory, and threads. It also makes random calls
+//! beside two maps of std.
 use jetukoma::{BiBTreeMap, BiHashMap, NoMemory, NotInserted, OnHeld, Overwritten, Policy};
 use std::collections::BTreeMap;
 use std::process::Command;
@@ -77,7 +78,7 @@ fn no_memory() {
     assert_eq!(NoMemory.to_string(), "no memory");
 }
 
-/// Run by the next test alone, with little memory.
+/// The next test runs this one alone, with little memory.
 #[test]
 #[ignore]
 fn starved() {
@@ -192,7 +193,7 @@ fn chance(state: &mut u64, below: u64) -> u64 {
     (*state >> 33) % below
 }
 
-/// Calls by chance, of values that are made from numbers.
+/// Makes random calls with values that are made from numbers.
 macro_rules! beside_a_model {
     ($($test:ident $map:ident $left:expr, $right:expr;)*) => { $(
         #[test]

@@ -1,13 +1,13 @@
-//! What the documentation of the crate `bimap` says of its calls, at the types that are here.
+//! Tests what the documentation of the crate `bimap` says about its calls, at the types that this crate has.
 use jetukoma::{BiBTreeMap, BiHashMap, BiMap, Overwritten};
 use std::collections::HashSet;
 
-/// A text, or its bytes.
+/// Returns a text, or its bytes.
 fn s<T: From<&'static str>>(text: &'static str) -> T {
     text.into()
 }
 
-/// The tests, of each kind.
+/// The tests, for each kind of map.
 macro_rules! of_each_kind {
     ($($test:item)*) => {
         mod ordered {

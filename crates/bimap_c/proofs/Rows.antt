@@ -1,4 +1,4 @@
--- How far a walk was written to a row, and where a walk begins.
+-- How many pairs of an iterator are written to a row, and where an iterator begins.
 use Rattle.std.proofs.Common.{◌≡◌, ℕ, zero, suc, None, Option, Some, nat_lt, not, slice_get, get_or, ◌<◌, ◌≤◌, ◌+◌, List, [], ◌∷◌, ◌++◌, length, take, drop, map, set, refl, sym, ap, subst, ◌∙◌, inl, inr, arith, add-one, true, false}
 use Rattle.std.proofs.lemmas.Bool.Decides.{nat_tests}
 use Rattle.std.proofs.lemmas.Iterator.Consumers.{YieldsList-turn}
@@ -19,7 +19,7 @@ one_more (q ∷ walk) [] n p l m e = absurd (omega (arith, m))
 one_more (q ∷ walk) (r ∷ old) zero p l m e = ap (λ x. row x ∷ old) e
 one_more (q ∷ walk) (r ∷ old) (suc n) p l m e = ap (λ rows. row q ∷ rows) (one_more walk old n p (omega (arith, l)) (omega (arith, m)) e)
 
--- the next pair of a walk was written to a row
+-- The next pair of an iterator was written to a row.
 pub one_written : {W : Type 0} (gives : W → Option (Bor ℕ × Bor ℕ) → W → Type 0) (walk t u : W) (pairs : List (ℕ × ℕ)) (came : List (Bor ℕ × Bor ℕ)) (p : Bor ℕ × Bor ℕ) (old new : List Row) (n : ℕ) → AlwaysYields gives deref_pair walk pairs → Yields gives walk came t → gives t (Some p) u → n ≡ length came → n < length old → new ≡ map row (take n pairs) ++ drop n old
     → (n < length pairs) × (set new n (row (deref_pair p)) ≡ map row (take (n + 1) pairs) ++ drop (n + 1) old)
 one_written gives walk t u pairs came p old new n all y step e lt is =
@@ -42,7 +42,7 @@ from_place x (q ∷ pairs) (suc k) below above =
 less : (a b : ℕ) → nat_cmp a b ≡ Less → a < b
 less a b e = grind (arith, nat_tests, e)
 
--- of ascending pairs those from the left of one on are those from its rank on
+-- In ascending order of lefts, the pairs from a left on are the pairs from its rank on.
 pub from_rank : (pairs : List (ℕ × ℕ)) (rank : ℕ) (p : ℕ × ℕ) → AllPairs (λ q r. nat_cmp q.0 r.0 ≡ Less) pairs → slice_get pairs rank ≡ Some p → filter (λ q. not (nat_lt q.0 p.0)) pairs ≡ drop rank pairs
 from_rank pairs rank p ascending at =
     let lt = slice_get_within pairs rank p at in

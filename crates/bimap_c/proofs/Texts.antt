@@ -28,7 +28,7 @@ flat (member k d ms) each =
     let first = each (k, d) (head_in (k, d) (entries_of ms)) in
     omega (arith, ap depth first.1, flat ms (λ e m. each e (more_in (k, d) (entries_of ms) e m)))
 
--- an object of numbers is not deep
+-- An object of numbers is not deep.
 pub shallow : (value : Data) (ms : Members) → as_object value ≡ Some ms → ((e : Entry) → Contains (entries_of ms) e → (n : Num) × (e.1 ≡ number n)) → depth value ≤ 1
 shallow (object m) ms e each = let same : m ≡ ms = cc e in omega (arith, ap members_depth same, flat ms each)
 shallow value ms e each = absurd (cc e)
@@ -36,14 +36,14 @@ shallow value ms e each = absurd (cc e)
 abbrev Read : {B : Type 0} → (B → Holding ByteString ℕ) → ℕ → List ℕ → Result B JsonFault → Type 0
 Read holding places text result = ReadsTextUnder (λ t b. b.bytes.items ≡ t) (IsUnsignedValue 64) same_bytes nat_eq holding places text (record { left = Refuse; right = Refuse }) result
 
--- what was read of a text, told of its bytes and of what the bimap holds
+-- What was read from a text, by its bytes and by what the map contains.
 pub read_as : {B : Type 0} (holding : B → Holding ByteString ℕ) (places : ℕ) (text bytes : List ℕ) (b : B) → places ≡ 0 → text ≡ bytes → Read holding places text (Ok b) → Read (λ held. held) 0 bytes (Ok (holding b))
 read_as holding places text bytes b p q h = subst (λ n. Read (λ held. held) n bytes (Ok (holding b))) p (subst (λ t. Read (λ held. held) places t (Ok (holding b))) q h)
 
 pub unread_as : {B : Type 0} (holding : B → Holding ByteString ℕ) (places : ℕ) (text bytes : List ℕ) (fault : JsonFault) → places ≡ 0 → text ≡ bytes → Read holding places text (Err fault) → Read {B = Holding ByteString ℕ} (λ held. held) 0 bytes (Err fault)
 unread_as holding places text bytes fault p q h = subst (λ n. Read {B = Holding ByteString ℕ} (λ held. held) n bytes (Err fault)) p (subst (λ t. Read {B = Holding ByteString ℕ} (λ held. held) places t (Err fault)) q h)
 
--- what `all` answered of the texts
+-- What `all` returned for the texts.
 abbrev Tested : List (ByteString × ℕ) → Bool → Type 0
 Tested pairs r = MatchBool r (AllWithin (λ p. IsUtf8 p.0.bytes.items) pairs 0 (length pairs)) ((k : ℕ) × (k < length pairs) × HoldsAt (λ p. IsUtf8 p.0.bytes.items → ⊥) pairs k)
 

@@ -1,4 +1,4 @@
-//! The ordered bimap of two byte strings for C.
+//! The functions for C of the ordered map of two byte strings.
 ghost use Rattle.std.specs.Prelude.{◌≡◌, ◌≤◌, ℕ, Option, [], length, option_map, slice_get, vec_capacity, Contains};
 ghost use Rattle.std.specs.Borrow.{Bor};
 ghost use Rattle.bimap.specs.Holding.{IsFoundByLeft, IsFoundByRight};
@@ -16,8 +16,8 @@ use crate::{bytes, bytes_bytes, calls};
 use bimap::{BiBTreeMap, OnHeld, Overwritten};
 use std::alloc::Global;
 
-/// Makes an empty table of no places, in constant time, behind a handle that has none. 1: no memory; 2: the handle has
-/// a table.
+/// Makes an empty table of capacity 0 for a handle that has no table. It takes constant time. Returns 1 if there is
+/// no memory, and 2 if the handle has a table.
 #[unsafe(no_mangle)]
 pub extern "C" fn jetukoma_btree_bytes_bytes_new_unchecked(
     alloc: Global,
@@ -33,7 +33,8 @@ pub extern "C" fn jetukoma_btree_bytes_bytes_new_unchecked(
     )
 }
 
-/// Frees the table with its bytes, in time in proportion to its places; the handle has none then. 2: it has none.
+/// Frees the table and all its bytes. The handle has no table then. The time grows with the capacity. Returns 2 if
+/// the handle has no table.
 #[unsafe(no_mangle)]
 pub extern "C" fn jetukoma_btree_bytes_bytes_free_unchecked(
     alloc: Global,
@@ -44,7 +45,7 @@ pub extern "C" fn jetukoma_btree_bytes_bytes_free_unchecked(
     handle.free(alloc)
 }
 
-/// Writes the number of pairs, in constant time.
+/// Writes the number of pairs. It takes constant time.
 #[unsafe(no_mangle)]
 pub extern "C" fn jetukoma_btree_bytes_bytes_len_unchecked(
     alloc: Global,
@@ -59,7 +60,7 @@ pub extern "C" fn jetukoma_btree_bytes_bytes_len_unchecked(
     on_table!(handle, alloc, BtreeBytesBytes, table => calls::len(&table.map, len))
 }
 
-/// Writes the number of places for pairs, in constant time.
+/// Writes the capacity, which is the number of pairs for which there is memory. It takes constant time.
 #[unsafe(no_mangle)]
 pub extern "C" fn jetukoma_btree_bytes_bytes_capacity_unchecked(
     alloc: Global,
@@ -74,8 +75,8 @@ pub extern "C" fn jetukoma_btree_bytes_bytes_capacity_unchecked(
     on_table!(handle, alloc, BtreeBytesBytes, table => calls::capacity(&table.map, capacity))
 }
 
-/// Makes places for the pairs and `more` pairs, exactly, unless they are there. Of the next `more` insertions each asks
-/// for memory for its bytes alone. 1: no memory.
+/// Makes the capacity at least the number of pairs plus `more`. It makes it no greater than needed. Each of the next
+/// `more` insertions then allocates only for its bytes. Returns 1 if there is no memory.
 #[unsafe(no_mangle)]
 pub extern "C" fn jetukoma_btree_bytes_bytes_reserve_unchecked(
     alloc: Global,
@@ -89,11 +90,12 @@ pub extern "C" fn jetukoma_btree_bytes_bytes_reserve_unchecked(
     on_table!(handle, alloc, BtreeBytesBytes, table => calls::reserve(&mut table.map, more))
 }
 
-/// Inserts copies of the left and the right, which overwrite the pairs that they share a value with, and writes of
-/// which kind those are: 0 for none, 1 for the pair of the left alone, 2 for that of the right alone, 3 for the one pair
-/// of both, and 4 for that of the left and that of the right. They are kept, as what was struck out, until the next
-/// insertion, removal or clear that is done. It asks for memory for the bytes, and where it overwrites none and no place
-/// is free. 1: no memory.
+/// Inserts copies of the left and the right. They overwrite the pairs with which they share a value. `kind` says
+/// which pairs those are: 0 for none, 1 for the pair of the left alone, 2 for the pair of the right alone, 3 for one
+/// pair with both values, and 4 for the pair of the left and the pair of the right. The table keeps the overwritten
+/// pairs until the next insertion, removal or clear that is done. `overwritten_left` and `overwritten_right` copy
+/// them. The call allocates for the bytes. It allocates for the pair only if it overwrites none and there is no spare
+/// capacity. Returns 1 if there is no memory.
 #[unsafe(no_mangle)]
 pub extern "C" fn jetukoma_btree_bytes_bytes_insert_unchecked(
     alloc: Global,
@@ -111,8 +113,8 @@ pub extern "C" fn jetukoma_btree_bytes_bytes_insert_unchecked(
     on_table!(handle, alloc, BtreeBytesBytes, table => bytes_bytes::insert(alloc, table, left, right, kind))
 }
 
-/// Inserts copies of the left and the right if neither is contained. Nothing is struck out then. 1: no memory; 3: a
-/// value is contained.
+/// Inserts copies of the left and the right if neither is contained. The table keeps no overwritten pair then.
+/// Returns 1 if there is no memory, and 3 if a value is contained.
 #[unsafe(no_mangle)]
 pub extern "C" fn jetukoma_btree_bytes_bytes_insert_no_overwrite_unchecked(
     alloc: Global,
@@ -127,8 +129,9 @@ pub extern "C" fn jetukoma_btree_bytes_bytes_insert_no_overwrite_unchecked(
     on_table!(handle, alloc, BtreeBytesBytes, table => bytes_bytes::insert_no_overwrite(alloc, table, left, right))
 }
 
-/// Inserts as `insert` does. A flag of 1 refuses where the value of its side is contained, and one of 0 overwrites. 1: no
-/// memory; 3: a value is contained that its flag keeps, or a flag is above 1.
+/// Inserts as `insert` does, under a policy of two flags. If the flag of a side is 1, a contained value of this side
+/// refuses the insertion. If it is 0, the value is overwritten. Returns 1 if there is no memory. Returns 3 if the
+/// insertion is refused or a flag is above 1.
 #[unsafe(no_mangle)]
 pub extern "C" fn jetukoma_btree_bytes_bytes_insert_with_unchecked(
     alloc: Global,
@@ -147,9 +150,9 @@ pub extern "C" fn jetukoma_btree_bytes_bytes_insert_with_unchecked(
     on_table!(handle, alloc, BtreeBytesBytes, table => bytes_bytes::insert_with(alloc, table, left, right, left_refuses, right_refuses, kind))
 }
 
-/// Writes the right of a left, found by a search, to the front of a buffer, and its length. It asks for memory where the
-/// left is longer than any value that was looked up or removed before. 1: no memory for that; 4: the buffer is too short,
-/// and the length alone is written; 5: the left is not contained.
+/// Writes the right of a left to the front of a buffer, and its length. It allocates if the left is longer than every
+/// value that was looked up or removed before. Returns 1 if there is no memory for that, 4 if the buffer is too
+/// short, and 5 if the left is not contained. On 4 it has written the length alone.
 #[unsafe(no_mangle)]
 pub extern "C" fn jetukoma_btree_bytes_bytes_get_by_left_unchecked(
     alloc: Global,
@@ -169,9 +172,9 @@ pub extern "C" fn jetukoma_btree_bytes_bytes_get_by_left_unchecked(
     on_table!(handle, alloc, BtreeBytesBytes, table => bytes_bytes::get_by_left(table, left, buf, len))
 }
 
-/// Writes the left of a right, found by a search, to the front of a buffer, and its length. 4: the buffer is too short,
-/// and the length alone is written; 5: the right is not contained; 1: no memory, as for
-/// `get_by_left`.
+/// Writes the left of a right to the front of a buffer, and its length. It allocates as `get_by_left` does. Returns 1
+/// if there is no memory for that, 4 if the buffer is too short, and 5 if the right is not contained. On 4 it has
+/// written the length alone.
 #[unsafe(no_mangle)]
 pub extern "C" fn jetukoma_btree_bytes_bytes_get_by_right_unchecked(
     alloc: Global,
@@ -191,7 +194,8 @@ pub extern "C" fn jetukoma_btree_bytes_bytes_get_by_right_unchecked(
     on_table!(handle, alloc, BtreeBytesBytes, table => bytes_bytes::get_by_right(table, right, buf, len))
 }
 
-/// Returns 0 if the left is contained, and 5 if not. 1: no memory, as for `get_by_left`.
+/// Returns 0 if the left is contained, and 5 if it is not. It allocates as `get_by_left` does. Returns 1 if there is
+/// no memory for that.
 #[unsafe(no_mangle)]
 pub extern "C" fn jetukoma_btree_bytes_bytes_contains_left_unchecked(
     alloc: Global,
@@ -205,7 +209,8 @@ pub extern "C" fn jetukoma_btree_bytes_bytes_contains_left_unchecked(
     on_table!(handle, alloc, BtreeBytesBytes, table => bytes::contains_left(table, left))
 }
 
-/// Returns 0 if the right is contained, and 5 if not. 1: no memory, as for `get_by_left`.
+/// Returns 0 if the right is contained, and 5 if it is not. It allocates as `get_by_left` does. Returns 1 if there is
+/// no memory for that.
 #[unsafe(no_mangle)]
 pub extern "C" fn jetukoma_btree_bytes_bytes_contains_right_unchecked(
     alloc: Global,
@@ -219,8 +224,9 @@ pub extern "C" fn jetukoma_btree_bytes_bytes_contains_right_unchecked(
     on_table!(handle, alloc, BtreeBytesBytes, table => bytes_bytes::contains_right(table, right))
 }
 
-/// Removes the pair of a left, which is kept as what was struck out. 1: no memory, as for `get_by_left`; 5: the left is
-/// not contained.
+/// Removes the pair of a left. The table keeps the pair, so that `overwritten_left` and `overwritten_right` copy it.
+/// The call allocates as `get_by_left` does. Returns 1 if there is no memory for that, and 5 if the left is not
+/// contained.
 #[unsafe(no_mangle)]
 pub extern "C" fn jetukoma_btree_bytes_bytes_remove_by_left_unchecked(
     alloc: Global,
@@ -234,8 +240,9 @@ pub extern "C" fn jetukoma_btree_bytes_bytes_remove_by_left_unchecked(
     on_table!(handle, alloc, BtreeBytesBytes, table => bytes::remove_by_left(table, left))
 }
 
-/// Removes the pair of a right, which is kept as what was struck out. 1: no memory, as for `get_by_left`; 5: the right
-/// is not contained.
+/// Removes the pair of a right. The table keeps the pair, so that `overwritten_left` and `overwritten_right` copy it.
+/// The call allocates as `get_by_left` does. Returns 1 if there is no memory for that, and 5 if the right is not
+/// contained.
 #[unsafe(no_mangle)]
 pub extern "C" fn jetukoma_btree_bytes_bytes_remove_by_right_unchecked(
     alloc: Global,
@@ -250,9 +257,10 @@ pub extern "C" fn jetukoma_btree_bytes_bytes_remove_by_right_unchecked(
     on_table!(handle, alloc, BtreeBytesBytes, table => bytes_bytes::remove_by_right(table, right))
 }
 
-/// Writes the left of a pair that was struck out last to the front of a buffer, and its length. The index is 0 for the
-/// pair of a removal, for the one pair that an insertion overwrote and for that of the left, and 1 for that of the right
-/// beside it. 4: the buffer is too short, and the length alone is written; 5: there is no such pair.
+/// Writes the left of a pair that the last change overwrote or removed to the front of a buffer, and its length. If
+/// the change was an insertion that overwrote two pairs, index 0 is the pair of the left, and index 1 is the pair of
+/// the right. Otherwise index 0 is the pair. Returns 4 if the buffer is too short, and 5 if there is no such pair. On
+/// 4 it has written the length alone.
 #[unsafe(no_mangle)]
 pub extern "C" fn jetukoma_btree_bytes_bytes_overwritten_left_unchecked(
     alloc: Global,
@@ -271,7 +279,8 @@ pub extern "C" fn jetukoma_btree_bytes_bytes_overwritten_left_unchecked(
     on_table!(handle, alloc, BtreeBytesBytes, table => bytes::overwritten_left(table, index, buf, len))
 }
 
-/// Writes the right of a pair that was struck out last, as `overwritten_left` its left.
+/// Writes the right of a pair that the last change overwrote or removed to the front of a buffer, and its length. The
+/// index and the statuses are those of `overwritten_left`.
 #[unsafe(no_mangle)]
 pub extern "C" fn jetukoma_btree_bytes_bytes_overwritten_right_unchecked(
     alloc: Global,
@@ -290,7 +299,8 @@ pub extern "C" fn jetukoma_btree_bytes_bytes_overwritten_right_unchecked(
     on_table!(handle, alloc, BtreeBytesBytes, table => bytes_bytes::overwritten_right(table, index, buf, len))
 }
 
-/// Removes all pairs, in time in proportion to the places, which stay. Nothing is struck out then.
+/// Removes all pairs. The capacity does not change. The time grows with the capacity. The table keeps no overwritten
+/// pair then.
 #[unsafe(no_mangle)]
 pub extern "C" fn jetukoma_btree_bytes_bytes_clear_unchecked(
     alloc: Global,

@@ -1,4 +1,4 @@
-//! The ranks and the ends of the ordered bimap of two byte strings for C.
+//! The functions for C that use the order of the ordered map of two byte strings: ranks and ends.
 ghost use Rattle.std.specs.Prelude.{◌≡◌, slice_get};
 ghost use Rattle.bimap_c.specs.Bytes.{IsLengthWritten, IsRead, IsRanked, PopsFirst, PopsLast};
 ghost use Rattle.bimap_c.specs.BytesBytes.{AreBothOut};
@@ -11,8 +11,9 @@ use crate::table::Table;
 use crate::{bytes_bytes, bytes_order};
 use std::alloc::Global;
 
-/// Writes the pair with exactly `rank` lefts below its own, each value to the front of its buffer, and the lengths. It
-/// makes a search. 4: a buffer is too short, and the lengths alone are written; 5: there are no more pairs.
+/// Writes the pair whose left has exactly `rank` lefts below it. It writes each value to the front of its buffer, and
+/// the two lengths. It takes one search. Returns 4 if a buffer is too short, and 5 if there are no more pairs. On 4
+/// it has written the lengths alone.
 #[unsafe(no_mangle)]
 pub extern "C" fn jetukoma_btree_bytes_bytes_pair_at_rank_unchecked(
     alloc: Global,
@@ -35,7 +36,8 @@ pub extern "C" fn jetukoma_btree_bytes_bytes_pair_at_rank_unchecked(
     on_table!(handle, alloc, BtreeBytesBytes, table => bytes_bytes::pair_at_rank(table, rank, left_buf, left_len, right_buf, right_len))
 }
 
-/// Writes how many lefts are below this one, byte by byte, contained or not. 1: no memory, as for `get_by_left`.
+/// Writes how many lefts are less than this one, compared byte by byte. This one need not be contained. It allocates
+/// as `get_by_left` does. Returns 1 if there is no memory for that.
 #[unsafe(no_mangle)]
 pub extern "C" fn jetukoma_btree_bytes_bytes_left_rank_unchecked(
     alloc: Global,
@@ -50,7 +52,8 @@ pub extern "C" fn jetukoma_btree_bytes_bytes_left_rank_unchecked(
     on_table!(handle, alloc, BtreeBytesBytes, table => bytes_order::left_rank(table, left, rank))
 }
 
-/// Removes the pair of the least left, which is kept as what was struck out. 5: there are no pairs.
+/// Removes the pair of the least left. The table keeps it, so that `overwritten_left` and `overwritten_right` copy
+/// it. Returns 5 if there are no pairs.
 #[unsafe(no_mangle)]
 pub extern "C" fn jetukoma_btree_bytes_bytes_pop_first_unchecked(
     alloc: Global,
@@ -62,7 +65,8 @@ pub extern "C" fn jetukoma_btree_bytes_bytes_pop_first_unchecked(
     on_table!(handle, alloc, BtreeBytesBytes, table => bytes_order::pop_first(table))
 }
 
-/// Removes the pair of the greatest left, which is kept as what was struck out. 5: there are no pairs.
+/// Removes the pair of the greatest left. The table keeps it, so that `overwritten_left` and `overwritten_right` copy
+/// it. Returns 5 if there are no pairs.
 #[unsafe(no_mangle)]
 pub extern "C" fn jetukoma_btree_bytes_bytes_pop_last_unchecked(
     alloc: Global,

@@ -1,4 +1,4 @@
-//! The ranks and the ends of the ordered bimap of byte strings and numbers for C.
+//! The functions for C that use the order of the ordered map of byte strings and numbers: ranks and ends.
 ghost use Rattle.std.specs.Prelude.{◌≡◌, slice_get};
 ghost use Rattle.bimap_c.specs.Bytes.{IsPairOut, IsLengthWritten, IsRead, IsRanked, PopsFirst, PopsLast};
 ghost use Rattle.bimap_c.specs.Calls.{IsWritten, Reads, Changes};
@@ -10,8 +10,9 @@ use crate::table::Table;
 use crate::{bytes_order, bytes_u64};
 use std::alloc::Global;
 
-/// Writes the pair with exactly `rank` lefts below its own: its left to the front of a buffer, the left's length, and the
-/// right. It makes a search. 4: the buffer is too short, and the length alone is written; 5: there are no more pairs.
+/// Writes the pair whose left has exactly `rank` lefts below it. It writes the left to the front of a buffer, and its
+/// length, and the right. It takes one search. Returns 4 if the buffer is too short, and 5 if there are no more
+/// pairs. On 4 it has written the length alone.
 #[unsafe(no_mangle)]
 pub extern "C" fn jetukoma_btree_bytes_u64_pair_at_rank_unchecked(
     alloc: Global,
@@ -32,7 +33,8 @@ pub extern "C" fn jetukoma_btree_bytes_u64_pair_at_rank_unchecked(
     on_table!(handle, alloc, BtreeBytesU64, table => bytes_u64::pair_at_rank(table, rank, buf, len, right))
 }
 
-/// Writes how many lefts are below this one, byte by byte, contained or not. 1: no memory, as for `get_by_left`.
+/// Writes how many lefts are less than this one, compared byte by byte. This one need not be contained. It allocates
+/// as `get_by_left` does. Returns 1 if there is no memory for that.
 #[unsafe(no_mangle)]
 pub extern "C" fn jetukoma_btree_bytes_u64_left_rank_unchecked(
     alloc: Global,
@@ -47,7 +49,8 @@ pub extern "C" fn jetukoma_btree_bytes_u64_left_rank_unchecked(
     on_table!(handle, alloc, BtreeBytesU64, table => bytes_order::left_rank(table, left, rank))
 }
 
-/// Removes the pair of the least left, which is kept as what was struck out. 5: there are no pairs.
+/// Removes the pair of the least left. The table keeps it, so that `overwritten_left` and `overwritten_right` copy
+/// it. Returns 5 if there are no pairs.
 #[unsafe(no_mangle)]
 pub extern "C" fn jetukoma_btree_bytes_u64_pop_first_unchecked(
     alloc: Global,
@@ -59,7 +62,8 @@ pub extern "C" fn jetukoma_btree_bytes_u64_pop_first_unchecked(
     on_table!(handle, alloc, BtreeBytesU64, table => bytes_order::pop_first(table))
 }
 
-/// Removes the pair of the greatest left, which is kept as what was struck out. 5: there are no pairs.
+/// Removes the pair of the greatest left. The table keeps it, so that `overwritten_left` and `overwritten_right` copy
+/// it. Returns 5 if there are no pairs.
 #[unsafe(no_mangle)]
 pub extern "C" fn jetukoma_btree_bytes_u64_pop_last_unchecked(
     alloc: Global,

@@ -1,4 +1,4 @@
-//! The walks, the ranks and the ends of the ordered bimap of two numbers for C.
+//! The functions for C that use the order of the ordered map of two numbers: iteration, ranks and ends.
 ghost use Rattle.std.specs.Prelude.{◌≡◌, count_by, drop, nat_lt, not};
 ghost use Rattle.std.specs.List.{filter};
 ghost use Rattle.bimap.specs.BTree.{holding};
@@ -13,8 +13,9 @@ use crate::u64_u64::{self, Pair, write_row};
 use bimap::BiBTreeMap;
 use std::alloc::Global;
 
-/// Writes pairs by ascending left, from the one with `start` lefts below its own on, to the front of a row, as many as
-/// there are and it has room for, and how many they are. It makes a search, and then takes a descent a pair at most.
+/// Writes pairs in ascending order of their lefts to the front of a row, until the row is full or there are no more.
+/// It begins at the pair whose left has exactly `start` lefts below it. It writes to `filled` how many pairs it
+/// wrote. It takes one search, and at most one descent in the tree for each pair.
 #[unsafe(no_mangle)]
 pub extern "C" fn jetukoma_btree_u64_u64_fill_unchecked(
     alloc: Global,
@@ -32,7 +33,7 @@ pub extern "C" fn jetukoma_btree_u64_u64_fill_unchecked(
     on_table!(handle, alloc, BtreeU64U64, map => fill(map, start, row, filled))
 }
 
-/// Writes the pairs whose left is `from` or above, by ascending left, as `fill` does.
+/// Writes the pairs whose left is at least `from`, as `fill` does.
 #[unsafe(no_mangle)]
 pub extern "C" fn jetukoma_btree_u64_u64_fill_from_unchecked(
     alloc: Global,
@@ -51,7 +52,7 @@ pub extern "C" fn jetukoma_btree_u64_u64_fill_from_unchecked(
     on_table!(handle, alloc, BtreeU64U64, map => fill_from(map, from, row, filled))
 }
 
-/// Writes how many lefts are below this one, contained or not.
+/// Writes how many lefts are less than this one, which need not be contained.
 #[unsafe(no_mangle)]
 pub extern "C" fn jetukoma_btree_u64_u64_left_rank_unchecked(
     alloc: Global,
@@ -67,7 +68,7 @@ pub extern "C" fn jetukoma_btree_u64_u64_left_rank_unchecked(
     on_table!(handle, alloc, BtreeU64U64, map => left_rank(map, left, rank))
 }
 
-/// Removes the pair of the least left, and writes it. 5: there are no pairs.
+/// Removes the pair of the least left, and writes it. Returns 5 if there are no pairs.
 #[unsafe(no_mangle)]
 pub extern "C" fn jetukoma_btree_u64_u64_pop_first_unchecked(
     alloc: Global,
@@ -81,7 +82,7 @@ pub extern "C" fn jetukoma_btree_u64_u64_pop_first_unchecked(
     on_table!(handle, alloc, BtreeU64U64, map => u64_u64::tell_pair(map.pop_first_by_left(), pair))
 }
 
-/// Removes the pair of the greatest left, and writes it. 5: there are no pairs.
+/// Removes the pair of the greatest left, and writes it. Returns 5 if there are no pairs.
 #[unsafe(no_mangle)]
 pub extern "C" fn jetukoma_btree_u64_u64_pop_last_unchecked(
     alloc: Global,

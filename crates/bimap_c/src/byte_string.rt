@@ -1,4 +1,4 @@
-//! Byte strings as a side.
+//! Byte strings as a side of a map.
 ghost use Rattle.std.specs.Prelude.{◌≡◌, IfSome};
 
 use bimap::NoMemory;
@@ -6,14 +6,14 @@ use bimap::value::{JsonKey, ReadFault};
 use std::alloc::Global;
 use std::str;
 
-/// A byte string, ordered by its bytes.
+/// A byte string. Byte strings are compared byte by byte.
 #[derive(Drop, Eq, Hash, Ord, PartialEq, PartialOrd)]
 pub struct ByteString {
     pub bytes: Vec<u8>,
 }
 
 impl ByteString {
-    /// Returns a copy of the bytes, where there is memory for them.
+    /// Returns a copy of the bytes, or `None` if there is no memory for them.
     pub(crate) fn copy_of(alloc: Global, bytes: &[u8]) -> Option<ByteString>
         ensures { IfSome result (λ copy. copy.bytes.items ≡ bytes.now) }
     {
@@ -24,8 +24,8 @@ impl ByteString {
     }
 }
 
-/// What is UTF-8 is written as its text. Anything else has none, and is refused as if no memory were there: who writes a
-/// table asks that first.
+/// A byte string in UTF-8 is written as its text. For other byte strings `to_key` returns `NoMemory`. A caller that
+/// writes a table tests for them first.
 impl JsonKey for ByteString {
     ghost writes_key = { λ b. b.bytes.items };
 

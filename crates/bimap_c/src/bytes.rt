@@ -1,4 +1,4 @@
-//! The tables whose lefts are byte strings, and the bodies of their calls, over any bimap.
+//! The tables whose lefts are byte strings, and the bodies of their calls. They work on any map.
 ghost use Rattle.std.specs.Prelude.{◌≡◌, Option, ◌<◌, ◌≤◌, [], length, true, false, vec_capacity, option_map, slice_get, Contains};
 ghost use Rattle.std.specs.Borrow.{Bor};
 ghost use Rattle.std.specs.Map.Iter.{deref, deref_pair};
@@ -14,18 +14,18 @@ use crate::status::{BUFFER_TOO_SHORT, DONE, NO_MEMORY, NOT_FOUND, REFUSED};
 use bimap::{Bijection, OnHeld, Overwritten, Policy};
 use std::alloc::Global;
 
-/// A bimap whose lefts are byte strings, with what its calls keep beside it.
+/// A map whose lefts are byte strings, with what its calls keep beside it.
 #[derive(Drop)]
 pub struct BytesTable<R, B> {
-    /// The bimap.
+    /// The map.
     pub map: B,
-    /// What the last change struck out.
+    /// The pairs that the last change overwrote or removed.
     pub struck: Overwritten<ByteString, R>,
     /// The key of the last look-up.
     pub key: ByteString,
 }
 
-/// Returns a table of this bimap, with which nothing was done.
+/// Returns a new table with this map.
 pub(crate) fn table_of<R, B>(alloc: Global, map: B) -> BytesTable<R, B>
     ensures map { result.map ≡ map }
     ensures struck { result.struck ≡ Overwritten.Neither }
@@ -39,7 +39,7 @@ pub(crate) fn table_of<R, B>(alloc: Global, map: B) -> BytesTable<R, B>
     }
 }
 
-/// Writes the bytes over the key, where there is memory for them.
+/// Overwrites the key with the bytes, and returns whether there was memory for them.
 pub(crate) fn note(key: &mut ByteString, bytes: &[u8]) -> bool
     ensures noted { result ≡ true → key.new.bytes.items ≡ bytes.now }
     ensures full { result ≡ false → vec_capacity key.old.bytes < length bytes.now }
@@ -52,7 +52,7 @@ pub(crate) fn note(key: &mut ByteString, bytes: &[u8]) -> bool
     true
 }
 
-/// Copies the bytes to the front of the buffer where they fit, and tells how many they are.
+/// Copies the bytes to the front of the buffer if they fit. Writes how many they are, and returns the status.
 pub(crate) fn copy_out(bytes: &[u8], buf: &mut [u8], len: &mut usize) -> u32
     ensures out { IsCopiedOut bytes.now result buf.old buf.new len.new }
     ensures buf { IsWritten result buf.old buf.new }
@@ -65,7 +65,7 @@ pub(crate) fn copy_out(bytes: &[u8], buf: &mut [u8], len: &mut usize) -> u32
     DONE
 }
 
-/// Copies the bytes out, if there are some.
+/// Copies the bytes to the buffer if there are some, and returns the status.
 pub(crate) fn tell_bytes(found: Option<&ByteString>, buf: &mut [u8], len: &mut usize) -> u32
     ensures out { AreBytesOut (option_map (λ v. v.now.bytes.items) found.entry) result buf.old
         buf.new len.new }
@@ -78,7 +78,7 @@ pub(crate) fn tell_bytes(found: Option<&ByteString>, buf: &mut [u8], len: &mut u
     }
 }
 
-/// Keeps what a removal took out.
+/// Keeps the pair that a removal took out, and returns the status.
 pub(crate) fn strike<R: Drop>(
     struck: &mut Overwritten<ByteString, R>,
     taken: Option<(ByteString, R)>,
@@ -94,7 +94,7 @@ pub(crate) fn strike<R: Drop>(
     }
 }
 
-// The pair of this index among those that an answer names.
+// Returns the pair at this index among the overwritten pairs.
 fn named_at<L, R>(answer: &Overwritten<L, R>, index: usize) -> Option<(&L, &R)>
     ensures { option_map deref_pair result ≡ slice_get (named_pairs answer.now) index }
 {
@@ -108,7 +108,7 @@ fn named_at<L, R>(answer: &Overwritten<L, R>, index: usize) -> Option<(&L, &R)>
     }
 }
 
-// The left of this index, and the right.
+// Returns the left of the pair at this index.
 fn left_at<L, R>(answer: &Overwritten<L, R>, index: usize) -> Option<&L>
     ensures { option_map deref result
         ≡ option_map (λ p. p.0) (slice_get (named_pairs answer.now) index) }
@@ -129,7 +129,7 @@ pub(crate) fn right_at<L, R>(answer: &Overwritten<L, R>, index: usize) -> Option
     }
 }
 
-// The number of an answer.
+// Returns the number by which C knows what an insertion overwrote.
 fn kind_of<L, R>(answer: &Overwritten<L, R>) -> u32
     ensures { result ≡ kind_of answer.now }
 {
@@ -142,7 +142,7 @@ fn kind_of<L, R>(answer: &Overwritten<L, R>) -> u32
     }
 }
 
-// Inserts a copy of the left with the right, where the policy lets it.
+// Inserts a copy of the left with the right, under a policy.
 fn insert_under<R: Eq + Drop, B: Bijection<ByteString, R>>(
     alloc: Global,
     table: &mut BytesTable<R, B>,
@@ -165,7 +165,7 @@ fn insert_under<R: Eq + Drop, B: Bijection<ByteString, R>>(
     }
 }
 
-// Writes the kind of an insertion that was made.
+// Writes the number of what an insertion overwrote, if it was made.
 fn tell_kind<R, B>(table: &BytesTable<R, B>, status: u32, kind: &mut u32)
     ensures kind { status ≡ 0 → kind.new ≡ kind_of table.now.struck }
     ensures out { IsWritten status kind.old kind.new }
@@ -175,7 +175,7 @@ fn tell_kind<R, B>(table: &BytesTable<R, B>, status: u32, kind: &mut u32)
     }
 }
 
-/// Inserts a copy of the left with the right, which overwrites what they share a value with.
+/// Inserts a copy of the left with the right. They overwrite the pairs with which they share a value.
 pub(crate) fn insert<R: Eq + Drop, B: Bijection<ByteString, R>>(
     alloc: Global,
     table: &mut BytesTable<R, B>,
@@ -216,7 +216,7 @@ pub(crate) fn insert_no_overwrite<R: Eq + Drop, B: Bijection<ByteString, R>>(
     insert_under(alloc, table, left, right, policy)
 }
 
-/// Inserts a copy of the left with the right, where the flags let it overwrite what it shares a value with.
+/// Inserts a copy of the left with the right, under a policy of two flags.
 pub(crate) fn insert_with<R: Eq + Drop, B: Bijection<ByteString, R>>(
     alloc: Global,
     table: &mut BytesTable<R, B>,
@@ -239,7 +239,7 @@ pub(crate) fn insert_with<R: Eq + Drop, B: Bijection<ByteString, R>>(
     status
 }
 
-/// Tells the left of a right.
+/// Writes the left of a right, and returns the status.
 pub(crate) fn get_by_right<R: Eq + Drop, B: Bijection<ByteString, R>>(
     table: &BytesTable<R, B>,
     right: &R,
@@ -255,7 +255,7 @@ pub(crate) fn get_by_right<R: Eq + Drop, B: Bijection<ByteString, R>>(
     tell_bytes(table.map.get_by_right(right), buf, len)
 }
 
-/// Tells whether the left is contained.
+/// Returns the status that says whether the left is contained.
 pub(crate) fn contains_left<R: Eq + Drop, B: Bijection<ByteString, R>>(
     table: &mut BytesTable<R, B>,
     left: &[u8],
@@ -271,7 +271,7 @@ pub(crate) fn contains_left<R: Eq + Drop, B: Bijection<ByteString, R>>(
     found(table.map.contains_left(&table.key))
 }
 
-/// Tells whether the right is contained.
+/// Returns the status that says whether the right is contained.
 pub(crate) fn contains_right<R: Eq + Drop, B: Bijection<ByteString, R>>(
     table: &BytesTable<R, B>,
     right: &R,
@@ -282,7 +282,7 @@ pub(crate) fn contains_right<R: Eq + Drop, B: Bijection<ByteString, R>>(
     found(table.map.contains_right(right))
 }
 
-/// Removes the pair of a left.
+/// Removes the pair of a left, and returns the status.
 pub(crate) fn remove_by_left<R: Eq + Drop, B: Bijection<ByteString, R>>(
     table: &mut BytesTable<R, B>,
     left: &[u8],
@@ -297,7 +297,7 @@ pub(crate) fn remove_by_left<R: Eq + Drop, B: Bijection<ByteString, R>>(
     strike(&mut table.struck, table.map.remove_by_left(&table.key))
 }
 
-/// Removes the pair of a right.
+/// Removes the pair of a right, and returns the status.
 pub(crate) fn remove_by_right<R: Eq + Drop, B: Bijection<ByteString, R>>(
     table: &mut BytesTable<R, B>,
     right: &R,
@@ -309,7 +309,7 @@ pub(crate) fn remove_by_right<R: Eq + Drop, B: Bijection<ByteString, R>>(
     strike(&mut table.struck, table.map.remove_by_right(right))
 }
 
-/// Tells the left of this index among the pairs that were struck out last.
+/// Writes the left at this index of the pairs that the last change overwrote or removed. Returns the status.
 pub(crate) fn overwritten_left<R, B>(
     table: &BytesTable<R, B>,
     index: usize,
@@ -324,7 +324,7 @@ pub(crate) fn overwritten_left<R, B>(
     tell_bytes(left_at(&table.struck, index), buf, len)
 }
 
-/// Removes all pairs, and forgets what was struck out.
+/// Removes all pairs, and forgets which pairs the last change overwrote or removed.
 pub(crate) fn clear<R: Eq + Drop, B: Bijection<ByteString, R>>(table: &mut BytesTable<R, B>) -> u32
     ensures { ClearsAll (kept B.holding table.old) result (kept B.holding table.new) }
 {

@@ -1,4 +1,4 @@
-//! The bodies of the calls that want byte strings as rights, over any bimap of two byte strings.
+//! The bodies of the calls whose rights are byte strings. They work on any map of two byte strings.
 ghost use Rattle.std.specs.Prelude.{◌≤◌, ℕ, Option, option_map, slice_get, vec_capacity, Contains};
 ghost use Rattle.std.specs.Borrow.{Bor};
 ghost use Rattle.std.specs.Map.Iter.{deref_pair};
@@ -17,7 +17,7 @@ use crate::status::{BUFFER_TOO_SHORT, DONE, NO_MEMORY, NOT_FOUND};
 use bimap::{BiBTreeMap, Bijection, OnHeld};
 use std::alloc::Global;
 
-/// Inserts copies of both, which overwrite what they share a value with.
+/// Inserts copies of both values. They overwrite the pairs with which they share a value.
 pub(crate) fn insert<B: Bijection<ByteString, ByteString>>(
     alloc: Global,
     table: &mut BytesTable<ByteString, B>,
@@ -38,7 +38,7 @@ pub(crate) fn insert<B: Bijection<ByteString, ByteString>>(
     bytes::insert(alloc, table, left, copy, kind)
 }
 
-/// Inserts copies of both if neither is contained.
+/// Inserts copies of both values if neither is contained.
 pub(crate) fn insert_no_overwrite<B: Bijection<ByteString, ByteString>>(
     alloc: Global,
     table: &mut BytesTable<ByteString, B>,
@@ -56,7 +56,7 @@ pub(crate) fn insert_no_overwrite<B: Bijection<ByteString, ByteString>>(
     bytes::insert_no_overwrite(alloc, table, left, copy)
 }
 
-/// Inserts copies of both, where the flags let them overwrite what they share a value with.
+/// Inserts copies of both values, under a policy of two flags.
 pub(crate) fn insert_with<B: Bijection<ByteString, ByteString>>(
     alloc: Global,
     table: &mut BytesTable<ByteString, B>,
@@ -78,7 +78,7 @@ pub(crate) fn insert_with<B: Bijection<ByteString, ByteString>>(
     bytes::insert_with(alloc, table, left, copy, left_refuses, right_refuses, kind)
 }
 
-/// Tells the right of a left.
+/// Writes the right of a left, and returns the status.
 pub(crate) fn get_by_left<B: Bijection<ByteString, ByteString>>(
     table: &mut BytesTable<ByteString, B>,
     left: &[u8],
@@ -99,7 +99,7 @@ pub(crate) fn get_by_left<B: Bijection<ByteString, ByteString>>(
     tell_bytes(table.map.get_by_left(&table.key), buf, len)
 }
 
-/// Tells the left of a right.
+/// Writes the left of a right, and returns the status.
 pub(crate) fn get_by_right<B: Bijection<ByteString, ByteString>>(
     table: &mut BytesTable<ByteString, B>,
     right: &[u8],
@@ -120,7 +120,7 @@ pub(crate) fn get_by_right<B: Bijection<ByteString, ByteString>>(
     tell_bytes(table.map.get_by_right(&table.key), buf, len)
 }
 
-/// Tells whether the right is contained.
+/// Returns the status that says whether the right is contained.
 pub(crate) fn contains_right<B: Bijection<ByteString, ByteString>>(
     table: &mut BytesTable<ByteString, B>,
     right: &[u8],
@@ -136,7 +136,7 @@ pub(crate) fn contains_right<B: Bijection<ByteString, ByteString>>(
     found(table.map.contains_right(&table.key))
 }
 
-/// Removes the pair of a right.
+/// Removes the pair of a right, and returns the status.
 pub(crate) fn remove_by_right<B: Bijection<ByteString, ByteString>>(
     table: &mut BytesTable<ByteString, B>,
     right: &[u8],
@@ -152,7 +152,7 @@ pub(crate) fn remove_by_right<B: Bijection<ByteString, ByteString>>(
     strike(&mut table.struck, table.map.remove_by_right(&table.key))
 }
 
-/// Tells the right of this index among the pairs that were struck out last.
+/// Writes the right at this index of the pairs that the last change overwrote or removed. Returns the status.
 pub(crate) fn overwritten_right<B>(
     table: &BytesTable<ByteString, B>,
     index: usize,
@@ -167,7 +167,7 @@ pub(crate) fn overwritten_right<B>(
     tell_bytes(right_at(&table.struck, index), buf, len)
 }
 
-// Tells a pair, if there is one.
+// Writes a pair if there is one, and returns the status.
 fn tell_pair(
     found: Option<(&ByteString, &ByteString)>,
     left_buf: &mut [u8],
@@ -195,7 +195,7 @@ fn tell_pair(
     DONE
 }
 
-/// Tells the pair with so many lefts below its own.
+/// Writes the pair whose left has exactly `rank` lefts below it. Returns the status.
 pub(crate) fn pair_at_rank(
     table: &BytesTable<ByteString, BiBTreeMap<ByteString, ByteString>>,
     rank: usize,

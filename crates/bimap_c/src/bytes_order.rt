@@ -1,4 +1,4 @@
-//! The bodies of the calls that go by the order of byte strings, over any ordered bimap of them.
+//! The bodies of the calls that use the order of byte strings. They work on any ordered map of byte strings.
 ghost use Rattle.bimap.specs.BTree.{holding};
 ghost use Rattle.bimap_c.specs.Bytes.{kept, IsRead, IsRanked, PopsFirst, PopsLast};
 ghost use Rattle.bimap_c.specs.Calls.{IsWritten};
@@ -8,7 +8,7 @@ use crate::bytes::{BytesTable, note, strike};
 use crate::status::{DONE, NO_MEMORY};
 use bimap::BiBTreeMap;
 
-/// Tells how many lefts are below this one.
+/// Writes how many lefts are less than this one, and returns the status.
 pub(crate) fn left_rank<R: Ord + Drop>(
     table: &mut BytesTable<R, BiBTreeMap<ByteString, R>>,
     left: &[u8],
@@ -26,14 +26,14 @@ pub(crate) fn left_rank<R: Ord + Drop>(
     DONE
 }
 
-/// Removes the pair of the least left.
+/// Removes the pair of the least left, and returns the status.
 pub(crate) fn pop_first<R: Ord + Drop>(table: &mut BytesTable<R, BiBTreeMap<ByteString, R>>) -> u32
     ensures { PopsFirst (kept holding table.old) result (kept holding table.new) }
 {
     strike(&mut table.struck, table.map.pop_first_by_left())
 }
 
-/// Removes the pair of the greatest left.
+/// Removes the pair of the greatest left, and returns the status.
 pub(crate) fn pop_last<R: Ord + Drop>(table: &mut BytesTable<R, BiBTreeMap<ByteString, R>>) -> u32
     ensures { PopsLast (kept holding table.old) result (kept holding table.new) }
 {

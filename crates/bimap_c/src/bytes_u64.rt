@@ -1,4 +1,4 @@
-//! The bodies of the calls that want numbers as rights, over any bimap of byte strings and numbers.
+//! The bodies of the calls whose rights are numbers. They work on any map of byte strings and numbers.
 ghost use Rattle.std.specs.Prelude.{ℕ, Option, option_map, slice_get};
 ghost use Rattle.std.specs.Borrow.{Bor};
 ghost use Rattle.std.specs.Map.Iter.{deref, deref_pair};
@@ -13,7 +13,7 @@ use crate::status::{DONE, NO_MEMORY, NOT_FOUND};
 use crate::u64_u64::tell_value;
 use bimap::{BiBTreeMap, Bijection};
 
-/// Tells the right of a left.
+/// Writes the right of a left, and returns the status.
 pub(crate) fn get_by_left<B: Bijection<ByteString, u64>>(
     table: &mut BytesTable<u64, B>,
     left: &[u8],
@@ -31,7 +31,7 @@ pub(crate) fn get_by_left<B: Bijection<ByteString, u64>>(
     tell_value(table.map.get_by_left(&table.key), right)
 }
 
-/// Tells the right of this index among the pairs that were struck out last.
+/// Writes the right at this index of the pairs that the last change overwrote or removed. Returns the status.
 pub(crate) fn overwritten_right<B>(table: &BytesTable<u64, B>, index: usize, right: &mut u64) -> u32
     ensures told { Tells (option_map (λ p. p.1)
         (slice_get (named_pairs table.now.struck) index)) result right.new }
@@ -40,7 +40,7 @@ pub(crate) fn overwritten_right<B>(table: &BytesTable<u64, B>, index: usize, rig
     tell_value(right_at(&table.struck, index), right)
 }
 
-// Tells a pair, if there is one.
+// Writes a pair if there is one, and returns the status.
 fn tell_pair(
     found: Option<(&ByteString, &u64)>,
     buf: &mut [u8],
@@ -63,7 +63,7 @@ fn tell_pair(
     status
 }
 
-/// Tells the pair with so many lefts below its own.
+/// Writes the pair whose left has exactly `rank` lefts below it. Returns the status.
 pub(crate) fn pair_at_rank(
     table: &BytesTable<u64, BiBTreeMap<ByteString, u64>>,
     rank: usize,

@@ -1,4 +1,4 @@
-//! The bodies of the calls that are the same for all types of sides, over any bimap.
+//! The bodies of the calls that do not depend on the types of the sides. They work on any map.
 ghost use Rattle.std.specs.Prelude.{◌≡◌, length, if◌then◌else◌, IfSome, IfNone};
 ghost use Rattle.bimap_c.specs.Calls.{refused, Reserves, Clears, AreFlags, on_held};
 
@@ -41,7 +41,7 @@ pub(crate) fn clear<L: Eq + Drop, R: Eq + Drop, B: Bijection<L, R>>(map: &mut B)
     DONE
 }
 
-/// Returns the status of whether a value is contained.
+/// Returns the status that says whether a value is contained.
 pub(crate) fn found(contained: bool) -> u32
     ensures { result ≡ (if contained then 0 else 5) }
 {

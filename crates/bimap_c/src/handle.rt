@@ -1,4 +1,4 @@
-//! What C holds.
+//! The handle, which belongs to the C program.
 ghost use Rattle.std.specs.Prelude.{◌≡◌, ◌⊎◌, None, Some, is_some, MatchOption};
 ghost use Rattle.std.specs.Option.{option_map};
 ghost use Rattle.bimap_c.specs.Calls.{Frees};
@@ -11,7 +11,7 @@ use std::alloc::Global;
 use std::marker::Send;
 use std::mem::replace;
 
-/// A table or none, 16 bytes. All bytes 0 are none.
+/// A handle with a table or without one. It has 16 bytes. If all are 0, there is no table.
 #[repr(C)]
 #[derive(Drop)]
 pub struct Handle {
@@ -32,7 +32,7 @@ impl Handle {
         }
     }
 
-    /// Takes the table out.
+    /// Takes the table out of the handle, and returns it.
     pub fn take(&mut self, alloc: Global) -> Option<Box<Table>>
         ensures table { option_map (λ b. b.value) result ≡ self.old.slot.value }
         ensures left { self.new.slot.value ≡ None }
@@ -45,7 +45,7 @@ impl Handle {
         }
     }
 
-    /// Puts a table in, where there is none.
+    /// Puts a table into a handle that has none.
     pub fn put(&mut self, table: Box<Table>)
         requires { self.old.slot.value ≡ None }
         ensures { self.new.slot.value ≡ Some table.value }
@@ -57,7 +57,7 @@ impl Handle {
         drop(replace(self, full));
     }
 
-    /// Puts a new table in, where there is none, and returns the status.
+    /// Puts a new table into a handle that has none, and returns the status.
     pub fn make(&mut self, alloc: Global, table: Table) -> u32
         ensures { MatchOption self.old.slot.value
             (((result ≡ 0) × (self.new.slot.value ≡ Some table))
@@ -77,7 +77,7 @@ impl Handle {
         }
     }
 
-    /// Frees the table, if there is one, and returns the status.
+    /// Frees the table if there is one, and returns the status.
     pub fn free(&mut self, alloc: Global) -> u32
         ensures { Frees self.old.slot.value result self.new.slot.value }
     {
@@ -91,7 +91,7 @@ impl Handle {
     }
 }
 
-// A handle may go to another thread.
+// A handle can be sent to another thread.
 fn may_go<T: Send>(_value: &T) {}
 
 fn handle_may_go(handle: &Handle) {

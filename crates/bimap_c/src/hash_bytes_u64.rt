@@ -1,4 +1,4 @@
-//! The hashed bimap of byte strings and numbers for C.
+//! The functions for C of the hashed map of byte strings and numbers.
 ghost use Rattle.std.specs.Prelude.{◌≡◌, ◌≤◌, ℕ, Option, [], length, nat_eq, option_map, slice_get, vec_capacity, Contains};
 ghost use Rattle.std.specs.Borrow.{Bor};
 ghost use Rattle.std.specs.Map.Iter.{deref};
@@ -20,8 +20,8 @@ use bimap::{BiHashMap, OnHeld, Overwritten};
 use std::alloc::Global;
 use std::str;
 
-/// Makes an empty table of no places, in constant time, behind a handle that has none. 1: no memory; 2: the handle has
-/// a table.
+/// Makes an empty table of capacity 0 for a handle that has no table. It takes constant time. Returns 1 if there is
+/// no memory, and 2 if the handle has a table.
 #[unsafe(no_mangle)]
 pub extern "C" fn jetukoma_hash_bytes_u64_new_unchecked(alloc: Global, handle: &mut Handle) -> u32
     ensures { Makes hash_bytes_u64 handle.old.slot.value result handle.new.slot.value
@@ -34,7 +34,8 @@ pub extern "C" fn jetukoma_hash_bytes_u64_new_unchecked(alloc: Global, handle: &
     )
 }
 
-/// Frees the table with its bytes, in time in proportion to its places; the handle has none then. 2: it has none.
+/// Frees the table and all its bytes. The handle has no table then. The time grows with the capacity. Returns 2 if
+/// the handle has no table.
 #[unsafe(no_mangle)]
 pub extern "C" fn jetukoma_hash_bytes_u64_free_unchecked(alloc: Global, handle: &mut Handle) -> u32
     ensures { Frees handle.old.slot.value result handle.new.slot.value }
@@ -42,7 +43,7 @@ pub extern "C" fn jetukoma_hash_bytes_u64_free_unchecked(alloc: Global, handle: 
     handle.free(alloc)
 }
 
-/// Writes the number of pairs, in constant time.
+/// Writes the number of pairs. It takes constant time.
 #[unsafe(no_mangle)]
 pub extern "C" fn jetukoma_hash_bytes_u64_len_unchecked(
     alloc: Global,
@@ -57,7 +58,7 @@ pub extern "C" fn jetukoma_hash_bytes_u64_len_unchecked(
     on_table!(handle, alloc, HashBytesU64, table => calls::len(&table.map, len))
 }
 
-/// Writes the number of places for pairs, in constant time.
+/// Writes the capacity, which is the number of pairs for which there is memory. It takes constant time.
 #[unsafe(no_mangle)]
 pub extern "C" fn jetukoma_hash_bytes_u64_capacity_unchecked(
     alloc: Global,
@@ -72,8 +73,8 @@ pub extern "C" fn jetukoma_hash_bytes_u64_capacity_unchecked(
     on_table!(handle, alloc, HashBytesU64, table => calls::capacity(&table.map, capacity))
 }
 
-/// Makes places for the pairs and `more` pairs, exactly, unless they are there. Of the next `more` insertions each asks
-/// for memory for its bytes alone. 1: no memory.
+/// Makes the capacity at least the number of pairs plus `more`. It makes it no greater than needed. Each of the next
+/// `more` insertions then allocates only for its bytes. Returns 1 if there is no memory.
 #[unsafe(no_mangle)]
 pub extern "C" fn jetukoma_hash_bytes_u64_reserve_unchecked(
     alloc: Global,
@@ -87,11 +88,12 @@ pub extern "C" fn jetukoma_hash_bytes_u64_reserve_unchecked(
     on_table!(handle, alloc, HashBytesU64, table => calls::reserve(&mut table.map, more))
 }
 
-/// Inserts a copy of the left with the right, which overwrites the pairs that they share a value with, and writes of
-/// which kind those are: 0 for none, 1 for the pair of the left alone, 2 for that of the right alone, 3 for the one pair
-/// of both, and 4 for that of the left and that of the right. They are kept, as what was struck out, until the next
-/// insertion, removal or clear that is done. It asks for memory for the bytes, and where it overwrites none and no place
-/// is free. 1: no memory.
+/// Inserts a copy of the left with the right. They overwrite the pairs with which they share a value. `kind` says
+/// which pairs those are: 0 for none, 1 for the pair of the left alone, 2 for the pair of the right alone, 3 for one
+/// pair with both values, and 4 for the pair of the left and the pair of the right. The table keeps the overwritten
+/// pairs until the next insertion, removal or clear that is done. `overwritten_left` and `overwritten_right` copy
+/// them. The call allocates for the bytes. It allocates for the pair only if it overwrites none and there is no spare
+/// capacity. Returns 1 if there is no memory.
 #[unsafe(no_mangle)]
 pub extern "C" fn jetukoma_hash_bytes_u64_insert_unchecked(
     alloc: Global,
@@ -109,8 +111,8 @@ pub extern "C" fn jetukoma_hash_bytes_u64_insert_unchecked(
     on_table!(handle, alloc, HashBytesU64, table => bytes::insert(alloc, table, left, right, kind))
 }
 
-/// Inserts a copy of the left with the right if neither is contained. Nothing is struck out then. 1: no memory; 3: a
-/// value is contained.
+/// Inserts a copy of the left with the right if neither is contained. The table keeps no overwritten pair then.
+/// Returns 1 if there is no memory, and 3 if a value is contained.
 #[unsafe(no_mangle)]
 pub extern "C" fn jetukoma_hash_bytes_u64_insert_no_overwrite_unchecked(
     alloc: Global,
@@ -125,8 +127,9 @@ pub extern "C" fn jetukoma_hash_bytes_u64_insert_no_overwrite_unchecked(
     on_table!(handle, alloc, HashBytesU64, table => bytes::insert_no_overwrite(alloc, table, left, right))
 }
 
-/// Inserts as `insert` does. A flag of 1 refuses where the value of its side is contained, and one of 0 overwrites. 1: no
-/// memory; 3: a value is contained that its flag keeps, or a flag is above 1.
+/// Inserts as `insert` does, under a policy of two flags. If the flag of a side is 1, a contained value of this side
+/// refuses the insertion. If it is 0, the value is overwritten. Returns 1 if there is no memory. Returns 3 if the
+/// insertion is refused or a flag is above 1.
 #[unsafe(no_mangle)]
 pub extern "C" fn jetukoma_hash_bytes_u64_insert_with_unchecked(
     alloc: Global,
@@ -145,8 +148,8 @@ pub extern "C" fn jetukoma_hash_bytes_u64_insert_with_unchecked(
     on_table!(handle, alloc, HashBytesU64, table => bytes::insert_with(alloc, table, left, right, left_refuses, right_refuses, kind))
 }
 
-/// Writes the right of a left, found by a search. It asks for memory where the left is longer than any that was looked up
-/// or removed before. 1: no memory for that; 5: the left is not contained.
+/// Writes the right of a left. It allocates if the left is longer than every left that was looked up or removed
+/// before. Returns 1 if there is no memory for that, and 5 if the left is not contained.
 #[unsafe(no_mangle)]
 pub extern "C" fn jetukoma_hash_bytes_u64_get_by_left_unchecked(
     alloc: Global,
@@ -163,8 +166,8 @@ pub extern "C" fn jetukoma_hash_bytes_u64_get_by_left_unchecked(
     on_table!(handle, alloc, HashBytesU64, table => bytes_u64::get_by_left(table, left, right))
 }
 
-/// Writes the left of a right, found by a search, to the front of a buffer, and its length. 4: the buffer is too short,
-/// and the length alone is written; 5: the right is not contained.
+/// Writes the left of a right to the front of a buffer, and its length. Returns 4 if the buffer is too short, and 5
+/// if the right is not contained. On 4 it has written the length alone.
 #[unsafe(no_mangle)]
 pub extern "C" fn jetukoma_hash_bytes_u64_get_by_right_unchecked(
     alloc: Global,
@@ -184,7 +187,8 @@ pub extern "C" fn jetukoma_hash_bytes_u64_get_by_right_unchecked(
     on_table!(handle, alloc, HashBytesU64, table => bytes::get_by_right(table, &right, buf, len))
 }
 
-/// Returns 0 if the left is contained, and 5 if not. 1: no memory, as for `get_by_left`.
+/// Returns 0 if the left is contained, and 5 if it is not. It allocates as `get_by_left` does. Returns 1 if there is
+/// no memory for that.
 #[unsafe(no_mangle)]
 pub extern "C" fn jetukoma_hash_bytes_u64_contains_left_unchecked(
     alloc: Global,
@@ -198,7 +202,7 @@ pub extern "C" fn jetukoma_hash_bytes_u64_contains_left_unchecked(
     on_table!(handle, alloc, HashBytesU64, table => bytes::contains_left(table, left))
 }
 
-/// Returns 0 if the right is contained, and 5 if not.
+/// Returns 0 if the right is contained, and 5 if it is not.
 #[unsafe(no_mangle)]
 pub extern "C" fn jetukoma_hash_bytes_u64_contains_right_unchecked(
     alloc: Global,
@@ -212,8 +216,9 @@ pub extern "C" fn jetukoma_hash_bytes_u64_contains_right_unchecked(
     on_table!(handle, alloc, HashBytesU64, table => bytes::contains_right(table, &right))
 }
 
-/// Removes the pair of a left, which is kept as what was struck out. 1: no memory, as for `get_by_left`; 5: the left is
-/// not contained.
+/// Removes the pair of a left. The table keeps the pair, so that `overwritten_left` and `overwritten_right` copy it.
+/// The call allocates as `get_by_left` does. Returns 1 if there is no memory for that, and 5 if the left is not
+/// contained.
 #[unsafe(no_mangle)]
 pub extern "C" fn jetukoma_hash_bytes_u64_remove_by_left_unchecked(
     alloc: Global,
@@ -227,7 +232,8 @@ pub extern "C" fn jetukoma_hash_bytes_u64_remove_by_left_unchecked(
     on_table!(handle, alloc, HashBytesU64, table => bytes::remove_by_left(table, left))
 }
 
-/// Removes the pair of a right, which is kept as what was struck out. 5: the right is not contained.
+/// Removes the pair of a right. The table keeps the pair, so that `overwritten_left` and `overwritten_right` copy it.
+/// Returns 5 if the right is not contained.
 #[unsafe(no_mangle)]
 pub extern "C" fn jetukoma_hash_bytes_u64_remove_by_right_unchecked(
     alloc: Global,
@@ -241,9 +247,10 @@ pub extern "C" fn jetukoma_hash_bytes_u64_remove_by_right_unchecked(
     on_table!(handle, alloc, HashBytesU64, table => bytes::remove_by_right(table, &right))
 }
 
-/// Writes the left of a pair that was struck out last to the front of a buffer, and its length. The index is 0 for the
-/// pair of a removal, for the one pair that an insertion overwrote and for that of the left, and 1 for that of the right
-/// beside it. 4: the buffer is too short, and the length alone is written; 5: there is no such pair.
+/// Writes the left of a pair that the last change overwrote or removed to the front of a buffer, and its length. If
+/// the change was an insertion that overwrote two pairs, index 0 is the pair of the left, and index 1 is the pair of
+/// the right. Otherwise index 0 is the pair. Returns 4 if the buffer is too short, and 5 if there is no such pair. On
+/// 4 it has written the length alone.
 #[unsafe(no_mangle)]
 pub extern "C" fn jetukoma_hash_bytes_u64_overwritten_left_unchecked(
     alloc: Global,
@@ -262,7 +269,8 @@ pub extern "C" fn jetukoma_hash_bytes_u64_overwritten_left_unchecked(
     on_table!(handle, alloc, HashBytesU64, table => bytes::overwritten_left(table, index, buf, len))
 }
 
-/// Writes the right of a pair that was struck out last. 5: there is no such pair.
+/// Writes the right of a pair that the last change overwrote or removed. The index is that of `overwritten_left`.
+/// Returns 5 if there is no such pair.
 #[unsafe(no_mangle)]
 pub extern "C" fn jetukoma_hash_bytes_u64_overwritten_right_unchecked(
     alloc: Global,
@@ -279,7 +287,8 @@ pub extern "C" fn jetukoma_hash_bytes_u64_overwritten_right_unchecked(
     on_table!(handle, alloc, HashBytesU64, table => bytes_u64::overwritten_right(table, index, right))
 }
 
-/// Removes all pairs, in time in proportion to the places, which stay. Nothing is struck out then.
+/// Removes all pairs. The capacity does not change. The time grows with the capacity. The table keeps no overwritten
+/// pair then.
 #[unsafe(no_mangle)]
 pub extern "C" fn jetukoma_hash_bytes_u64_clear_unchecked(alloc: Global, handle: &mut Handle) -> u32
     ensures { Changes hash_bytes_u64 handle.old.slot.value result handle.new.slot.value
@@ -288,9 +297,9 @@ pub extern "C" fn jetukoma_hash_bytes_u64_clear_unchecked(alloc: Global, handle:
     on_table!(handle, alloc, HashBytesU64, table => bytes::clear(table))
 }
 
-/// Writes the pairs as the text of a JSON object, a name and its number each, by the bytes of the names, to the front of a
-/// buffer, and its length. It asks for memory for all of them. 1: no memory; 3: a left is no UTF-8; 4: the buffer is too
-/// short, and the length alone is written.
+/// Writes the pairs as the text of a JSON object to the front of a buffer, and its length. Each pair is a name and
+/// its number. The names are in ascending order of their bytes. The call allocates for all pairs. Returns 1 if there
+/// is no memory, 3 if a left is not UTF-8, and 4 if the buffer is too short. On 4 it has written the length alone.
 #[unsafe(no_mangle)]
 pub extern "C" fn jetukoma_hash_bytes_u64_to_json_unchecked(
     alloc: Global,
@@ -307,8 +316,9 @@ pub extern "C" fn jetukoma_hash_bytes_u64_to_json_unchecked(
     on_table!(handle, alloc, HashBytesU64, table => to_json(alloc, &table.map, buf, len))
 }
 
-/// Reads the text of such an object into the table, in place of its pairs. Nothing is struck out then. It asks for memory
-/// for all of them. 1: no memory; 3: the text is no such object, or has a name or a number twice.
+/// Reads the text of such an object. Its pairs replace those of the table, and the table keeps no overwritten pair
+/// then. The call allocates for all pairs. Returns 1 if there is no memory. Returns 3 if the text is no such object,
+/// or if it has a name or a number twice.
 #[unsafe(no_mangle)]
 pub extern "C" fn jetukoma_hash_bytes_u64_from_json_unchecked(
     alloc: Global,

@@ -1,4 +1,4 @@
-//! The hashed bimap of two numbers for C.
+//! The functions for C of the hashed map of two numbers.
 ghost use Rattle.std.specs.Prelude.{◌≡◌, [], length, nat_eq, Contains};
 ghost use Rattle.bimap.specs.Sets.{HasLeft, HasRight};
 ghost use Rattle.bimap_c.specs.Calls.{IsWritten, Reads, Changes, Makes, Frees, Tests, Reserves, Clears};
@@ -13,8 +13,8 @@ use crate::u64_u64::{self, Overwritten, Pair};
 use bimap::BiHashMap;
 use std::alloc::Global;
 
-/// Makes an empty table of no places, in constant time, behind a handle that has none. 1: no memory; 2: the handle has
-/// a table.
+/// Makes an empty table of capacity 0 for a handle that has no table. It takes constant time. Returns 1 if there is
+/// no memory, and 2 if the handle has a table.
 #[unsafe(no_mangle)]
 pub extern "C" fn jetukoma_hash_u64_u64_new_unchecked(alloc: Global, handle: &mut Handle) -> u32
     ensures { Makes hash_u64_u64 handle.old.slot.value result handle.new.slot.value
@@ -23,7 +23,8 @@ pub extern "C" fn jetukoma_hash_u64_u64_new_unchecked(alloc: Global, handle: &mu
     handle.make(alloc, Table::HashU64U64(BiHashMap::new(alloc)))
 }
 
-/// Frees the table, in time in proportion to its places; the handle has none then. 2: it has none.
+/// Frees the table. The handle has no table then. The time grows with the capacity. Returns 2 if the handle has no
+/// table.
 #[unsafe(no_mangle)]
 pub extern "C" fn jetukoma_hash_u64_u64_free_unchecked(alloc: Global, handle: &mut Handle) -> u32
     ensures { Frees handle.old.slot.value result handle.new.slot.value }
@@ -31,7 +32,7 @@ pub extern "C" fn jetukoma_hash_u64_u64_free_unchecked(alloc: Global, handle: &m
     handle.free(alloc)
 }
 
-/// Writes the number of pairs, in constant time.
+/// Writes the number of pairs. It takes constant time.
 #[unsafe(no_mangle)]
 pub extern "C" fn jetukoma_hash_u64_u64_len_unchecked(
     alloc: Global,
@@ -46,7 +47,7 @@ pub extern "C" fn jetukoma_hash_u64_u64_len_unchecked(
     on_table!(handle, alloc, HashU64U64, map => calls::len(map, len))
 }
 
-/// Writes the number of places for pairs, in constant time.
+/// Writes the capacity, which is the number of pairs for which there is memory. It takes constant time.
 #[unsafe(no_mangle)]
 pub extern "C" fn jetukoma_hash_u64_u64_capacity_unchecked(
     alloc: Global,
@@ -61,8 +62,9 @@ pub extern "C" fn jetukoma_hash_u64_u64_capacity_unchecked(
     on_table!(handle, alloc, HashU64U64, map => calls::capacity(map, capacity))
 }
 
-/// Makes places for the pairs and `more` pairs, exactly, unless they are there. No call but this and an insertion asks
-/// for memory, and none of the next `more` insertions does. 1: no memory.
+/// Makes the capacity at least the number of pairs plus `more`. It makes it no greater than needed. None of the next
+/// `more` insertions can then run out of memory. Only this call, insertions and `new` allocate. Returns 1 if there is
+/// no memory.
 #[unsafe(no_mangle)]
 pub extern "C" fn jetukoma_hash_u64_u64_reserve_unchecked(
     alloc: Global,
@@ -75,8 +77,8 @@ pub extern "C" fn jetukoma_hash_u64_u64_reserve_unchecked(
     on_table!(handle, alloc, HashU64U64, map => calls::reserve(map, more))
 }
 
-/// Inserts a pair, and writes the pairs that it overwrote. Of memory it asks where it overwrites none and no place is
-/// free. 1: no memory.
+/// Inserts a pair, and writes the pairs that it overwrote. It allocates only if it overwrites none and there is no
+/// spare capacity. Returns 1 if there is no memory.
 #[unsafe(no_mangle)]
 pub extern "C" fn jetukoma_hash_u64_u64_insert_unchecked(
     alloc: Global,
@@ -92,7 +94,7 @@ pub extern "C" fn jetukoma_hash_u64_u64_insert_unchecked(
     on_table!(handle, alloc, HashU64U64, map => u64_u64::insert(map, left, right, overwritten))
 }
 
-/// Inserts a pair if neither value is contained. 1: no memory; 3: a value is contained.
+/// Inserts a pair if neither value is contained. Returns 1 if there is no memory, and 3 if a value is contained.
 #[unsafe(no_mangle)]
 pub extern "C" fn jetukoma_hash_u64_u64_insert_no_overwrite_unchecked(
     alloc: Global,
@@ -106,8 +108,9 @@ pub extern "C" fn jetukoma_hash_u64_u64_insert_no_overwrite_unchecked(
     on_table!(handle, alloc, HashU64U64, map => u64_u64::insert_no_overwrite(map, left, right))
 }
 
-/// Inserts a pair, and writes the pairs that it overwrote. A flag of 1 refuses where the value of its side is
-/// contained, and one of 0 overwrites. 1: no memory; 3: a value is contained that its flag keeps, or a flag is above 1.
+/// Inserts as `insert` does, under a policy of two flags. If the flag of a side is 1, a contained value of this side
+/// refuses the insertion. If it is 0, the value is overwritten. Returns 1 if there is no memory. Returns 3 if the
+/// insertion is refused or a flag is above 1.
 #[unsafe(no_mangle)]
 pub extern "C" fn jetukoma_hash_u64_u64_insert_with_unchecked(
     alloc: Global,
@@ -126,8 +129,8 @@ pub extern "C" fn jetukoma_hash_u64_u64_insert_with_unchecked(
     on_table!(handle, alloc, HashU64U64, map => u64_u64::insert_with(map, left, right, left_refuses, right_refuses, overwritten))
 }
 
-/// Inserts pairs in order, each as `insert` does, and writes how many were inserted. 1: no memory for the next one;
-/// those before it stay, and `taken` is written too.
+/// Inserts pairs in order, each as `insert` does, and writes to `taken` how many were inserted. Returns 1 if there is
+/// no memory for the next pair. The pairs before it stay, and `taken` is written then too.
 #[unsafe(no_mangle)]
 pub extern "C" fn jetukoma_hash_u64_u64_insert_many_unchecked(
     alloc: Global,
@@ -142,7 +145,7 @@ pub extern "C" fn jetukoma_hash_u64_u64_insert_many_unchecked(
     on_table!(handle, alloc, HashU64U64, map => u64_u64::insert_many(map, pairs, taken))
 }
 
-/// Writes the right of a left, found by a search. 5: the left is not contained.
+/// Writes the right of a left. Returns 5 if the left is not contained.
 #[unsafe(no_mangle)]
 pub extern "C" fn jetukoma_hash_u64_u64_get_by_left_unchecked(
     alloc: Global,
@@ -158,7 +161,7 @@ pub extern "C" fn jetukoma_hash_u64_u64_get_by_left_unchecked(
     on_table!(handle, alloc, HashU64U64, map => u64_u64::get_by_left(map, left, right))
 }
 
-/// Writes the left of a right, found by a search. 5: the right is not contained.
+/// Writes the left of a right. Returns 5 if the right is not contained.
 #[unsafe(no_mangle)]
 pub extern "C" fn jetukoma_hash_u64_u64_get_by_right_unchecked(
     alloc: Global,
@@ -174,7 +177,7 @@ pub extern "C" fn jetukoma_hash_u64_u64_get_by_right_unchecked(
     on_table!(handle, alloc, HashU64U64, map => u64_u64::get_by_right(map, right, left))
 }
 
-/// Returns 0 if the left is contained, and 5 if not.
+/// Returns 0 if the left is contained, and 5 if it is not.
 #[unsafe(no_mangle)]
 pub extern "C" fn jetukoma_hash_u64_u64_contains_left_unchecked(
     alloc: Global,
@@ -188,7 +191,7 @@ pub extern "C" fn jetukoma_hash_u64_u64_contains_left_unchecked(
     on_table!(handle, alloc, HashU64U64, map => calls::found(map.contains_left(&left)))
 }
 
-/// Returns 0 if the right is contained, and 5 if not.
+/// Returns 0 if the right is contained, and 5 if it is not.
 #[unsafe(no_mangle)]
 pub extern "C" fn jetukoma_hash_u64_u64_contains_right_unchecked(
     alloc: Global,
@@ -202,7 +205,7 @@ pub extern "C" fn jetukoma_hash_u64_u64_contains_right_unchecked(
     on_table!(handle, alloc, HashU64U64, map => calls::found(map.contains_right(&right)))
 }
 
-/// Removes the pair of a left, and writes it. 5: the left is not contained.
+/// Removes the pair of a left, and writes it. Returns 5 if the left is not contained.
 #[unsafe(no_mangle)]
 pub extern "C" fn jetukoma_hash_u64_u64_remove_by_left_unchecked(
     alloc: Global,
@@ -217,7 +220,7 @@ pub extern "C" fn jetukoma_hash_u64_u64_remove_by_left_unchecked(
     on_table!(handle, alloc, HashU64U64, map => u64_u64::remove_by_left(map, left, pair))
 }
 
-/// Removes the pair of a right, and writes it. 5: the right is not contained.
+/// Removes the pair of a right, and writes it. Returns 5 if the right is not contained.
 #[unsafe(no_mangle)]
 pub extern "C" fn jetukoma_hash_u64_u64_remove_by_right_unchecked(
     alloc: Global,
@@ -232,7 +235,7 @@ pub extern "C" fn jetukoma_hash_u64_u64_remove_by_right_unchecked(
     on_table!(handle, alloc, HashU64U64, map => u64_u64::remove_by_right(map, right, pair))
 }
 
-/// Removes all pairs, in time in proportion to the places, which stay.
+/// Removes all pairs. The capacity does not change. The time grows with the capacity.
 #[unsafe(no_mangle)]
 pub extern "C" fn jetukoma_hash_u64_u64_clear_unchecked(alloc: Global, handle: &mut Handle) -> u32
     ensures { Changes hash_u64_u64 handle.old.slot.value result handle.new.slot.value

@@ -1,4 +1,4 @@
-//! The walk of the hashed bimap of two numbers for C.
+//! The functions for C that iterate over the hashed map of two numbers.
 ghost use Rattle.std.specs.Prelude.{◌≡◌, drop};
 ghost use Rattle.bimap.specs.Hash.{holding};
 ghost use Rattle.bimap_c.specs.Calls.{IsWritten, Reads};
@@ -12,8 +12,9 @@ use crate::u64_u64::{Pair, write_row};
 use bimap::BiHashMap;
 use std::alloc::Global;
 
-/// Writes pairs in the order of their places, after the first `start`, to the front of a row, as many as there are and
-/// it has room for, and how many they are. Each call passes over all places before: a whole walk wants one row, or few.
+/// Writes pairs to the front of a row, until the row is full or there are no more. It leaves out the first `start`
+/// pairs. It writes to `filled` how many pairs it wrote. The order is not specified, and it stays the same until the
+/// table changes. Each call passes over the pairs that it leaves out. To read all pairs, use one long row or a few.
 #[unsafe(no_mangle)]
 pub extern "C" fn jetukoma_hash_u64_u64_fill_unchecked(
     alloc: Global,

@@ -1,4 +1,5 @@
-//! Tables of byte strings and numbers as the text of a JSON object, over any bimap of them.
+//! Writes tables of byte strings and numbers as the text of a JSON object, and reads them. This works on any map of
+//! them.
 ghost use Rattle.std.specs.Prelude.{◌≡◌, []};
 ghost use Rattle.bimap_c.specs.Bytes.{kept, IsLengthWritten};
 ghost use Rattle.bimap_c.specs.Calls.{IsWritten};
@@ -12,7 +13,7 @@ use bimap::{Bijection, OnHeld, Overwritten, Policy};
 use std::alloc::Global;
 use std::str;
 
-/// Writes the pairs, of which each left is a text.
+/// Writes the pairs, whose lefts are all text, and returns the status.
 pub(crate) fn write_json<B: JsonObject<ByteString, u64>>(
     alloc: Global,
     map: &B,
@@ -32,7 +33,7 @@ pub(crate) fn write_json<B: JsonObject<ByteString, u64>>(
     copy_out(text.as_bytes(), buf, len)
 }
 
-/// Reads a text into an empty bimap, which takes the place of the table's.
+/// Reads a text into an empty map, which replaces the map of the table. Returns the status.
 pub(crate) fn from_json<B: Bijection<ByteString, u64> + Drop>(
     alloc: Global,
     table: &mut BytesTable<u64, B>,

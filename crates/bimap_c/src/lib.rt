@@ -1,11 +1,13 @@
-//! Bimaps for C: a module for each kind and each types of sides, over the facade and `extend` of any bimap.
+//! The functions for C. There is a module for each kind of map and each pair of types of its sides. They call the
+//! facade `bimap`, and `extend` over any map.
 //!
-//! An export takes references, so it may not be handed a null pointer. Tests of raw pointers would want a proof by hand
-//! in each export, so the header makes them: its function `jetukoma_..` tests, and calls `jetukoma_.._unchecked`.
+//! An exported function takes references, so it must not get a null pointer. A test of a raw pointer would need a proof
+//! by hand in each of these functions. The header makes the tests: its function `jetukoma_..` tests its pointers, and
+//! calls `jetukoma_.._unchecked`.
 #![tactic(auto)]
 
-// Calls on a handle's table, and returns the status, which is `NO_TABLE` where there is none of the kind. Each way out is
-// proved by itself.
+// Makes a call on the table of a handle, and returns the status. The status is `NO_TABLE` if the handle has no table of
+// this kind. Each way out of the function is proved separately.
 macro_rules! on_table {
     ($handle:ident, $alloc:ident, $kind:ident, $table:ident => $call:expr) => {{
         let Some(mut held) = $handle.take($alloc) else {

@@ -1,4 +1,4 @@
-//! A table's box as its bare pointer, so that C can hold it.
+//! The box of a table as a bare pointer, so that a C program can keep it.
 ghost use Rattle.std.specs.Prelude.{◌≡◌, Option, None, Some, IsSome};
 ghost use Rattle.std.specs.Box.Ownership.{box_owns};
 ghost use Rattle.std_heap.specs.contracts.GlobalAllocator.TheImpl.{ghosts};
@@ -12,7 +12,7 @@ use std::alloc::Global;
 use std::marker::{Model, Send};
 use std::ptr::null_mut;
 
-/// The block of a table, or none.
+/// The allocation of a table, or none.
 #[repr(C)]
 #[derive(Drop)]
 pub struct Slot {

@@ -1,21 +1,22 @@
-//! What a call for C returns. The out-parameters are written on `DONE` alone, and otherwise as each status says.
+//! The statuses that a call for C returns. On `DONE` it has written its out-parameters. On another status it has not,
+//! unless that status says so.
 
-/// The call did what it says.
+/// The call did what its description says.
 pub const DONE: u32 = 0;
 
-/// Out of memory, and nothing has changed. A call of many items keeps those before the one that wanted memory.
+/// Out of memory. Nothing has changed. A call with many items keeps the items before the one that ran out of memory.
 pub const NO_MEMORY: u32 = 1;
 
-/// The handle has no table of the call's kind, or is null; of `free`: it has no table; of `new`: it has one already.
-/// Nothing has changed.
+/// The handle is null or has no table of this kind. `free` returns this if the handle has no table. `new` returns it if
+/// the handle has a table already. Nothing has changed.
 pub const NO_TABLE: u32 = 2;
 
-/// A value is contained, and may not be overwritten; a flag is above 1; a pointer to a value is null; or there is no JSON of
-/// this table, or no table of this text. Nothing has changed.
+/// The call was refused, and nothing has changed. A value is contained and must not be overwritten, a flag is above 1,
+/// or a pointer to a value is null. For JSON: the table cannot be written as JSON, or the text is no table.
 pub const REFUSED: u32 = 3;
 
-/// The buffer is too short, and the length wanted is written. Nothing else has changed.
+/// The buffer is too short. The call has written the length that it needs. Nothing else has changed.
 pub const BUFFER_TOO_SHORT: u32 = 4;
 
-/// No such pair is contained, and nothing has changed.
+/// No such pair is contained. Nothing has changed.
 pub const NOT_FOUND: u32 = 5;

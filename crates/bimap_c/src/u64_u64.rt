@@ -1,4 +1,4 @@
-//! What C hands over and is handed where both sides are numbers, and the bodies of the calls, over any bimap of them.
+//! The structs that C sees if both sides are numbers, and the bodies of the calls. They work on any map of two numbers.
 ghost use Rattle.std.specs.Prelude.{◌≡◌, option_map};
 ghost use Rattle.std.specs.Iterator.{IsFinite};
 ghost use Rattle.std.specs.Map.Iter.{deref};
@@ -18,9 +18,10 @@ pub struct Pair {
     pub right: u64,
 }
 
-/// The pairs that an insertion overwrote. `kind` is 0 for none, 1 for the pair of the left alone, 2 for that of the
-/// right alone, 3 for the one pair of both, all as `first`, and 4 for that of the left, `first`, and that of the right,
-/// `second`. A pair that there is not is two zeros.
+/// The pairs that an insertion overwrote. `kind` is 0 if there are none. It is 1 for the pair of the left alone, 2 for
+/// the pair of the right alone, and 3 for one pair with both values. In these cases the pair is `first`. `kind` is 4
+/// for two pairs: `first` is the pair of the left, and `second` is the pair of the right. A pair that does not exist is
+/// two zeros.
 #[repr(C)]
 #[derive(Clone, Copy, Drop)]
 pub struct Overwritten {
@@ -31,7 +32,7 @@ pub struct Overwritten {
 
 const NO_PAIR: Pair = Pair { left: 0, right: 0 };
 
-// What was overwritten, for C.
+// Returns what was overwritten, as C sees it.
 fn show(answer: bimap::Overwritten<u64, u64>) -> Overwritten
     ensures { result ≡ shown answer }
 {
@@ -52,7 +53,7 @@ fn show(answer: bimap::Overwritten<u64, u64>) -> Overwritten
     }
 }
 
-/// Writes what was found, if it was, and returns the status.
+/// Writes what was found, if something was, and returns the status.
 pub(crate) fn tell_value(found: Option<&u64>, out: &mut u64) -> u32
     ensures told { Tells (option_map deref found.entry) result out.new }
     ensures out { IsWritten result out.old out.new }
@@ -64,7 +65,7 @@ pub(crate) fn tell_value(found: Option<&u64>, out: &mut u64) -> u32
     DONE
 }
 
-/// Writes the pair that was taken out, if one was, and returns the status.
+/// Writes the pair that was removed, if one was, and returns the status.
 pub(crate) fn tell_pair(taken: Option<(u64, u64)>, out: &mut Pair) -> u32
     ensures told { Tells (option_map row taken) result out.new }
     ensures out { IsWritten result out.old out.new }
@@ -181,7 +182,8 @@ pub(crate) fn remove_by_right<B: Bijection<u64, u64>>(
     tell_pair(map.remove_by_right(&right), pair)
 }
 
-/// Writes the pairs of a walk to the front of a row, as many as there are and it has room for, and returns how many.
+/// Writes the pairs of an iterator to the front of a row, until the row is full or there are no more. Returns how
+/// many it wrote.
 pub(crate) fn write_row<'a, W: Iterator<Item = (&'a u64, &'a u64)>>(
     walk: W,
     row: &mut [Pair],

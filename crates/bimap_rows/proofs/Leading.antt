@@ -15,7 +15,7 @@ use Rattle.bimap.proofs.Histories.{IsHistory_append, IsHistory_one}
 use Rattle.bimap_rows.specs.Lines.{Request}
 use Rattle.bimap_rows.specs.Serving.{Answered, NoTest, LeadsTo}
 
--- with no places counted, since none is wanted
+-- A `Holding` of these pairs. Its capacity is 0, since nothing here depends on it.
 abbrev holding : List (ℕ × ℕ) → Holding ℕ ℕ
 holding pairs = record { pairs = pairs; room = 0 }
 
@@ -47,7 +47,8 @@ LeadsTo_none pairs e = subst (LeadsTo [] []) (sym e) (record {
   has_room = λ f m. none_in f m;
 })
 
--- what a call touches with one test it touches with another that refuses all that the first does
+-- Let `Other` refuse every pair that `Test` refuses. Then a call that touches a pair with `Test` also touches it with
+-- `Other`.
 module _ (Test Other : Unit {0} → ℕ × ℕ → Bool → Type 0) (refused : (key : Unit {0}) (p : ℕ × ℕ) → Test key p false → Other key p false) where
   touches : (e : Answered) (p : ℕ × ℕ) → Touches nat_eq nat_eq Test e p → Touches nat_eq nat_eq Other e p
   touches (Insert l r, Inserted a) p t = t
@@ -59,12 +60,12 @@ module _ (Test Other : Unit {0} → ℕ × ℕ → Bool → Type 0) (refused : (
   touches (Clear, reply) p t = t
   touches (call, reply) p t = absurd t
 
--- a reply of another name doesn't want memory
+-- A reply other than `NoRoom` does not say "out of memory".
 found_room : (call : Request) (reply : Reply ℕ ℕ) → ((l r : ℕ) → reply ≢ NoRoom l r) → IsNoRoom (call, reply) → ⊥
 found_room call (NoRoom l r) other n = other l r refl
 found_room call reply other n = n
 
--- one call that found memory, with a test that refuses no pair
+-- One call that did not run out of memory, with a test that refuses no pair.
 module _ (Test : Unit {0} → ℕ × ℕ → Bool → Type 0) (old new : List (ℕ × ℕ)) (call : Request) (reply : Reply ℕ ℕ) (apart : IsApart nat_eq nat_eq old)
     (right : IsRight nat_eq nat_eq (Contains old) (call, reply)) (step : IsStep nat_eq nat_eq Test (Contains old) (call, reply) (Contains new))
     (keeps : (key : Unit {0}) (p : ℕ × ℕ) → Test key p false → ⊥) (other : (l r : ℕ) → reply ≢ NoRoom l r) where

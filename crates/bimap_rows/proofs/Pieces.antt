@@ -1,4 +1,4 @@
--- What stands up to a line feed.
+-- What is before the first line feed.
 use Rattle.std.proofs.Common.{◌≡◌, ◌⊎◌, ℕ, List, [], ◌∷◌, ◌++◌, Bool, true, false, cond, eqb, Option, None, Some, IfSome, length, refl, sym, ap, subst, ◌∙◌, inl, inr, arith, append-nil}
 use Rattle.std.specs.Prelude.{is_some, if◌then◌else◌}
 use Rattle.std.specs.Bool.{then_some}
@@ -8,7 +8,7 @@ use Rattle.std.proofs.lemmas.List.{length_push, same_from_push}
 use Rattle.bimap_rows.specs.Lines.{NoFeed}
 use Rattle.bimap_rows.specs.Steps.{IsNextLine}
 
--- the first line of the bytes, and whether a line feed ends it
+-- The first line of the bytes, and whether a line feed ends it.
 record FirstLine (bytes : List ℕ) : Type 0 where
   pub line : List ℕ
   pub ended : Bool
@@ -36,7 +36,7 @@ feed_last : (line : List ℕ) (x : ℕ) → NoFeed (line ++ x ∷ []) → eqb x 
 feed_last [] x n = ne_eqb x 10 n.0
 feed_last (y ∷ line) x n = feed_last line x n.1
 
--- what `pop_if` leaves and answers where the last byte goes if it is a line feed
+-- What `pop_if` leaves and returns if it removes the last byte when that is a line feed.
 abbrev pub PopsFeed : List ℕ → List ℕ → Option ℕ → Type 0
 PopsFeed items line popped =
     ((items ≡ []) × (line ≡ []) × (popped ≡ None))
@@ -54,7 +54,7 @@ popped items line first false r (inr h) e clean =
     let other : eqb h.1 10 ≡ false = feed_last h.0 h.1 (subst NoFeed (sym whole) clean) in
     ((rw other at h.4) ∙ whole, ap is_some (rw other at h.3))
 
--- the next line of a reader's bytes, where they are known
+-- The next line of the bytes of a reader, if they are known.
 pub next_line : (o left : Option (List ℕ)) (was items line : List ℕ) (r : Option ℕ) → was ≡ [] → IfSome o (λ xs. items ≡ was ++ take_through 10 xs) → DropsThrough o left 10 → PopsFeed items line r → IfSome o (λ xs. IsNextLine xs line (is_some r) left)
 next_line None left was items line r empty bytes rest p = tt
 next_line (Some xs) left was items line r empty bytes rest p =

@@ -1,4 +1,4 @@
--- One line on.
+-- The progress by one line.
 use Rattle.std.proofs.Common.{◌≡◌, ◌⊎◌, ℕ, List, [], ◌∷◌, ◌++◌, Option, None, Some, IfSome, Bool, true, false, length, ◌+◌, refl, sym, ap, subst, ◌∙◌, inl, inr, Result, Ok, Err, MatchResult, append-nil}
 use Rattle.std.specs.Io.KnownBytes.{Appends}
 use Rattle.std.proofs.KnownBytes.{Appends-nil, Appends-trans}
@@ -12,7 +12,7 @@ use Rattle.bimap_rows.specs.declared.serve.Ending.{Ending}
 use Rattle.bimap_rows.specs.declared.serve.Ending.TheVariants.{InputFailed, OutputFailed, BadLine, NoMemory}
 use Rattle.bimap_rows.proofs.Leading.{LeadsTo_push, LeadsTo_none}
 
--- so many lines of the bytes were read and say the calls, and these bytes are left
+-- This number of lines was read. They name the calls, and these bytes are left.
 pub record HasRead (bytes : List ℕ) (left : Option (List ℕ)) (number : ℕ) (said : List Request) : Type 0 where
   pub lines : List (List ℕ)
   pub rest : List ℕ
@@ -21,7 +21,7 @@ pub record HasRead (bytes : List ℕ) (left : Option (List ℕ)) (number : ℕ) 
   pub count : length lines ≡ number
   pub say : Says lines said
 
--- a history of the calls of the lines read leads from nothing to the pairs, and its replies were written
+-- A history of the calls of these lines leads from no pairs to these pairs, and its replies were written.
 pub record HasServed (input left : Option (List ℕ)) (number : ℕ) (before after : Option (List ℕ)) (pairs : List (ℕ × ℕ)) : Type 0 where
   pub history : List Answered
   pub leads : LeadsTo [] history pairs
@@ -32,7 +32,7 @@ push_line : (bytes : List ℕ) (lines : List (List ℕ)) (rest line more : List 
 push_line bytes [] rest line more h e n = (more, h ∙ e, n, refl)
 push_line bytes (l ∷ lines) rest line more h e n = (h.0, h.1, h.2, push_line h.0 lines rest line more h.3 e n)
 
--- what one more line adds to the calls
+-- What one more line adds to the calls.
 abbrev Adds : List ℕ → List Request → List Request → Type 0
 Adds line said more = ((text_of line ≡ []) × (more ≡ said)) ⊎ ((call : Request) × SaysCall (text_of line) call × (more ≡ said ++ call ∷ []))
 
@@ -72,7 +72,7 @@ told_push history e = flat_map-append (λ x. reply_line x.1) history (e ∷ []) 
 unwritten : (o p q : Option (List ℕ)) (bs : List ℕ) → Appends o p bs → Appends p q [] → Appends o q bs
 unwritten o p q bs a b = subst (Appends o q) (append-nil bs) (Appends-trans o p q bs [] a b)
 
--- the history after a line that was taken
+-- The history after a line that was accepted.
 record Took (line : List ℕ) (before after : Option (List ℕ)) (said : List Request) (pairs : List (ℕ × ℕ)) : Type 0 where
   pub history : List Answered
   pub leads : LeadsTo [] history pairs
@@ -83,7 +83,7 @@ module _ {input left : Option (List ℕ)} {number : ℕ} {before between : Optio
   pub first_served : (after : Option (List ℕ)) → Appends between after [] → IsServed SaysAtFirst input before after pairs []
   first_served after a = record { history = s.history; leads = s.leads; says = IfSome_then input s.read (λ bytes r. record { lines = r.lines; rest = r.rest; are = r.are; say = r.say }); wrote = Appends-trans before between after (told s.history) [] s.wrote a }
 
-  -- where the next line could not be read
+  -- The next line could not be read.
   pub stopped_reading : (ending : Ending) → (ending ≡ NoMemory) ⊎ (ending ≡ InputFailed) → Stops ending input before between
   stopped_reading ending (inl e) = rw e (pairs, first_served between (Appends-nil between))
   stopped_reading ending (inr e) = rw e (pairs, first_served between (Appends-nil between))
@@ -98,23 +98,23 @@ module _ {input left : Option (List ℕ)} {number : ℕ} {before between : Optio
       wrote = subst (Appends before after) (sym (told_push s.history h.0)) (Appends-trans before between after (told s.history) (reply_line h.0.1) s.wrote h.3);
     }
 
-    -- after a line with a line feed
+    -- After a line that has a line feed.
     pub next_served : (new : List (ℕ × ℕ)) → TakesLine line pairs new between after → IfSome left (λ b. IsNextLine b line true rest) → HasServed input rest (number + 1) before after new
     next_served new h p =
         let t = took new h in
         record { history = t.history; leads = t.leads; read = IfSome_then input s.read (λ bytes r. next_read r line (calls t.history) rest t.adds p); wrote = t.wrote }
 
-    -- after the last line no byte is left
+    -- After the last line no byte is left.
     pub all_read : IfSome left (λ b. IsNextLine b line false rest) → IsReadOut input rest
     all_read p = IfSome_then input s.read (λ bytes r. (here r line (λ b. IsNextLine b line false rest) p).2)
 
-    -- and all is served
+    -- After the last line everything is served.
     pub all_served : (new : List (ℕ × ℕ)) → TakesLine line pairs new between after → IfSome left (λ b. IsNextLine b line false rest) → IsServed SaysInAll input before after new []
     all_served new h p =
         let t = took new h in
         record { history = t.history; leads = t.leads; says = IfSome_then input s.read (λ bytes r. last_read r line (calls t.history) rest t.adds p); wrote = subst (Appends before after) (sym (append-nil (told t.history))) t.wrote }
 
-    -- at a line that was not taken
+    -- At a line that was not accepted.
     pub stopped_at : (ended : Bool) (ending : Ending) → StopsAtLine line (number + 1) ending between after → IfSome left (λ b. IsNextLine b line ended rest) → Stops ending input before after
     stopped_at ended OutputFailed h p = tt
     stopped_at ended (BadLine n) h p = (
@@ -136,7 +136,7 @@ none_served input out pairs e a = record { history = []; leads = LeadsTo_none pa
     known None = tt
     known (Some bytes) = record { lines = []; rest = bytes; left_is = refl; are = refl; count = refl; say = refl }
 
--- the answer that `map_err` was given
+-- If `map_err` returned `Ok` with a value, it was given `Ok` with this value.
 pub value_of : {X E : Type 0} (D : Type 0) (r : Result X E) (x : X) → MatchResult r (λ y. ◌≡◌ {A = Result X D} (Ok x) (Ok y)) (λ e. ⊥) → r ≡ Ok x
 value_of D (Ok y) x h = cc
 value_of D (Err e) x h = absurd h

@@ -1,4 +1,4 @@
--- The lines of pairs that are shown one after the other.
+-- The lines of pairs that are written one after the other.
 use Rattle.std.proofs.Common.{◌≡◌, ℕ, List, [], ◌∷◌, ◌++◌, Option, length, map, ap, sym, subst, ◌∙◌, append_assoc, append-nil, codes}
 use Rattle.std.specs.Prelude.{flat_map, decimal}
 use Rattle.std.proofs.lemmas.Grind.{flat_map-append}

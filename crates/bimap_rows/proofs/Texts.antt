@@ -1,4 +1,4 @@
--- A line that says a call is a text.
+-- A line that names a call is text in UTF-8.
 use Rattle.std.proofs.Common.{rules, ◌≡◌, ◌&&◌, ℕ, List, [], ◌∷◌, Bool, true, refl, sym, ap, subst, append-nil, codes, ◌≢◌, ◌∙◌, ◌==◌, length, false, true≢false, Option, None, Some, MatchOption}
 use Rattle.std.specs.Char.{encode_utf8, is_ascii_digit}
 use Rattle.std.specs.Str.{IsUtf8, all_ascii_digits}
@@ -65,7 +65,7 @@ arguments_utf8 c rest call h = absurd h
 pub says_utf8 : (line : List ℕ) (call : Request) → SaysCall line call → IsUtf8 line
 says_utf8 line call h = subst IsUtf8 (sym h.2) (IsUtf8-append (command_text h.0) h.1 (command_utf8 h.0) (arguments_utf8 h.0 h.1 call h.3))
 
--- what is made of the call of a text
+-- The call of a text, or none, decides what the text is read as.
 pub read_call : (text : List ℕ) (o : Option Request) (line : Line) → text ≢ [] → MatchOption o ((call : Request) → SaysCall text call → ⊥) (SaysCall text) → MatchOption o (line ≡ Bad) (λ call. line ≡ Call call) → IsRead text line
 read_call text None line some none e = rw e (some, none)
 read_call text (Some call) line some says e = rw e says

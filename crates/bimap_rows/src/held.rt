@@ -1,4 +1,4 @@
-//! The bimap that the program keeps, and the lines that show what it holds. No other file names the ordered bimap.
+//! The map that the program keeps, and the lines that show its pairs. No other file names the ordered map.
 ghost use Rattle.std.specs.Prelude.{OnOk};
 ghost use Rattle.std.specs.Io.KnownBytes.{Appends};
 ghost use Rattle.bimap.specs.BTree.{holding};
@@ -7,10 +7,10 @@ ghost use Rattle.bimap_rows.specs.Serving.{tail};
 use bimap::BiBTreeMap;
 use std::io::{self, Write};
 
-/// What the program keeps.
+/// The map that the program keeps.
 pub type Held = BiBTreeMap<char, u32>;
 
-/// Writes the number of the pairs held, and a line for each, by ascending left.
+/// Writes the number of pairs, and a line for each pair in ascending order of the lefts.
 pub fn write_held<W: Write>(output: &mut W, held: &Held) -> io::Result<()>
     ensures { OnOk result (Appends (W.contents output.old) (W.contents output.new)
         (tail (holding held.now).pairs)) }

@@ -1,4 +1,4 @@
-//! What a line says. It knows no bimap, and not where lines come from.
+//! Reads lines as calls. This file does not know bimaps, nor where lines come from.
 ghost use Rattle.std.specs.Prelude.{◌≡◌, ◌≢◌, ◌∷◌, ◌++◌, List, ℕ, MatchOption};
 ghost use Rattle.bimap_rows.specs.Lines.{IsNumeral, IsSymbol, letter, policy_text, IsPairText, command_text, IsArguments, SaysCall};
 ghost use Rattle.bimap_rows.specs.Steps.{IsRead};
@@ -7,10 +7,10 @@ ghost use Rattle.bimap.specs.declared.call.Call.{Call};
 
 use bimap::{Call, OnHeld, Policy};
 
-/// A call that a line may say.
+/// A call that a line can name.
 pub type Request = Call<char, u32, ()>;
 
-/// What a line is.
+/// A line as it was read.
 #[derive(Debug, Drop)]
 pub enum Line {
     Empty,
@@ -18,7 +18,7 @@ pub enum Line {
     Bad,
 }
 
-/// What a line begins with.
+/// The first word of a line.
 #[derive(Clone, Copy, Debug, Eq, PartialEq)]
 enum Command {
     Insert,
@@ -29,7 +29,7 @@ enum Command {
     Clear,
 }
 
-// The command that a text begins with, and what follows it.
+// Returns the command that a text begins with, and what follows the command.
 fn split_command(text: &str) -> Option<(Command, &str)>
     ensures { MatchOption result ((command : Command) (rest : List ℕ) →
         text.now ≢ command_text command ++ rest) (λ p. text.now ≡ command_text p.0 ++ p.1.now) }
@@ -53,7 +53,7 @@ fn split_command(text: &str) -> Option<(Command, &str)>
     Some((Command::Clear, rest))
 }
 
-// The character that a word is.
+// Returns the character that a word consists of. The character is not a space.
 fn parse_symbol(word: &str) -> Option<char>
     ensures { MatchOption result ((c : ℕ) → IsSymbol word.now c → ⊥) (λ c. IsSymbol word.now c) }
 {
@@ -64,7 +64,7 @@ fn parse_symbol(word: &str) -> Option<char>
     }
 }
 
-// The number that a word of digits spells. A sign is no digit.
+// Returns the number that a word of digits spells. A sign is not a digit.
 fn parse_number(word: &str) -> Option<u32>
     ensures { MatchOption result ((n : ℕ) → IsNumeral word.now n → ⊥) (λ n. IsNumeral word.now n) }
 {
@@ -74,7 +74,7 @@ fn parse_number(word: &str) -> Option<u32>
     word.parse().ok()
 }
 
-// The two values that a text of two words names.
+// Returns the two values that a text of two words names.
 fn parse_pair(text: &str) -> Option<(char, u32)>
     ensures { MatchOption result ((c n : ℕ) → IsPairText text.now c n → ⊥)
         (λ p. IsPairText text.now p.0 p.1) }
@@ -83,7 +83,7 @@ fn parse_pair(text: &str) -> Option<(char, u32)>
     Some((parse_symbol(word)?, parse_number(digits)?))
 }
 
-// What a letter makes of a held value, and what follows it.
+// Returns what the first letter says about a value that is in the map already, and what follows the letter.
 fn parse_letter(text: &str) -> Option<(OnHeld, &str)>
     ensures { MatchOption result ((held : _) (rest : List ℕ) → text.now ≢ letter held ∷ rest)
         (λ p. text.now ≡ letter p.0 ∷ p.1.now) }
@@ -95,7 +95,7 @@ fn parse_letter(text: &str) -> Option<(OnHeld, &str)>
     Some((OnHeld::Refuse, rest))
 }
 
-// The policy that the first word of a text names, and what follows the space after it.
+// Returns the policy that the first word of a text names, and what follows the space after this word.
 fn parse_policy(text: &str) -> Option<(Policy, &str)>
     ensures { MatchOption result ((policy : _) (rest : List ℕ) →
         text.now ≢ policy_text policy ++ rest) (λ p. text.now ≡ policy_text p.0 ++ p.1.now) }
@@ -106,7 +106,7 @@ fn parse_policy(text: &str) -> Option<(Policy, &str)>
     Some((Policy { left, right }, rest))
 }
 
-// The call that a command makes with the rest of its line.
+// Returns the call that a command makes with the rest of its line.
 fn parse_arguments(command: Command, rest: &str) -> Option<Request>
     ensures { MatchOption result ((call : _) → IsArguments command rest.now call → ⊥)
         (λ call. IsArguments command rest.now call) }
@@ -131,7 +131,7 @@ fn parse_arguments(command: Command, rest: &str) -> Option<Request>
     }
 }
 
-// The call that a text says.
+// Returns the call that a text names.
 fn parse_call(text: &str) -> Option<Request>
     ensures { MatchOption result ((call : _) → SaysCall text.now call → ⊥)
         (λ call. SaysCall text.now call) }
@@ -140,7 +140,7 @@ fn parse_call(text: &str) -> Option<Request>
     parse_arguments(command, rest)
 }
 
-/// What a line says, without its line feed and one carriage return before it. It takes no memory.
+/// Reads a line as a call. The line has no line feed, and no carriage return before it. The function allocates nothing.
 pub fn parse_line(text: &[u8]) -> Line
     ensures { IsRead text.now result }
 {

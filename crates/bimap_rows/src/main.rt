@@ -1,4 +1,5 @@
-//! The program: it performs the lines of standard input on a bimap, and prints their replies and what is held.
+//! A program that keeps pairs. It performs the lines of standard input on a map, prints a reply to each, and prints all
+//! pairs at the end.
 #![tactic(auto)]
 
 ghost use Rattle.std.specs.Prelude.{◌≡◌};
@@ -17,7 +18,7 @@ use std::io::{self, BufReader, BufWriter, ErrorKind};
 use std::process::ExitCode;
 use tool_lines::no_argument;
 
-// The lines that say a call. A left is a character, a right a number from 0 to 4294967295.
+// The lines that name a call. A left is a character, and a right is a number from 0 to 4294967295.
 const REQUESTS: &str = "insert LEFT RIGHT - overwrites what is held of either
 put LEFT RIGHT - if neither is held
 insert-with POLICY LEFT RIGHT - oo, or, ro or rr, left then right: o overwrites, r refuses
@@ -26,14 +27,14 @@ drop-right RIGHT
 clear
 LEFT is a character, RIGHT a number up to 4294967295";
 
-// The work over standard input and output, which are read and written in blocks.
+// Does the work over standard input and standard output. Both are buffered.
 fn run(rt: &HostRuntime) -> io::Result<Ending> {
     let mut input = BufReader::new(rt.alloc(), rt.reader())?;
     let mut output = BufWriter::new(rt.alloc(), io::writer(rt))?;
     Ok(serve(rt.alloc(), &mut input, &mut output))
 }
 
-// The status that tells how the work ended.
+// Returns the exit status for an ending.
 fn status(ending: Ending) -> u8
     ensures { result ≡ status_of ending }
 {
@@ -48,12 +49,12 @@ fn status(ending: Ending) -> u8
 fn main(rt: HostRuntime) -> ExitCode {
     let ending = match no_argument(&rt, "bimap_rows", REQUESTS) {
         Ok(Some(status)) => return status,
-        // The blocks for reading and writing want memory, and nothing else fails there.
+        // The buffers need memory, and nothing else can fail there.
         Ok(None) => run(&rt).unwrap_or(Ending::NoMemory),
         Err(error) if error.kind() == ErrorKind::OutOfMemory => Ending::NoMemory,
         Err(_) => Ending::OutputFailed,
     };
-    // Where standard error fails too, the status still tells.
+    // If standard error fails too, the status still says how the program ended.
     let _ = match ending {
         Ending::Clean => Ok(()),
         Ending::InputFailed => eprintln!(rt; "input failed"),

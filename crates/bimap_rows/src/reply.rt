@@ -1,4 +1,4 @@
-//! The lines that the program writes. It doesn't know how calls are performed.
+//! Writes the replies as lines. This file does not know how calls are performed.
 ghost use Rattle.std.specs.Prelude.{OnOk};
 ghost use Rattle.std.specs.Io.KnownBytes.{Appends};
 ghost use Rattle.bimap_rows.specs.Lines.{answer_line, reply_line};
@@ -6,7 +6,7 @@ ghost use Rattle.bimap_rows.specs.Lines.{answer_line, reply_line};
 use bimap::{Overwritten, Reply};
 use std::io::{self, Write};
 
-// Writes which pairs an insertion struck out.
+// Writes which pairs an insertion overwrote.
 fn write_answer<W: Write>(output: &mut W, answer: Overwritten<char, u32>) -> io::Result<()>
     ensures { OnOk result (Appends (W.contents output.old) (W.contents output.new)
         (answer_line answer)) }
@@ -22,7 +22,8 @@ fn write_answer<W: Write>(output: &mut W, answer: Overwritten<char, u32>) -> io:
     }
 }
 
-/// Writes the line of a reply. Want of memory, and whether a value is held, have none.
+/// Writes the line of a reply. Two replies have no line: the one that says "out of memory", and the one that says
+/// whether the map contains a value.
 pub fn write_reply<W: Write>(output: &mut W, reply: Reply<char, u32>) -> io::Result<()>
     ensures { OnOk result (Appends (W.contents output.old) (W.contents output.new)
         (reply_line reply)) }

@@ -1,4 +1,4 @@
-//! The program's work over any reader and writer: each line is performed, and its reply is written.
+//! The work of the program, over any reader and writer. Each line is performed, and its reply is written.
 ghost use Rattle.std.specs.Prelude.{◌≡◌, ◌≢◌, ◌⊎◌, [], OnOk, IfErr};
 ghost use Rattle.std.specs.Io.Buffered.{writer_contents, writer_buffer};
 ghost use Rattle.std.specs.IoError.{error_kind};
@@ -18,19 +18,19 @@ use std::io::{BufRead, BufWriter, Error, ErrorKind, Write};
 /// How the work ended.
 #[derive(Clone, Copy, Debug, Eq, PartialEq)]
 pub enum Ending {
-    /// All lines were performed, and what is held was written.
+    /// All lines were performed, and all pairs were written.
     Clean,
-    /// A read failed, or there were more lines than a `u64` counts.
+    /// A read failed, or there were more lines than a `u64` can count.
     InputFailed,
     /// A write or a flush failed.
     OutputFailed,
-    /// The line of this number, from 1 on, says no call.
+    /// The line of this number names no call. Lines are counted from 1.
     BadLine(u64),
     /// There was no memory.
     NoMemory,
 }
 
-// Performs what a line says, and writes the reply.
+// Performs the call of a line, and writes the reply.
 fn take_line<B: Bijection<char, u32>, W: Write>(
     held: &mut B,
     output: &mut W,
@@ -53,7 +53,7 @@ fn take_line<B: Bijection<char, u32>, W: Write>(
     }
 }
 
-// Why a line could not be read.
+// Returns the ending for a line that could not be read.
 fn read_fault(error: Error) -> Ending
     ensures memory { error_kind error ≡ ErrorKind.OutOfMemory → result ≡ Ending.NoMemory }
     ensures other { error_kind error ≢ ErrorKind.OutOfMemory → result ≡ Ending.InputFailed }
@@ -66,7 +66,7 @@ fn read_fault(error: Error) -> Ending
     }
 }
 
-// Performs all lines of the input on an empty bimap, and writes their replies.
+// Performs all lines of the input on an empty map, and writes their replies.
 fn serve_lines<B: Bijection<char, u32>, I: BufRead, W: Write>(
     alloc: Global,
     held: &mut B,
@@ -99,11 +99,13 @@ fn finish<W: Write + Drop>(output: &mut BufWriter<W>, ending: Ending) -> Ending
     output.flush().map_or(Ending::OutputFailed, |()| ending)
 }
 
-/// Performs the lines of the input on an empty bimap, writes their replies, and at the end of the input what is held.
+/// Performs the lines of the input on an empty map and writes their replies. At the end of the input it writes all
+/// pairs.
 ///
-/// It ends at the first line that says no call, and wherever reading, writing or memory fails: the replies of the
-/// lines before have been written then, and what is held has not. It flushes the output before it ends, unless the
-/// output has failed: so no byte waits in the buffer. Each line takes memory for its own bytes, and what its call takes.
+/// It stops at the first line that names no call. It also stops when reading, writing or memory fails. Then it has
+/// written the replies to the lines before, and it does not write the pairs. At the end it flushes the output, unless
+/// writing has failed. Thus no byte stays in the buffer. Each line allocates for its own bytes, and its call allocates
+/// what it needs.
 pub fn serve<I: BufRead, W: Write + Drop>(
     alloc: Global,
     input: &mut I,

@@ -1,11 +1,12 @@
-//! What no run of the program shows: reads that fail in mid-stream, flushes counted, each request for memory refused.
+//! Tests what no run of the program shows: reads that fail in mid-stream, the number of flushes, and a refusal of each
+//! allocation.
 use crate::serve::{Ending, serve};
 use std::alloc::{AllocError, Global};
 use std::io::{self, BufReader, BufWriter, Error, ErrorKind, Read, Write};
 use std::test::Fail;
 use test_support::MemoryLimit;
 
-/// Gives its chunks, one a read, and then fails. An empty one is the end of the input.
+/// A reader that gives one chunk at each read and then fails. An empty chunk is the end of the input.
 #[derive(Drop)]
 struct Chunks {
     chunks: &'static [&'static [u8]],
@@ -23,7 +24,7 @@ impl Read for Chunks {
     }
 }
 
-/// Keeps all bytes, counts its flushes, and may fail them.
+/// A writer that keeps all bytes and counts its flushes. Its flushes can fail.
 #[derive(Drop)]
 struct Output {
     bytes: Vec<u8>,
@@ -44,7 +45,7 @@ impl Write for Output {
     }
 }
 
-// What is read, what is written, and the ending where the flush does not fail.
+// What is read, what is written, and the ending if the flush does not fail.
 const ENDINGS: [(&'static [&'static [u8]], &str, Ending); 7] = [
     (&[b"clear", b""], "Done\nheld 0\n", Ending::Clean),
     (&[b"clear\nx\n", b""], "Done\n", Ending::BadLine(2)),
@@ -76,15 +77,15 @@ fn each_ending_flushes_once(rt: HostRuntime) -> Result<(), Fail> {
     Ok(())
 }
 
-// How the lines are served, with no buffer before the output.
+// Serves the lines, with no buffer before the output.
 fn serve_lines(alloc: Global, lines: &[u8], output: &mut Vec<u8>) -> io::Result<Ending> {
     let mut input = lines;
     let mut output = BufWriter::with_capacity(alloc, 0, output)?;
     Ok(serve(alloc, &mut input, &mut output))
 }
 
-// How much was written when memory was refused for the last time. `None` where it never was, or where an ending, or lines
-// that were written before it, are not right.
+// Returns how much was written when memory was refused for the last time. Returns `None` if memory was never refused,
+// or if an ending or the lines written before it are wrong.
 fn last_refusal(alloc: Global, lines: &[u8], all: &[u8]) -> Result<Option<usize>, AllocError> {
     let mut output = Vec::with_capacity(alloc, 4096)?;
     let mut limit = MemoryLimit::begin(alloc, 200)?;
@@ -103,7 +104,8 @@ fn last_refusal(alloc: Global, lines: &[u8], all: &[u8]) -> Result<Option<usize>
     Ok(None)
 }
 
-// Lines, the replies before the last refusal, and all that is written. The fifth of five pairs wants a second growth.
+// The lines, the replies before the last refusal, and all that is written. The fifth of five pairs needs a second
+// growth of the map.
 const REFUSED: [(&str, &str, &str); 7] = [
     ("insert a 1\n", "", "Neither\nheld 1\na <> 1\n"),
     ("put a 1", "", "Put\nheld 1\na <> 1\n"),

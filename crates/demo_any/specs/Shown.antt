@@ -1,12 +1,13 @@
--- What a bimap shows from both sides after a run that began with no pair.
+-- What a map shows from both sides after a run that started with no pair.
 use Rattle.std.specs.Prelude.{ℕ, ◌+◌, ◌≤◌, Bool, Option, List, length}
 use Rattle.std.specs.Borrow.{Bor}
 use Rattle.bimap.specs.Sets.{IsApart}
 use Rattle.bimap.specs.Holding.{Holding, IsFoundByLeft, IsFoundByRight}
 use Rattle.bimap.specs.History.{Entry, IsWholeHistory}
 
--- each reply is right, and both look-ups answer by the pairs of the successful insertions that no later call touches; each
--- of them took at most as many comparisons as a search of its side may among so many pairs, no two of which share a value
+-- Every reply is right. Both look-ups find the pairs of the successful insertions that no later call touched. No two
+-- pairs share a value. The comparisons of each look-up are within the bound of a search of its side, for this number of
+-- pairs.
 pub record IsShown {L R K : Type 0} (same_left : L → L → Bool) (same_right : R → R → Bool)
     (Test : K → L × R → Bool → Type 0) (left_effort right_effort : ℕ → ℕ) (history : List (Entry L R K))
     (left : L) (right : R) (of_left : Option (Bor R)) (of_right : Option (Bor L))

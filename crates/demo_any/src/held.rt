@@ -1,4 +1,4 @@
-//! What a caller knows of a pair that it put in, and of how many are held then.
+//! What a caller knows about a pair that it inserted, and about how many pairs there are then.
 ghost use Rattle.std.specs.Prelude.{◌≡◌, ◌+◌, length, Contains, IfErr, OnOk, OnErr};
 ghost use Rattle.bimap.specs.Answer.{IsRefusal};
 ghost use Rattle.bimap.specs.Holding.{IsFull};
@@ -6,10 +6,10 @@ ghost use Rattle.bimap.specs.Sets.{IsWithPut, NoneShares};
 
 use bimap::{Bijection, NotInserted};
 
-/// Seats a new guest in a new seat. All other guests keep theirs.
+/// Seats a new guest in a new seat. All other guests keep their seats.
 ///
-/// Costs an insertion. It takes memory only where no place is free. An `Err` hands guest and seat back, and nothing has
-/// changed: one of them is in the ledger, or there was no memory.
+/// The function makes one insertion. It allocates only if there is no spare capacity. An `Err` contains the guest and
+/// the seat, and nothing has changed. It says that the ledger contains one of them, or that there was no memory.
 #[tactic(auto, using(bimap::proofs::LookUps::put_is_held))]
 pub fn seat_new<G: Eq + Drop, S: Eq + Drop, B: Bijection<G, S>>(
     ledger: &mut B,

@@ -30,7 +30,7 @@ pub fn seat_guest<G: Eq + Drop, S: Eq + Drop, B: Bijection<G, S>>(
     ledger.insert_with(guest, seat, policy)
 }
 
-/// How many seats are taken. There is a place for each.
+/// Returns how many seats are taken. It is at most the capacity.
 pub fn seats_taken<G: Eq + Drop, S: Eq + Drop, B: Bijection<G, S>>(ledger: &B) -> usize
     ensures taken { result ≡ length (B.holding ledger.now).pairs }
     ensures within { result ≤ (B.holding ledger.now).room }
@@ -38,7 +38,7 @@ pub fn seats_taken<G: Eq + Drop, S: Eq + Drop, B: Bijection<G, S>>(ledger: &B) -
     ledger.len()
 }
 
-/// Shows each guest with the seat to a visitor, once and in an open order.
+/// Shows each guest with the seat to a visitor once. The order is not specified.
 pub fn show_seats<G: Eq + Drop, S: Eq + Drop, B: Bijection<G, S>, F: FnMut(&G, &S)>(
     ledger: &B,
     visitor: F,
@@ -49,7 +49,7 @@ pub fn show_seats<G: Eq + Drop, S: Eq + Drop, B: Bijection<G, S>, F: FnMut(&G, &
     ledger.for_each(visitor)
 }
 
-/// Seats a guest while a place is free, and so is never refused.
+/// Seats a guest while there is spare capacity. It never fails.
 pub fn seat_in_free_place<G: Eq + Drop, S: Eq + Drop, B: Bijection<G, S>>(
     ledger: &mut B,
     guest: G,
@@ -68,7 +68,7 @@ pub fn seat_in_free_place<G: Eq + Drop, S: Eq + Drop, B: Bijection<G, S>>(
     }
 }
 
-/// Seats two guests while two places are free, and so refuses neither.
+/// Seats two guests while there is spare capacity for both. It never fails.
 #[tactic(auto, using(bimap::proofs::LookUps::other_stays))]
 fn seat_both_in_free_places<G: Eq + Drop, S: Eq + Drop, B: Bijection<G, S>>(
     ledger: &mut B,
@@ -88,10 +88,10 @@ fn seat_both_in_free_places<G: Eq + Drop, S: Eq + Drop, B: Bijection<G, S>>(
     let _ = seat_in_free_place(ledger, second.0, second.1);
 }
 
-/// Seats two guests, or neither: places for both are asked for first, and after that neither is refused.
+/// Seats two guests, or neither. It makes sure of capacity for both first. After that neither can be refused.
 ///
-/// It takes memory only where fewer than two places are free, and then makes no more than are wanted. An `Err` changes
-/// nothing.
+/// The function allocates only if there is spare capacity for fewer than two guests. Then it adds no more capacity than
+/// needed. An `Err` changes nothing.
 pub fn seat_both<G: Eq + Drop, S: Eq + Drop, B: Bijection<G, S>>(
     ledger: &mut B,
     first: (G, S),

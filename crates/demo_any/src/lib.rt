@@ -1,4 +1,4 @@
-//! Code over any bimap, which stands on the contracts of `bimap` alone and has no proof of its own.
+//! Code over any bimap. It uses the contracts of `bimap` alone, and it has no proof of its own.
 #![tactic(auto)]
 
 mod held;

@@ -1,4 +1,4 @@
-//! What a bimap of any kind shows from both sides after a run that began with no pair.
+//! What any map shows from both sides after a run that started with no pair.
 ghost use Rattle.std.specs.Prelude.{◌≡◌, [], IfOk, IfErr};
 ghost use Rattle.std.specs.List.{zip};
 ghost use Rattle.bimap.specs.Test.{Answers, IsTestOf};
@@ -10,7 +10,7 @@ use bimap::btree::Meter;
 use bimap::{BiBTreeMap, BijectiveMap, Call, Index, Reply, RunRefused, run};
 use std::alloc::Global;
 
-/// The replies of a run, and what the bimap then shows from both sides.
+/// The replies to the calls of a run, and what the map then shows from both sides.
 #[derive(Drop)]
 pub struct Shown<'a, L, R> {
     pub replies: Vec<Reply<L, R>>,
@@ -18,10 +18,11 @@ pub struct Shown<'a, L, R> {
     pub of_right: Option<&'a L>,
 }
 
-/// Performs the calls on an empty bimap of any kind, and looks a left and a right up, each counted.
+/// Performs the calls on an empty map of any type, and then looks up a left and a right. A meter counts each look-up.
 ///
-/// Costs the calls and a search a side, whose comparisons `effort` bounds: none where the side is hashed. It takes memory
-/// for the replies, and what the calls take. An `Err` hands the calls back, and nothing was called.
+/// A look-up takes one search, and `effort` bounds its comparisons. On a hashed side this bound is 0. The function
+/// allocates for the replies, and the calls allocate what they need. An `Err` contains the calls, and none of them was
+/// performed.
 #[tactic(auto, using(bimap::proofs::Histories::IsWholeHistory_from))]
 pub fn run_and_look<
     'a,
@@ -59,7 +60,8 @@ pub fn run_and_look<
     })
 }
 
-/// [`run_and_look`] of two ordered sides: `effort` is twice the binary digits of the length.
+/// Does what [`run_and_look`] does, for a map with two ordered sides. Here the bound `effort` is twice the number of
+/// binary digits of the length.
 pub fn run_and_look_ordered<
     'a,
     L: Ord + Drop,

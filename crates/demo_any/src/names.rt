@@ -1,4 +1,4 @@
-//! What a caller knows of names that are numbered as they come.
+//! What a caller knows about names that get their numbers when they come.
 ghost use Rattle.std.specs.Prelude.{◌≡◌, true, Contains, IfSome, IfNone, IfOk, IfErr, IsOk, OnOk, OnErr, nat_eq};
 ghost use Rattle.bimap.specs.Answer.{IsRefusal};
 ghost use Rattle.bimap.specs.Holding.{IsFull};
@@ -6,11 +6,11 @@ ghost use Rattle.bimap.specs.Sets.{IsWithPut, HasLeft, LacksLeft, LacksRight};
 
 use bimap::{Bijection, Interning, NotInserted};
 
-/// The number of a name: the one that it has, or else `fresh`. No name loses its number.
+/// Returns the number of a name. A name that has none gets `fresh`. No name loses its number.
 ///
-/// Costs a search where the name has a number, which is never refused, and else an insertion. It takes memory only where
-/// it has none and no place is free. An `Err` hands both back, and nothing has changed: another name has `fresh`, or there
-/// was no memory.
+/// If the name has a number, the function makes one search and never fails. Otherwise it makes an insertion, which
+/// allocates only if there is no spare capacity. An `Err` contains both values, and nothing has changed. It says that
+/// another name has `fresh`, or that there was no memory.
 #[tactic(auto, using(bimap::proofs::LookUps::put_is_held))]
 pub fn number_of<L: Eq + Drop, B: Interning<L, u32>>(
     names: &mut B,
@@ -35,7 +35,8 @@ pub fn number_of<L: Eq + Drop, B: Interning<L, u32>>(
     names.get_by_left_or_insert(name, fresh)
 }
 
-/// The name of a number, by one search: of the very number, since equal numbers are the same.
+/// Returns the name of a number, by one search. Equal numbers are the same number, so it is the name of this very
+/// number.
 pub fn name_of<'a, L: Eq + Drop, B: Bijection<L, u32>>(names: &'a B, number: u32) -> Option<&'a L>
     ensures named { IfSome result (λ name.
         Contains (B.holding names.now).pairs (name.now, number)) }

@@ -1,4 +1,6 @@
-//! Names with their codes, each once. It names the facade alone, and has no proof of its own.
+//! Names with their codes. A name has one code, and a code has one name.
+//!
+//! This file calls the facade `bimap` alone, and it has no proof of its own.
 ghost use Rattle.std.specs.Prelude.{◌≡◌, [], Contains, IfOk, IfErr, OnOk, OnErr};
 ghost use Rattle.std.specs.Iterator.{IsFiniteIterable};
 ghost use Rattle.bimap.specs.Answer.{IsRefusal};
@@ -17,16 +19,19 @@ use bimap::{
 use std::alloc::Global;
 use std::hash::Hash;
 
-// Each name and each code once.
+// Refuses a name or a code that is in the table already.
 const ONCE: Policy = Policy {
     left: OnHeld::Refuse,
     right: OnHeld::Refuse,
 };
 
-/// The table of a JSON text, an object whose keys are the names. A name that stands twice is a fault; of entries that repeat a
-/// code the first is told, by its place in the byte order of the names.
+/// Reads a table from a JSON object whose keys are the names.
 ///
-/// Costs one insertion an entry, and takes memory for them and, twice, for the values of the text. A fault leaves no table.
+/// It is an error if a name stands twice in the text. If entries repeat a code, the error names the first of them. The
+/// entries are counted in ascending byte order of their names.
+///
+/// The function inserts each entry once. It allocates for the table, and twice for the values of the text. An `Err`
+/// leaves no table.
 pub fn read_codes<L: JsonKey + Ord + Drop, R: JsonValue + Eq + Hash + Drop>(
     alloc: Global,
     text: &str,
@@ -37,10 +42,10 @@ pub fn read_codes<L: JsonKey + Ord + Drop, R: JsonValue + Eq + Hash + Drop>(
     read_text_with(alloc, BiBTreeHashMap::new(alloc), text, ONCE)
 }
 
-/// An empty table, filled with names and their codes. The first that repeats a name or a code ends it, and is handed back
-/// with its number.
+/// Fills an empty table with names and their codes, and returns it. It stops at the first item whose name or code is in
+/// the table already. The error contains this item and its number.
 ///
-/// Costs one insertion an item, and takes memory only where no place is free. An `Err` leaves no table.
+/// The function inserts each item once. It allocates only if the table has no spare capacity. An `Err` leaves no table.
 pub fn collect_codes<L: Ord + Drop, R: Eq + Hash + Drop, I: IntoIterator<Item = (L, R)>>(
     empty: BiBTreeHashMap<L, R>,
     items: I,
@@ -58,9 +63,9 @@ pub fn collect_codes<L: Ord + Drop, R: Eq + Hash + Drop, I: IntoIterator<Item = 
     from_iter_with(empty, items, ONCE)
 }
 
-/// The JSON object of the table. What it says reads back as what is held.
+/// Returns the table as a JSON object. Reading the object gives the pairs of the table again.
 ///
-/// Takes memory for each entry. A refusal makes nothing.
+/// The function allocates for each entry. If it runs out of memory, it makes nothing.
 pub fn written<L: JsonKey + Ord + Drop, R: JsonValue + Eq + Hash + Drop>(
     alloc: Global,
     codes: &BiBTreeHashMap<L, R>,
@@ -73,21 +78,22 @@ pub fn written<L: JsonKey + Ord + Drop, R: JsonValue + Eq + Hash + Drop>(
     codes.to_value(alloc)
 }
 
-/// The code of a name, by one search in the order of the names.
+/// Returns the code of a name. It is one search in the order of the names.
 pub fn code_of<'a, L: Ord, R: Eq + Hash>(codes: &'a BiBTreeHashMap<L, R>, name: &L) -> Option<&'a R>
     ensures { IsFoundByLeft L.eq (holding codes.now) name.now result }
 {
     codes.get_by_left(name)
 }
 
-/// The name of a code, by its hash.
+/// Returns the name of a code. It is a look-up by hash.
 pub fn name_of<'a, L: Ord, R: Eq + Hash>(codes: &'a BiBTreeHashMap<L, R>, code: &R) -> Option<&'a L>
     ensures { IsFoundByRight R.eq (holding codes.now) code.now result }
 {
     codes.get_by_right(code)
 }
 
-/// Gives a new name a free code. Where either is taken, or no memory is there, the table stays as it was.
+/// Gives a new name a free code. If the name or the code is in the table, or if there is no memory, the table does not
+/// change.
 pub fn assign<L: Ord + Drop, R: Eq + Hash + Drop>(
     codes: &mut BiBTreeHashMap<L, R>,
     name: L,
@@ -104,9 +110,11 @@ pub fn assign<L: Ord + Drop, R: Eq + Hash + Drop>(
     codes.insert_no_overwrite(name, code)
 }
 
-/// Gives new names free codes, in order. The first of which either is taken ends it, and is handed back with its number.
+/// Gives new names free codes, in order. It stops at the first item whose name or code is in the table already. The
+/// error contains this item and its number.
 ///
-/// Costs one insertion an item, and takes memory where no place is free. An `Err` keeps what was assigned before it.
+/// The function inserts each item once. It allocates only if the table has no spare capacity. After an `Err` the table
+/// contains the items before the refused one.
 pub fn assign_all<L: Ord + Drop, R: Eq + Hash + Drop, I: IntoIterator<Item = (L, R)>>(
     codes: &mut BiBTreeHashMap<L, R>,
     items: I,

@@ -1,24 +1,24 @@
-//! Why names and their codes were not taken, in words. It knows no lines.
+//! The reasons why names and codes were not accepted, and a message for each. This file does not know lines.
 use bimap::value::JsonFault;
 use bimap::{ItemRefused, NotInsertedWith};
 use std::fmt;
 
-/// Why names and their codes were not taken. Entries and items are counted from 0.
+/// Why names and their codes were not accepted. Entries and items are counted from 0.
 #[derive(Debug, Drop)]
 pub enum Fault {
-    /// A text is no table in JSON.
+    /// The text is not a table in JSON.
     NotTable(JsonFault),
-    /// A word that stands for a code is no number from 0 to 4294967295.
+    /// A word that should be a code is not a number from 0 to 4294967295.
     NotCode,
-    /// The last name has no code behind it.
+    /// The last name is not followed by a code.
     NoCode,
-    /// An item was not taken, and those before it were.
+    /// An item was not accepted. The items before it were.
     Refused(ItemRefused<String, u32>),
     /// There was no memory for the items.
     Memory,
 }
 
-// What is wrong with a JSON text.
+// Writes what is wrong with a JSON text.
 fn write_entry<W: fmt::Write>(f: &mut fmt::Formatter<W>, fault: JsonFault) -> fmt::Result {
     match fault {
         JsonFault::NotJson => write!(f, "no JSON; wanted: an object of names with codes"),
@@ -34,7 +34,7 @@ fn write_entry<W: fmt::Write>(f: &mut fmt::Formatter<W>, fault: JsonFault) -> fm
     }
 }
 
-// Which item was not taken, and why.
+// Writes which item was not accepted, and why.
 fn write_item<W: fmt::Write>(
     f: &mut fmt::Formatter<W>,
     refused: &ItemRefused<String, u32>,

@@ -1,4 +1,4 @@
-//! What a line asks of the table, and the reply to it.
+//! The requests that a line can make of the table, and the replies.
 use crate::codes::{assign, assign_all, code_of, name_of, written};
 use crate::fault::Fault;
 use crate::table::{Codes, gives_table, items_after, parse_items, table_of};
@@ -7,17 +7,17 @@ use std::alloc::{AllocError, Global};
 use std::io;
 use tool_lines::{number, wanted, words};
 
-/// The requests, and what each asks.
-pub const REQUESTS: &str = "code NAME - which code?
-name CODE - which name?
-assign NAME CODE - if neither is taken
-assign-all NAME CODE NAME CODE .. - each in turn, until one is refused
-show - the table
-table NAME CODE NAME CODE .. - another table
-{\"NAME\": CODE, ..} - another table
-help - lists these; a CODE is a number up to 4294967295";
+/// The requests, one on each line, and what each does.
+pub const REQUESTS: &str = "code NAME - prints the code of the name
+name CODE - prints the name of the code
+assign NAME CODE - gives the name the code, if neither is taken
+assign-all NAME CODE NAME CODE .. - assigns them in order, until one is refused
+show - prints the table
+table NAME CODE NAME CODE .. - replaces the table
+{\"NAME\": CODE, ..} - replaces the table
+help - lists these requests, in which CODE is a number up to 4294967295";
 
-// Whether a name got a code, in words.
+// Gives a name a code, and returns in words whether it got the code.
 fn assigned(codes: &mut Codes, name: String, code: u32) -> &'static str {
     match assign(codes, name, code) {
         Ok(()) => "assigned",
@@ -32,7 +32,7 @@ fn take_items(alloc: Global, codes: &mut Codes, text: &str) -> Result<(), Fault>
     assign_all(codes, items).map_err(Fault::Refused)
 }
 
-// Whether each of these names got its code, or else which did not.
+// Gives new names free codes, and returns in words whether all names got theirs. If not, the text says which did not.
 fn all_assigned(alloc: Global, codes: &mut Codes, text: &str) -> Result<String, AllocError> {
     match take_items(alloc, codes, text) {
         Ok(()) => format!(in alloc; "assigned, now {}", codes.len()),
@@ -40,7 +40,7 @@ fn all_assigned(alloc: Global, codes: &mut Codes, text: &str) -> Result<String, 
     }
 }
 
-/// The table as the text of a JSON object.
+/// Returns the table as the text of a JSON object.
 pub fn shown(alloc: Global, codes: &Codes) -> Result<String, AllocError> {
     match written(alloc, codes) {
         Ok(object) => format!(in alloc; "{object}"),
@@ -48,7 +48,7 @@ pub fn shown(alloc: Global, codes: &Codes) -> Result<String, AllocError> {
     }
 }
 
-// The code of a name, in words.
+// Returns the code of a name, in words.
 fn told_code(alloc: Global, codes: &Codes, name: &str) -> Result<String, AllocError> {
     match code_of(codes, &String::from_str(alloc, name)?) {
         Some(code) => format!(in alloc; "{code}"),
@@ -56,7 +56,7 @@ fn told_code(alloc: Global, codes: &Codes, name: &str) -> Result<String, AllocEr
     }
 }
 
-// The name of a code, in words.
+// Returns the name of a code, in words.
 fn told_name(alloc: Global, codes: &Codes, code: u32) -> Result<String, AllocError> {
     match name_of(codes, &code) {
         Some(name) => String::from_str(alloc, name.as_str()),
@@ -64,8 +64,10 @@ fn told_name(alloc: Global, codes: &Codes, code: u32) -> Result<String, AllocErr
     }
 }
 
-// The reply to a line that gives no table. All words of `assign-all` are read before a name gets its code, and the reply says
-// last how many names have codes. Of a line that asks nothing it says what was wanted.
+// Returns the reply to a line that does not give a new table. If the line is not a request, the reply says what it
+// should have been.
+//
+// `assign-all` reads all its words before a name gets its code. Its reply says last how many names have codes.
 fn reply_to(alloc: Global, codes: &mut Codes, line: &str) -> Result<String, AllocError> {
     if let Some(text) = items_after(line, "assign-all") {
         return all_assigned(alloc, codes, text);
@@ -86,8 +88,10 @@ fn reply_to(alloc: Global, codes: &mut Codes, line: &str) -> Result<String, Allo
     }
 }
 
-/// Does what a line asks for, which is one of `REQUESTS`, and prints the reply. `false` where it was to give a table and gives
-/// none: then it prints what is wrong with it, and the table stays.
+/// Does what a line asks for, and prints the reply. The line is one of `REQUESTS`.
+///
+/// Returns `false` if the line should give a new table and does not. Then it prints what is wrong with the line, and
+/// the table does not change.
 pub fn answer(rt: &(impl Print + AllocGlobal), codes: &mut Codes, line: &str) -> io::Result<bool> {
     if !gives_table(line) {
         let reply = reply_to(rt.alloc(), codes, line)?;

@@ -1,7 +1,11 @@
-//! A table of protocol codes, kept by the lines of standard input: each asks for the code of a name, for the name of a code or
-//! for all, assigns codes, or gives another table. It begins empty, and is printed last; with the name of a file it begins with
-//! the table of that file, and goes back there. The status is 2 where a table could not be read; where it is that of the file,
-//! no line is answered.
+//! A program that keeps a table of protocol codes.
+//!
+//! Each line of standard input is a request. It asks for the code of a name, for the name of a code or for the whole
+//! table. It can also assign codes, or give a new table. By default the table is empty at the start, and the program
+//! prints it at the end. If the program gets the name of a file, it starts with the table of that file. At the end it
+//! writes the table back to the file.
+//!
+//! The status is 2 if a table could not be read. If this was the table of the file, the program answers no line.
 #![tactic(auto)]
 
 mod codes;
@@ -17,7 +21,7 @@ use std::process::ExitCode;
 use table::{Codes, table_of};
 use tool_lines::{Asked, Keeper, NO_TEXT, file_argument, serve_file, status_of, text_of};
 
-// The program over a file.
+// The program as `serve_file` runs it over a file.
 enum CodeTable {}
 
 impl Keeper for CodeTable {
@@ -33,7 +37,7 @@ impl Keeper for CodeTable {
         table_of(alloc, text)
     }
 
-    // The status tells whether each table was read.
+    // The status says whether each table could be read.
     fn serve(rt: &HostRuntime, codes: &mut Codes) -> io::Result<ExitCode> {
         let mut status = ExitCode::SUCCESS;
         for line in rt.lines(rt.alloc()) {
@@ -54,7 +58,7 @@ impl Keeper for CodeTable {
     }
 }
 
-// Answers all lines on a table that begins empty, and is printed last.
+// Answers all lines, starting with an empty table, and prints the table at the end.
 fn serve_empty(rt: &HostRuntime) -> io::Result<ExitCode> {
     let mut codes = CodeTable::empty(rt.alloc());
     let status = CodeTable::serve(rt, &mut codes)?;

@@ -1,14 +1,14 @@
-//! The table that a text gives, be it a line of input or a file.
+//! Reads a table from a text, which is a line of input or a file.
 use crate::codes::{collect_codes, read_codes};
 use crate::fault::Fault;
 use bimap::BiBTreeHashMap;
 use std::alloc::Global;
 use tool_lines::{after_first, number, words};
 
-/// Names by their order, each with a code that is found by its hash.
+/// Names in ascending order, each with a code. A code is found by its hash.
 pub type Codes = BiBTreeHashMap<String, u32>;
 
-/// The names and codes that stand in turn in a text.
+/// Reads a text in which names and codes alternate.
 pub fn parse_items(alloc: Global, text: &str) -> Result<Vec<(String, u32)>, Fault> {
     let mut items = Vec::new(alloc);
     let mut words = words(text);
@@ -25,19 +25,21 @@ pub fn parse_items(alloc: Global, text: &str) -> Result<Vec<(String, u32)>, Faul
     Ok(items)
 }
 
-/// The words that follow the first one of a text, if that is this one, and there are some.
+/// Returns what follows the first word of a text. Returns `None` if the first word is another one, or if no word
+/// follows.
 pub fn items_after<'a>(text: &'a str, first: &str) -> Option<&'a str> {
     let items = after_first(text, first)?;
     words(items).next()?;
     Some(items)
 }
 
-/// Whether a line is to give a table: it begins with `{`, or with `table` and further words.
+/// Returns whether a line gives a new table. Such a line begins with `{`, or with `table` and another word.
 pub fn gives_table(line: &str) -> bool {
     line.trim_ascii_start().starts_with('{') || items_after(line, "table").is_some()
 }
 
-/// The table of a text: `table NAME CODE NAME CODE ..`, or else a JSON object of names with their codes.
+/// Reads a table from a text. The text is `table NAME CODE NAME CODE ..`, or else a JSON object of names with their
+/// codes.
 pub fn table_of(alloc: Global, text: &str) -> Result<Codes, Fault> {
     match items_after(text, "table") {
         Some(text) => {

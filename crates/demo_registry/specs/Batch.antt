@@ -1,4 +1,4 @@
--- A batch of members, and that none of them was registered.
+-- A batch of members, and a registry in which none of them was registered.
 use Rattle.std.specs.Prelude.{◌≡◌, Bool, Option, List}
 use Rattle.std.specs.Iterator.{Drains}
 use Rattle.bimap.specs.Holding.{Holding}
@@ -6,13 +6,14 @@ use Rattle.bimap.specs.Types.{ItemRefused, Policy}
 use Rattle.bimap_undo.specs.Marks.{Marked}
 use Rattle.bimap_undo.specs.AllOrNone.{AreNoneRecorded}
 
--- the members are those that the iterator gave, in order, until it gave no more
+-- An iterator gave exactly these members, in order, and then it ended.
 pub record AreGiven {It X : Type 0} (gives : It → Type 0) (next : It → Option X → It → Type 0) (members : List X) : Type 0 where
   pub iterator : It
   pub given : gives iterator
   pub all : Drains next iterator members
 
--- the batch was put in under a record of changes and taken back: the pairs of before are held, and places that were made stay
+-- A registry inserted the batch under a record of changes and then undid it. It has the earlier pairs. Its capacity may
+-- have grown.
 pub record IsTakenBack {It L R : Type 0} (same_left : L → L → Bool) (same_right : R → R → Bool) (gives : It → Type 0) (next : It → Option (L × R) → It → Type 0) (old : Holding L R) (policy : Policy) (refused : ItemRefused L R) (new : Holding L R) : Type 0 where
   pub before : Marked L R
   pub after : Marked L R

@@ -1,4 +1,4 @@
-//! The answers to lines. It doesn't know how a registry keeps its members.
+//! Answers lines. This file does not know how a registry keeps its members.
 use crate::fault::Fault;
 use crate::file::listed;
 use crate::line::{REQUESTS, Request, parse_line, parse_members};
@@ -10,12 +10,12 @@ use std::fmt::Display;
 use std::io;
 use tool_lines::wanted;
 
-// A name as a text of its own.
+// Copies a name into a `String`.
 fn owned(rt: &impl AllocGlobal, name: &str) -> io::Result<String> {
     Ok(String::from_str(rt.alloc(), name)?)
 }
 
-// Registers one, and prints the answer.
+// Registers one member, and prints the answer.
 fn answer_register(
     rt: &(impl Print + AllocGlobal),
     registry: &mut Registry,
@@ -29,12 +29,12 @@ fn answer_register(
     }
 }
 
-// Prints what a line should have been that asks for nothing.
+// Prints what a line should have been that is not a request.
 fn answer_bad(rt: &impl Print, line: &str) -> io::Result<()> {
     println!(rt; "bad line; wanted: {}", wanted(REQUESTS, line))
 }
 
-// Registers all that the rest of a line lists, or none, and prints the answer.
+// Registers all members that the rest of a line lists, or none, and prints the answer.
 fn answer_batch(
     rt: &(impl Print + AllocGlobal),
     registry: &mut Registry,
@@ -51,7 +51,7 @@ fn answer_batch(
     }
 }
 
-// Prints what became of a replacement.
+// Prints what a replacement returned.
 fn answer_replaced<V: Display + Drop>(
     rt: &impl Print,
     from: &V,
@@ -65,21 +65,22 @@ fn answer_replaced<V: Display + Drop>(
     }
 }
 
-// Gives spare places back, and prints the answer.
+// Gives spare capacity back, and prints the answer.
 fn answer_give_back(rt: &impl Print, registry: &mut Registry) -> io::Result<()> {
     match give_back_room(registry) {
-        Ok(()) => println!(rt; "no place is spare"),
+        Ok(()) => println!(rt; "no capacity is spare"),
         Err(NoMemory) => println!(rt; "no memory"),
     }
 }
 
-// Prints all members, by ascending id.
+// Prints all members in ascending order of their ids.
 fn answer_list(rt: &(impl Print + AllocGlobal), registry: &Registry) -> io::Result<()> {
     println!(rt; "{} are registered", registry.len())?;
     print!(rt; "{}", listed(rt.alloc(), registry)?)
 }
 
-/// Does what a line asks for, and prints the answer. A bad line changes nothing, and is told what was wanted.
+/// Does what a line asks for, and prints the answer. If the line is not a request, nothing changes, and the answer says
+/// what the line should have been.
 pub fn answer(
     rt: &(impl Print + AllocGlobal),
     registry: &mut Registry,
@@ -106,7 +107,7 @@ pub fn answer(
             None => println!(rt; "{name} is free"),
         },
         Some(Request::List) => answer_list(rt, registry),
-        Some(Request::Room) => println!(rt; "{} have places", registry.capacity()),
+        Some(Request::Room) => println!(rt; "capacity for {}", registry.capacity()),
         Some(Request::GiveBack) => answer_give_back(rt, registry),
         Some(Request::Help) => println!(rt; "{REQUESTS}"),
         None => answer_bad(rt, line),

@@ -1,4 +1,4 @@
-//! Why members were not registered, in words. It knows no lines.
+//! The reasons why members were not registered, and a message for each. This file does not know lines.
 use bimap::{ItemRefused, NotInsertedWith};
 use std::alloc::AllocError;
 use std::fmt;
@@ -8,9 +8,9 @@ use std::fmt;
 pub enum Fault {
     /// There was no memory.
     Memory,
-    /// Other words stand there than ids and names in turn.
+    /// The words are not ids and names that alternate.
     NotMembers,
-    /// One of them was refused.
+    /// One of the members was refused.
     Refused(ItemRefused<u32, String>),
 }
 
@@ -30,7 +30,7 @@ impl fmt::Display for Fault {
     }
 }
 
-// Which member was refused, and why.
+// Writes which member was refused, and why.
 fn write_refused<W: fmt::Write>(
     f: &mut fmt::Formatter<W>,
     refused: &ItemRefused<u32, String>,

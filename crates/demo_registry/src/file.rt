@@ -1,10 +1,11 @@
-//! A registry as a file: an id and its name a line. It is read as the members of a batch are.
+//! Reads and writes a registry as a file. Each line has an id and its name. The file is read like the members of a
+//! batch.
 use crate::fault::Fault;
 use crate::line::parse_members;
 use crate::registry::{Registry, members, register_all};
 use std::alloc::{AllocError, Global};
 
-/// The registry that the text of a file lists.
+/// Reads the registry that the text of a file lists.
 pub fn registry_of(alloc: Global, text: &str) -> Result<Registry, Fault> {
     let listed = parse_members(alloc, text)?.ok_or(Fault::NotMembers)?;
     let mut registry = Registry::new(alloc);
@@ -14,7 +15,7 @@ pub fn registry_of(alloc: Global, text: &str) -> Result<Registry, Fault> {
     }
 }
 
-/// The text of such a file: all members, by ascending id.
+/// Returns the text of such a file. It lists all members in ascending order of their ids.
 pub fn listed(alloc: Global, registry: &Registry) -> Result<String, AllocError> {
     let mut text = String::new(alloc);
     for (id, name) in members(registry) {

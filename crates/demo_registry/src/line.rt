@@ -1,45 +1,46 @@
-//! What a line asks for, and the members that a text lists. It knows no registry.
+//! Reads lines as requests, and texts as lists of members. This file does not know the registry.
 use std::alloc::{AllocError, Global};
 use tool_lines::{after_first, number, words};
 
-/// The requests, and what each asks.
-pub const REQUESTS: &str = "register ID NAME - if neither is taken
-rename NAME to NAME - the id of the first has the second
-renumber ID to ID - the name of the first has the second
-batch ID NAME ID NAME .. - all of them, or none
-who ID - which name?
-id NAME - which id?
-list - all ids with their names
-room - how many have places?
-give-back - gives up places that nobody has
-help - lists these; an ID is a number up to 4294967295";
+/// The requests, one on each line, and what each does.
+pub const REQUESTS: &str = "register ID NAME - registers both, if neither is taken
+rename NAME to NAME - gives the id of the first name to the second
+renumber ID to ID - gives the name of the first id to the second
+batch ID NAME ID NAME .. - registers all of them, or none
+who ID - prints the name of the id
+id NAME - prints the id of the name
+list - prints all ids with their names
+room - prints the capacity
+give-back - gives back the capacity that nobody uses
+help - lists these requests, in which ID is a number up to 4294967295";
 
-/// What a line asks for.
+/// A line as a request.
 #[derive(Clone, Copy, Debug)]
 pub enum Request<'a> {
-    /// `register ID NAME`: both are taken from here on.
+    /// `register ID NAME` gives the id to the name. Neither may be taken.
     Register(u32, &'a str),
-    /// `rename NAME to NAME`: the id of the first has the second.
+    /// `rename NAME to NAME` gives the id of the first name to the second name.
     Rename(&'a str, &'a str),
-    /// `renumber ID to ID`: the name of the first has the second.
+    /// `renumber ID to ID` gives the name of the first id the second id.
     Renumber(u32, u32),
-    /// `batch ID NAME ID NAME ..`: all of those that the rest of the line lists are registered, or none.
+    /// `batch ID NAME ID NAME ..` registers all members that the rest of the line lists, or none.
     Batch(&'a str),
-    /// `who ID`: which name has the id?
+    /// `who ID` asks which name the id has.
     Who(u32),
-    /// `id NAME`: which id has the name?
+    /// `id NAME` asks which id the name has.
     Id(&'a str),
-    /// `list`: all of them.
+    /// `list` asks for all members.
     List,
-    /// `room`: how many there are places for.
+    /// `room` asks for the capacity.
     Room,
-    /// `give-back`: the places that no member has are given back.
+    /// `give-back` gives spare capacity back.
     GiveBack,
-    /// `help`: which requests are there?
+    /// `help` lists the requests.
     Help,
 }
 
-/// The ids and names that stand in turn in a text. `None` where other words do. It takes memory for them.
+/// Reads a text in which ids and names alternate. Returns `None` if the text has other words. The function allocates
+/// for the members.
 pub fn parse_members(alloc: Global, text: &str) -> Result<Option<Vec<(u32, String)>>, AllocError> {
     let mut members = Vec::new(alloc);
     let mut id = None;
@@ -58,7 +59,7 @@ pub fn parse_members(alloc: Global, text: &str) -> Result<Option<Vec<(u32, Strin
     Ok(id.is_none().then_some(members))
 }
 
-/// What a line asks for. It takes no memory.
+/// Reads a line as a request. Returns `None` if it is none. The function allocates nothing.
 pub fn parse_line(line: &str) -> Option<Request<'_>> {
     let mut words = words(line);
     let request = words.next()?;

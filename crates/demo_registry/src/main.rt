@@ -1,6 +1,9 @@
-//! The program: it keeps a registry of ids and names by the lines of standard input, and answers each of them. With the name of
-//! a file it begins with the members of that file, which has those of the end when it ends. The status is 2 where the file
-//! could not be read as members, and no line is answered then.
+//! A program that keeps a registry of ids and names. Each line of standard input is a request, and the program answers
+//! it.
+//!
+//! By default the registry is empty at the start. If the program gets the name of a file, it starts with the members of
+//! that file, and it writes its members back at the end. The status is 2 if the file could not be read as members. Then
+//! the program answers no line.
 #![tactic(auto)]
 
 mod answer;
@@ -19,7 +22,7 @@ use std::io;
 use std::process::ExitCode;
 use tool_lines::{Asked, Keeper, NO_TEXT, file_argument, serve_file, status_of, text_of};
 
-// The program over a file.
+// The program as `serve_file` runs it over a file.
 enum Members {}
 
 impl Keeper for Members {
@@ -50,7 +53,7 @@ impl Keeper for Members {
     }
 }
 
-// Answers all lines on a registry that begins empty.
+// Answers all lines, starting with an empty registry.
 fn serve_empty(rt: &HostRuntime) -> io::Result<ExitCode> {
     let mut registry = Registry::new(rt.alloc());
     Members::serve(rt, &mut registry)

@@ -1,4 +1,4 @@
-//! A registry of ids and names, over an ordered bimap. It knows no lines.
+//! A registry of ids and names in an ordered bimap. This file does not know lines.
 ghost use Rattle.std.specs.Prelude.{◌≡◌, Contains, IfErr, OnOk, nat_eq, string_eq};
 ghost use Rattle.std.specs.List.{AllPairs};
 ghost use Rattle.std.specs.Ordering.{nat_cmp};
@@ -24,17 +24,17 @@ use bimap_undo::Undoable;
 use std::alloc::Global;
 use std::mem;
 
-/// Ids and names, each id with one name and each name with one id.
+/// Ids and names. An id has one name, and a name has one id.
 pub type Registry = BiBTreeMap<u32, String>;
 
-/// The name of an id, by one search.
+/// Returns the name of an id, by one search.
 pub fn name_of<'a>(registry: &'a Registry, id: &u32) -> Option<&'a String>
     ensures { IsFoundByLeft nat_eq (holding registry.now) id.now result }
 {
     registry.get_by_left(id)
 }
 
-/// The id of a name, by one search. No `String` is built to ask.
+/// Returns the id of a name, by one search. The caller needs no `String`.
 pub fn id_of<'a>(registry: &'a Registry, name: &str) -> Option<&'a u32>
     ensures { IsFoundByRight (λ held sought. bytes_eq (string_bytes held) sought)
         (holding registry.now) name.now result }
@@ -42,7 +42,8 @@ pub fn id_of<'a>(registry: &'a Registry, name: &str) -> Option<&'a u32>
     registry.get_by_right(name)
 }
 
-/// All ids with their names, by ascending id. A step takes one descent at most, and no memory.
+/// Returns an iterator over all ids with their names, in ascending order of the ids. It allocates nothing. Each step
+/// takes at most one descent in the tree.
 pub fn members(registry: &Registry) -> Iter<'_, u32, String>
     ensures all { result ≡ (holding registry.now).pairs }
     ensures ascending { AllPairs (λ p q. nat_cmp p.0 q.0 ≡ Less) result }
@@ -50,9 +51,9 @@ pub fn members(registry: &Registry) -> Iter<'_, u32, String>
     registry.iter()
 }
 
-/// Registers a name under an id, where neither is taken.
+/// Registers a name under an id. Neither may be taken.
 ///
-/// Takes memory only where no place is free. An `Err` hands both back, and changes nothing.
+/// The function allocates only if there is no spare capacity. An `Err` contains both values, and nothing changes.
 pub fn register(
     registry: &mut Registry,
     id: u32,
@@ -64,9 +65,10 @@ pub fn register(
     registry.insert_no_overwrite(id, name)
 }
 
-/// Gives the id of a name another name, and answers the old one.
+/// Gives the id of a name another name, and returns the old one.
 ///
-/// Costs two look-ups, a removal and an insertion, and no memory. An `Err` hands the new name back, and changes nothing.
+/// The function makes two look-ups, a removal and an insertion. It allocates nothing. An `Err` contains the new name,
+/// and nothing changes.
 pub fn rename(
     registry: &mut Registry,
     from: &String,
@@ -78,7 +80,7 @@ pub fn rename(
     replace_right(registry, from, to)
 }
 
-/// Gives the name of an id another id, and answers the old one, at the cost of `rename`.
+/// Gives the name of an id another id, and returns the old one. It costs what `rename` costs.
 pub fn renumber(registry: &mut Registry, from: &u32, to: u32) -> Result<u32, NotReplaced<u32>>
     ensures { IsReplacementOfLeft nat_eq (holding registry.old) from.now to result
         (holding registry.new) }
@@ -86,20 +88,20 @@ pub fn renumber(registry: &mut Registry, from: &u32, to: u32) -> Result<u32, Not
     replace_left(registry, from, to)
 }
 
-/// Gives back the places that no member has, and takes memory for the others anew.
+/// Gives back all capacity that no member uses. The function allocates for the members that it moves.
 ///
-/// Costs time in proportion to the places, and for both sides a search a member. An `Err` changes nothing.
+/// Its time grows with the old capacity. It also makes one search for each member and side. An `Err` changes nothing.
 pub fn give_back_room(registry: &mut Registry) -> Result<(), NoMemory>
     ensures { IsShrink (holding registry.old) 0 result (holding registry.new) }
 {
     registry.shrink_to_fit()
 }
 
-/// Registers all of these in a registry with a record of its changes, or none: the first of which the id or the name is
-/// taken, by a member or by one before it, is handed back.
+/// Registers all members in a registry that records its changes, or none. It stops at the first member whose id or name
+/// is taken. An earlier member of the same batch counts too. The error contains the refused member.
 ///
-/// Costs one insertion a member, and takes memory for each and for its record. An `Err` leaves exactly the members of
-/// before; places that were made stay.
+/// The function inserts each member once. It allocates for each member and for its record. After an `Err` the registry
+/// contains exactly the members that it contained before. Its capacity may have grown.
 pub fn register_recorded<I: IntoIterator<Item = (u32, String)>>(
     registry: &mut Undoable<Registry, u32, String>,
     members: I,
@@ -125,10 +127,11 @@ pub fn register_recorded<I: IntoIterator<Item = (u32, String)>>(
     registry.insert_all(members, keep)
 }
 
-/// Registers all of these, or none: the first of which the id or the name is taken, by a member or by one before it, is
-/// handed back. Each id and name of an `Ok` is registered, each of before still is, and there are so many more.
+/// Registers all members, or none. It stops at the first member whose id or name is taken. An earlier member of the
+/// same batch counts too. The error contains the refused member.
 ///
-/// Costs what `register_recorded` costs, and leaves on an `Err` what that leaves.
+/// After an `Ok` every id and name of the batch is registered, all earlier members still are, and the registry has
+/// grown by the length of the batch. The cost, and what an `Err` leaves, are those of `register_recorded`.
 pub fn register_all<I: IntoIterator<Item = (u32, String)>>(
     alloc: Global,
     registry: &mut Registry,

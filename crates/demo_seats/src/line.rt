@@ -1,4 +1,4 @@
-//! What a line asks of the ledger, and the reply to it.
+//! The requests that a line can make of the ledger, and the replies.
 ghost use Rattle.std.specs.Prelude.{◌≤◌};
 
 use crate::seats::{first_taken, guest_on, last_taken, leave, move_to, row, seat_of, take};
@@ -7,21 +7,21 @@ use std::alloc::{AllocError, Global};
 use std::io;
 use tool_lines::{NO_TEXT, number, text_of, wanted, words};
 
-/// The requests, and what each asks.
-pub const REQUESTS: &str = "take GUEST SEAT - whoever has it loses it
-move GUEST SEAT - if nobody has it
-leave GUEST - gives up the seat
-seat GUEST - which seat?
-guest SEAT - who has it?
-row FIRST END - who sits from FIRST to before END >= FIRST?
-first - who has the first seat taken?
-last - who has the last seat taken?
-help - lists these; SEAT, FIRST and END are numbers up to 4294967295";
+/// The requests, one on each line, and what each does.
+pub const REQUESTS: &str = "take GUEST SEAT - gives the guest the seat, and whoever has it loses it
+move GUEST SEAT - gives the guest the seat, if nobody has it
+leave GUEST - gives up the seat of the guest
+seat GUEST - prints the seat of the guest
+guest SEAT - prints who has the seat
+row FIRST END - prints who sits from FIRST to before END, which is at least FIRST
+first - prints who has the first seat that is taken
+last - prints who has the last seat that is taken
+help - lists these requests, in which SEAT, FIRST and END are numbers up to 4294967295";
 
 /// Guests by their names, each with the number of a seat.
 pub type Seats = BiHashBTreeMap<String, u32>;
 
-// Who lost a seat to a guest who has one now.
+// Returns in words who lost which seat when a guest got a seat.
 fn seated(alloc: Global, lost: &Overwritten<String, u32>) -> Result<String, AllocError> {
     match lost {
         Overwritten::Neither => String::from_str(alloc, "seated"),
@@ -73,7 +73,7 @@ fn sitter(alloc: Global, seats: &Seats, seat: u32) -> Result<String, AllocError>
     }
 }
 
-// The guests on the seats of a row, each with the seat, by ascending seat.
+// Returns in words the guests on the seats of a row, each with the seat, in ascending order of the seats.
 fn sitters(alloc: Global, seats: &Seats, first: u32, end: u32) -> Result<String, AllocError>
     requires ordered { first ≤ end }
 {
@@ -88,7 +88,7 @@ fn sitters(alloc: Global, seats: &Seats, first: u32, end: u32) -> Result<String,
     }
 }
 
-// The guest and the seat at an end of the seats that are taken.
+// Returns in words the guest and the seat at one end of the taken seats.
 fn end(alloc: Global, taken: Option<(&String, &u32)>) -> Result<String, AllocError> {
     match taken {
         Some((guest, seat)) => format!(in alloc; "{guest} on {seat}"),
@@ -96,7 +96,7 @@ fn end(alloc: Global, taken: Option<(&String, &u32)>) -> Result<String, AllocErr
     }
 }
 
-// The reply to a line of text.
+// Returns the reply to a line of text.
 fn reply_to(alloc: Global, seats: &mut Seats, line: &str) -> Result<String, AllocError> {
     let mut words = words(line);
     let (verb, first) = (words.next(), words.next());
@@ -117,7 +117,8 @@ fn reply_to(alloc: Global, seats: &mut Seats, line: &str) -> Result<String, Allo
     }
 }
 
-/// The reply to a line, which asks what one of `REQUESTS` says. Of another line it says what was wanted, and changes nothing.
+/// Returns the reply to a line, which is one of `REQUESTS`. If the line is another one, the reply says what it should
+/// have been, and nothing changes.
 pub fn reply(alloc: Global, seats: &mut Seats, line: io::Result<String>) -> io::Result<String> {
     let told = match text_of(line)? {
         Some(line) => reply_to(alloc, seats, line.as_str())?,

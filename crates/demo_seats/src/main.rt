@@ -1,4 +1,5 @@
-//! A ledger of guests and their seats. Each line of input asks something of it, and the reply says who lost a seat.
+//! A program that keeps a ledger of guests and their seats. Each line of input is a request. The reply says who lost a
+//! seat.
 #![tactic(auto)]
 
 mod line;
@@ -9,7 +10,7 @@ use std::io;
 use std::process::ExitCode;
 use tool_lines::{no_argument, status_of};
 
-// Answers all lines, and prints last how many seats are taken.
+// Answers all lines, and prints at the end how many seats are taken.
 fn serve(rt: &HostRuntime) -> io::Result<ExitCode> {
     let alloc = rt.alloc();
     let mut seats: Seats = Seats::new(alloc);

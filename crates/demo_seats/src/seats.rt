@@ -1,4 +1,6 @@
-//! Guests with their seats, one each. It names the facade alone, and has no proof of its own.
+//! Guests with their seats. A guest has one seat, and a seat has one guest.
+//!
+//! This file calls the facade `bimap` alone, and it has no proof of its own.
 ghost use Rattle.std.specs.Prelude.{◌≡◌, ◌≤◌, ◌-◌, ◌&&◌, nat_le, nat_lt, length, slice_get, option_map, Contains, IfOk, IfErr, OnOk, OnErr};
 ghost use Rattle.std.specs.List.{filter};
 ghost use Rattle.std.specs.Map.Iter.{deref_pair};
@@ -11,9 +13,10 @@ use bimap::btree::RightRange;
 use bimap::{BiHashBTreeMap, NoRoom, NotInsertedWith, OnHeld, Overwritten, Policy};
 use std::hash::Hash;
 
-/// Gives a guest a seat, whoever has it. It answers who lost which seat.
+/// Gives a guest a seat, and takes it from the guest who has it. Returns who lost which seat.
 ///
-/// Takes memory only where nobody loses a seat and no place is free. A refusal changes nothing.
+/// The function allocates only if nobody loses a seat and the ledger has no spare capacity. If it runs out of memory,
+/// nothing changes.
 pub fn take<G: Eq + Hash + Drop, S: Ord + Drop>(
     seats: &mut BiHashBTreeMap<G, S>,
     guest: G,
@@ -24,9 +27,10 @@ pub fn take<G: Eq + Hash + Drop, S: Ord + Drop>(
     seats.insert(guest, seat)
 }
 
-/// Gives a guest a seat that nobody has. A guest who has another seat leaves it, which is answered.
+/// Gives a guest a seat that nobody has. If the guest has another seat, the guest leaves it, and the function returns
+/// it.
 ///
-/// Takes memory as `take` does. A refusal says whether the seat is taken, and changes nothing.
+/// The function allocates when `take` does. An `Err` says whether the seat is taken, and nothing changes.
 pub fn move_to<G: Eq + Hash + Drop, S: Ord + Drop>(
     seats: &mut BiHashBTreeMap<G, S>,
     guest: G,
@@ -49,7 +53,7 @@ pub fn move_to<G: Eq + Hash + Drop, S: Ord + Drop>(
     seats.insert_with(guest, seat, free)
 }
 
-/// Lets a guest go, and answers with which seat.
+/// Removes a guest, and returns the guest with the seat.
 pub fn leave<G: Eq + Hash + Drop, S: Ord + Drop>(
     seats: &mut BiHashBTreeMap<G, S>,
     guest: &G,
@@ -59,7 +63,7 @@ pub fn leave<G: Eq + Hash + Drop, S: Ord + Drop>(
     seats.remove_by_left(guest)
 }
 
-/// The seat of a guest, by the hash of the guest.
+/// Returns the seat of a guest. It is a look-up by the hash of the guest.
 pub fn seat_of<'a, G: Eq + Hash, S: Ord>(
     seats: &'a BiHashBTreeMap<G, S>,
     guest: &G,
@@ -69,7 +73,7 @@ pub fn seat_of<'a, G: Eq + Hash, S: Ord>(
     seats.get_by_left(guest)
 }
 
-/// The guest on a seat, by one search in the order of the seats.
+/// Returns the guest on a seat. It is one search in the order of the seats.
 pub fn guest_on<'a, G: Eq + Hash, S: Ord>(
     seats: &'a BiHashBTreeMap<G, S>,
     seat: &S,
@@ -79,7 +83,8 @@ pub fn guest_on<'a, G: Eq + Hash, S: Ord>(
     seats.get_by_right(seat)
 }
 
-/// The guests on the seats from the first to before the end, by ascending seat. It takes two searches, and no memory.
+/// Returns the guests on the seats from `first` to before `end`, in ascending order of the seats. It takes two
+/// searches, and it allocates nothing.
 pub fn row<G: Eq + Hash>(
     seats: &BiHashBTreeMap<G, u32>,
     first: u32,
@@ -91,7 +96,7 @@ pub fn row<G: Eq + Hash>(
     seats.right_range(first..end)
 }
 
-/// The guest on the first seat that is taken, and the seat. It takes logarithmic time, and no memory.
+/// Returns the first seat that is taken, with its guest. It takes logarithmic time, and it allocates nothing.
 pub fn first_taken<G: Eq + Hash, S: Ord>(seats: &BiHashBTreeMap<G, S>) -> Option<(&G, &S)>
     ensures pair { option_map deref_pair result ≡ slice_get (by_right seats.now) 0 }
     ensures sorted { IsByRight S.cmp (holding seats.now).pairs (by_right seats.now) }
@@ -99,7 +104,7 @@ pub fn first_taken<G: Eq + Hash, S: Ord>(seats: &BiHashBTreeMap<G, S>) -> Option
     seats.first_by_right()
 }
 
-/// The guest on the last seat that is taken, and the seat. It takes logarithmic time, and no memory.
+/// Returns the last seat that is taken, with its guest. It takes logarithmic time, and it allocates nothing.
 pub fn last_taken<G: Eq + Hash, S: Ord>(seats: &BiHashBTreeMap<G, S>) -> Option<(&G, &S)>
     ensures pair { option_map deref_pair result
         ≡ slice_get (by_right seats.now) (length (by_right seats.now) - 1) }

@@ -1,15 +1,15 @@
-//! The answers to lines. It doesn't know how a symbol table keeps its symbols.
+//! Answers lines. This file does not know how a symbol table keeps its symbols.
 use crate::line::{REQUESTS, Request, parse_line};
 use crate::symbols::{NotInterned, Symbols};
 use std::io;
 use tool_lines::wanted;
 
-// A name as a text of its own.
+// Copies a name into a `String`.
 fn owned(rt: &impl AllocGlobal, name: &str) -> io::Result<String> {
     Ok(String::from_str(rt.alloc(), name)?)
 }
 
-// Gives a name its number.
+// Gives a name its number, and prints the answer.
 fn intern(rt: &(impl Print + AllocGlobal), symbols: &mut Symbols, name: &str) -> io::Result<()> {
     match symbols.intern(owned(rt, name)?) {
         Ok(number) => println!(rt; "{name} has {number}"),
@@ -18,7 +18,7 @@ fn intern(rt: &(impl Print + AllocGlobal), symbols: &mut Symbols, name: &str) ->
     }
 }
 
-// Defines a name.
+// Defines a name, and prints the answer.
 fn define(
     rt: &(impl Print + AllocGlobal),
     symbols: &mut Symbols,
@@ -32,7 +32,8 @@ fn define(
     }
 }
 
-/// Does what a line asks for, and prints the answer. A bad line changes nothing, and is told what was wanted.
+/// Does what a line asks for, and prints the answer. If the line is not a request, nothing changes, and the answer says
+/// what the line should have been.
 pub fn answer(
     rt: &(impl Print + AllocGlobal),
     symbols: &mut Symbols,

@@ -1,35 +1,37 @@
-//! What a line asks for. It knows no symbol table.
+//! Reads lines as requests. This file does not know the symbol table.
 use tool_lines::{number, words};
 
-/// The requests, and what each asks.
-pub const REQUESTS: &str = "open - a scope begins
-close - the innermost scope ends
-define NAME NUMBER - hides what either means, until the scope ends
-intern NAME - has its number, or gets one above all in use
-number NAME - which number?
-name NUMBER - which name?
-help - lists these; a NUMBER goes up to 4294967295";
+/// The requests, one on each line, and what each does.
+pub const REQUESTS: &str = "open - begins a scope
+close - ends the innermost scope
+define NAME NUMBER - gives the name the number, and hides what either means, until the scope ends
+intern NAME - prints the number of the name, which gets one above all in use if it has none
+number NAME - prints the number of the name
+name NUMBER - prints the name of the number
+help - lists these requests, in which NUMBER is at most 4294967295";
 
 /// What a line asks for.
 #[derive(Clone, Copy, Debug)]
 pub enum Request<'a> {
-    /// `open`: a scope begins.
+    /// `open` begins a scope.
     Open,
-    /// `close`: the innermost scope ends.
+    /// `close` ends the innermost scope.
     Close,
-    /// `define NAME NUMBER`: the name means the number from here on. It shadows what either meant before, even the same.
+    /// `define NAME NUMBER` gives the name this number until the scope ends. It shadows what the name or the number
+    /// meant before. A definition that repeats the current one also shadows it.
     Define(&'a str, u32),
-    /// `intern NAME`: the name gets the number after the greatest in use, or 0 where none is, unless it has one.
+    /// `intern NAME` gives the name the number after the greatest in use, or 0 if no number is in use. A name that has
+    /// a number keeps it.
     Intern(&'a str),
-    /// `number NAME`: which number has the name?
+    /// `number NAME` asks which number the name has.
     Number(&'a str),
-    /// `name NUMBER`: which name has the number?
+    /// `name NUMBER` asks which name the number has.
     Name(u32),
-    /// `help`: which requests are there?
+    /// `help` lists the requests.
     Help,
 }
 
-/// What a line asks for. It takes no memory.
+/// Reads a line as a request. Returns `None` if it is none. The function allocates nothing.
 pub fn parse_line(line: &str) -> Option<Request<'_>> {
     let mut words = words(line);
     let request = words.next().unwrap_or("");

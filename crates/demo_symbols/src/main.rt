@@ -1,4 +1,5 @@
-//! The program: it keeps a symbol table with scopes by the lines of standard input, and answers each of them.
+//! A program that keeps a symbol table with scopes. Each line of standard input is a request, and the program answers
+//! it.
 #![tactic(auto)]
 
 mod answer;

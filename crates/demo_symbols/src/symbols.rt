@@ -1,4 +1,5 @@
-//! A symbol table with scopes, over a bimap that goes back to marks. It knows no lines.
+//! A symbol table with scopes. Its names and numbers are in a bimap that can go back to marks. This file does not know
+//! lines.
 ghost use Rattle.std.specs.Prelude.{◌≡◌, ◌⊎◌, ◌<◌, ◌++◌, ◌∷◌, [], length, true, Contains, IfOk, IsOk, OnOk, OnErr, nat_eq, string_eq};
 ghost use Rattle.std.specs.Bool.{OnTrue, OnFalse};
 ghost use Rattle.std.specs.Str.{bytes_eq};
@@ -14,23 +15,23 @@ use std::alloc::{AllocError, Global};
 /// Why a name was given no number. Nothing has changed.
 #[derive(Clone, Copy, Debug, Eq, PartialEq)]
 pub enum NotInterned {
-    /// There is no number above those in use. Of when this is answered no clause says more.
+    /// There is no number above those in use. The contract does not say when this happens.
     NoNumber,
     /// There was no memory.
     NoMemory,
 }
 
-/// Names and their numbers, each name with one number and each number with one name, as the innermost scope has them.
+/// Names and their numbers, as the innermost scope has them. A name has one number, and a number has one name.
 #[derive(Drop)]
 pub struct Symbols {
-    /// The names and numbers, with a record that leads back.
+    /// The names and numbers, with a record of the changes.
     pub table: Undoable<BiBTreeMap<String, u32>, String, u32>,
-    /// The mark at which each open scope began, the innermost last.
+    /// The mark at which each open scope began. The innermost scope is last.
     pub scopes: Vec<usize>,
 }
 
 impl Symbols {
-    /// A table with no symbols, and no open scope. Takes no memory.
+    /// Makes a table with no symbols and no open scope. It allocates nothing.
     pub fn new(alloc: Global) -> Symbols
         ensures pairs { result.table.held.pairs ≡ [] }
         ensures scopes { result.scopes.items ≡ [] }
@@ -41,7 +42,7 @@ impl Symbols {
         }
     }
 
-    /// The number of a name, by one search. No `String` is built to ask.
+    /// Returns the number of a name, by one search. The caller needs no `String`.
     pub fn number_of(&self, name: &str) -> Option<&u32>
         ensures { IsFoundByLeft (λ held sought. bytes_eq (string_bytes held) sought)
             self.now.table.held name.now result }
@@ -49,14 +50,14 @@ impl Symbols {
         self.table.get_by_left(name)
     }
 
-    /// The name of a number, by one search.
+    /// Returns the name of a number, by one search.
     pub fn name_of(&self, number: &u32) -> Option<&String>
         ensures { IsFoundByRight nat_eq self.now.table.held number.now result }
     {
         self.table.get_by_right(number)
     }
 
-    // A number above all in use.
+    // Returns a number above all numbers in use, or `None` if there is none.
     fn fresh_number(&self) -> Option<u32> {
         match self.table.held().last_by_right() {
             Some((_, greatest)) => greatest.checked_add(1),
@@ -64,10 +65,12 @@ impl Symbols {
         }
     }
 
-    /// The number of a name: the one that it has, or else one above all in use. No symbol loses its meaning.
+    /// Returns the number of a name. A name that has none gets a number above all numbers in use. No symbol loses its
+    /// meaning.
     ///
-    /// Costs one search for a known name, which takes no memory and is never refused; else an insertion too, which takes
-    /// memory for the pair and its record. An `Err` drops the name, and changes nothing.
+    /// For a name that has a number the function makes one search. It then never allocates and never fails. For another
+    /// name it also makes an insertion, which allocates for the pair and its record. An `Err` drops the name, and
+    /// nothing changes.
     pub fn intern(&mut self, name: String) -> Result<u32, NotInterned>
         ensures known { IfOk result (λ number. HasLeft string_eq
             (Contains self.old.table.held.pairs) name →
@@ -103,10 +106,11 @@ impl Symbols {
         }
     }
 
-    /// Makes a name mean a number in the innermost scope, and answers whether it shadows: what the name or the number
-    /// meant before has no meaning until the scope ends.
+    /// Makes a name mean a number in the innermost scope, and returns whether it shadows something. What the name or
+    /// the number meant before has no meaning until the scope ends.
     ///
-    /// Costs one insertion, and takes memory for the pair and its record. An `Err` hands both back, and changes nothing.
+    /// The function makes one insertion. It allocates for the pair and its record. An `Err` contains both values, and
+    /// nothing changes.
     pub fn define(&mut self, name: String, number: u32) -> Result<bool, NoRoom<String, u32>>
         ensures defined { IsRecordedInsertion string_eq nat_eq self.old.table
             (name, number) result self.new.table }
@@ -115,7 +119,8 @@ impl Symbols {
         self.table.insert(name, number)
     }
 
-    /// Opens a scope: its mark stands for what has a meaning now. Takes memory for the mark; an `Err` opens none.
+    /// Opens a scope. Its mark stands for everything that has a meaning now. The function allocates for the mark. An
+    /// `Err` opens no scope.
     pub fn open(&mut self) -> Result<(), AllocError>
         ensures opened { OnOk result (self.new.scopes.items ≡ self.old.scopes.items
             ++ length self.old.table.entries ∷ []) }
@@ -129,8 +134,10 @@ impl Symbols {
         Ok(())
     }
 
-    /// Closes the innermost scope, where one is open: what its mark stands for has its meaning again. Costs one undoing a
-    /// change since, and takes no memory.
+    /// Closes the innermost scope, and returns whether one was open. Everything that its mark stands for has its
+    /// meaning again.
+    ///
+    /// The function undoes each change since the mark once. It allocates nothing.
     pub fn close(&mut self) -> bool
         ensures closed { OnTrue result ((mark : _)
             × (self.old.scopes.items ≡ self.new.scopes.items ++ mark ∷ [])
@@ -143,7 +150,7 @@ impl Symbols {
         let Some(mark) = self.scopes.pop() else {
             return false;
         };
-        // No call leaves such a mark, which this test stands in for a proof of.
+        // No call leaves a mark above the record. This test replaces a proof of that.
         if mark > self.table.mark() {
             return false;
         }

@@ -1,4 +1,5 @@
-//! The calls that are timed, over any bimap of numbers. Each answers what it found, by which a run is checked.
+//! The calls that are timed, over any bimap of numbers. Each function returns what its calls found, by which a run is
+//! checked.
 ghost use Rattle.std.specs.Iterator.{IsFinite};
 
 use crate::keys::Keys;
@@ -8,8 +9,8 @@ use std::io::{self, ErrorKind, Print};
 use std::rt::Files;
 use std::time::Clock;
 
-// Puts in the pairs of the numbers, each with the right of the number `apart` further on, and counts those that struck a
-// pair.
+// Inserts the pair of each number. Its right is the right of the number that is `apart` further on. Returns how many
+// insertions overwrote a pair.
 fn insert<B: Bijection<u64, u64>>(bimap: &mut B, keys: Keys, apart: u64) -> io::Result<u64> {
     let mut struck = 0u64;
     for number in 0..keys.pairs() {
@@ -23,7 +24,7 @@ fn insert<B: Bijection<u64, u64>>(bimap: &mut B, keys: Keys, apart: u64) -> io::
     Ok(struck)
 }
 
-// Looks up the lefts of the numbers from `from` on, and counts those that are held.
+// Looks up the lefts of the numbers from `from` on. Returns how many are in the map.
 fn look_up_by_left<B: Bijection<u64, u64>>(bimap: &B, keys: Keys, from: u64) -> u64 {
     let (mut found, mut number) = (0u64, 0u64);
     for _ in 0..keys.pairs() {
@@ -34,7 +35,7 @@ fn look_up_by_left<B: Bijection<u64, u64>>(bimap: &B, keys: Keys, from: u64) -> 
     found
 }
 
-// The same by right.
+// Looks up the rights of the numbers from `from` on. Returns how many are in the map.
 fn look_up_by_right<B: Bijection<u64, u64>>(bimap: &B, keys: Keys, from: u64) -> u64 {
     let (mut found, mut number) = (0u64, 0u64);
     for _ in 0..keys.pairs() {
@@ -45,7 +46,7 @@ fn look_up_by_right<B: Bijection<u64, u64>>(bimap: &B, keys: Keys, from: u64) ->
     found
 }
 
-// Removes by left, and counts what was held.
+// Removes each left. Returns how many were in the map.
 fn remove_by_left<B: Bijection<u64, u64>>(bimap: &mut B, keys: Keys) -> u64 {
     let (mut removed, mut number) = (0u64, 0u64);
     for _ in 0..keys.pairs() {
@@ -56,7 +57,7 @@ fn remove_by_left<B: Bijection<u64, u64>>(bimap: &mut B, keys: Keys) -> u64 {
     removed
 }
 
-/// The sum of a walk.
+/// Iterates over all pairs, and returns the sum of `left ^ right`.
 pub fn total<'a, W: Iterator<Item = (&'a u64, &'a u64)> + Drop>(walk: W) -> u64
     requires can { W.can_next walk }
     requires ends { IsFinite (W.remaining walk) }
@@ -68,7 +69,7 @@ pub fn total<'a, W: Iterator<Item = (&'a u64, &'a u64)> + Drop>(walk: W) -> u64
     sum
 }
 
-/// Insertions, and the memory that they take.
+/// Times the insertions, and measures the memory that they take.
 pub fn fill<R: AllocGlobal + Clock + Files + Print, B: Bijection<u64, u64>>(
     rt: &R,
     report: &Report,
@@ -81,7 +82,8 @@ pub fn fill<R: AllocGlobal + Clock + Files + Print, B: Bijection<u64, u64>>(
     report.grown(rt, before)
 }
 
-/// Look-ups that hit and miss, the same pairs once more, and pairs that strike one by its left.
+/// Times look-ups that find something and look-ups that find nothing. Then it times insertions of the same pairs, and
+/// insertions that overwrite a pair of the same left.
 pub fn changes<R: Clock + Print, B: Bijection<u64, u64>>(
     rt: &R,
     report: &Report,
@@ -105,7 +107,7 @@ pub fn changes<R: Clock + Print, B: Bijection<u64, u64>>(
     report.end(rt, "overwrite", start, struck)
 }
 
-/// Removals by left, to the last pair.
+/// Times the removals by left, until the map is empty.
 pub fn removals<R: Clock + Print, B: Bijection<u64, u64>>(
     rt: &R,
     report: &Report,

@@ -1,19 +1,22 @@
-//! The keys of a run: numbers by chance, or rising, each once.
+//! The keys of a run. They are random or rising numbers, and each occurs once.
 
-/// Which keys a run is over.
+/// The keys of a run.
 #[derive(Clone, Copy)]
 pub struct Keys {
     pairs: u64,
-    // What the lefts and the rights are multiples of. An odd factor makes each of them another.
+    // Every left is a multiple of `lefts`, and every right is a multiple of `rights`. An odd factor makes them all
+    // different.
     lefts: u64,
     rights: u64,
-    // How far the next look-up goes.
+    // The distance from one looked-up number to the next.
     step: u64,
 }
 
 impl Keys {
-    /// The keys of so many pairs. Rising, they are put in and looked up in their order. Else they are put in by chance and
-    /// looked up in another order, each once: 7919 and 7907 are primes, one of which doesn't divide a number of pairs.
+    /// Returns the keys for a number of pairs. Rising keys are inserted and looked up in ascending order.
+    ///
+    /// Otherwise the keys are random, and they are looked up in another order. Each is looked up once: 7919 and 7907
+    /// are primes, and at least one of them does not divide a number of pairs.
     pub fn new(pairs: u64, is_rising: bool) -> Self {
         if is_rising {
             return Keys {
@@ -32,22 +35,22 @@ impl Keys {
         }
     }
 
-    /// How many pairs the run is over.
+    /// Returns the number of pairs.
     pub fn pairs(&self) -> u64 {
         self.pairs
     }
 
-    /// The left of a number.
+    /// Returns the left of a number.
     pub fn left(&self, number: u64) -> u64 {
         number.wrapping_mul(self.lefts)
     }
 
-    /// The right of a number.
+    /// Returns the right of a number.
     pub fn right(&self, number: u64) -> u64 {
         number.wrapping_mul(self.rights)
     }
 
-    /// The number that is looked up after this one.
+    /// Returns the number that is looked up after this one.
     pub fn after(&self, number: u64) -> u64 {
         let next = number.wrapping_add(self.step);
         if next < self.pairs {

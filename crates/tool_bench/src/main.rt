@@ -1,7 +1,13 @@
-//! Times the calls of each kind of bimap: `tool_bench PAIRS times` prints the nanoseconds of each call over so many pairs by
-//! chance, and what the calls found, and how many bytes a pair the memory has grown when all are in (rightly of the first kind
-//! alone). With the words `rising` and then `KIND` the keys rise, and that kind runs alone. Without the second word it prints
-//! what the calls found alone. A first word that is no number, and want of memory, end it with an error.
+//! A program that times the calls of each type of map.
+//!
+//! `tool_bench PAIRS times` runs the calls over this number of random pairs. By default PAIRS is 1000. It prints how
+//! many nanoseconds each call took, and what the calls found. It also prints by how many bytes a pair the memory of the
+//! process grew until all pairs were in. This number is right only for the first map of the process.
+//!
+//! `tool_bench PAIRS times rising` uses rising keys. Any other third word means random keys. With a fourth word, as
+//! `BiHashMap`, only this type of map runs. Without `times` the program prints only what the calls found.
+//!
+//! The program ends with an error if the first word is not a number, or if there is no memory.
 #![tactic(auto)]
 
 mod calls;
@@ -17,7 +23,8 @@ use std::io::{self, ErrorKind, Print};
 use std::rt::Files;
 use std::time::Clock;
 
-// Times the calls over one kind of bimap, from the empty one to the empty one; those of an ordered left walk back, too.
+// Times the calls over one type of map, which is empty before and after. With an ordered left side it also iterates
+// backwards.
 macro_rules! measure {
     ($rt:expr, $report:expr, $kind:ident $(, $rev:ident)?) => {{
         let mut bimap: $kind<u64, u64> = $kind::new($rt.alloc());
@@ -36,7 +43,7 @@ macro_rules! measure {
     }};
 }
 
-// One kind a function: their calls in one function take minutes to prove, and apart seconds.
+// Each type of map has a function of its own. One function with all calls would take minutes to prove.
 fn ordered<R: AllocGlobal + Clock + Files + Print>(rt: &R, report: &Report) -> io::Result<()> {
     measure!(rt, report, BiBTreeMap, rev)
 }
@@ -56,7 +63,7 @@ fn hashed<R: AllocGlobal + Clock + Files + Print>(rt: &R, report: &Report) -> io
     measure!(rt, report, BiHashMap)
 }
 
-// The kind of this name.
+// Runs the type of map that has this name.
 fn run<R: AllocGlobal + Clock + Files + Print>(
     rt: &R,
     report: &Report,

@@ -1,11 +1,11 @@
-//! What a run is over, and what it prints.
+//! What a run measures, and what it prints.
 use crate::keys::Keys;
 use std::io::Print;
 use std::rt::Files;
 use std::time::{Clock, Instant};
 use std::{fs, io};
 
-/// Which kind of bimap runs, over which keys, and whether it is measured.
+/// The type of map that runs, its keys, and whether times are measured.
 #[derive(Clone, Copy)]
 pub struct Report {
     kind: &'static str,
@@ -13,13 +13,13 @@ pub struct Report {
     is_measured: bool,
 }
 
-// The number that a word spells, or 0.
+// Returns the number that a word spells, or 0 if it spells none.
 fn number(word: Option<&str>) -> u64 {
     word.unwrap_or("").parse().unwrap_or(0)
 }
 
 impl Report {
-    /// A report of no kind yet.
+    /// Makes a report that names no type of map yet.
     pub fn new(keys: Keys, is_measured: bool) -> Self {
         Report {
             kind: "",
@@ -28,23 +28,23 @@ impl Report {
         }
     }
 
-    /// The same of a kind.
+    /// Returns this report for a type of map.
     pub fn of(&self, kind: &'static str) -> Self {
         Report { kind, ..*self }
     }
 
-    /// Which keys the run is over.
+    /// Returns the keys of the run.
     pub fn keys(&self) -> Keys {
         self.keys
     }
 
-    /// The time at which a call begins.
+    /// Returns the time at which a call begins.
     pub fn start<R: Clock>(&self, rt: &R) -> io::Result<Instant> {
         Instant::now(rt)
     }
 
-    /// Prints what the calls found, and before it, where it is measured, the time of a call over one pair, in tenths of
-    /// nanoseconds.
+    /// Prints what the calls found. If times are measured, it first prints the time of one call in nanoseconds, with
+    /// one decimal place.
     pub fn end<R: Clock + Print>(
         &self,
         rt: &R,
@@ -70,7 +70,8 @@ impl Report {
         }
     }
 
-    /// The bytes of memory that the process has for itself, by what Linux says of its pages; 0 where it isn't measured.
+    /// Returns how many bytes of memory the process has for itself, as Linux counts its pages. Returns 0 if times are
+    /// not measured.
     pub fn memory<R: Files + AllocGlobal>(&self, rt: &R) -> io::Result<u64> {
         if !self.is_measured {
             return Ok(0);
@@ -82,7 +83,7 @@ impl Report {
         Ok(all.saturating_sub(shared).saturating_mul(4096))
     }
 
-    /// Prints, where it is measured, by how many bytes a pair the memory has grown.
+    /// Prints by how many bytes a pair the memory has grown. It prints nothing if times are not measured.
     pub fn grown<R: Files + Print + AllocGlobal>(&self, rt: &R, before: u64) -> io::Result<()> {
         let bytes = self.memory(rt)?.saturating_sub(before);
         if self.is_measured {

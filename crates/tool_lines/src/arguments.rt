@@ -1,20 +1,20 @@
-//! The arguments of a program, and the status with which it ends.
+//! The arguments of a program, and its exit status.
 use std::env;
 use std::io::{self, ErrorKind};
 use std::process::ExitCode;
 
-/// What the arguments ask of a program that takes a file.
+/// What the arguments ask of a program that can take a file.
 #[derive(Debug, Drop)]
 pub enum Asked {
-    /// There are none: it answers its lines.
+    /// There are no arguments. The program answers its lines.
     Lines,
-    /// It answers its lines over this file.
+    /// The program answers its lines, and keeps what they change in this file.
     File(String),
-    /// It ends with this status. What there was to print has been printed.
+    /// The program ends with this status. It has printed everything that there was to print.
     Ended(ExitCode),
 }
 
-// What follows a program's name.
+// The words after the name of the program.
 #[derive(Debug, Drop)]
 enum Given {
     Nothing,
@@ -23,7 +23,7 @@ enum Given {
     Other(&'static str),
 }
 
-// Reads the arguments. A word that begins with `-` is no name of a file.
+// Reads the arguments. A word that begins with `-` is not the name of a file.
 fn read_arguments(rt: &HostRuntime) -> io::Result<Given> {
     let mut words = match env::args(rt) {
         Ok(words) => words,
@@ -51,16 +51,16 @@ fn help(rt: &HostRuntime, usage: &str, requests: &str) -> io::Result<ExitCode> {
     Ok(ExitCode::SUCCESS)
 }
 
-// Writes the usage to standard error. If that fails, the status still says that the arguments were refused.
+// Writes the usage to standard error. If this fails, the status still says that the program refused the arguments.
 fn refused(rt: &HostRuntime, why: &str, usage: &str) -> ExitCode {
     let _ = eprintln!(rt; "{why}usage: {usage}");
     ExitCode::from(2)
 }
 
-/// Reads the arguments of a program that takes none but `--help`, which prints `usage` and `requests`.
+/// Reads the arguments of a program whose only argument is `--help`, which prints `usage` and `requests`.
 ///
-/// Returns `None` if there are no arguments. Otherwise it returns the status with which the program has to end: 0 after `--help`,
-/// and 2 after any other argument, when `usage` is on standard error.
+/// Returns `None` if there are no arguments. Otherwise it returns the exit status: 0 after `--help`, and 2 after any
+/// other argument. In the second case it has written `usage` to standard error.
 pub fn no_argument(rt: &HostRuntime, usage: &str, requests: &str) -> io::Result<Option<ExitCode>> {
     match read_arguments(rt)? {
         Given::Nothing => Ok(None),
@@ -70,7 +70,7 @@ pub fn no_argument(rt: &HostRuntime, usage: &str, requests: &str) -> io::Result<
     }
 }
 
-/// Reads the arguments of a program that takes a file. It does with any other argument what [`no_argument`] does.
+/// Reads the arguments of a program that can take a file. It treats all other arguments as [`no_argument`] does.
 pub fn file_argument(rt: &HostRuntime, usage: &str, requests: &str) -> io::Result<Asked> {
     match read_arguments(rt)? {
         Given::Nothing => Ok(Asked::Lines),
@@ -80,7 +80,7 @@ pub fn file_argument(rt: &HostRuntime, usage: &str, requests: &str) -> io::Resul
     }
 }
 
-/// The status of a program that ended so. If reading or writing failed, the status is 1, and standard error says why.
+/// Returns the exit status of a program. If reading or writing failed, the status is 1, and standard error says why.
 pub fn status_of(rt: &HostRuntime, ended: io::Result<ExitCode>) -> ExitCode {
     match ended {
         Ok(status) => status,

@@ -1,28 +1,28 @@
-//! A program that reads a file first, and overwrites it last.
+//! A program that reads a file at the start, and overwrites it at the end.
 use crate::target::Target;
 use std::alloc::{AllocError, Global};
 use std::fmt::Display;
 use std::io;
 use std::process::ExitCode;
 
-/// A program that changes something by the lines of its input, and can keep it in a file between two runs.
+/// A program whose lines change something that it can keep in a file between two runs.
 pub trait Keeper {
-    /// What it keeps.
+    /// What the program keeps.
     type Kept: Drop;
 
-    /// Why a text could not be read as what it keeps.
+    /// Why a text could not be read as what the program keeps.
     type Fault: Display + Drop;
 
-    /// What it begins with if the file does not exist.
+    /// Returns what the program starts with if the file does not exist.
     fn empty(alloc: Global) -> Self::Kept;
 
-    /// What it begins with if the file has this text.
+    /// Returns what the program starts with if the file has this text.
     fn read(alloc: Global, text: &str) -> Result<Self::Kept, Self::Fault>;
 
-    /// Answers all lines. Returns the exit status.
+    /// Answers all lines, and returns the exit status.
     fn serve(rt: &HostRuntime, kept: &mut Self::Kept) -> io::Result<ExitCode>;
 
-    /// The text that it writes back to the file.
+    /// Returns the text that the program writes back to the file.
     fn text(alloc: Global, kept: &Self::Kept) -> Result<String, AllocError>;
 }
 
@@ -32,7 +32,7 @@ fn failed<E: Display>(rt: &HostRuntime, path: &str, why: &E, status: u8) -> Exit
     ExitCode::from(status)
 }
 
-// What the program begins with. There is no text if the file does not exist.
+// Returns what the program starts with. There is no text if the file does not exist.
 fn begun<K: Keeper>(alloc: Global, text: Option<String>) -> Result<K::Kept, K::Fault> {
     match text {
         Some(text) => K::read(alloc, text.as_str()),
@@ -40,7 +40,7 @@ fn begun<K: Keeper>(alloc: Global, text: Option<String>) -> Result<K::Kept, K::F
     }
 }
 
-// Overwrites the file with what the program ends with.
+// Overwrites the file with what the program has at the end.
 fn write_back<K: Keeper>(rt: &HostRuntime, target: &Target, kept: &K::Kept) -> io::Result<()> {
     let text = K::text(rt.alloc(), kept)?;
     target.replace(rt, text.as_str())
@@ -60,12 +60,12 @@ fn serve_kept<K: Keeper>(
     }
 }
 
-/// Runs a program over a file. It reads the file, answers all lines, and overwrites the file with what it ends with. If the
-/// file does not exist, it begins empty and makes the file.
+/// Runs a program over a file. It reads the file, answers all lines, and overwrites the file with what the program has
+/// then. If the file does not exist, the program starts empty, and the function makes the file.
 ///
-/// Returns 2 if the file could not be read or is no regular file. Then no line is answered, and the file stays as it is.
-/// Returns 1 if the file could not be overwritten. In both cases standard error names the file and says why.
-/// An `Err` says that the program could not answer all lines, and the file stays as it is.
+/// Returns 2 if the file could not be read or is no regular file. Then no line is answered, and the file does not
+/// change. Returns 1 if the file could not be overwritten. In both cases standard error names the file and says why. An
+/// `Err` says that the program could not answer all lines. Then the file does not change.
 pub fn serve_file<K: Keeper>(rt: &HostRuntime, path: &str) -> io::Result<ExitCode> {
     let (target, text) = match Target::open(rt, path) {
         Ok(opened) => opened,

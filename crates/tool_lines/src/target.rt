@@ -1,22 +1,22 @@
-//! A file whose text is read, and later replaced whole.
+//! A file whose text is read, and later replaced as a whole.
 use std::fs::{self, Metadata, OpenOptions, Permissions};
 use std::io::{self, Error, ErrorKind, Write};
 use std::os::unix::fs::{MetadataExt, OpenOptionsExt, PermissionsExt, fchown};
 use std::path::Path;
 
-/// A regular file, or the name of one that does not exist yet.
+/// A regular file, or the name of a file that does not exist yet.
 #[derive(Drop)]
 pub struct Target {
-    // The file itself. It is no link.
+    // The path of the file itself, which is no link.
     path: String,
-    // The name of the file that is to take its place.
+    // The name of the new file that will replace it.
     new: String,
     folder: fs::File,
-    // What was known of the file when it was read.
+    // What the system said about the file when it was read.
     old: Option<Metadata>,
 }
 
-// The path of the file to which a link leads, or the path itself if it is no link.
+// Returns the path of the file that a link points to. Returns the path itself if it is no link.
 fn followed(rt: &HostRuntime, path: &str) -> io::Result<String> {
     match fs::symlink_metadata(rt, path) {
         Ok(found) if found.is_symlink() => Ok(fs::canonicalize(rt, path)?.into_string()),
@@ -24,7 +24,8 @@ fn followed(rt: &HostRuntime, path: &str) -> io::Result<String> {
     }
 }
 
-// What the system knows of a regular file. `None` if nothing of this name exists, and an `Err` if it is something else.
+// Returns what the system knows about a regular file, or `None` if nothing has this name. An `Err` says that the name
+// belongs to something else.
 fn found(rt: &HostRuntime, path: &str) -> io::Result<Option<Metadata>> {
     match fs::symlink_metadata(rt, path) {
         Ok(found) if found.is_file() => Ok(Some(found)),
@@ -34,7 +35,7 @@ fn found(rt: &HostRuntime, path: &str) -> io::Result<Option<Metadata>> {
     }
 }
 
-// The folder of the file.
+// Opens the folder of the file.
 fn open_folder(rt: &HostRuntime, path: &str) -> io::Result<fs::File> {
     match Path::new(path).parent() {
         Some(folder) if folder.to_str() == Some("") => fs::open(rt, "."),
@@ -48,7 +49,7 @@ fn in_the_way() -> Error {
     Error::new(ErrorKind::AlreadyExists, why)
 }
 
-// An `Err` if a file of this name exists, or can't.
+// Returns an `Err` if a file of this name exists or cannot exist.
 fn check_free(rt: &HostRuntime, path: &str) -> io::Result<()> {
     match fs::symlink_metadata(rt, path) {
         Ok(_) => Err(in_the_way()),
@@ -57,8 +58,8 @@ fn check_free(rt: &HostRuntime, path: &str) -> io::Result<()> {
     }
 }
 
-// The mode for a new file, so that nobody may do more with it than with the old one. If it has another group, the group and all
-// others may do only what both could do before.
+// Returns the mode for a new file. With it nobody gets more access than the old file gave. If the new file has another
+// group, its group and all others get only the access that both had before.
 fn mode_of(old: &Metadata, new: &Metadata) -> u32 {
     let mode = old.mode() & 0o777;
     if old.gid() == new.gid() {
@@ -68,7 +69,7 @@ fn mode_of(old: &Metadata, new: &Metadata) -> u32 {
     mode & 0o700 | both << 3 | both
 }
 
-// Gives a new file the owner and the group of the old one if this process may set them, and then its mode.
+// Gives a new file the owner and the group of the old one if this process may set them. Then it sets the mode.
 fn copy_access(old: &Metadata, file: &fs::File) -> io::Result<()> {
     let _ = fchown(file, None, Some(old.gid()));
     let _ = fchown(file, Some(old.uid()), None);
@@ -76,7 +77,7 @@ fn copy_access(old: &Metadata, file: &fs::File) -> io::Result<()> {
     file.set_permissions(Permissions::from_mode(mode))
 }
 
-// Writes the text to a new file, whose mode is set before.
+// Sets the mode of a new file, and then writes the text to it.
 fn fill(file: &mut fs::File, old: Option<Metadata>, text: &str) -> io::Result<()> {
     if let Some(old) = old {
         copy_access(&old, file)?;
@@ -86,10 +87,10 @@ fn fill(file: &mut fs::File, old: Option<Metadata>, text: &str) -> io::Result<()
 }
 
 impl Target {
-    /// The file, and its text if it exists.
+    /// Opens a file, and returns it with its text if it exists. The function changes nothing.
     ///
-    /// Returns an `Err` if it is no regular file, if it could not be read, or if a file exists whose name is this one's with
-    /// `.new` behind it. It changes nothing.
+    /// Returns an `Err` if the file is no regular file or could not be read. It also returns an `Err` if another file
+    /// has the name of this one with `.new` after it.
     pub fn open(rt: &HostRuntime, path: &str) -> io::Result<(Target, Option<String>)> {
         let path = followed(rt, path)?;
         let old = found(rt, path.as_str())?;
@@ -111,7 +112,7 @@ impl Target {
         ))
     }
 
-    // Makes the new file. A private one can be read by its owner alone. It overwrites no other file.
+    // Makes the new file. It never overwrites another file. Only the owner can read a private file.
     fn create(&self, rt: &HostRuntime, is_private: bool) -> io::Result<fs::File> {
         let mode = if is_private { 0o600 } else { 0o666 };
         let mut how = OpenOptions::new();
@@ -138,12 +139,12 @@ impl Target {
         fs::rename(rt, self.new.as_str(), self.path.as_str())
     }
 
-    /// Gives the file another text, by a new file that takes its place once it is whole. Wherever the process ends, the file
-    /// has its whole old text or its whole new text. The new file has the mode of the old one, and its owner and group if this
-    /// process may set them.
+    /// Gives the file another text. It writes a new file, which replaces the old one when it is complete. If the
+    /// process ends before, the file has its whole old text. The new file gets the mode of the old one. It also gets
+    /// the owner and the group if this process may set them.
     ///
-    /// After an `Err` the new file is gone, and the file has its old text. If only the folder could not be synced, it has the
-    /// new one.
+    /// After an `Err` the new file is gone, and the file has its old text. There is one exception: if only the folder
+    /// could not be synced, the file has its new text.
     pub fn replace(&self, rt: &HostRuntime, text: &str) -> io::Result<()> {
         let old = match found(rt, self.path.as_str())? {
             Some(old) => Some(old),

@@ -1,7 +1,6 @@
-//! Each kind, as the shell asks it: by what its two sides have.
+//! The calls that the shell makes on each type of map. They depend on the indexes of its two sides.
 //!
-//! The kinds are written out: the kit has no proof where a bound is met by an `impl` whose type holds a hashed index of a type
-//! that it leaves open.
+//! Each type is written out, since the kit has no proof for a bound that is met by an `impl` over all hashed indexes.
 use crate::kind::{ShellKind, counted};
 use crate::request::Request;
 use crate::word::Word;

@@ -7,7 +7,7 @@ use bimap::Bijection;
 use std::alloc::AllocError;
 use test_support::{CopyKind, at_zero};
 
-// How many searches by left and by right the bound of a call counts.
+// Returns how many searches by left and by right the bound of a call allows.
 fn searches(call: &str) -> (u64, u64) {
     match call {
         "get_by_left" | "left_rank" => (1, 0),
@@ -19,7 +19,8 @@ fn searches(call: &str) -> (u64, u64) {
     }
 }
 
-// How many comparisons a search makes at most: twice as many as the length has binary digits, and none by hash.
+// Returns how many comparisons a search makes at most. This is twice the number of binary digits of the length. On a
+// hashed side it is 0.
 fn effort(length: usize, is_ordered: bool) -> u64 {
     let digits = if is_ordered {
         usize::BITS.saturating_sub(length.leading_zeros())
@@ -36,7 +37,7 @@ fn bound(request: &Request<'_>, length: usize) -> u64 {
     by_left.saturating_add(by_right)
 }
 
-/// Makes the call with a meter, and writes what it counted.
+/// Makes the call with a meter, and writes what the meter counted.
 pub fn call<B: CopyKind<Word, Word> + ShellKind>(
     bimap: &mut B,
     request: &Request<'_>,

@@ -9,24 +9,24 @@ use std::fmt::Debug;
 pub trait Walk: Sized {
     type Item: Debug + Drop;
 
-    /// The next item from the front.
+    /// Returns the next item from the front.
     fn front(&mut self) -> Option<Self::Item>;
 
-    /// The next item from the back, or `None` of all where it goes ahead alone.
+    /// Returns the next item from the back. Returns `None` if the iterator cannot go backwards.
     fn back(&mut self) -> Option<Option<Self::Item>>;
 
-    /// How many items are left.
+    /// Returns how many items are left.
     fn left(&self) -> usize;
 
-    /// Another iterator over the same items; `None` where it gives them by value.
+    /// Returns a copy of the iterator, or `None` if it gives its items by value.
     fn copy(&self) -> Result<Option<Self>, AllocError> {
         Ok(None)
     }
 }
 
-/// One that can go from its end.
+/// An iterator that can go backwards.
 pub trait WalkBack: Walk {
-    /// The next item from the back.
+    /// Returns the next item from the back.
     fn last(&mut self) -> Option<Self::Item>;
 }
 
@@ -105,7 +105,7 @@ impl<C: CourseBack> WalkBack for IntoIter<Word, Word, C> {
     }
 }
 
-/// An iterator that is asked from both ends.
+/// An iterator that the shell uses from both ends.
 #[derive(Drop)]
 pub struct BothEnds<W>(pub W);
 
@@ -129,7 +129,7 @@ impl<W: WalkBack> Walk for BothEnds<W> {
     }
 }
 
-// The items that are left.
+// Writes the items that are left.
 fn rest<W: Walk>(walk: &mut W, said: &mut String) -> Result<(), AllocError> {
     write!(said, "[")?;
     let mut between = "";
@@ -142,7 +142,7 @@ fn rest<W: Walk>(walk: &mut W, said: &mut String) -> Result<(), AllocError> {
     write!(said, "]")
 }
 
-// What a step shows. It answers whether the iterator has it.
+// Writes what a step shows. Returns whether the iterator has this step.
 fn shown<W: Walk>(walk: &mut W, step: Step, said: &mut String) -> Result<bool, AllocError> {
     if !said.is_empty() {
         write!(said, " · ")?;
@@ -159,7 +159,8 @@ fn shown<W: Walk>(walk: &mut W, step: Step, said: &mut String) -> Result<bool, A
     Ok(true)
 }
 
-/// Goes by the steps: those after a copy are the copy's. It answers whether the iterator has each.
+/// Makes the steps, and writes what they show. The steps after a copy are made on the copy. Returns whether the
+/// iterator has every step.
 pub fn follow<W: Walk + Drop>(
     walk: W,
     steps: &[Step],

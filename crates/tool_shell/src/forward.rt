@@ -1,11 +1,12 @@
-//! Ranges that don't run backwards.
+//! Ranges that do not run backwards.
 ghost use Rattle.std.specs.Prelude.{IfSome};
 ghost use Rattle.std.specs.BTreeMap.Range.{IsLeBy, IsLtBy};
 ghost use Rattle.std.specs.Range.Bound.{IsForward};
 
 use std::ops::Bound;
 
-/// The range, if its start is no greater than its end, and less where both are left out.
+/// Returns the range, or `None` if its start is greater than its end. If both ends are excluded, the start must be less
+/// than the end.
 pub fn forward<K: Copy + Ord>(range: (Bound<K>, Bound<K>)) -> Option<(Bound<K>, Bound<K>)>
     ensures { IfSome result (λ r. IsForward (IsLeBy K.cmp) (IsLtBy K.cmp) r.0 r.1) }
 {

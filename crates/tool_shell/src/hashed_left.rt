@@ -1,4 +1,4 @@
-//! What a hashed left gives.
+//! The calls of a map with a hashed left side.
 use crate::course::follow;
 use crate::kind::{self, Words, say};
 use crate::request::Request;
@@ -7,7 +7,7 @@ use bimap_index::{CopiedIndex, HashIndex};
 use std::alloc::AllocError;
 use std::hash::BuildHasher;
 
-/// What every kind gives, walks by place, and `==`.
+/// Makes the call, if it is an iteration in no particular order, `==`, or a call that every map has.
 pub fn call<LS: BuildHasher + Clone + Drop, J: CopiedIndex<Word> + Drop>(
     bimap: &mut Words<HashIndex<LS>, J>,
     other: &mut Words<HashIndex<LS>, J>,

@@ -1,4 +1,4 @@
-//! Calls for which memory is refused.
+//! Calls whose allocations are refused.
 use crate::kind::ShellKind;
 use crate::request::{Memory, Request};
 use crate::session::Session;
@@ -7,10 +7,10 @@ use bimap::NoMemory;
 use std::alloc::AllocError;
 use test_support::{CopyKind, MemoryLimit};
 
-/// How much may be said while nothing can be allocated.
+/// The length of an answer that needs no allocation.
 const SAID: usize = 1 << 16;
 
-// Whether memory was refused.
+// Returns whether the answer says "out of memory".
 fn is_refusal(said: &str) -> bool {
     said.starts_with("Err(NoMemory")
         || said.starts_with("Err(NoRoom")
@@ -23,7 +23,7 @@ fn is_refusal(said: &str) -> bool {
         || said.starts_with("NoRoom(")
 }
 
-// Makes the call again and again, each time with a little more memory, until it is not refused.
+// Makes the call again and again, each time with a little more memory, until it does not run out of memory.
 fn eased<B: CopyKind<Word, Word> + ShellKind>(
     session: &mut Session<B>,
     request: &mut Request<'_>,
@@ -60,7 +60,7 @@ fn eased<B: CopyKind<Word, Word> + ShellKind>(
     Ok(true)
 }
 
-// Makes a call with the memory that its line leaves.
+// Makes a call with the memory that its line grants.
 fn fed<B: CopyKind<Word, Word> + ShellKind>(
     session: &mut Session<B>,
     request: &mut Request<'_>,
@@ -78,7 +78,7 @@ fn fed<B: CopyKind<Word, Word> + ShellKind>(
     }
 }
 
-/// Makes a call, or takes the bimap that was made, in a session that begins where there is none yet.
+/// Makes a call, or stores the map that was made. It begins a session if there is none yet.
 pub fn call<B: CopyKind<Word, Word> + ShellKind>(
     begun: &mut Option<Session<B>>,
     made: Option<Result<B, NoMemory>>,

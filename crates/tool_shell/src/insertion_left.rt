@@ -1,4 +1,4 @@
-//! What a left gives whose pairs are walked in the order of insertion.
+//! The calls of a map that is iterated in insertion order.
 use crate::course::follow;
 use crate::kind::{self, say};
 use crate::request::Request;
@@ -6,7 +6,7 @@ use crate::word::Word;
 use bimap::BiInsertionOrderMap;
 use std::alloc::AllocError;
 
-/// What every kind gives, walks, and `==`.
+/// Makes the call, if it is an iteration, `==`, or a call that every map has.
 pub fn call(
     bimap: &mut BiInsertionOrderMap<Word, Word>,
     other: &mut BiInsertionOrderMap<Word, Word>,

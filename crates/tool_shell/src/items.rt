@@ -1,4 +1,4 @@
-//! Many pairs at once.
+//! Calls with many pairs.
 use crate::kind::{ShellKind, say};
 use crate::request::Request;
 use crate::session::Session;
@@ -7,7 +7,7 @@ use bimap::{extend_with, from_iter_with};
 use std::alloc::AllocError;
 use test_support::CopyKind;
 
-/// Makes the call, if it is one of these.
+/// Makes the call, if it is one of this file. Returns whether it is.
 pub fn call<B: CopyKind<Word, Word> + ShellKind>(
     session: &mut Session<B>,
     request: &Request<'_>,

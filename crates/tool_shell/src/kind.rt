@@ -1,4 +1,4 @@
-//! What the shell asks of a bimap of any kind, beside the calls that every bimap has.
+//! The calls that the shell makes on a map of any type, beside those of `Bijection`.
 use crate::request::Request;
 use crate::word::Word;
 use bimap::btree::Count;
@@ -8,18 +8,21 @@ use std::alloc::AllocError;
 use std::fmt::Debug;
 use test_support::Counter;
 
-/// What the shell shows of a kind.
+/// What the shell shows of a type of map.
 pub trait Shown: Sized {
-    /// Writes the bimap by `Debug`.
+    /// Writes the map by `Debug`.
     fn show(&self, said: &mut String) -> Result<(), AllocError>;
 
-    /// Turns the bimap round, writes what it is then, and turns it back. Where that is refused, it is as it was.
+    /// Exchanges the sides of the map, writes the result, and exchanges them again. If this runs out of memory, the map
+    /// does not change.
     fn turned(self, said: &mut String) -> Result<Self, AllocError>;
 }
 
-/// A kind that the shell asks. Each call answers whether there is one on this kind, and writes what it said.
+/// A type of map on which the shell makes calls. Each function writes what the call returned. It returns whether the
+/// type of map has this call.
 pub trait ShellKind: Shown {
-    /// A walk, an end, a rank, a change, or a comparison with the other bimap, whose place a clone takes.
+    /// Makes an iteration, a change, or a comparison with the other map. `clone` replaces the other map. The function
+    /// also knows the ends and ranks of an ordered side.
     fn call(
         &mut self,
         other: &mut Self,
@@ -27,7 +30,7 @@ pub trait ShellKind: Shown {
         said: &mut String,
     ) -> Result<bool, AllocError>;
 
-    /// A call with a meter.
+    /// Makes a call with a meter.
     fn count(
         &mut self,
         request: &Request<'_>,
@@ -36,7 +39,7 @@ pub trait ShellKind: Shown {
     ) -> Result<bool, AllocError>;
 }
 
-/// A bimap of words.
+/// A map of words.
 pub type Words<I, J> = BijectiveMap<Word, Word, I, J>;
 
 impl<I: WalkedIndex<Word> + Drop, J: WalkedIndex<Word> + Drop> Shown for Words<I, J> {
@@ -58,13 +61,13 @@ impl<I: WalkedIndex<Word> + Drop, J: WalkedIndex<Word> + Drop> Shown for Words<I
     }
 }
 
-/// Writes what a call answered. It answers that there is the call.
+/// Writes what a call returned. Returns `true`: the call exists.
 pub fn say<T: Debug + Drop>(answer: T, said: &mut String) -> Result<bool, AllocError> {
     write!(said, "{answer:?}")?;
     Ok(true)
 }
 
-// Writes which pairs a call moved to a list, or why it moved none. It answers that there is the call.
+// Writes which pairs a call moved to a list, or why it moved none. Returns `true`: the call exists.
 fn say_moved(
     answer: Result<(), NoMemory>,
     pairs: &[(Word, Word)],
@@ -77,7 +80,7 @@ fn say_moved(
     Ok(true)
 }
 
-// Puts a copy in the place of the other bimap, and writes it, or why there is none. It answers that there is the call.
+// Replaces the other map by a copy, and writes the copy, or why there is none. Returns `true`: the call exists.
 fn copy_to<I: CopiedIndex<Word> + WalkedIndex<Word> + Drop, J: CopiedIndex<Word> + Drop>(
     bimap: &Words<I, J>,
     other: &mut Words<I, J>,
@@ -93,7 +96,7 @@ fn copy_to<I: CopiedIndex<Word> + WalkedIndex<Word> + Drop, J: CopiedIndex<Word>
     Ok(true)
 }
 
-// What keeps pairs by a test of the right, or takes them out.
+// Makes the calls that keep or remove pairs by a test of the right.
 fn parted<I: WalkedIndex<Word>, J: Index<Word>>(
     bimap: &mut Words<I, J>,
     request: &Request<'_>,
@@ -121,7 +124,7 @@ fn parted<I: WalkedIndex<Word>, J: Index<Word>>(
     }
 }
 
-// Insertions by the calls of the bimap's own, which users make. (A run makes those of every bimap)
+// Makes insertions by the methods that users call. A run of calls uses those of `Bijection`.
 fn insert<I: Index<Word>, J: Index<Word>>(
     bimap: &mut Words<I, J>,
     request: &Request<'_>,
@@ -137,7 +140,7 @@ fn insert<I: Index<Word>, J: Index<Word>>(
     }
 }
 
-/// A comparison with the other bimap, whose place a clone takes, or a change.
+/// Makes a comparison with the other map, or a change. `clone` replaces the other map.
 pub fn call<I: CopiedIndex<Word> + WalkedIndex<Word> + Drop, J: CopiedIndex<Word> + Drop>(
     bimap: &mut Words<I, J>,
     other: &mut Words<I, J>,
@@ -152,7 +155,7 @@ pub fn call<I: CopiedIndex<Word> + WalkedIndex<Word> + Drop, J: CopiedIndex<Word
     }
 }
 
-/// The counted calls that every kind has.
+/// Makes the metered calls that every map has.
 pub fn counted<I: Index<Word>, J: Index<Word>>(
     bimap: &mut Words<I, J>,
     request: &Request<'_>,

@@ -1,4 +1,4 @@
-//! The six kinds, and what each answers to a line.
+//! The six types of map, and what each answers to a line.
 use crate::hunger;
 use crate::request::{On, Request};
 use crate::session::Session;
@@ -8,7 +8,7 @@ use std::alloc::AllocError;
 use test_support::{Crowded, Zero};
 use tool_shell_json::{JsonCall, json_call};
 
-/// How a line and an answer name the kinds.
+/// The names of the types of map in lines and answers.
 pub const NAMES: [&str; 6] = [
     "ordered",
     "hashed",
@@ -18,17 +18,17 @@ pub const NAMES: [&str; 6] = [
     "insertion-order",
 ];
 
-/// Whether a kind has its lefts in order.
+/// Returns whether the left side of a type of map is ordered.
 pub fn has_ordered_left(kind: usize) -> bool {
     kind == 0 || kind == 2
 }
 
-/// Whether a kind has its rights in order.
+/// Returns whether the right side of a type of map is ordered.
 pub fn has_ordered_right(kind: usize) -> bool {
     kind == 0 || kind == 3
 }
 
-// The bimap that a call makes, where it makes one.
+// Makes the map, if the call makes one.
 macro_rules! made {
     ($request:ident, $new:expr, $with_capacity:expr) => {
         match $request.call {
@@ -39,10 +39,10 @@ macro_rules! made {
     };
 }
 
-// Each kind has a type of its own, whose session its first call makes. So what stands above it is proved without its
-// contracts (all in one struct took the prover more than seven minutes), and each names its kind once.
+// Each type of map has a type here, whose session its first call makes. The callers are proved without the contracts of
+// the map. With all of them in one struct the proof took more than seven minutes.
 
-/// Both sides in order.
+/// A map with two ordered sides.
 #[derive(Drop)]
 struct Ordered {
     session: Option<Session<BiBTreeMap<Word, Word>>>,
@@ -60,7 +60,7 @@ impl Ordered {
     }
 }
 
-/// Both sides by hash.
+/// A map with two hashed sides.
 #[derive(Drop)]
 struct Hashed {
     session: Option<Session<BiHashMap<Word, Word>>>,
@@ -78,7 +78,7 @@ impl Hashed {
     }
 }
 
-/// Lefts in order, rights by hash.
+/// A map with an ordered left side and a hashed right side.
 #[derive(Drop)]
 struct OrderedLeft {
     session: Option<Session<BiBTreeHashMap<Word, Word>>>,
@@ -96,7 +96,7 @@ impl OrderedLeft {
     }
 }
 
-/// Lefts by hash, rights in order.
+/// A map with a hashed left side and an ordered right side.
 #[derive(Drop)]
 struct OrderedRight {
     session: Option<Session<BiHashBTreeMap<Word, Word>>>,
@@ -114,7 +114,7 @@ impl OrderedRight {
     }
 }
 
-/// Both sides by hash, and all keys have one number.
+/// A map with two hashed sides, in which all keys have the same hash.
 #[derive(Drop)]
 struct OneNumber {
     session: Option<Session<Crowded<Word, Word>>>,
@@ -132,7 +132,7 @@ impl OneNumber {
     }
 }
 
-/// Both sides by hash, in the order of insertion.
+/// A map with two hashed sides, which is iterated in insertion order.
 #[derive(Drop)]
 struct InsertionOrder {
     session: Option<Session<BiInsertionOrderMap<Word, Word>>>,
@@ -150,7 +150,7 @@ impl InsertionOrder {
     }
 }
 
-/// A session of each kind.
+/// A session of each type of map.
 #[derive(Drop)]
 pub struct Kinds {
     ordered: Ordered,
@@ -162,7 +162,7 @@ pub struct Kinds {
 }
 
 impl Kinds {
-    /// All empty.
+    /// Makes sessions that have not begun.
     pub fn new() -> Kinds {
         Kinds {
             ordered: Ordered { session: None },
@@ -174,7 +174,8 @@ impl Kinds {
         }
     }
 
-    /// Makes a call on the kind of this number, and writes what it answered. It answers whether the kind has the call.
+    /// Makes a call on the type of map of this number, and writes what it returned. Returns whether the type of map has
+    /// the call.
     pub fn call(
         &mut self,
         kind: usize,

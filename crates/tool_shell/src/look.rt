@@ -1,11 +1,11 @@
-//! The calls that change nothing, on any bimap.
+//! The calls that change nothing, on any map.
 use crate::kind::say;
 use crate::request::Request;
 use crate::word::Word;
 use bimap::{Bijection, contains_pair};
 use std::alloc::AllocError;
 
-/// Makes the call, if it is one of these.
+/// Makes the call, if it is one of this file. Returns whether it is.
 pub fn call<B: Bijection<Word, Word>>(
     bimap: &B,
     request: &Request<'_>,

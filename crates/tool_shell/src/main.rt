@@ -1,4 +1,5 @@
-//! A shell for trying a bimap: each line of standard input is a call, which is made on each kind of bimap. `help` lists them.
+//! A shell in which you can try the maps. Each line of standard input is a call. The shell makes it on each type of
+//! map. The line `help` lists the calls.
 #![tactic(auto)]
 
 mod asked;

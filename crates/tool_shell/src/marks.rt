@@ -1,4 +1,4 @@
-//! The bimap with a record.
+//! The calls of the map that records its changes.
 use crate::kind::{ShellKind, say};
 use crate::request::Request;
 use crate::session::Session;
@@ -8,7 +8,7 @@ use std::alloc::AllocError;
 use std::mem;
 use test_support::CopyKind;
 
-// A change, which is recorded.
+// Makes a change, which is recorded.
 fn changed<B: CopyKind<Word, Word> + ShellKind>(
     record: &mut Undoable<B, Word, Word>,
     request: &Request<'_>,
@@ -30,7 +30,7 @@ fn changed<B: CopyKind<Word, Word> + ShellKind>(
     }
 }
 
-// What the record shows, and the ways back.
+// Shows the record, or goes back in it.
 fn recorded<B: CopyKind<Word, Word> + ShellKind>(
     record: &mut Undoable<B, Word, Word>,
     request: &Request<'_>,
@@ -52,7 +52,7 @@ fn recorded<B: CopyKind<Word, Word> + ShellKind>(
     }
 }
 
-/// Makes the call, if it is one of these.
+/// Makes the call, if it is one of this file. Returns whether it is.
 pub fn call<B: CopyKind<Word, Word> + ShellKind>(
     session: &mut Session<B>,
     request: &Request<'_>,

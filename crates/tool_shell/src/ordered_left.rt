@@ -1,4 +1,4 @@
-//! What an ordered left gives.
+//! The calls of a map with an ordered left side.
 use crate::course::{BothEnds, follow};
 use crate::forward::forward;
 use crate::kind::{self, Words, say};
@@ -73,7 +73,7 @@ fn end<J: CopiedIndex<Word> + Drop>(
     }
 }
 
-/// What every kind gives, walks from both ends, ends, ranks, and comparisons by the order.
+/// Makes the call, if it is an iteration, an end, a rank, a comparison, or a call that every map has.
 pub fn call<J: CopiedIndex<Word> + Drop>(
     bimap: &mut Words<Ordered, J>,
     other: &mut Words<Ordered, J>,
@@ -94,7 +94,7 @@ pub fn call<J: CopiedIndex<Word> + Drop>(
     }
 }
 
-/// The rights by hash, in the order of the lefts.
+/// Makes the iteration over the values of a hashed right side. It goes in ascending order of the lefts.
 pub fn right_values<RS: BuildHasher>(
     bimap: &Words<Ordered, HashIndex<RS>>,
     request: &Request<'_>,
@@ -110,7 +110,7 @@ pub fn right_values<RS: BuildHasher>(
     }
 }
 
-/// An end or a rank, with a meter.
+/// Makes a call at an end or a rank, with a meter.
 pub fn count<J: CopiedIndex<Word> + Drop>(
     bimap: &mut Words<Ordered, J>,
     request: &Request<'_>,

@@ -1,4 +1,4 @@
-//! What a line asks for, read from its words.
+//! Reads a line as a call.
 use crate::request::{Memory, On, Request};
 use crate::values::{answer, call, pair, pairs, policy, range, steps, value};
 use std::alloc::{AllocError, Global};
@@ -6,7 +6,7 @@ use std::str::SplitAsciiWhitespace;
 use tool_lines::{unsigned, words as words_in};
 use tool_shell_json::{numbered, repeated};
 
-// The words that a call has after its name.
+// The kinds of words that follow the name of a call.
 #[derive(Clone, Copy)]
 enum Words {
     None,
@@ -121,7 +121,7 @@ fn read_few(
     Some(())
 }
 
-// Reads the calls of a run, which semicolons part. There may be none.
+// Reads the calls of a run. Semicolons separate them. There may be no call.
 fn read_calls(request: &mut Request<'_>, rest: &str) -> Result<Option<()>, AllocError> {
     if words_in(rest).next().is_none() {
         return Ok(Some(()));
@@ -158,7 +158,7 @@ fn read_list(
     Ok(Some(()))
 }
 
-// The text after the first words, without the blanks before it.
+// Returns the text after this number of words, without the blanks before it.
 fn after(text: &str, words: usize) -> &str {
     let mut rest = text.trim_ascii_start();
     for _ in 0..words {
@@ -198,7 +198,7 @@ fn read_text<'a>(
     }
 }
 
-// What stands before a call, which the first word is.
+// Reads the words before the name of a call, and the name.
 fn before<'a>(words: &mut SplitAsciiWhitespace<'a>) -> Option<(On, Memory, usize, &'a str)> {
     let (mut on, mut memory, mut count) = (On::Bimap, Memory::Plenty, 1usize);
     for _ in 0..4u32 {
@@ -216,7 +216,7 @@ fn before<'a>(words: &mut SplitAsciiWhitespace<'a>) -> Option<(On, Memory, usize
     None
 }
 
-/// What a line asks for, if it is one of the language.
+/// Reads a line as a call. Returns `None` if it is none.
 pub fn parse(alloc: Global, line: &str) -> Result<Option<Request<'_>>, AllocError> {
     let mut words = words_in(line);
     let Some((on, memory, count, name)) = before(&mut words) else {

@@ -1,4 +1,4 @@
-//! The calls of one pair, on any bimap, beside insertions.
+//! The calls of one pair on any map, except insertions.
 use crate::kind::say;
 use crate::request::Request;
 use crate::word::Word;
@@ -49,7 +49,7 @@ fn interned<B: Bijection<Word, Word>>(
     }
 }
 
-/// Makes the call, if it is one of these.
+/// Makes the call, if it is one of this file. Returns whether it is.
 pub fn call<B: Bijection<Word, Word>>(
     bimap: &mut B,
     request: &Request<'_>,

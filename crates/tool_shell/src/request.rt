@@ -1,4 +1,4 @@
-//! What a line asks for.
+//! A line as a call.
 use crate::word::Word;
 use bimap::{Call, OnHeld, Overwritten, Policy};
 use std::alloc::Global;
@@ -14,18 +14,18 @@ pub enum Step {
     Rest,
 }
 
-/// Of what a call is made.
+/// The map on which a call is made.
 #[derive(Clone, Copy, Eq, PartialEq)]
 pub enum On {
-    /// Of the bimap.
+    /// The map.
     Bimap,
-    /// Of the bimap, with a meter whose number is shown.
+    /// The map, with a meter. The answer shows what the meter counted.
     Counted,
-    /// Of the bimap, with a meter whose number is compared with the bound.
+    /// The map, with a meter. The answer compares what the meter counted with the bound.
     Bounded,
-    /// Of the bimap seen from its other side.
+    /// The map with its sides exchanged.
     Inverse,
-    /// Of the bimap with a record.
+    /// The map that records its changes.
     Record,
 }
 
@@ -37,7 +37,7 @@ pub enum Memory {
     Easing,
 }
 
-/// One call, whose words are read. What it doesn't ask for stands at an empty value.
+/// A call with its words. A field that the call does not use has an empty value.
 #[derive(Drop)]
 pub struct Request<'a> {
     pub alloc: Global,
@@ -64,7 +64,7 @@ pub const OVERWRITE: Policy = Policy {
 };
 
 impl<'a> Request<'a> {
-    /// A call with no words.
+    /// Makes a call with no words.
     pub fn of(alloc: Global, on: On, memory: Memory, call: &'a str) -> Request<'a> {
         Request {
             alloc,

@@ -1,4 +1,4 @@
-//! What a right gives, ordered or hashed.
+//! The calls of a right side, ordered or hashed.
 use crate::course::{BothEnds, follow};
 use crate::forward::forward;
 use crate::kind::{Words, say};
@@ -51,7 +51,7 @@ fn end<I: CopiedIndex<Word> + Drop>(
     }
 }
 
-/// A walk, an end or a rank, of an ordered right.
+/// Makes an iteration, or a call at an end or a rank, of an ordered right side.
 pub fn call<I: CopiedIndex<Word> + Drop>(
     bimap: &mut Words<I, Ordered>,
     request: &Request<'_>,
@@ -60,7 +60,7 @@ pub fn call<I: CopiedIndex<Word> + Drop>(
     Ok(walk(bimap, request, said)? || end(bimap, request, said)?)
 }
 
-/// An end or a rank, with a meter.
+/// Makes a call at an end or a rank, with a meter.
 pub fn count<I: CopiedIndex<Word> + Drop>(
     bimap: &mut Words<I, Ordered>,
     request: &Request<'_>,
@@ -79,7 +79,7 @@ pub fn count<I: CopiedIndex<Word> + Drop>(
     }
 }
 
-/// The values of a hashed right, by place.
+/// Makes the iteration over the values of a hashed right side, if the left side is hashed too.
 pub fn values<LS: BuildHasher, RS: BuildHasher>(
     bimap: &Words<HashIndex<LS>, HashIndex<RS>>,
     request: &Request<'_>,

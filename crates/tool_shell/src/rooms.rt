@@ -1,4 +1,4 @@
-//! Rooms, copies, and what is shown of the whole.
+//! Calls about the capacity, and calls that show or exchange whole maps.
 use crate::kind::{ShellKind, say};
 use crate::request::Request;
 use crate::session::Session;
@@ -31,7 +31,7 @@ fn each<B: Bijection<Word, Word>>(bimap: &B, said: &mut String) {
     });
 }
 
-/// Makes the call, if it is one of these.
+/// Makes the call, if it is one of this file. Returns whether it is.
 pub fn call<B: CopyKind<Word, Word> + ShellKind>(
     session: &mut Session<B>,
     request: &Request<'_>,

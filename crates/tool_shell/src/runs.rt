@@ -60,7 +60,7 @@ fn performed<B: Bijection<Word, Word>>(
     }
 }
 
-/// Makes the call, if it is one of these.
+/// Makes the call, if it is one of this file. Returns whether it is.
 pub fn call<B: Bijection<Word, Word>>(
     alloc: Global,
     bimap: &mut B,

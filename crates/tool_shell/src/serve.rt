@@ -1,4 +1,4 @@
-//! What a line is answered by all kinds.
+//! Answers a line by all types of map.
 use crate::help::HELP;
 use crate::kinds::{Kinds, NAMES};
 use crate::parse::parse;
@@ -6,16 +6,16 @@ use crate::times::times;
 use std::alloc::{AllocError, Global};
 use tool_lines::{after_first, unsigned, words};
 
-/// How much may be said while nothing can be allocated.
+/// The length of an answer that needs no allocation.
 const SAID: usize = 1 << 16;
 
-/// The bytes up to which an answer is shown whole.
+/// An answer of at most this many bytes is shown whole.
 const WHOLE: usize = 4096;
 
-/// The bytes of either end of a longer one that are shown.
+/// This many bytes of either end of a longer answer are shown.
 const END: usize = 40;
 
-/// The kinds, and which of them are asked.
+/// The types of map, and which of them make the calls.
 #[derive(Drop)]
 pub struct Shell {
     alloc: Global,
@@ -23,7 +23,7 @@ pub struct Shell {
     chosen: Vec<usize>,
 }
 
-// A long answer by its two ends and its length.
+// Returns a long answer as its two ends and its length.
 fn shortened(alloc: Global, said: String) -> Result<String, AllocError> {
     if said.len() <= WHOLE {
         return Ok(said);
@@ -34,7 +34,7 @@ fn shortened(alloc: Global, said: String) -> Result<String, AllocError> {
     }
 }
 
-// The names of the kinds that gave an answer.
+// Returns the names of the types of map that gave an answer.
 fn names_of(
     alloc: Global,
     answers: &[(usize, String)],
@@ -50,7 +50,7 @@ fn names_of(
     Ok(names)
 }
 
-// The answers, each once, after the names of its kinds; without names where all are alike.
+// Returns each answer once, after the names of the types of map that gave it. There are no names if all gave the same.
 fn lines(alloc: Global, answers: &[(usize, String)]) -> Result<String, AllocError> {
     let mut text = String::new(alloc);
     let Some((_, first)) = answers.first() else {
@@ -73,7 +73,8 @@ fn lines(alloc: Global, answers: &[(usize, String)]) -> Result<String, AllocErro
     Ok(text)
 }
 
-// The numbers of the kinds that are named, or of all; `None` where a name is none.
+// Returns the numbers of the types of map that are named. Without a name it returns all. Returns `None` if a name is
+// unknown.
 fn chosen_of(alloc: Global, names: &str) -> Result<Option<Vec<usize>>, AllocError> {
     let mut chosen = Vec::new(alloc);
     for name in words(names) {
@@ -91,7 +92,7 @@ fn chosen_of(alloc: Global, names: &str) -> Result<Option<Vec<usize>>, AllocErro
 }
 
 impl Shell {
-    /// All kinds, each empty.
+    /// Makes a shell in which every map is empty.
     pub fn new(alloc: Global) -> Result<Shell, AllocError> {
         let chosen = chosen_of(alloc, "")?.unwrap_or(Vec::new(alloc));
         Ok(Shell {
@@ -101,7 +102,7 @@ impl Shell {
         })
     }
 
-    // Begins anew with the kinds that are named, or with all; false where a name is none.
+    // Empties all maps and uses the types of map that are named, or all. Returns `false` if a name is unknown.
     fn choose(&mut self, names: &str) -> Result<bool, AllocError> {
         let Some(chosen) = chosen_of(self.alloc, names)? else {
             return Ok(false);
@@ -114,7 +115,7 @@ impl Shell {
         Ok(true)
     }
 
-    // One kind's answer: `None` for a line that is none.
+    // Writes the answer of one type of map. Returns `None` if the line is no call.
     fn one(
         &mut self,
         kind: usize,
@@ -137,7 +138,7 @@ impl Shell {
         }
     }
 
-    // The call of a line on each of the kinds.
+    // Makes the call of a line on each of the chosen types of map.
     fn each(&mut self, line: &str) -> Result<String, AllocError> {
         let mut answers = Vec::new(self.alloc);
         for kind in 0..NAMES.len() {
@@ -154,7 +155,7 @@ impl Shell {
         lines(self.alloc, answers.as_slice())
     }
 
-    /// What is printed for a line.
+    /// Returns what is printed for a line.
     pub fn answer(&mut self, line: &str) -> Result<String, AllocError> {
         let line = line.strip_prefix("> ").unwrap_or(line).trim_ascii();
         if line.is_empty() || line.starts_with('#') {

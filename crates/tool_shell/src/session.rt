@@ -1,4 +1,4 @@
-//! The bimaps of one kind, and each call on them.
+//! The maps of one type, and each call on them.
 use crate::kind::ShellKind;
 use crate::request::{On, Request};
 use crate::word::Word;
@@ -9,7 +9,7 @@ use std::alloc::{AllocError, Global};
 use std::fmt::Debug;
 use test_support::CopyKind;
 
-/// The bimap, another one beside it, and one with a record.
+/// A map, another one beside it, and one that records its changes.
 #[derive(Drop)]
 pub struct Session<B: Bijection<Word, Word> + Drop> {
     pub alloc: Global,
@@ -19,7 +19,7 @@ pub struct Session<B: Bijection<Word, Word> + Drop> {
 }
 
 impl<B: CopyKind<Word, Word> + ShellKind> Session<B> {
-    /// Three empty ones.
+    /// Makes a session with three empty maps.
     pub fn new(alloc: Global) -> Session<B> {
         Session {
             alloc,
@@ -29,7 +29,7 @@ impl<B: CopyKind<Word, Word> + ShellKind> Session<B> {
         }
     }
 
-    /// Takes a bimap that was made in the place of this one, and writes it, or why there is none.
+    /// Replaces the map by one that was made, and writes it, or why there is none.
     pub fn begin<E: Debug + Drop>(
         &mut self,
         made: Result<B, E>,
@@ -47,7 +47,7 @@ impl<B: CopyKind<Word, Word> + ShellKind> Session<B> {
         Ok(true)
     }
 
-    /// Makes a call, and writes what it answered. It answers whether this kind has the call.
+    /// Makes a call, and writes what it returned. Returns whether this type of map has the call.
     pub fn call(
         &mut self,
         request: &mut Request<'_>,
@@ -70,7 +70,7 @@ impl<B: CopyKind<Word, Word> + ShellKind> Session<B> {
         )
     }
 
-    // A call of the bimap seen from its other side.
+    // Makes a call on the map with its sides exchanged.
     fn inverse(
         &mut self,
         request: &mut Request<'_>,
@@ -100,7 +100,7 @@ impl<B: CopyKind<Word, Word> + ShellKind> Session<B> {
         self.bimap.call(&mut self.other, request, said)
     }
 
-    /// All that a refusal must leave as it was.
+    /// Writes everything that a call must leave as it was if it runs out of memory.
     pub fn show(&self, said: &mut String) -> Result<(), AllocError> {
         self.bimap.show(said)?;
         write!(said, " {} ", self.bimap.capacity())?;

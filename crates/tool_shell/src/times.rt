@@ -1,4 +1,4 @@
-//! One call many times, each with another number in its words.
+//! One call many times, each time with another number in its words.
 use crate::kinds::Kinds;
 use crate::parse::parse;
 use std::alloc::{AllocError, Global};
@@ -6,7 +6,7 @@ use std::alloc::{AllocError, Global};
 /// How many different answers are shown.
 const SHOWN: usize = 8;
 
-/// The answers of one kind, each with how often it came.
+/// The answers of one type of map, each with how often it came.
 #[derive(Drop)]
 struct Tally {
     answers: Vec<(String, u64)>,
@@ -49,7 +49,7 @@ impl Tally {
     }
 }
 
-// The call with the two numbers of a turn in its words, and the two as they stand there.
+// Returns the call with the two numbers of this time in its words, and the two numbers as they are written there.
 fn with_numbers(
     alloc: Global,
     line: &str,
@@ -66,7 +66,7 @@ fn with_numbers(
     Ok((text, turn, mixed))
 }
 
-// One turn: what was answered, with the number's sign for its digits.
+// Makes the call once. In what it returned, the sign `#` or `%` replaces the digits of the number.
 fn turn(
     alloc: Global,
     kinds: &mut Kinds,
@@ -89,8 +89,8 @@ fn turn(
     Ok(Some(has))
 }
 
-/// Makes the call of a line so many times on the kind of this number. It answers whether the kind has it, or `None` for a line
-/// that is none.
+/// Makes the call of a line many times on the type of map of this number. Returns whether the type of map has the call,
+/// or `None` if the line is no call.
 pub fn times(
     alloc: Global,
     kinds: &mut Kinds,

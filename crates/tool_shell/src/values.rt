@@ -1,4 +1,4 @@
-//! The words of a line as the values of a call.
+//! Reads the words of a line as the values of a call.
 use crate::request::Step;
 use crate::word::Word;
 use bimap::{Call, OnHeld, Overwritten, Policy};
@@ -8,12 +8,12 @@ use std::str::SplitAsciiWhitespace;
 use tool_lines::unsigned;
 use tool_shell_json::numbered;
 
-/// The next word as a value.
+/// Reads the next word as a value.
 pub fn value(words: &mut SplitAsciiWhitespace<'_>) -> Option<Word> {
     Word::read(words.next()?)
 }
 
-/// The next two words as a pair.
+/// Reads the next two words as a pair.
 pub fn pair(words: &mut SplitAsciiWhitespace<'_>) -> Option<(Word, Word)> {
     let left = value(words)?;
     let right = value(words)?;
@@ -28,7 +28,7 @@ fn on_held(letter: &str) -> Option<OnHeld> {
     }
 }
 
-/// What a word of two letters says of each side.
+/// Reads a word of two letters as a policy.
 pub fn policy(word: &str) -> Option<Policy> {
     let (left, right) = word.split_at_checked(1)?;
     Some(Policy {
@@ -37,7 +37,7 @@ pub fn policy(word: &str) -> Option<Policy> {
     })
 }
 
-/// An insertion's answer.
+/// Reads what an insertion returned.
 pub fn answer(words: &mut SplitAsciiWhitespace<'_>) -> Option<Overwritten<Word, Word>> {
     match words.next()? {
         "Neither" => Some(Overwritten::Neither),
@@ -60,7 +60,7 @@ fn step(word: &str) -> Option<Step> {
     }
 }
 
-/// The steps of a walk, or all of it where none are named.
+/// Reads the steps of an iterator. Without a word, the only step is the rest of the items.
 pub fn steps(
     alloc: Global,
     words: &mut SplitAsciiWhitespace<'_>,
@@ -78,7 +78,7 @@ pub fn steps(
     Ok(Some(steps))
 }
 
-// So many pairs of numbered words.
+// Reads two words, and returns this number of pairs of these words with numbers in them.
 fn numbered_pairs(
     alloc: Global,
     count: &str,
@@ -104,7 +104,7 @@ fn numbered_pairs(
     Ok(Some(pairs))
 }
 
-// The first word and all that are left, two for each pair.
+// Reads the first word and all words that are left as pairs.
 fn listed_pairs(
     alloc: Global,
     first: Option<&str>,
@@ -132,7 +132,8 @@ fn listed_pairs(
     Ok(left.is_none().then_some(pairs))
 }
 
-/// All the words that are left, as pairs: each of two words, or `each N L R`, with a number for each `#`.
+/// Reads all words that are left as pairs. They are two words for each pair, or `each N L R`, in which a number
+/// replaces each `#`.
 pub fn pairs(
     alloc: Global,
     words: &mut SplitAsciiWhitespace<'_>,
@@ -165,13 +166,13 @@ fn end(word: &str) -> Option<Bound<Word>> {
     }
 }
 
-/// The two ends of a range, as Rust writes it; a start that is left out has a `>` before it.
+/// Reads a range as Rust writes it. A start that is excluded has a `>` before it.
 pub fn range(word: &str) -> Option<(Bound<Word>, Bound<Word>)> {
     let (low, high) = word.split_once("..")?;
     Some((start(low)?, end(high)?))
 }
 
-/// One of the calls of a run.
+/// Reads one of the calls of a run.
 pub fn call(words: &mut SplitAsciiWhitespace<'_>) -> Option<Call<Word, Word, Word>> {
     match words.next()? {
         "insert" => pair(words).map(|(left, right)| Call::Insert(left, right)),

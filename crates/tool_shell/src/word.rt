@@ -1,4 +1,4 @@
-//! The values of the shell: words, each with a note that no comparison sees.
+//! The values of the shell. They are words, each with a note that no comparison sees.
 use arrayvec::ArrayString;
 use bimap::NoMemory;
 use bimap_undo::CopyLeft;
@@ -6,7 +6,7 @@ use std::alloc::Global;
 use std::fmt;
 use tool_lines::number;
 
-/// A word of up to 16 bytes. Two words are equal, and ordered and hashed, whatever their notes.
+/// A word of up to 16 bytes. Comparisons and hashes see the text and not the note.
 #[derive(Clone, Copy, Drop)]
 #[derive_where(Eq, Hash, Ord, PartialEq, PartialOrd)]
 pub struct Word {
@@ -15,10 +15,10 @@ pub struct Word {
     note: u32,
 }
 
-/// The note of the copies that a record makes: no other value is to have it.
+/// The note of the copies that a record makes. No other value should have it.
 const COPIED: u32 = 4_000_000_000;
 
-// The word of a text, which is not empty and has none of the signs that part words.
+// Returns the word of a text. Returns `None` if the text is empty, is longer than 16 bytes, or has a sign of a range.
 fn plain(text: &str, note: u32) -> Option<Word> {
     if text.is_empty() || text.contains('.') || text.contains('>') {
         return None;
@@ -28,7 +28,7 @@ fn plain(text: &str, note: u32) -> Option<Word> {
 }
 
 impl Word {
-    /// The word that a text spells, with its note.
+    /// Reads a text as a word with its note.
     pub fn read(text: &str) -> Option<Word> {
         match text.split_once('\'') {
             Some((word, note)) => plain(word, number(note)?),
@@ -36,7 +36,7 @@ impl Word {
         }
     }
 
-    /// The word for where none is asked for.
+    /// Makes the word that stands for none.
     pub fn none() -> Word {
         Word {
             text: ArrayString::new(),
@@ -55,7 +55,7 @@ impl fmt::Debug for Word {
 }
 
 impl CopyLeft for Word {
-    /// The copy has a note of its own, so that it shows where it is taken for the value.
+    /// Makes a copy that has its own note. A test then sees if a call returns the copy in place of the value.
     fn copy_left(&self, _alloc: Global) -> Result<Word, NoMemory> {
         Ok(Word {
             text: self.text,

@@ -1,4 +1,4 @@
-//! JSON both ways: each type as both sides, and each as a left and as a right beside another.
+//! Reads maps from JSON and writes them as JSON. Each type occurs on both sides of a map, as a left, and as a right.
 use crate::pairs::pairs_of_kind;
 use crate::texts::{numbered, repeated};
 use bimap::value::{JsonFault, JsonKey, JsonObject, JsonValue, read_text_with, reread};
@@ -10,11 +10,11 @@ use std::alloc::{AllocError, Global};
 use std::fmt::Debug;
 use std::hash::Hash;
 
-/// What a line asks for.
+/// A line that asks for JSON.
 #[derive(Clone, Copy)]
 pub struct JsonCall<'a> {
     pub alloc: Global,
-    /// An array of pairs in place of an object.
+    /// Whether the text is an array of pairs. If not, it is an object.
     pub of_pairs: bool,
     pub types: (&'a str, &'a str),
     pub policy: Policy,
@@ -26,7 +26,7 @@ fn write_fault(fault: JsonFault, said: &mut String) -> Result<bool, AllocError> 
     Ok(true)
 }
 
-// The text of a bimap, and whether that reads as an equal bimap.
+// Writes the text of a map, and whether reading this text gives an equal map.
 fn write_text(
     text: Result<Value, NoMemory>,
     equal: Result<bool, JsonFault>,
@@ -43,7 +43,7 @@ fn write_text(
     Ok(true)
 }
 
-// Reads the text into an empty bimap, and writes it again.
+// Reads the text into an empty map, and writes the map as a text.
 macro_rules! both_ways {
     ($empty:expr, $text:ident, $request:ident, $said:ident) => {{
         let alloc = $request.alloc;
@@ -115,7 +115,7 @@ fn insertion_order<L: JsonKey + Hash + Drop, R: JsonValue + Hash + Drop>(
     )
 }
 
-// The text as it stands, or for `each N MEMBER` that of an object or an array of so many members.
+// Returns the text of the request. `each N MEMBER` stands for an object or an array of N members.
 fn text_of(request: &JsonCall<'_>) -> Result<String, AllocError> {
     let alloc = request.alloc;
     let Some((count, member)) = repeated(request.text) else {
@@ -155,7 +155,8 @@ fn of_kind<
     }
 }
 
-/// Reads and writes at the types that the request names, in a bimap of the kind of this number, and answers whether there is one.
+/// Reads and writes JSON at the types that the request names, by the type of map of this number. Returns whether there
+/// is such a type of map.
 pub fn json_call(
     kind: usize,
     request: &JsonCall<'_>,

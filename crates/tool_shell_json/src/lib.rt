@@ -1,4 +1,5 @@
-//! JSON both ways at each type that a side may have, as the shell asks for it. It is a crate of its own, so that it is proved beside the shell.
+//! Reads and writes JSON for the shell, at each type that a side of a map can have. This is a crate of its own, so that
+//! it and the shell are proved at the same time.
 #![tactic(auto)]
 
 mod json;

@@ -1,4 +1,4 @@
-//! Pairs as a JSON array, both ways.
+//! Reads pairs from a JSON array and writes them as a JSON array.
 use crate::json::JsonCall;
 use bimap::value::{JsonValue, read_pairs, write_pairs};
 use bimap::{
@@ -10,7 +10,7 @@ use std::alloc::AllocError;
 use std::fmt::Debug;
 use std::hash::Hash;
 
-// Reads the text's pairs into an empty bimap, and writes them again in the order of its walk.
+// Reads the pairs of the text into an empty map, and writes them in the order of its iterator.
 fn both_ways<
     L: JsonValue + Debug + Drop,
     R: JsonValue + Debug + Drop,
@@ -39,7 +39,7 @@ fn both_ways<
     }
 }
 
-/// Does so with a bimap of the kind of this number, and answers whether there is one.
+/// Reads and writes pairs by the type of map of this number. Returns whether there is such a type of map.
 pub fn pairs_of_kind<
     L: JsonValue + Debug + Ord + Hash + Drop,
     R: JsonValue + Debug + Ord + Hash + Drop,

@@ -1,4 +1,5 @@
-//! The crate's two kinds, and what each answers to the calls of the shell that it has. `None` is said to a call that it lacks.
+//! The two kinds of map of the crate, and what each answers to the calls of the shell. `None` means that it lacks the
+//! call.
 use crate::word::Word;
 use bimap::{BiBTreeMap, BiHashMap, Overwritten};
 use std::fmt::Debug;
@@ -7,10 +8,10 @@ use std::hash::{DefaultHasher, Hash, Hasher};
 pub type Ordered = BiBTreeMap<Word, Word>;
 pub type Hashed = BiHashMap<Word, Word>;
 
-/// The greatest room that is asked for: beyond it memory may be wanting, and the crate has no answer for that.
+/// The greatest capacity that is tried. Above it there may be no memory, and the crate cannot say so.
 pub const MOST_ROOM: usize = 1 << 20;
 
-/// A kind of bimap over words.
+/// A kind of map of words.
 pub trait Kind: Clone + Debug + Default + Extend<(Word, Word)> + FromIterator<(Word, Word)> {
     fn contains_left(&self, left: &Word) -> bool;
     fn contains_right(&self, right: &Word) -> bool;
@@ -21,22 +22,23 @@ pub trait Kind: Clone + Debug + Default + Extend<(Word, Word)> + FromIterator<(W
     /// Keeps the pairs whose right passes a test.
     fn keep(&mut self, test: impl Fn(&Word) -> bool);
 
-    /// A call of no pair or one.
+    /// Makes a call with no pair or one pair.
     fn call(&mut self, call: &str, words: &[Word]) -> Option<String>;
 
-    /// An empty one with so much room.
+    /// Returns an empty map with this capacity.
     fn with_room(room: usize) -> Option<Self>;
 
-    /// More room, or less.
+    /// Makes the capacity greater or smaller.
     fn change_room(&mut self, call: &str, words: &[&str]) -> Option<String>;
 
-    /// A walk by steps, as the words after the call name them. Where an order is by chance, it has no step before the rest.
+    /// Iterates by steps, which the words after the call name. If the order is not specified, no step may stand before
+    /// `rest`.
     fn walk(&self, call: &str, words: &[&str]) -> Option<String>;
 
-    /// A comparison with another one.
+    /// Compares the map with another one.
     fn compare(&self, other: &Self, call: &str) -> Option<String>;
 
-    /// A value at an end of an ordered side.
+    /// Returns a value at an end of an ordered side.
     fn end(&self, call: &str) -> Option<Word>;
 }
 
@@ -125,14 +127,14 @@ kind!(Hashed, hashed::with_room, hashed::change_room, hashed::walk, hashed::comp
 
 type Back<I> = fn(&mut I) -> Option<<I as Iterator>::Item>;
 
-/// What a walk has beside its front.
+/// What an iterator can do besides giving its next item.
 struct Steps<I: Iterator> {
     back: Option<Back<I>>,
     len: fn(&I) -> usize,
     copy: Option<fn(&I) -> I>,
 }
 
-/// A walk by steps.
+/// Iterates by steps.
 fn follow<I: Iterator>(mut walk: I, steps: &[&str], has: Steps<I>) -> Option<String>
 where
     I::Item: Debug,
@@ -169,7 +171,7 @@ mod ordered {
         fn both<I: DoubleEndedIterator + ExactSizeIterator + Clone>() -> Steps<I> {
             Steps { back: Some(I::next_back), len: I::len, copy: Some(I::clone) }
         }
-        // (the crate's ranges claim a length that they don't have: what they give is counted)
+        // The ranges of the crate claim a wrong length, so this counts what they give.
         fn counted<I: DoubleEndedIterator + Clone>() -> Steps<I> {
             Steps { back: Some(I::next_back), len: |walk| walk.clone().count(), copy: Some(I::clone) }
         }
@@ -236,7 +238,7 @@ mod hashed {
         fn ahead<I: ExactSizeIterator + Clone>() -> Steps<I> {
             Steps { back: None, len: I::len, copy: Some(I::clone) }
         }
-        // (which pair comes first is by chance)
+        // The crate does not specify which pair comes first.
         let by_one = words.iter().take_while(|step| **step != "rest").any(|step| *step == "front");
         if by_one && bimap.len() > 1 {
             return None;

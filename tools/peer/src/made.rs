@@ -1,16 +1,16 @@
-//! The shell's calls that the crate lacks, made of those that it has: so it is known what is held after them. What they answer is
-//! not said.
+//! Makes the calls of the shell that the crate lacks, by calls that it has. The map then has the right pairs. What
+//! these calls return is not known.
 use crate::kind::Kind;
 use crate::word::Word;
 
-/// Those that leave what is held.
+/// The calls that change no pair.
 const KEEPING: [&str; 20] = [
     "capacity", "contains_pair", "is_subset_of", "holds_same_pairs", "for_each", "reserve", "shrink_to", "shrink_to_fit",
     "can_undo_insert", "undo_run", "first_by_left", "last_by_left", "first_by_right", "last_by_right", "left_rank",
     "right_rank", "left_range_between", "right_range_between", "json", "json_pairs",
 ];
 
-/// Makes a call, where it is one of the shell's.
+/// Makes a call, if it is one of the shell.
 pub fn make<B: Kind>(bimap: &mut B, call: &str, words: &[&str]) -> Option<()> {
     match (call, words) {
         ("insert_with", [policy, left, right]) => {
@@ -79,7 +79,7 @@ pub fn make<B: Kind>(bimap: &mut B, call: &str, words: &[&str]) -> Option<()> {
     Some(())
 }
 
-/// Inserts a pair where a policy allows it, and answers whether it does.
+/// Inserts a pair if the policy allows it, and returns whether it does.
 fn put<B: Kind>(bimap: &mut B, policy: &str, left: Word, right: Word) -> bool {
     let refused = policy.starts_with('r') && bimap.contains_left(&left)
         || policy.ends_with('r') && bimap.contains_right(&right);
@@ -89,12 +89,12 @@ fn put<B: Kind>(bimap: &mut B, policy: &str, left: Word, right: Word) -> bool {
     !refused
 }
 
-/// Inserts pairs up to the first that a policy refuses, and answers whether there is none.
+/// Inserts pairs up to the first that the policy refuses, and returns whether there is none.
 pub fn put_all<B: Kind>(bimap: &mut B, policy: &str, pairs: Vec<(Word, Word)>) -> bool {
     pairs.into_iter().all(|(left, right)| put(bimap, policy, left, right))
 }
 
-/// Puts the pairs of an answer in the place of the pair of a left, where no two of what is held then share a value.
+/// Replaces the pair of a left by the given pairs, if no two pairs share a value then.
 fn undo<B: Kind>(bimap: &mut B, left: &Word, pairs: Vec<(Word, Word)>) {
     let Some((left, right)) = bimap.remove_by_left(left) else {
         return;
@@ -108,7 +108,7 @@ fn undo<B: Kind>(bimap: &mut B, left: &Word, pairs: Vec<(Word, Word)>) {
     }
 }
 
-/// The calls of a run, which semicolons part.
+/// Makes the calls of a run, which semicolons separate.
 fn run<B: Kind>(bimap: &mut B, text: &str) -> Option<()> {
     for text in text.split(';') {
         let words: Vec<&str> = text.split_whitespace().collect();
@@ -119,7 +119,7 @@ fn run<B: Kind>(bimap: &mut B, text: &str) -> Option<()> {
     Some(())
 }
 
-/// A call of a run.
+/// Makes a call of a run.
 fn perform<B: Kind>(bimap: &mut B, call: &str, words: &[&str]) -> Option<()> {
     match Word::read_all(words).and_then(|words| bimap.call(call, &words)) {
         Some(_) => Some(()),

@@ -1,5 +1,6 @@
-//! The Rust crate `bimap` beside this repository's. `peer PAIRS times KEYS KIND` makes the calls of `crates/tool_bench` over it:
-//! the same keys, the same order, the same lines. `peer shell` answers the lines of standard input as `crates/tool_shell` does.
+//! Runs the calls of this repository's programs on the Rust crate `bimap`, to compare the two. `peer PAIRS times KEYS
+//! KIND` makes the calls of `crates/tool_bench`, with the same keys, in the same order, and prints the same lines.
+//! `peer shell` answers the lines of standard input as `crates/tool_shell` does.
 mod kind;
 mod made;
 mod shell;

@@ -1,28 +1,32 @@
-//! The shell's language over the crate's two kinds: what each answers to a line, or nothing where it isn't asked; `-` where neither is.
+//! Answers the lines of the shell by the two kinds of map that the crate has. A kind that is not asked prints nothing.
+//! If neither is asked, the answer is `-`.
 //!
-//! Not asked are calls that the crate lacks, and of those that it has
-//! - `capacity`, which it keeps otherwise;
-//! - rooms that may want memory, and calls for which memory is refused, unless they take none: the crate's end the program there;
-//! - ranges that run backwards, at which it panics;
-//! - JSON, which it has by serde alone;
-//! - the first pairs of a hashed bimap, which are by chance;
-//! - answers of which the shell shows the two ends alone;
-//! - any, until a bimap is begun anew, where it isn't known what was refused for memory, or done from the other side.
+//! These calls are not asked:
+//! - calls that the crate lacks
+//! - `capacity`, which the crate counts in another way
+//! - capacities for which there may be no memory, since the crate ends the program then
+//! - calls whose allocations are refused, unless they allocate nothing
+//! - ranges that run backwards, at which the crate panics
+//! - JSON, which the crate has only by serde
+//! - the first pairs of a hashed map, whose order is not specified
+//! - answers of which the shell shows only the two ends
+//! - all calls after one whose result is not known, because memory was refused or it was made from the other side. The calls
+//! are asked again when the map is made again.
 use crate::kind::{Hashed, Kind, MOST_ROOM, Ordered};
 use crate::made::{make, put_all};
 use crate::word::Word;
 use std::{io, mem};
 
-/// The names of the shell's kinds. The crate has the first two.
+/// The names of the shell's kinds of map. The crate has the first two.
 const KINDS: [&str; 6] = ["ordered", "hashed", "ordered-hashed", "hashed-ordered", "crowded", "insertion-order"];
-/// What may stand before a call.
+/// The words that may stand before a call.
 const BEFORE: [&str; 6] = ["undoable", "inverse", "counted", "bounded", "famine", "easing"];
-/// The bytes up to which the shell shows an answer whole.
+/// The shell shows an answer whole if it has at most this many bytes.
 const WHOLE: usize = 4096;
-/// How many different answers of a call made many times are shown.
+/// How many different answers of a repeated call are shown.
 const SHOWN: usize = 8;
 
-/// A bimap and the other one beside it, where it is known what they hold.
+/// A map and the other map beside it. Each is `None` if it is not known what it contains.
 struct Held<B> {
     bimap: Option<B>,
     other: Option<B>,
@@ -45,7 +49,7 @@ impl<B: Kind> Held<B> {
                 None
             }
             (before, words) if before.contains(&"undoable") => self.record(words),
-            // (what is said beside the call's own answer is the shell's)
+            // The shell adds something to the answer of the call itself, so the answers cannot be compared.
             (_, words) => {
                 self.call(words);
                 None
@@ -89,7 +93,7 @@ impl<B: Kind> Held<B> {
         self.shown()
     }
 
-    /// Where there is no memory for so much room, the old one stays.
+    /// Begins a map with a capacity. If there may be no memory for it, the old map stays.
     fn begin_with_room(&mut self, room: usize) -> Option<String> {
         if room > MOST_ROOM {
             return None;
@@ -129,7 +133,7 @@ impl<B: Kind> Held<B> {
         }
     }
 
-    /// A call for which memory is refused, where it takes none.
+    /// Makes a call whose allocations are refused, if it allocates nothing.
     fn without_memory(&mut self, words: &[&str]) -> Option<String> {
         match words {
             ["reserve" | "shrink_to" | "shrink_to_fit" | "extract_into" | "drain_into", ..] => None,
@@ -145,7 +149,7 @@ impl<B: Kind> Held<B> {
         }
     }
 
-    /// Whether a call may ask for memory: an insertion does where it strikes nothing.
+    /// Returns whether a call may allocate. An insertion may if it overwrites nothing.
     fn takes_memory(&self, words: &[&str]) -> bool {
         let held = |left: &str, right: &str| {
             let (bimap, left, right) = (self.bimap.as_ref()?, Word::read(left)?, Word::read(right)?);
@@ -164,7 +168,8 @@ impl<B: Kind> Held<B> {
         }
     }
 
-    /// A call of the bimap with a record, which takes the bimap when it begins and gives one back at its end.
+    /// Makes a call on the map that records its changes. The record takes the map when it begins, and returns it at its
+    /// end.
     fn record(&mut self, words: &[&str]) -> Option<String> {
         match words {
             ["new"] => self.bimap = Some(B::default()),
@@ -174,7 +179,7 @@ impl<B: Kind> Held<B> {
         None
     }
 
-    /// One call many times, each with two numbers in its words, and how often each answer came.
+    /// Makes one call many times, each time with two numbers in its words. Returns how often each answer came.
     fn times(&mut self, line: &str) -> Option<String> {
         let (_, rest) = line.split_once(' ')?;
         let (turns, call) = rest.trim_start().split_once(' ')?;
@@ -193,7 +198,7 @@ impl<B: Kind> Held<B> {
     }
 }
 
-/// Counts an answer. Those beyond the first few are one: another.
+/// Counts an answer. After the first few different answers, all others count as one.
 fn tally(answers: &mut Vec<(String, u64)>, said: String) {
     let known = answers.len() < SHOWN || answers.iter().any(|(it, _)| *it == said);
     let said = if known { said } else { "another".to_string() };
@@ -203,14 +208,14 @@ fn tally(answers: &mut Vec<(String, u64)>, said: String) {
     }
 }
 
-/// The crate's kinds, each where it is chosen.
+/// The kinds of map of the crate. Each is `None` if it is not chosen.
 struct Shell {
     ordered: Option<Held<Ordered>>,
     hashed: Option<Held<Hashed>>,
 }
 
 impl Shell {
-    /// Begins anew with the kinds that are named, or with all.
+    /// Empties the maps, and chooses the kinds that are named, or all.
     fn choose(&mut self, names: &[&str]) {
         let chosen = |kind: &str| names.is_empty() || names.contains(&kind);
         if names.iter().all(|name| KINDS.contains(name)) {
@@ -219,7 +224,7 @@ impl Shell {
         }
     }
 
-    /// The lines that answer one: a single one only where both kinds say the same.
+    /// Returns the lines that answer a line. There is one line alone if both kinds say the same.
     fn answer(&mut self, line: &str) -> Vec<String> {
         if let Some(names) = line.strip_prefix("kinds:") {
             self.choose(&names.split_whitespace().collect::<Vec<_>>());
@@ -237,7 +242,7 @@ impl Shell {
     }
 }
 
-/// Answers the lines of standard input. One that begins with `> ` is printed before its answers.
+/// Answers the lines of standard input. A line that begins with `> ` is printed before its answers.
 pub fn serve() -> io::Result<()> {
     let mut shell = Shell { ordered: Some(Held::new()), hashed: Some(Held::new()) };
     for line in io::stdin().lines() {

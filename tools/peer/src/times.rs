@@ -1,5 +1,5 @@
-//! The calls of `crates/tool_bench`, over a crate that is named `bimap`: the Rust crate, or the proved one from Rust, whose walks
-//! have no way back.
+//! Makes the calls of `crates/tool_bench` on a crate that is named `bimap`. This is the Rust crate, or the bindings
+//! for Rust, whose iterators cannot go backwards.
 use bimap::{BiBTreeMap, BiHashMap, Overwritten};
 use std::time::Instant;
 
@@ -30,7 +30,7 @@ impl Keys {
         number.wrapping_mul(self.rights)
     }
 
-    /// How many of the numbers that are looked up pass a test.
+    /// Returns how many of the numbers that are looked up pass a test.
     fn count(&self, mut test: impl FnMut(u64) -> bool) -> u64 {
         let (mut found, mut number) = (0, 0u64);
         for _ in 0..self.pairs {
@@ -49,7 +49,7 @@ fn timed(kind: &str, call: &str, pairs: u64, work: impl FnOnce() -> u64) {
     println!("{kind} {call} {}.{} {found}", tenths / 10, tenths % 10);
 }
 
-/// The bytes of memory that the process has for itself.
+/// Returns how many bytes of memory the process has for itself.
 fn memory() -> u64 {
     let text = std::fs::read_to_string("/proc/self/statm").unwrap_or_default();
     let mut pages = text.split(' ').skip(1).map(|word| word.parse().unwrap_or(0u64));
@@ -96,7 +96,7 @@ macro_rules! measure {
     }};
 }
 
-/// Makes them on a new map of this kind, and prints a line for each: what it took, and what it found.
+/// Makes the calls on a new map of this kind, and prints a line for each: its time, and what it found.
 pub fn times(pairs: &str, keys: &str, kind: &str) {
     let keys = Keys::new(pairs.parse().unwrap_or(1000), keys == "rising");
     match kind {

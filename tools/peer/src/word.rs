@@ -1,10 +1,10 @@
-//! The words of a line as values.
+//! Reads the words of a line as values.
 use std::cmp::Ordering;
 use std::fmt;
 use std::hash::{Hash, Hasher};
 use std::ops::Bound::{self, Excluded, Included, Unbounded};
 
-/// A word with a note. Equality, order and hash are of the word alone.
+/// A word with a note. Comparisons and hashes see the word and not the note.
 #[derive(Clone)]
 pub struct Word {
     text: String,
@@ -12,7 +12,7 @@ pub struct Word {
 }
 
 impl Word {
-    /// The word that a text spells, with its note: `ann`, `ann'2`.
+    /// Reads a text as a word with its note, as `ann` or `ann'2`.
     pub fn read(text: &str) -> Option<Word> {
         let (text, note) = match text.split_once('\'') {
             Some((text, note)) => (text, note.parse().ok()?),
@@ -26,7 +26,7 @@ impl Word {
         words.iter().map(|word| Word::read(word)).collect()
     }
 
-    /// The words as pairs, if there is no half of one: as they stand, or `each N L R`, with a number for each `#`.
+    /// Reads words as pairs: two words for each pair, or `each N L R`, in which a number replaces each `#`.
     pub fn read_pairs(words: &[&str]) -> Option<Vec<(Word, Word)>> {
         let pair = |left: &str, right: &str| Some((Word::read(left)?, Word::read(right)?));
         match words {
@@ -39,7 +39,7 @@ impl Word {
         }
     }
 
-    /// The ends of a range, if it runs forward: the crate panics at others.
+    /// Reads a range. Returns `None` if it runs backwards, since the crate panics then.
     pub fn read_range(word: &str) -> Option<(Bound<Word>, Bound<Word>)> {
         let (low, high) = word.split_once("..")?;
         let low = match low.strip_prefix('>') {

@@ -1,12 +1,12 @@
-//! Tables of bytes on the left, and numbers or bytes on the right.
+//! Tables with bytes on the left, and with numbers or bytes on the right.
 use super::*;
 
 pub trait Bytes: Library {
-    /// The pair that the last call overwrote or removed.
+    /// Returns the pair that the last call overwrote or removed.
     fn gone(handle: &mut Handle<Self>, index: usize) -> Found<Self>;
 }
 
-/// The calls of tables whose right is of a type; behind it, how a right is handed in, and how one comes out.
+/// The calls of tables with one type of right. The arguments say how a right is passed, and how the library writes one.
 macro_rules! with_bytes {
     ($name:ident $prefix:literal $Right:ty: $right:ident => ($($arg:expr),*), ($($given:ident: $type:ty),*), $read:ident($($out:ident: $of:ty),*)) => {
         pub struct $name;
@@ -93,7 +93,7 @@ with_bytes_u64!(HashBytesU64 "hash_bytes_u64");
 with_bytes_bytes!(BTreeBytesBytes "btree_bytes_bytes");
 with_bytes_bytes!(HashBytesBytes "hash_bytes_bytes");
 
-/// What the ordered tables have beside.
+/// The calls that only ordered tables have.
 macro_rules! in_order {
     ($name:ident $prefix:literal $read:ident($($out:ident: $of:ty),*)) => {
         const _: () = {
@@ -134,7 +134,7 @@ fn bytes_and_bytes(mut call: impl FnMut(*mut u8, usize, *mut usize, *mut u8, usi
     let left = bytes(|buffer, size, len| {
         let mut right_len = 0;
         let status = call(buffer, size, len, right.as_mut_ptr(), right.len(), &mut right_len);
-        // (longer, where it was too short)
+        // The buffer becomes longer if it was too short.
         right.resize(
             if status == BUFFER_TOO_SHORT {
                 right.len().max(right_len)

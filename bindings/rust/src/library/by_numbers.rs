@@ -1,4 +1,4 @@
-//! Tables of numbers on both sides.
+//! Tables with numbers on both sides.
 use super::*;
 
 #[repr(C)]

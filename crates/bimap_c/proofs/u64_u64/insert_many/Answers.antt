@@ -25,7 +25,7 @@ module _ {S : Type 0} (steps : S → Option (ℕ × ℕ) → S → Type 0) where
       let others = steps_along calls.1.0 u all items answer first.1 (calls.0, calls.1.2, calls.2) in
       (others.0, (others.1.0, (all, ap (λ q. q ∷ all) (sym first.0), others.1.1), others.1.2))
 
--- what the calls of an iterator gave, a list of all that it gives would have given
+-- Let the calls of an iterator give some items. A list of all items that it gives would have given the same.
 of_list : {S : Type 0} {steps : S → Option (ℕ × ℕ) → S → Type 0} (s u : S) (all items : List (ℕ × ℕ)) (answer : Option (ℕ × ℕ)) → YieldsThen steps s items answer u → YieldsList steps (λ p. p) s all → ListYields all items answer
 of_list {steps = steps} s u all items answer calls chain = steps_along steps s u all items answer chain.runs calls
 

@@ -1,4 +1,4 @@
--- A slot may go to another thread: what it owns is a table in a block that may be freed anywhere.
+-- A slot can be sent to another thread. It owns a table in an allocation that any thread may free.
 use Rattle.std.specs.Prelude.{Option, None, Some}
 use mir.Raw.{raw}
 use denote.Memory.{lone}

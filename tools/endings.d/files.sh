@@ -1,34 +1,17 @@
-#!/usr/bin/env bash
-# A part of tools/endings, whose `serve` and `check` it calls: what a program does with a file that it is given, and with other
-# arguments.
+# This file tests what a program does with the file that it is given: which files it refuses, how it replaces one, and who may read it.
 
-# A file of this text, and nothing beside it.
-one_file() {
-    file=table
-    rm -rf "$room/files" && mkdir "$room/files"
-    printf %b "$1" >"$room/files/$file"
-}
-
-# Counts one check of a file: that the command ends well.
-holds() {
-    local name=$1 file=""
-    shift
-    (cd "$room/files" && "$@") >/dev/null 2>&1
-    status=$?
-    check "$name" 0 - -
-}
-
-# What stands under a name: its kind, its mode, owner and group, and where a link leads.
+# Prints what has this name: the kind of file, its mode, owner and group, and the target of a link.
 stands() {
     (cd "$room/files" && stat -c '%F %a %u %g %N' "$1" 2>/dev/null)
 }
 
+# Prints the mode of a file.
 mode_of() {
     stat -c %a "$room/files/$1" 2>/dev/null
 }
 
-# A file is replaced by a new one: another name of the old one keeps its text. What a link leads to is replaced, and the link stays.
-# A file that is not there yet is made. (The file, a line, what the program prints, and what the file has then)
+# Tests that a new file takes the place of the old one. A hard link to the old file keeps the old text. A symbolic link stays, and its
+# target is replaced. The parameters are the text of the file, a line, what the program prints, and the text of the file afterwards.
 replaced() {
     one_file "$1"
     ln "$room/files/$file" "$room/files/old"
@@ -45,8 +28,8 @@ replaced() {
     holds "nothing beside these" test "$(cd "$room/files" && echo * below/*)" = "below table below/kept"
 }
 
-# A file keeps its mode, and the owner and the group that only root may set. Of a program that is killed as it writes, the new file
-# may be read by nobody who may not read the old one. A file that is made has the mode that any other would have.
+# Tests that a file keeps its mode. If root runs the program, the file keeps its owner and group too. If the program is killed while
+# it writes, nobody can read the new file who could not read the old one. A file that did not exist gets the usual mode.
 keeps_access() {
     local it before
     for it in 640 600 444 604; do
@@ -68,7 +51,8 @@ keeps_access() {
     holds "the mode of a file that was not there" test "$(mode_of table)" = 640
 }
 
-# One name that is refused: what stands there stays, and nothing stands beside it. (What it is, the line, what is said)
+# Tests that the program refuses the file. Nothing may change, and no new file may appear. The parameters are what the file is, a line,
+# and the reason that the program must print.
 is_refused() {
     local before start="timeout 20 $start"
     before=$(stands "$file")
@@ -78,7 +62,7 @@ is_refused() {
     holds "$1 has nothing beside it" test ! -e table.new
 }
 
-# What is no regular file is refused by its name before a line is answered.
+# Tests that the program refuses everything but a regular file, names it, and answers no line.
 refuses_others() {
     local why="it is no regular file"
     one_file ""
@@ -91,28 +75,28 @@ refuses_others() {
     is_refused "a socket" "$2" "$why"
     rm "$room/files/table" && ln -s nowhere "$room/files/table"
     is_refused "a link to nothing" "$2" "No such file or directory (os error 2)"
-    # (a device that a faulty program can't replace, or one for it alone)
+    # Only root could replace /dev/null, so root tests a device of its own.
     rm "$room/files/table"
     if [ "$(id -u)" != 0 ]; then file=/dev/null; elif ! mknod "$room/files/table" c 1 3; then return; fi
     is_refused "a device" "$2" "$why"
 }
 
-# The program over a line, after whose answer this command is run beside it, and then over the end of its input.
+# Runs the program over a line. When the program has answered it, this function runs the command, and then ends the input.
 serve_beside() {
     rm -f "$room/pipe" && mkfifo "$room/pipe" && : >"$room/out"
     (cd "$room/files" && exec $start "$program" "$file" <"$room/pipe" >"$room/out" 2>"$room/err") &
     exec 3>"$room/pipe"
     (trap '' PIPE && printf %b "$1" >&3)
-    local turn
-    for turn in $(seq 200); do [ ! -s "$room/out" ] || break; sleep 0.05; done
+    local _
+    for _ in $(seq 200); do [ ! -s "$room/out" ] || break; sleep 0.05; done
     (cd "$room/files" && eval "$2")
     exec 3>&-
     wait $!
     status=$?
 }
 
-# Where the new text can't be written, standard error says why, behind the file's name, the old text stays, and nothing stands
-# beside it. Nor is a file written that has the new one's name already.
+# Tests what happens if the new text cannot be written. Standard error names the file and says why. The file keeps its old text, and no
+# new file is left. The program does not overwrite a file that already has the name of the new one.
 fails_to_write() {
     local way="a file whose name has .new behind it is in the way"
     one_file "$1"
@@ -137,45 +121,7 @@ fails_to_write() {
     holds "the other file" cmp table.new <(echo another)
 }
 
-# Arguments that the program does not take, and `--help`. (Its name, and how its usage names its argument, if it takes one)
-arguments() {
-    local usage="usage: $1${2:+ $2}" requests
-    local wrong=("a b" "--help a" "--halp" "-")
-    [ -n "$2" ] || wrong+=(a)
-    requests=$(requests_of "$1")
-    rm -rf "$room/files" && mkdir "$room/files"
-    file=--help
-    serve ""
-    check "--help" 0 "$usage\n$requests\n" ""
-    for file in "${wrong[@]}"; do
-        serve ""
-        check "arguments $file" 2 "" "$usage\n" ""
-    done
-    file=""
-    (cd "$room/files" && $start "$program" $'\xff' </dev/null >"$room/out" 2>"$room/err")
-    status=$?
-    check "an argument of other bytes" 2 "" "an argument is no UTF-8\n$usage\n"
-    holds "no file is made" test "$(ls "$room/files")" = ""
-}
-
-# Lines whose words tabs part, and numbers with a sign, which no line of the shell has.
-shell_words() {
-    serve "kinds: ordered\n\tinsert\ta'1\tb\r\njson\tString\tu8\too\t{}\nwith_capacity +1\ninsert a'+1 b\ntimes +1 len\n"
-    check "tabs and signs" 0 "Ok(Neither)\nOk({}) · true\nbad line: with_capacity +1\nbad line: insert a'+1 b\nbad line: times +1 len\n" ""
-    serve "extend each +1 a b\nrun each +1 clear\n"
-    check "signs before a count" 0 "bad line: extend each +1 a b\nbad line: run each +1 clear\n" ""
-}
-
-# What the requests of a program are: what its help says, as docs/PROGRAMS.md has it; of the shell, what it prints itself.
-requests_of() {
-    case "$1" in
-    bimap_rows) printf %b "$(listed "$1")" ;;
-    tool_shell) echo help | "$program" ;;
-    *) awk -v name="\`$1\`" '/^## / { here = index($0, name) } /^(> |```)/ { on = here && $0 == "> help"; next } on' docs/PROGRAMS.md ;;
-    esac
-}
-
-# All that is to be seen of a program over files.
+# Runs all tests of this file over one program. The parameters are those of `replaced`.
 over_files() {
     replaced "$@"
     keeps_access "$@"
