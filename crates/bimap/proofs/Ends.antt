@@ -1,6 +1,6 @@
 -- What a caller can derive about the ends of an order: when nothing is contained, which pair is at an end, and that no
 -- number is beyond it.
-use Rattle.std.proofs.Common.{◌≡◌, ◌∙◌, ℕ, ◌+◌, ◌-◌, ◌<◌, ◌≤◌, ◌⊎◌, inl, inr, false, nat_eq, Option, Some, None, IfNone, List, [], ◌∷◌, length, slice_get, get_or, refl, sym, ap, arith}
+use Rattle.std.proofs.Common.{◌≡◌, ◌∙◌, ℕ, ◌+◌, ◌-◌, ◌<◌, ◌≤◌, ◌⊎◌, inl, inr, false, nat_eq, Option, Some, None, IfSome, IfNone, List, [], ◌∷◌, length, slice_get, get_or, refl, sym, ap, arith}
 use Rattle.std.specs.Prelude.{Contains}
 use Rattle.std.specs.Borrow.{Bor}
 use Rattle.std.specs.Map.Iter.{deref_pair}
@@ -28,6 +28,11 @@ module _ {L R : Type 0} where
 -- The pair at a rank is contained.
 pub rank_is_held : {L R : Type 0} (order : R → R → Ordering) (held sorted : List (L × R)) (l : L) (r : R) (rank : ℕ) → IsByRight order held sorted → Some (l, r) ≡ slice_get sorted rank → Contains held (l, r)
 rank_is_held order held sorted l r rank sorts at = (sorts.same (l, r)).1 (rank, slice_get_within sorted rank (l, r) (sym at), get_or_from_slice_get sorted rank (l, r) (l, r) (sym at))
+
+-- and so is that of an end by right, where there is one
+pub end_is_held : {L R : Type 0} (order : R → R → Ordering) (held sorted : List (L × R)) (rank : ℕ) → IsByRight order held sorted → (end : Option (Bor L × Bor R)) → option_map deref_pair end ≡ slice_get sorted rank → IfSome end (λ p. Contains held (p.0.now, p.1.now))
+end_is_held order held sorted rank sorts None at = tt
+end_is_held order held sorted rank sorts (Some p) at = rank_is_held order held sorted p.0.now p.1.now rank sorts at
 
 module _ {L : Type 0} (held sorted : List (L × ℕ)) (sorts : IsByRight nat_cmp held sorted) where
   module _ (l : L) (r rank : ℕ) (at : Some (l, r) ≡ slice_get sorted rank) where
@@ -73,3 +78,12 @@ module _ {L : Type 0} (held sorted : List (L × ℕ)) (sorts : IsByRight nat_cmp
   none_last at q held r =
       let m = (sorts.same q).0 held in
       absurd (omega (arith, m.1, none_at sorted (length sorted - 1) (omega arith) at))
+
+  -- no number is below that of the first pair, and none above that of the last, as an end by right returns them
+  pub none_below : (end : Option (Bor L × Bor ℕ)) → option_map deref_pair end ≡ slice_get sorted 0 → IfSome end (λ p. (q : L × ℕ) → Contains held q → p.1.now ≤ q.1)
+  none_below None at = tt
+  none_below (Some p) at = first_is_least p.0.now p.1.now at
+
+  pub none_above : (end : Option (Bor L × Bor ℕ)) → option_map deref_pair end ≡ slice_get sorted (length sorted - 1) → IfSome end (λ p. (q : L × ℕ) → Contains held q → q.1 ≤ p.1.now)
+  none_above None at = tt
+  none_above (Some p) at = last_is_greatest p.0.now p.1.now at

@@ -19,6 +19,8 @@ pub fn seat_new<G: Eq + Drop, S: Eq + Drop, B: Bijection<G, S>>(
     ensures seated { OnOk result (Contains (B.holding ledger.new).pairs (guest, seat)) }
     ensures alone { OnOk result (NoneShares G.eq S.eq (Contains (B.holding ledger.old).pairs)
         (guest, seat)) }
+    ensures stay { (p : G × S) → Contains (B.holding ledger.old).pairs p →
+        Contains (B.holding ledger.new).pairs p }
     ensures others { OnOk result (IsWithPut G.eq S.eq (Contains (B.holding ledger.old).pairs)
         (guest, seat) (Contains (B.holding ledger.new).pairs)) }
     ensures refused { IfErr result (IsRefusal G.eq S.eq (Contains (B.holding ledger.old).pairs)

@@ -1,41 +1,63 @@
-//! A ledger of guests and their seats, in which no guest takes a seat from another.
-ghost use Rattle.std.specs.Prelude.{◌≡◌, ◌+◌, ◌<◌, ◌≤◌, false, length, max, Contains, IfOk, IfErr, OnOk, OnErr};
+//! A ledger of guests and their seats, which says who lost a seat.
+ghost use Rattle.std.specs.Prelude.{◌≡◌, ◌+◌, ◌<◌, ◌≤◌, true, false, length, max, Contains, IfSome, IfNone, IfOk, OnOk, OnErr};
 ghost use Rattle.bimap.specs.Sets.{shares, IsWithPut, LacksRight};
-ghost use Rattle.bimap.specs.Answer.{IsAnswer, IsRefusalUnder};
-ghost use Rattle.bimap.specs.Holding.{IsFull};
+ghost use Rattle.bimap.specs.Answer.{IsAnswer};
+ghost use Rattle.bimap.specs.Exchange.{IsReplacementOfLeft};
 ghost use Rattle.bimap.specs.Visited.{MayVisit, IsVisited};
 
-use bimap::{Bijection, NoMemory, NotInsertedWith, OnHeld, Overwritten, Policy};
+use bimap::{Bijection, NoMemory, NoRoom, NotReplaced, Overwritten, replace_left};
 
-/// Gives a guest a seat that nobody has. A guest who has another seat leaves it.
-pub fn seat_guest<G: Eq + Drop, S: Eq + Drop, B: Bijection<G, S>>(
+/// Gives a guest a seat, whoever has it, and returns who lost it, with the very seat.
+///
+/// Costs an insertion. It takes memory only where nobody loses a seat and no place is free. An `Err` changes nothing.
+pub fn take<G: Eq + Drop, S: Eq + Drop, B: Bijection<G, S>>(
     ledger: &mut B,
     guest: G,
     seat: S,
-) -> Result<Overwritten<G, S>, NotInsertedWith<G, S>>
-    ensures was_free { OnOk result (LacksRight S.eq (Contains (B.holding ledger.old).pairs) seat) }
-    ensures left { IfOk result (IsAnswer G.eq S.eq (Contains (B.holding ledger.old).pairs)
-        (guest, seat)) }
+) -> Result<Option<(G, S)>, NoRoom<G, S>>
+    ensures lost { IfOk result (λ lost. IfSome lost (λ pair.
+        Contains (B.holding ledger.old).pairs pair × (S.eq pair.1 seat ≡ true))) }
+    ensures nobody { IfOk result (λ lost. IfNone lost ((p : G × S) →
+        Contains (B.holding ledger.old).pairs p → S.eq p.1 seat ≡ true → G.eq p.0 guest ≡ true)) }
     ensures seated { OnOk result (IsWithPut G.eq S.eq (Contains (B.holding ledger.old).pairs)
         (guest, seat) (Contains (B.holding ledger.new).pairs)) }
-    ensures refused { IfErr result (IsRefusalUnder G.eq S.eq (Contains (B.holding ledger.old).pairs)
-        (IsFull (B.holding ledger.old)) (guest, seat)
-        (record { left = OnHeld.Overwrite; right = OnHeld.Refuse })) }
     ensures unchanged { OnErr result (B.holding ledger.new ≡ B.holding ledger.old) }
 {
-    let policy = Policy {
-        left: OnHeld::Overwrite,
-        right: OnHeld::Refuse,
-    };
-    ledger.insert_with(guest, seat, policy)
+    match ledger.insert(guest, seat)? {
+        Overwritten::Right(other, its) => Ok(Some((other, its))),
+        Overwritten::Both(_, other) => Ok(Some(other)),
+        _ => Ok(None),
+    }
 }
 
-/// Returns how many seats are taken. It is at most the capacity.
-pub fn seats_taken<G: Eq + Drop, S: Eq + Drop, B: Bijection<G, S>>(ledger: &B) -> usize
-    ensures taken { result ≡ length (B.holding ledger.now).pairs }
-    ensures within { result ≤ (B.holding ledger.now).room }
+/// Frees a seat, and returns who had it. Costs a removal, and no memory.
+pub fn vacate<G: Eq + Drop, S: Eq + Drop, B: Bijection<G, S>>(ledger: &mut B, seat: &S) -> Option<G>
+    ensures lost { IfSome result (λ guest. (its : S)
+        × Contains (B.holding ledger.old).pairs (guest, its) × (S.eq its seat.now ≡ true)) }
+    ensures nobody { IfNone result (LacksRight S.eq (Contains (B.holding ledger.old).pairs)
+        seat.now) }
+    ensures free { LacksRight S.eq (Contains (B.holding ledger.new).pairs) seat.now }
+    ensures others { (p : G × S) → Contains (B.holding ledger.old).pairs p →
+        S.eq p.1 seat.now ≡ false → Contains (B.holding ledger.new).pairs p }
 {
-    ledger.len()
+    let (guest, _) = ledger.remove_by_right(seat)?;
+    Some(guest)
+}
+
+/// Gives the seat of a guest to another guest, who has none. All others keep theirs.
+///
+/// Costs a replacement, and no memory. An `Err` hands the other guest back, and changes nothing.
+pub fn hand_over<G: Eq + Drop, S: Eq + Drop, B: Bijection<G, S>>(
+    ledger: &mut B,
+    from: &G,
+    to: G,
+) -> Result<G, NotReplaced<G>>
+    ensures replaced { IsReplacementOfLeft G.eq (B.holding ledger.old) from.now to result
+        (B.holding ledger.new) }
+    ensures others { (p : G × S) → Contains (B.holding ledger.old).pairs p →
+        G.eq p.0 from.now ≡ false → Contains (B.holding ledger.new).pairs p }
+{
+    replace_left(ledger, from, to)
 }
 
 /// Shows each guest with the seat to a visitor once. The order is not specified.

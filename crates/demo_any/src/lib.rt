@@ -1,12 +1,18 @@
-//! Code over any bimap. It uses the contracts of `bimap` alone, and it has no proof of its own.
+//! Code over any map, proved from the contracts of `bimap` and `bimap_undo` alone. docs/PROVING.md shows most of it.
 #![tactic(auto)]
 
 mod held;
 mod ledger;
 mod looks;
+mod moves;
 mod names;
+mod queue;
+mod texts;
 
 pub use held::seat_new;
-pub use ledger::{seat_both, seat_guest, seat_in_free_place, seats_taken, show_seats};
+pub use ledger::{hand_over, seat_both, seat_in_free_place, show_seats, take, vacate};
 pub use looks::{Shown, run_and_look, run_and_look_ordered};
-pub use names::{name_of, number_of};
+pub use moves::can_move;
+pub use names::{intern, name_of, number_of};
+pub use queue::in_front;
+pub use texts::seat_named;

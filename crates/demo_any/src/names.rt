@@ -1,5 +1,5 @@
-//! What a caller knows about names that get their numbers when they come.
-ghost use Rattle.std.specs.Prelude.{◌≡◌, true, Contains, IfSome, IfNone, IfOk, IfErr, IsOk, OnOk, OnErr, nat_eq};
+//! What a caller knows of names that are numbered as they come.
+ghost use Rattle.std.specs.Prelude.{◌≡◌, true, Ok, Contains, IfSome, IfNone, IfOk, IfErr, IsOk, OnOk, OnErr, nat_eq, string_eq};
 ghost use Rattle.bimap.specs.Answer.{IsRefusal};
 ghost use Rattle.bimap.specs.Holding.{IsFull};
 ghost use Rattle.bimap.specs.Sets.{IsWithPut, HasLeft, LacksLeft, LacksRight};
@@ -19,6 +19,8 @@ pub fn number_of<L: Eq + Drop, B: Interning<L, u32>>(
 ) -> Result<u32, NotInserted<L, u32>>
     ensures has { IfOk result (λ number. (l : L) × Contains (B.holding names.new).pairs (l, number)
         × (L.eq l name ≡ true)) }
+    ensures known { (l : L) (number : _) → Contains (B.holding names.old).pairs (l, number) →
+        L.eq l name ≡ true → result ≡ Ok number }
     ensures never_refused { HasLeft L.eq (Contains (B.holding names.old).pairs) name →
         IsOk result × (B.holding names.new ≡ B.holding names.old) }
     ensures put { LacksLeft L.eq (Contains (B.holding names.old).pairs) name →
@@ -43,4 +45,25 @@ pub fn name_of<'a, L: Eq + Drop, B: Bijection<L, u32>>(names: &'a B, number: u32
     ensures none { IfNone result (LacksRight nat_eq (Contains (B.holding names.now).pairs) number) }
 {
     names.get_by_right(&number)
+}
+
+/// The number of a name, by a look-up and an insertion of its own: the one that it has, or else `fresh`. No name loses its
+/// number.
+///
+/// An `Err` hands both back, and nothing has changed: another name has `fresh`, or there was no memory.
+pub fn intern<B: Bijection<String, u32>>(
+    names: &mut B,
+    name: String,
+    fresh: u32,
+) -> Result<u32, NotInserted<String, u32>>
+    ensures has { IfOk result (λ number. (l : _)
+        × Contains (B.holding names.new).pairs (l, number) × (string_eq l name ≡ true)) }
+    ensures kept { (p : _) → Contains (B.holding names.old).pairs p →
+        Contains (B.holding names.new).pairs p }
+{
+    if let Some(number) = names.get_by_left(&name) {
+        return Ok(*number);
+    }
+    names.insert_no_overwrite(name, fresh)?;
+    Ok(fresh)
 }
