@@ -52,6 +52,6 @@ These words stand before a call:
   inverse CALL                uses the map with its sides exchanged: look-ups, calls of one pair, runs
   counted CALL                shows how many comparisons the call made
   bounded CALL                shows whether they are within the bound
-  famine CALL                 refuses every allocation
-  easing CALL                 makes the call again and again, each time with a little more memory
+  refusing CALL               refuses every allocation
+  retrying CALL               makes the call again and again, each time with a little more memory
 ";

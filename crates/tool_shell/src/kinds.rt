@@ -1,7 +1,7 @@
 //! The six types of map, and what each answers to a line.
-use crate::hunger;
 use crate::request::{On, Request};
 use crate::session::Session;
+use crate::short_memory;
 use crate::word::Word;
 use bimap::{BiBTreeHashMap, BiBTreeMap, BiHashBTreeMap, BiHashMap, BiInsertionOrderMap};
 use std::alloc::AllocError;
@@ -56,7 +56,7 @@ impl Ordered {
             BiBTreeMap::new(alloc),
             BiBTreeMap::with_capacity(alloc, capacity)
         );
-        hunger::call(&mut self.session, made, request, said)
+        short_memory::call(&mut self.session, made, request, said)
     }
 }
 
@@ -74,7 +74,7 @@ impl Hashed {
             BiHashMap::new(alloc),
             BiHashMap::with_capacity(alloc, capacity)
         );
-        hunger::call(&mut self.session, made, request, said)
+        short_memory::call(&mut self.session, made, request, said)
     }
 }
 
@@ -92,7 +92,7 @@ impl OrderedLeft {
             BiBTreeHashMap::new(alloc),
             BiBTreeHashMap::with_capacity(alloc, capacity)
         );
-        hunger::call(&mut self.session, made, request, said)
+        short_memory::call(&mut self.session, made, request, said)
     }
 }
 
@@ -110,7 +110,7 @@ impl OrderedRight {
             BiHashBTreeMap::new(alloc),
             BiHashBTreeMap::with_capacity(alloc, capacity)
         );
-        hunger::call(&mut self.session, made, request, said)
+        short_memory::call(&mut self.session, made, request, said)
     }
 }
 
@@ -128,7 +128,7 @@ impl OneNumber {
             BiHashMap::with_hashers(alloc, Zero, Zero),
             BiHashMap::with_capacity_and_hashers(alloc, capacity, Zero, Zero)
         );
-        hunger::call(&mut self.session, made, request, said)
+        short_memory::call(&mut self.session, made, request, said)
     }
 }
 
@@ -146,7 +146,7 @@ impl InsertionOrder {
             BiInsertionOrderMap::new(alloc),
             BiInsertionOrderMap::with_capacity(alloc, capacity)
         );
-        hunger::call(&mut self.session, made, request, said)
+        short_memory::call(&mut self.session, made, request, said)
     }
 }
 

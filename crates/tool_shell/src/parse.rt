@@ -207,8 +207,8 @@ fn before<'a>(words: &mut SplitAsciiWhitespace<'a>) -> Option<(On, Memory, usize
             "inverse" => on = On::Inverse,
             "counted" => on = On::Counted,
             "bounded" => on = On::Bounded,
-            "famine" => memory = Memory::MemoryLimit,
-            "easing" => memory = Memory::Easing,
+            "refusing" => memory = Memory::Refused,
+            "retrying" => memory = Memory::Rising,
             call => return Some((on, memory, count, call)),
         }
         count = count.saturating_add(1);

@@ -33,8 +33,8 @@ pub enum On {
 #[derive(Clone, Copy, Eq, PartialEq)]
 pub enum Memory {
     Plenty,
-    MemoryLimit,
-    Easing,
+    Refused,
+    Rising,
 }
 
 /// A call with its words. A field that the call does not use has an empty value.

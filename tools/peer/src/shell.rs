@@ -20,7 +20,7 @@ use std::{io, mem};
 /// The names of the shell's kinds of map. The crate has the first two.
 const KINDS: [&str; 6] = ["ordered", "hashed", "ordered-hashed", "hashed-ordered", "crowded", "insertion-order"];
 /// The words that may stand before a call.
-const BEFORE: [&str; 6] = ["undoable", "inverse", "counted", "bounded", "famine", "easing"];
+const BEFORE: [&str; 6] = ["undoable", "inverse", "counted", "bounded", "refusing", "retrying"];
 /// The shell shows an answer whole if it has at most this many bytes.
 const WHOLE: usize = 4096;
 /// How many different answers of a repeated call are shown.
@@ -43,7 +43,7 @@ impl<B: Kind> Held<B> {
         let said = match (before, words) {
             ([], ["times", ..]) => self.times(line),
             ([], words) => self.call(words),
-            (["famine"], words) => self.without_memory(words),
+            (["refusing"], words) => self.without_memory(words),
             (before, _) if before.contains(&"inverse") => {
                 self.bimap = None;
                 None

@@ -129,9 +129,9 @@ fn answers<B: Bijection<char, u32> + Drop>(
     assert!(rt; performed(seats) == Reply::Occupied('a', 1));
     assert!(rt; performed(other) == Reply::Put);
     put_in(rt, none);
-    let famine = MemoryLimit::begin(rt.alloc(), 4).expect(rt, "memory");
+    let limit = MemoryLimit::begin(rt.alloc(), 4).expect(rt, "memory");
     let refused = performed(empty);
-    drop(famine);
+    drop(limit);
     assert!(rt; refused == Reply::NoRoom('a', 1));
     Ok(())
 }

@@ -24,7 +24,7 @@ fn is_refusal(said: &str) -> bool {
 }
 
 // Makes the call again and again, each time with a little more memory, until it does not run out of memory.
-fn eased<B: CopyKind<Word, Word> + ShellKind>(
+fn retried<B: CopyKind<Word, Word> + ShellKind>(
     session: &mut Session<B>,
     request: &mut Request<'_>,
     said: &mut String,
@@ -33,7 +33,7 @@ fn eased<B: CopyKind<Word, Word> + ShellKind>(
     let mut after = String::with_capacity(session.alloc, SAID)?;
     session.show(&mut before)?;
     let (mut refused, mut changed) = (false, false);
-    let mut famine = MemoryLimit::begin(session.alloc, 300)?;
+    let mut limit = MemoryLimit::begin(session.alloc, 300)?;
     for _ in 0..300u32 {
         said.clear();
         if !session.call(request, said)? {
@@ -46,11 +46,11 @@ fn eased<B: CopyKind<Word, Word> + ShellKind>(
         after.clear();
         session.show(&mut after)?;
         changed = changed || before != after;
-        if !famine.ease()? {
+        if !limit.raise()? {
             break;
         }
     }
-    drop(famine);
+    drop(limit);
     let head = match (refused, changed) {
         (false, _) => "never refused: ",
         (true, false) => "refused, nothing changed; then ",
@@ -68,11 +68,11 @@ fn fed<B: CopyKind<Word, Word> + ShellKind>(
 ) -> Result<bool, AllocError> {
     match request.memory {
         Memory::Plenty => session.call(request, said),
-        Memory::Easing => eased(session, request, said),
-        Memory::MemoryLimit => {
-            let famine = MemoryLimit::begin(session.alloc, 0)?;
+        Memory::Rising => retried(session, request, said),
+        Memory::Refused => {
+            let limit = MemoryLimit::begin(session.alloc, 0)?;
             let has = session.call(request, said)?;
-            drop(famine);
+            drop(limit);
             Ok(has)
         }
     }
