@@ -2,7 +2,7 @@
 use bimap_base::{Overwritten, Policy};
 use thiserror::Error;
 
-/// A call on a map. A `Retain` has a key `K`, with which the test of pairs is called.
+/// A call on a map. `K` is the type of the key in a `Retain`, which the closure gets with each pair.
 #[derive(Debug, Drop, Eq, PartialEq)]
 pub enum Call<L, R, K> {
     /// `insert`, which replies `Inserted` or `NoRoom`.
@@ -19,7 +19,7 @@ pub enum Call<L, R, K> {
     ContainsLeft(L),
     /// `contains_right`, which replies `Holds`.
     ContainsRight(R),
-    /// `retain` of the pairs for which the test returns true with this key. It replies `Done`.
+    /// `retain` of the pairs for which the closure returns true with this key. It replies `Done`.
     Retain(K),
     /// `clear`, which replies `Done`.
     Clear,
@@ -32,13 +32,13 @@ pub enum Reply<L, R> {
     Inserted(Overwritten<L, R>),
     /// The map contains neither value, and there was no memory. The pair is handed back.
     NoRoom(L, R),
-    /// The pair was inserted, and overwrote none.
+    /// `insert_no_overwrite` inserted the pair. The function `put` has no reply.
     Put,
     /// The map contains one of the values, or both. The pair is handed back.
     Occupied(L, R),
-    /// The map contains the left, and the policy keeps it. The pair is handed back.
+    /// The map contains the left, and the policy refuses to overwrite it. The pair is handed back.
     LeftHeld(L, R),
-    /// The map contains the right, and the policy keeps it. The pair is handed back.
+    /// The map contains the right, and the policy refuses to overwrite it. The pair is handed back.
     RightHeld(L, R),
     /// The pair that was removed, if there was one.
     Removed(Option<(L, R)>),

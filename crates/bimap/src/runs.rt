@@ -12,8 +12,9 @@ use std::alloc::Global;
 
 /// Performs one call and returns its reply.
 ///
-/// A `Retain` keeps the pairs for which the test returns true. The test may not have a state that changes: for one key
-/// and one pair it always returns the same value. A refused call leaves the pairs as they were.
+/// A `Retain` keeps the pairs for which `test` returns true. A refused call leaves the pairs as they were.
+///
+/// Condition: `test` may be called on each pair, and always returns the same value for one key and one pair.
 ///
 /// Time: That of the call.
 ///
@@ -77,8 +78,10 @@ pub fn perform<L: Eq + Drop, R: Eq + Drop, K: Drop, B: Bijection<L, R>, F: Fn(&K
 
 /// Performs the calls in order, as [`perform`] does, and returns a reply for each.
 ///
-/// The test may not have a state that changes, as for [`perform`]. It reserves no capacity for pairs ahead. A reply
-/// `NoRoom` does not end the run.
+/// `run` reserves no capacity for pairs ahead. A reply `NoRoom` does not end it.
+///
+/// Condition: `test` may be called on each pair of the map and of a call, and always returns the same value for one key
+/// and one pair.
 ///
 /// Time: That of the calls.
 ///

@@ -7,7 +7,8 @@ use bimap_any::Bijection;
 use bimap_base::Overwritten;
 use thiserror::Error;
 
-/// Out of memory for putting two pairs back. It hands back the entries that are not undone, in order, that one last.
+/// Out of memory for putting two pairs back. It hands back the entries that are not undone, in order. The last of them
+/// is the one for which memory ran out.
 #[derive(Debug, Drop, Eq, Error, PartialEq)]
 #[error("out of memory for putting two pairs back, {} left to undo", .rest.len())]
 pub struct UndoRunStopped<L, R> {
@@ -16,14 +17,16 @@ pub struct UndoRunStopped<L, R> {
 
 /// Undoes a list of insertions, the last one first.
 ///
-/// An entry is a left with what its insertion returned. The insertions have to be those that led to what the map
-/// contains, and the proof of the caller has to see it.
+/// An entry is a left with what its insertion returned.
+///
+/// Condition: The insertions of the list, made in this order, led to the pairs that the map contains.
 ///
 /// Time: That of an `undo_insert` for each entry.
 ///
 /// Memory: It allocates only to put back `Both` when the capacity is used up. The capacity then doubles, to at least 4.
 ///
-/// `Err`: Out of memory. It hands back the entries that are not undone, in order, and the later ones stay undone.
+/// `Err`: Out of memory. It hands back the entries that it did not undo, in order, and the entries behind them are
+/// undone.
 ///
 ///     // `entries` of the insertion of 'a' with 1: [('a', Overwritten::Both(('a', 3), ('b', 1)))]
 ///     undo_run(&mut seats, entries)?;

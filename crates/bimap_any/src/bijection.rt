@@ -62,8 +62,8 @@ pub trait Bijection<L: Eq + Drop, R: Eq + Drop> {
     ///
     /// Memory: It allocates only if it overwrites nothing and the capacity is used up.
     ///
-    /// `Err`: The policy keeps a contained value (`LeftHeld`, `RightHeld`), or out of memory (`Memory`). It hands the
-    /// pair back, and the map is as before.
+    /// `Err`: The policy refuses to overwrite a contained value (`LeftHeld`, `RightHeld`), or out of memory (`Memory`).
+    /// It hands the pair back, and the map is as before.
     fn insert_with(
         &mut self,
         left: L,
@@ -100,6 +100,8 @@ pub trait Bijection<L: Eq + Drop, R: Eq + Drop> {
 
     /// Calls the closure once on each pair, in no set order.
     ///
+    /// Condition: Any condition of the closure is true at each pair, in any order of the pairs.
+    ///
     /// Time: O(capacity).
     ///
     ///     // the sum of the seats
@@ -112,6 +114,8 @@ pub trait Bijection<L: Eq + Drop, R: Eq + Drop> {
     /// Keeps the pairs for which the closure returns true, and asks it once for each pair, in no set order.
     ///
     /// A map whose own `retain` asks in the order of `iter` asks in no set order here.
+    ///
+    /// Condition: Any condition of the closure is true at each pair, in any order of the pairs.
     ///
     /// Time: O(capacity), and that of a removal for each pair that goes.
     fn retain<F: FnMut(&L, &R) -> bool>(&mut self, f: F)
@@ -133,7 +137,7 @@ pub trait Bijection<L: Eq + Drop, R: Eq + Drop> {
     ///
     /// Memory: It allocates for the new capacity, if it grows.
     ///
-    /// `Err`: Out of memory. Pairs and capacity are as before, and an index may keep the memory that it got.
+    /// `Err`: Out of memory. Pairs and capacity are as before, and the map may use more memory than before.
     ///
     ///     // after this, two insertions can't be refused
     ///     seats.reserve(2)?;
@@ -144,9 +148,10 @@ pub trait Bijection<L: Eq + Drop, R: Eq + Drop> {
     /// Undoes an insertion: removes the pair of a left, puts back what the insertion overwrote, and returns the removed
     /// pair.
     ///
-    /// `answer` is what the insertion returned. Call it only if `can_undo_insert` returns true for the same arguments.
-    /// In insertion order, a pair that is put back keeps the position of the removed pair if their lefts are equal. Any
-    /// other goes to the end.
+    /// `answer` is what the insertion returned. In insertion order, a pair that is put back keeps the position of the
+    /// removed pair if their lefts are equal. Any other goes to the end.
+    ///
+    /// Condition: `can_undo_insert` returns true for the same arguments.
     ///
     /// Time: That of the map's own `undo_insert`.
     ///

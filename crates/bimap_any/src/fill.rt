@@ -11,6 +11,8 @@ use std::mem;
 
 /// Inserts each item in order, as `insert` does.
 ///
+/// Condition: The iterator ends, and any condition of its `next` is true.
+///
 /// Time: That of `insert` for each item.
 ///
 /// Memory: It allocates as `insert` does for each item. Nothing is reserved ahead.
@@ -54,11 +56,14 @@ pub fn extend<L: Eq + Drop, R: Eq + Drop, B: Bijection<L, R>, I: IntoIterator<It
 ///
 /// It asks the iterator for no item after a refused one.
 ///
+/// Condition: The iterator ends, and any condition of its `next` is true.
+///
 /// Time: That of `insert_with` for each item.
 ///
 /// Memory: It allocates as `insert_with` does for each item. Nothing is reserved ahead.
 ///
-/// `Err`: The first refused item, with the reason and the number of items before it, which stay inserted.
+/// `Err`: The first item that the policy refuses, or for which memory runs out, with the number of items before it.
+/// These stay inserted.
 ///
 ///     // each left and each right once: the item 2 has the right of the item 0
 ///     let once = Policy { left: OnHeld::Refuse, right: OnHeld::Refuse };
@@ -102,6 +107,8 @@ pub fn extend_with<L: Eq + Drop, R: Eq + Drop, B: Bijection<L, R>, I: IntoIterat
 
 /// Inserts each item in order into an empty map, as `insert` does, and returns the map.
 ///
+/// Condition: `empty` contains no pair. The iterator ends, and any condition of its `next` is true.
+///
 /// Time: That of `insert` for each item.
 ///
 /// Memory: It allocates as `insert` does for each item. Nothing is reserved ahead.
@@ -133,11 +140,14 @@ pub fn from_iter<
 
 /// Inserts each item in order under the policy into an empty map, and returns the map.
 ///
+/// Condition: `empty` contains no pair. The iterator ends, and any condition of its `next` is true.
+///
 /// Time: That of `insert_with` for each item.
 ///
 /// Memory: It allocates as `insert_with` does for each item. Nothing is reserved ahead.
 ///
-/// `Err`: The first refused item, with the reason and the number of items before it. The map is dropped.
+/// `Err`: The first item that the policy refuses, or for which memory runs out, with the number of items before it. The
+/// map is dropped.
 ///
 ///     // each left and each right once
 ///     let once = Policy { left: OnHeld::Refuse, right: OnHeld::Refuse };

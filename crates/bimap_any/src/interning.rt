@@ -24,7 +24,7 @@ macro_rules! interned {
 
 /// A map whose rights are `Copy`, as numbers are.
 pub trait Interning<L: Eq + Drop, R: Copy + Eq + Drop>: Bijection<L, R> {
-    /// Returns the right of an equal left, or inserts the pair and returns its right.
+    /// Returns the right of the left, and first inserts the pair if the map does not contain the left.
     ///
     /// A map may implement it with fewer searches, as the five maps do.
     ///
@@ -46,9 +46,12 @@ pub trait Interning<L: Eq + Drop, R: Copy + Eq + Drop>: Bijection<L, R> {
     }
 }
 
-/// Returns the right of an equal left, or inserts the left with a right from the closure and returns that right.
+/// Returns the right of the left, and first inserts the left with a right from the closure if the map does not contain
+/// it.
 ///
 /// The closure is called only if the map does not contain the left.
+///
+/// Condition: If the map does not contain the left, any condition of the closure is true.
 ///
 /// Time: That of a look-up, and of an insertion if it inserts.
 ///
@@ -75,7 +78,7 @@ pub fn get_by_left_or_insert_with<
     interned!(bimap, get_by_left, left => right, make(); left, right)
 }
 
-/// Returns the left of an equal right, or inserts the pair and returns its left.
+/// Returns the left of the right, and first inserts the pair if the map does not contain the right.
 ///
 /// Time: That of a look-up, and of an insertion if it inserts.
 ///

@@ -4,7 +4,7 @@ use crate::overwritten::Overwritten;
 use std::alloc::AllocError;
 use thiserror::Error;
 
-/// Out of memory, and nothing has changed.
+/// Out of memory. The documentation of each call says what it leaves then.
 #[derive(Clone, Copy, Debug, Eq, Error, PartialEq)]
 #[error("out of memory")]
 pub struct NoMemory;
@@ -15,7 +15,8 @@ impl From<AllocError> for NoMemory {
     }
 }
 
-/// Out of memory for a pair that would overwrite nothing. It hands the pair back, and nothing has changed.
+/// Out of memory for a pair, which it hands back. Nothing has changed. If a map returned it, the pair would overwrite
+/// nothing. An `Undoable` gives no such promise.
 #[derive(Debug, Drop, Eq, Error, PartialEq)]
 #[error("out of memory for the pair")]
 pub struct NoRoom<L, R> {
@@ -35,16 +36,17 @@ pub enum NotInserted<L, R> {
     Memory(L, R),
 }
 
-/// Why `insert_with` refused a pair. It hands the pair back, and nothing has changed.
+/// Why `insert_with` did not insert a pair. It hands the pair back, and nothing has changed.
 #[derive(Debug, Drop, Eq, Error, PartialEq)]
 pub enum NotInsertedWith<L, R> {
-    /// The map contains the left, and the policy keeps it. The left is asked first.
+    /// The map contains the left, and the policy refuses to overwrite it. The left is asked first.
     #[error("the left is already contained")]
     LeftHeld(L, R),
-    /// The map contains the right, and the policy keeps it.
+    /// The map contains the right, and the policy refuses to overwrite it.
     #[error("the right is already contained")]
     RightHeld(L, R),
-    /// The map contains neither value, and there was no memory.
+    /// Out of memory for the pair. If a map returned it, the map contains neither value. An `Undoable` gives no such
+    /// promise.
     #[error("out of memory for the pair")]
     Memory(L, R),
 }
@@ -88,7 +90,8 @@ pub struct NotInverted<B> {
     pub given: B,
 }
 
-/// An item that the policy refused, or for which there was no memory. The call says what became of the items before it.
+/// An item that the policy refused, or for which memory ran out. `why` is a `NotInsertedWith`. The call says what
+/// became of the items before it.
 #[derive(Debug, Drop, Eq, Error, PartialEq)]
 #[error("item {taken}: {why}")]
 pub struct ItemRefused<L, R> {

@@ -15,6 +15,8 @@ impl<L: Eq + Drop, R: Eq + Drop, I: Index<L>, J: Index<R>> BijectiveMap<L, R, I,
 
     /// Inserts each item in order, as [`insert`](Self::insert) does.
     ///
+    /// Condition: The iterator ends, and any condition of its `next` is true.
+    ///
     /// Time: That of `insert` for each item.
     ///
     /// Memory: It allocates as `insert` does for each item. Nothing is reserved ahead.
@@ -54,9 +56,11 @@ impl<L: Eq + Drop, R: Eq + Drop, I: EmptyIndex<L> + Drop, J: EmptyIndex<R> + Dro
 > {
     ghost use Rattle.bimap_kinds.specs.Held.{holding};
 
-    /// Returns a map of the items, whose hash builders are made by `Default`.
+    /// Returns a map of the items, for a map type whose hash builders implement `Default`.
     ///
     /// It inserts each item in order, as [`extend`](Self::extend) does.
+    ///
+    /// Condition: The iterator ends, and any condition of its `next` is true.
     ///
     /// Time: That of `insert` for each item.
     ///

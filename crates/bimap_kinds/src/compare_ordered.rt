@@ -38,7 +38,7 @@ impl<L: Ord + Drop, R: Eq + Drop, J: Index<R>> Eq for BijectiveMap<L, R, Ordered
         (λ b. b.apart) };
 }
 
-/// Returns `Some` of what `cmp` returns.
+/// Compares as `cmp` does. `partial_cmp` returns `Some` of what `cmp` returns.
 ///
 /// Time: That of iterating over both maps.
 impl<L: Ord + Drop, R: Ord + Drop, J: Index<R>> PartialOrd for BijectiveMap<L, R, Ordered, J> {

@@ -18,8 +18,9 @@ impl<
 
     /// Returns a map of the clones of the pairs, which equals this map and has its capacity.
     ///
-    /// Each clone of a value has to equal the value. The hash builders of the clone are clones of this map's builders.
-    /// Insertion order is kept.
+    /// The hash builders of the clone are clones of this map's builders. Insertion order is kept.
+    ///
+    /// Condition: Each clone of a value equals the value.
     ///
     /// Time: O(capacity), and that of cloning and inserting each pair.
     ///

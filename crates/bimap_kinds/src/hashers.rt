@@ -64,6 +64,8 @@ impl<L: Eq + Hash, R: Eq + Hash, LS: BuildHasher, RS: BuildHasher> BiHashMap<L, 
     ///
     /// It inserts each item in order, as `extend` does.
     ///
+    /// Condition: The iterator ends, and any condition of its `next` is true.
+    ///
     /// Time: That of `insert` for each item.
     ///
     /// Memory: It allocates as `insert` does for each item. Nothing is reserved ahead.

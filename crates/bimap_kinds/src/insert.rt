@@ -74,8 +74,8 @@ impl<L: Eq + Drop, R: Eq + Drop, I: Index<L>, J: Index<R>> BijectiveMap<L, R, I,
     /// Memory: It allocates only if it overwrites nothing and the capacity is used up. The capacity then doubles, to at
     /// least 4.
     ///
-    /// `Err`: The policy keeps a contained value (`LeftHeld`, `RightHeld`), or out of memory (`Memory`). It hands the
-    /// pair back, and the map is as before.
+    /// `Err`: The policy refuses to overwrite a contained value (`LeftHeld`, `RightHeld`), or out of memory (`Memory`).
+    /// It hands the pair back, and the map is as before.
     ///
     ///     let keep_right = Policy { left: OnHeld::Overwrite, right: OnHeld::Refuse };
     ///     seats.insert_with('d', 3, keep_right); // Err(NotInsertedWith::RightHeld('d', 3))
@@ -126,7 +126,7 @@ impl<L: Eq + Drop, R: Eq + Drop, I: Index<L>, J: Index<R>> BijectiveMap<L, R, I,
 impl<L: Eq + Drop, R: Copy + Eq + Drop, I: Index<L>, J: Index<R>> BijectiveMap<L, R, I, J> {
     ghost use Rattle.bimap_kinds.specs.Held.{holding};
 
-    /// Returns the right of an equal left, or inserts the pair and returns its right.
+    /// Returns the right of the left, and first inserts the pair if the map does not contain the left.
     ///
     /// It searches the right only if the map does not contain the left. In insertion order an inserted pair goes to the
     /// end.

@@ -27,7 +27,7 @@ impl<L: Eq, R: Eq, I: Index<L>, J: Index<R>> BijectiveMap<L, R, I, J> {
 impl<L: Eq, R: Eq, I: EmptyIndex<L>, J: EmptyIndex<R>> BijectiveMap<L, R, I, J> {
     ghost use Rattle.bimap_kinds.specs.Held.{holding};
 
-    /// Returns an empty map of capacity 0, whose hash builders are made by `Default`.
+    /// Returns an empty map of capacity 0, for a map type whose hash builders implement `Default`.
     ///
     /// Use it for a map type that names hash builders of its own.
     ///
@@ -46,7 +46,7 @@ impl<L: Eq, R: Eq, I: EmptyIndex<L>, J: EmptyIndex<R>> BijectiveMap<L, R, I, J> 
 impl<L: Eq, R: Eq, I: DefaultIndex<L>, J: DefaultIndex<R>> BijectiveMap<L, R, I, J> {
     ghost use Rattle.bimap_kinds.specs.Held.{holding};
 
-    /// Returns an empty map of capacity 0, with the default hash builders.
+    /// Returns an empty map of capacity 0, for a map type with the default hash builders.
     ///
     /// Time: O(1).
     ///
@@ -59,7 +59,7 @@ impl<L: Eq, R: Eq, I: DefaultIndex<L>, J: DefaultIndex<R>> BijectiveMap<L, R, I,
         Self::empty(alloc)
     }
 
-    /// Returns an empty map of exactly this capacity, with the default hash builders.
+    /// Returns an empty map of exactly this capacity, for a map type with the default hash builders.
     ///
     /// Time: O(capacity).
     ///

@@ -13,10 +13,12 @@ use bimap_index::Index;
 impl<L: Eq + Drop, R: Eq + Drop, I: WalkedIndex<L>, J: Index<R>> BijectiveMap<L, R, I, J> {
     ghost use Rattle.bimap_kinds.specs.Held.{holding};
 
-    /// Keeps the pairs for which the closure returns true.
+    /// Keeps the pairs for which the closure returns true, and asks it in the order of [`iter`](Self::iter).
     ///
-    /// The closure is called once on each pair, in the order of [`iter`](Self::iter). `Bijection::retain` calls it in
-    /// no set order. The pairs that stay keep their order, and the capacity stays.
+    /// The closure is called once on each pair. `Bijection::retain` calls it in no set order. The pairs that stay keep
+    /// their order, and the capacity stays.
+    ///
+    /// Condition: Any condition of the closure is true at each pair, in the order of [`iter`](Self::iter).
     ///
     /// Time: That of iterating, and of a removal for each pair that goes.
     ///
@@ -32,6 +34,8 @@ impl<L: Eq + Drop, R: Eq + Drop, I: WalkedIndex<L>, J: Index<R>> BijectiveMap<L,
     /// Moves the pairs for which the closure returns true to the end of a `Vec`.
     ///
     /// The closure is called once on each pair, in the order of [`iter`](Self::iter). The capacity of the map stays.
+    ///
+    /// Condition: Any condition of the closure is true at each pair, in the order of [`iter`](Self::iter).
     ///
     /// Time: That of iterating, and of a removal for each pair that goes.
     ///

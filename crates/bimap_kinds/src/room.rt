@@ -16,7 +16,7 @@ impl<L: Eq, R: Eq, I: Index<L>, J: Index<R>> BijectiveMap<L, R, I, J> {
     ///
     /// Memory: It allocates for the new capacity, if it grows.
     ///
-    /// `Err`: Out of memory. Pairs and capacity are as before, and an index may keep the memory that it got.
+    /// `Err`: Out of memory. Pairs and capacity are as before, and the map may use more memory than before.
     ///
     ///     seats.reserve(5); // Ok(())
     ///     seats.capacity(); // 8
@@ -35,9 +35,10 @@ impl<L: Eq + Drop, R: Eq + Drop, I: CompactedIndex<L>, J: CompactedIndex<R>> Bij
 > {
     ghost use Rattle.bimap_kinds.specs.Held.{holding};
 
-    /// Shrinks the capacity to exactly `least`, or to the length if that is more.
+    /// Shrinks a capacity above `least` to exactly `least`, or to the length if that is more.
     ///
-    /// It never grows the capacity. In insertion order it also allocates 2 n numbers, which it frees at the end.
+    /// If the capacity is `least` or less, nothing changes. In insertion order it also allocates 2 n numbers, which it
+    /// frees at the end.
     ///
     /// Time: O(old capacity), and O(n log n) more for each ordered side and for insertion order. O(1) if nothing
     /// shrinks.

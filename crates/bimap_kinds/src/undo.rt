@@ -15,9 +15,10 @@ impl<L: Eq + Drop, R: Eq + Drop, I: Index<L>, J: Index<R>> BijectiveMap<L, R, I,
     /// Undoes an insertion: removes the pair of a left, puts back what the insertion overwrote, and returns the removed
     /// pair.
     ///
-    /// `answer` is what the insertion returned. Call it only if [`can_undo_insert`](Self::can_undo_insert) returns true
-    /// for the same arguments. In insertion order, a pair that is put back keeps the position of the removed pair if
-    /// their lefts are equal. Any other goes to the end.
+    /// `answer` is what the insertion returned. In insertion order, a pair that is put back keeps the position of the
+    /// removed pair if their lefts are equal. Any other goes to the end.
+    ///
+    /// Condition: [`can_undo_insert`](Self::can_undo_insert) returns true for the same arguments.
     ///
     /// Time: O(log n) with an ordered side, expected O(1) with two hashed sides. O(capacity) when the capacity grows.
     ///

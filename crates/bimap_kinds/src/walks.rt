@@ -25,8 +25,8 @@ impl<L: Eq, R: Eq, I: WalkedIndex<L>, J: Index<R>> BijectiveMap<L, R, I, J> {
     /// iterates in insertion order. Any other hashed left is iterated in the order of the places, which no contract
     /// promises.
     ///
-    /// Time: O(1) for the call. A step takes O(log n) at most with an ordered left, and all steps take O(capacity) with
-    /// a hashed left.
+    /// Time: O(1) for the call, O(log n) at most for a step with an ordered left, and O(1) for a step in insertion
+    /// order. Otherwise O(capacity) for all steps.
     ///
     ///     seats.iter().len(); // 3
     ///     seats.iter().next(); // Some((&'a', &3))
@@ -76,9 +76,10 @@ impl<L: Eq, R: Eq + Hash, I: WalkedIndex<L>, RS: BuildHasher> BijectiveMap<L, R,
 impl<L: Ord, R: Eq, J: Index<R>> BijectiveMap<L, R, Ordered, J> {
     /// Returns an iterator over the pairs whose left lies in a range, by ascending left and also from the back.
     ///
-    /// The start may not be above the end, and two equal bounds may not both be excluded. `BTreeMap::range` panics at
-    /// such bounds. Here the condition `forward` excludes them, and the proof of the caller has to see it. For an
-    /// `a..=b` that was iterated to its end, nothing is promised about the pairs.
+    /// `BTreeMap::range` panics at bounds that break the condition. Here the proof of the caller has to see that the
+    /// condition is true. For an `a..=b` that was iterated to its end, nothing is promised about the pairs.
+    ///
+    /// Condition: The start is not above the end, and two excluded bounds are not equal.
     ///
     /// Time: O(log n) for the call, and O(log n) at most for a step.
     ///
@@ -146,7 +147,9 @@ impl<L: Eq, R: Ord, I: Index<L>> BijectiveMap<L, R, I, Ordered> {
 
     /// Returns an iterator over the pairs whose right lies in a range, by ascending right and also from the back.
     ///
-    /// The bounds are restricted as those of `left_range` are.
+    /// What [`left_range`](Self::left_range) says of its condition holds here too.
+    ///
+    /// Condition: The start is not above the end, and two excluded bounds are not equal.
     ///
     /// Time: O(log n) for the call, and O(log n) at most for a step.
     ///

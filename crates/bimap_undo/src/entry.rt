@@ -9,7 +9,7 @@ use bimap::Overwritten;
 pub enum Entry<L, R> {
     /// A pair of this left was inserted, and overwrote these pairs.
     Inserted(L, Overwritten<L, R>),
-    /// A pair got the first left in place of the second.
+    /// A pair got the first left in place of the second. An `Operation::ReplaceLeft` has them the other way round.
     LeftReplaced(L, L),
     /// The pair of this left got another right in place of this one.
     RightReplaced(L, R),

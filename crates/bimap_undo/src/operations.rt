@@ -112,14 +112,16 @@ fn perform_all<B: Bijection<L, R> + Drop, L: CopyLeft + Drop, R: Eq + Drop>(
 
 /// Performs the operations in order, goes back to the mark, and returns what each operation returned.
 ///
-/// Afterwards the map contains what the mark stands for, whichever operations were refused. No operation may go back to
-/// a lower mark. One that goes back to a mark above the number of recorded changes changes nothing.
+/// Afterwards the map contains what the mark stands for, whichever operations were refused. An operation that goes back
+/// to a mark above the number of recorded changes changes nothing.
+///
+/// Condition: `mark` is at most the number of recorded changes. No operation goes back to a lower mark.
 ///
 /// Time: That of the operations, and of [`back_to`](Undoable::back_to).
 ///
 /// Memory: It allocates for all outcomes first, and then as each operation does.
 ///
-/// `Err`: Out of memory for the outcomes. It performs no operation, and goes back to the mark too.
+/// `Err`: Out of memory for the outcomes. It performed no operation, and also went back to the mark.
 pub fn there_and_back<B: Bijection<L, R> + Drop, L: CopyLeft + Drop, R: Eq + Drop>(
     alloc: Global,
     undoable: &mut Undoable<B, L, R>,

@@ -5,7 +5,7 @@ use thiserror::Error;
 /// Why a value was not replaced under a record. It hands the new value back, and nothing has changed.
 #[derive(Debug, Drop, Eq, Error, PartialEq)]
 pub enum NotRecorded<V> {
-    /// The map refuses the new value.
+    /// No pair has the old value, or another pair has the new value.
     #[error("{0}")]
     Refused(NotReplaced<V>),
     /// There was no memory for the record. The map might have refused the new value too.

@@ -109,8 +109,8 @@ impl<B: Bijection<L, R> + Drop, L: CopyLeft + Drop, R: Eq + Drop> Undoable<B, L,
     ///
     /// Memory: It allocates for the record and the copy of the left, and for capacity as the map's `insert_with` does.
     ///
-    /// `Err`: The policy keeps a contained value (`LeftHeld`, `RightHeld`), or out of memory (`Memory`). It hands the
-    /// pair back, and nothing is recorded.
+    /// `Err`: The policy refuses to overwrite a contained value (`LeftHeld`, `RightHeld`), or out of memory (`Memory`).
+    /// It hands the pair back, and nothing is recorded.
     ///
     ///     let keep = Policy { left: OnHeld::Refuse, right: OnHeld::Refuse };
     ///     seats.insert_with('a', 1, keep)?;
@@ -141,12 +141,14 @@ impl<B: Bijection<L, R> + Drop, L: CopyLeft + Drop, R: Eq + Drop> Undoable<B, L,
     /// Each is recorded as an [`insert_with`](Undoable::insert_with), so a mark may lie between them. It asks the
     /// iterator for no item after a refused one. [`back_to`](Undoable::back_to) then takes back those before it.
     ///
+    /// Condition: The iterator ends, and any condition of its `next` is true.
+    ///
     /// Time: That of `insert_with` for each item. After a refusal, that of `back_to` is added.
     ///
     /// Memory: It allocates as `insert_with` does for each item.
     ///
-    /// `Err`: The first refused item, with the reason and its number. Pairs and marks are as before, and the capacity
-    /// may have grown.
+    /// `Err`: The first item that the policy refuses, or for which memory runs out, and its number. Pairs and marks are
+    /// as before, and the capacity may have grown.
     ///
     ///     let keep = Policy { left: OnHeld::Refuse, right: OnHeld::Refuse };
     ///     seats.insert('a', 1)?;
@@ -187,8 +189,8 @@ impl<B: Bijection<L, R> + Drop, L: CopyLeft + Drop, R: Eq + Drop> Undoable<B, L,
     ///
     /// Memory: It allocates for the record and the copy of the new left.
     ///
-    /// `Err`: The map refuses the new left (`Refused`), or out of memory (`Memory`). It hands the new left back, and
-    /// nothing has changed.
+    /// `Err`: No pair has the old left, or another pair has the new left (`Refused`), or out of memory (`Memory`). It
+    /// hands the new left back, and nothing has changed.
     ///
     ///     seats.insert('a', 1)?;
     ///     seats.replace_left(&'a', 'b'); // Ok(())
@@ -219,8 +221,8 @@ impl<B: Bijection<L, R> + Drop, L: CopyLeft + Drop, R: Eq + Drop> Undoable<B, L,
     ///
     /// Memory: It allocates for the record and the copy of the left.
     ///
-    /// `Err`: The map refuses the new right (`Refused`), or out of memory (`Memory`). It hands the new right back, and
-    /// nothing has changed.
+    /// `Err`: No pair has the old right, or another pair has the new right (`Refused`), or out of memory (`Memory`). It
+    /// hands the new right back, and nothing has changed.
     ///
     ///     seats.insert('a', 1)?;
     ///     seats.replace_right(&1, 2); // Ok(())
@@ -328,7 +330,7 @@ impl<B: Bijection<L, R> + Drop, L: CopyLeft + Drop, R: Eq + Drop> Undoable<B, L,
 
     /// Returns the changes recorded since a mark, the newest last.
     ///
-    /// The mark may not be above the number of recorded changes.
+    /// Condition: `mark` is at most the number of recorded changes, which `mark()` returns.
     ///
     /// Time: O(1).
     ///
@@ -345,8 +347,10 @@ impl<B: Bijection<L, R> + Drop, L: CopyLeft + Drop, R: Eq + Drop> Undoable<B, L,
 
     /// Goes back to a mark, so that the map contains exactly what the mark stands for.
     ///
-    /// The changes since the mark are taken back and leave the record. It is never refused. The mark may not be above
-    /// the number of recorded changes. In insertion order the pairs come back, and not their positions.
+    /// The changes since the mark are taken back and leave the record. It is never refused. In insertion order the
+    /// pairs come back, and not their positions.
+    ///
+    /// Condition: `mark` is at most the number of recorded changes, which `mark()` returns.
     ///
     /// Time: That of an `undo_insert`, or of a removal and an insertion at most, for each change since the mark.
     pub fn back_to(&mut self, mark: usize)
@@ -362,7 +366,7 @@ impl<B: Bijection<L, R> + Drop, L: CopyLeft + Drop, R: Eq + Drop> Undoable<B, L,
 
     /// Takes the last `n` changes back, as [`back_to`](Undoable::back_to) does.
     ///
-    /// No more than the recorded changes may be taken back.
+    /// Condition: `n` is at most the number of recorded changes, which `mark()` returns.
     ///
     /// Time: That of [`back_to`](Undoable::back_to) for `n` changes.
     ///

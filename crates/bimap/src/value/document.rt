@@ -34,17 +34,19 @@ fn check_names(alloc: Global, text: &str, policy: Policy) -> Result<(), JsonFaul
 
 /// Inserts the entries of a JSON text's object into an empty map under the policy, and returns the map.
 ///
-/// Of members with one name, the last alone is an entry. If the policy keeps lefts, a name that stands twice is a
+/// Of members with one name, the last alone is an entry. If `policy.left` is `Refuse`, a name that stands twice is a
 /// fault, in any object of the text.
 ///
 /// It looks for the faults of the text in this order: the grammar (`NotJson`), names that stand twice (`NameTwice`),
 /// then numbers out of range and too many levels (`NotJson`). So `{"a":1e999}` gives `NotJson`, and `{"b":1e999,"b":1}`
-/// gives `NameTwice` if the policy keeps lefts. After that come the faults of the value.
+/// gives `NameTwice` if `policy.left` is `Refuse`. After that come the faults of the value.
 ///
-/// Time: That of parsing the text, and of `read_into_with`. If the policy keeps lefts, the text is parsed twice.
+/// Condition: `empty` contains no pair.
 ///
-/// Memory: It allocates for all values of the text, for comparing names if the policy keeps lefts, and as
-/// `read_into_with` does.
+/// Time: That of parsing the text, and of `read_into_with`. If `policy.left` is `Refuse`, the text is parsed twice.
+///
+/// Memory: It allocates the parsed values, and what `read_into_with` allocates. If `policy.left` is `Refuse`, comparing
+/// names allocates too.
 ///
 /// `Err`: The first fault of the text or of its object, or out of memory (`Memory`). The map is dropped.
 ///

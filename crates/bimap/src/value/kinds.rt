@@ -62,6 +62,8 @@ pub fn from_value_with_hashers<
 
 /// Writes a `BiHashMap` as an object, reads it back with these hash builders, and returns the equal map.
 ///
+/// Its contract states that what was written reads back equal.
+///
 /// Time: That of `hash_to_value` and `from_value_with_hashers`.
 ///
 /// Memory: It allocates as `hash_to_value` and `from_value_with_hashers` do.

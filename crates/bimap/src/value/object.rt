@@ -17,10 +17,10 @@ use thiserror::Error;
 /// Why no map was read. An entry is named by its number, from 0, in ascending byte order of the keys.
 #[derive(Clone, Copy, Debug, Eq, Error, PartialEq)]
 pub enum JsonFault {
-    /// The text is no JSON, or none that `Value::from_str` reads.
+    /// The text is no JSON, has a number out of range, or has more than 127 levels of arrays and objects.
     #[error("not JSON")]
     NotJson,
-    /// An object in the text has a name twice, and the policy keeps lefts.
+    /// An object in the text has a name twice, and `policy.left` is `Refuse`.
     #[error("a name stands twice in an object")]
     NameTwice,
     /// The value is not an object.
@@ -32,14 +32,14 @@ pub enum JsonFault {
     /// The key reads as a left, and the value as no right.
     #[error("entry {0}: the value is no right")]
     BadValue(usize),
-    /// The map contains the left by then, and the policy keeps it. The left is asked first.
+    /// The map contains the left by then, and the policy refuses to overwrite it. The left is asked first.
     #[error("entry {0}: the left is already contained")]
     LeftHeld(usize),
-    /// The map contains the right by then, and the policy keeps it.
+    /// The map contains the right by then, and the policy refuses to overwrite it.
     #[error("entry {0}: the right is already contained")]
     RightHeld(usize),
-    /// Out of memory, before any fault was met. It is met at an entry whose key reads as a left, or while a text is
-    /// read.
+    /// Memory ran out while a text was parsed, or at an entry. The entries before that one have no fault, and its key
+    /// reads as a left.
     #[error("out of memory")]
     Memory,
 }
@@ -85,9 +85,9 @@ pub trait JsonObject<L: JsonKey + Drop, R: JsonValue + Drop>: Bijection<L, R> + 
             (view value.now) (Self.holding bimap).pairs) };
 }
 
-/// Returns the JSON object of the pairs that an iterator gives.
+/// Returns the JSON object of the pairs that an iterator gives, and of pairs with one key text only the last.
 ///
-/// Of pairs with one key text it contains the last.
+/// Condition: The iterator ends, and any condition of its `next` is true.
 ///
 /// Time: That of iterating, and of O(n log n) comparisons of key texts.
 ///
@@ -121,6 +121,8 @@ pub fn write_walk<'a, L: JsonKey + 'a, R: JsonValue + 'a, I: IntoIterator<Item =
 ///
 /// It inserts the entries as [`JsonObject::from_value`] does.
 ///
+/// Condition: `empty` contains no pair.
+///
 /// Time: That of reading and inserting each entry.
 ///
 /// Memory: It allocates as each insertion does, and what reading each side allocates. Nothing is reserved ahead.
@@ -147,6 +149,8 @@ pub fn read_into<L: JsonKey + Drop, R: JsonValue + Drop, B: Bijection<L, R> + Dr
 /// Inserts an object's entries into an empty map under the policy, and returns the map.
 ///
 /// It inserts the entries in ascending byte order of their keys.
+///
+/// Condition: `empty` contains no pair.
 ///
 /// Time: That of reading and inserting each entry.
 ///
@@ -199,6 +203,8 @@ pub fn read_into_with<L: JsonKey + Drop, R: JsonValue + Drop, B: Bijection<L, R>
 }
 
 /// Writes a map as an object, reads it back, and returns the equal map.
+///
+/// Its contract states that what was written reads back equal.
 ///
 /// Time: That of `to_value` and `from_value`.
 ///

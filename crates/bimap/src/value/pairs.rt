@@ -28,7 +28,7 @@ pub enum PairsFault {
     /// The first of the two reads as a left, and the second as no right.
     #[error("item {0}: the second is no right")]
     BadRight(usize),
-    /// Out of memory, before any fault was met. It is met at an array of two whose first reads as a left.
+    /// Memory ran out at an item. The items before it have no fault. It is an array of two whose first reads as a left.
     #[error("out of memory")]
     Memory,
 }
@@ -47,6 +47,8 @@ fn array_of_two(alloc: Global, first: Value, second: Value) -> Result<Value, NoM
 /// Returns the JSON array of the pairs that an iterator gives, in their order.
 ///
 /// Each pair is an array of its left and its right.
+///
+/// Condition: The iterator ends, and any condition of its `next` is true.
 ///
 /// Time: O(number of pairs), and that of writing each side.
 ///
