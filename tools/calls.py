@@ -20,7 +20,7 @@ ALWAYS = {"Eq", "Drop", "Sized", "BuildHasher", "Index", "WalkedIndex", "EmptyIn
 OF_SIDES = {"Ordered": ("an ordered left", "an ordered right"), "HashIndex": ("`BiHashMap`, `BiHashBTreeMap`", "a hashed right"), "InsertionOrder": ("`BiInsertionOrderMap`", "")}
 OPERATORS = {"PartialEq": "`==`, `!=`", "PartialOrd": "`partial_cmp`, `<`, `<=`, `>`, `>=`", "Ord": "`cmp`", "Hash": "`hash`", "Debug": "`{:?}`", "IntoIterator": "`for (l, r) in map`"}
 
-Call = namedtuple("Call", "owner name path docs signature needs returns")
+Call = namedtuple("Call", "owner name path docs signature needs returns has_condition")
 
 
 def read(path):
@@ -76,6 +76,17 @@ def head_of(lines, at):
             break
     texts = [re.sub(r",\s*([)>\]])", r"\1", re.sub(r"([(<\[]) ", r"\1", " ".join(it)).rstrip("{; ,")) for it in (head, where)]
     return [re.sub(r"\s+", " ", it).strip() for it in texts]
+
+
+def has_condition(lines, at):
+    """Whether the function that begins at a line requires something of its caller."""
+    for line in lines[at:]:
+        it = line.strip()
+        if it.startswith("requires "):
+            return True
+        if it.endswith(";") or it == "{" or it.endswith(" {") and not it.startswith("ensures "):
+            return False
+    return False
 
 
 def short(text, given):
@@ -165,18 +176,18 @@ def call(owner, path, docs, generics, to, lines, at):
     name, own, arguments, result = signature_of(head)
     is_method = re.match(r"(&(mut )?)?self\b", arguments)
     before = "" if not owner or is_method and owner not in ("Bijection", "JsonObject", "JsonKey", "JsonValue", "CopyLeft", "Overwritten", "OnHeld") else f"{owner}::"
-    before = "K::" if not is_method and owner in ("BijectiveMap", "JsonObject") else before
-    result = result.replace("Self", "K") if before == "K::" else result
+    before = "Map::" if not is_method and owner in ("BijectiveMap", "JsonObject") else before
+    result = result.replace("Self", "Map") if before == "Map::" else result
     told = f"{before}{name}({short(arguments, own)})" + (f" -> {short(result, own)}" if result else "")
     needs = needs_of({**generics, **own}, where, to)
-    return Call("BijectiveMap" if owner == "BiHashMap" else owner, name, path, docs, told, needs, result)
+    return Call("BijectiveMap" if owner == "BiHashMap" else owner, name, path, docs, told, needs, result, has_condition(lines, at))
 
 
 def operator(owner, trait, path, docs, generics, to):
     """What an `impl` of a trait of the standard library gives a type."""
     told = OPERATORS[trait].strip("`")
     told = told.replace("in map", "in &map") if to.startswith("&") else told
-    return Call(owner, trait, path, docs, told, needs_of(generics, "", re.sub(r"^&'\w+ ", "", to)), "")
+    return Call(owner, trait, path, docs, told, needs_of(generics, "", re.sub(r"^&'\w+ ", "", to)), "", False)
 
 
 def given_by(path):

@@ -141,7 +141,7 @@ impl<B: Bijection<L, R> + Drop, L: CopyLeft + Drop, R: Eq + Drop> Undoable<B, L,
     /// Each is recorded as an [`insert_with`](Undoable::insert_with), so a mark may lie between them. It asks the
     /// iterator for no item after a refused one. [`back_to`](Undoable::back_to) then takes back those before it.
     ///
-    /// Condition: The iterator ends, and any condition of its `next` is true.
+    /// Condition: The iterator ends. If its `next` has a condition, this is true.
     ///
     /// Time: That of `insert_with` for each item. After a refusal, that of `back_to` is added.
     ///

@@ -87,7 +87,7 @@ pub trait JsonObject<L: JsonKey + Drop, R: JsonValue + Drop>: Bijection<L, R> + 
 
 /// Returns the JSON object of the pairs that an iterator gives, and of pairs with one key text only the last.
 ///
-/// Condition: The iterator ends, and any condition of its `next` is true.
+/// Condition: The iterator ends. If its `next` has a condition, this is true.
 ///
 /// Time: That of iterating, and of O(n log n) comparisons of key texts.
 ///

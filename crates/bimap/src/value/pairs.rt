@@ -48,7 +48,7 @@ fn array_of_two(alloc: Global, first: Value, second: Value) -> Result<Value, NoM
 ///
 /// Each pair is an array of its left and its right.
 ///
-/// Condition: The iterator ends, and any condition of its `next` is true.
+/// Condition: The iterator ends. If its `next` has a condition, this is true.
 ///
 /// Time: O(number of pairs), and that of writing each side.
 ///
