@@ -45,13 +45,13 @@ benched() {
     done
     local words="$ours 1000 times chance BiBTreeMap"
     echo 'exit 3' >"$ours.lines"
-    bench "a program that fails" "this map: $words ended with status 3" 1000
+    bench "a program that fails" "this library: $words ended with status 3" 1000
     echo 'echo BiBTreeMap insert fast 0' >"$ours.lines"
-    bench "no measurement" "this map: a line must have a kind, a column, a figure and what was found, but this is a line: BiBTreeMap insert fast 0" 1000
+    bench "no measurement" "this library: a line must have a kind, a column, a figure and what was found, but this is a line: BiBTreeMap insert fast 0" 1000
     echo 'echo BiBTreeMap insert 1.5 0' >"$ours.lines"
-    bench "a column alone" "this map: $words must print a line for each of insert, hit-by-left, hit-by-right, miss-by-left, same-pair, overwrite, walk, walk-back, remove, bytes" 1000
+    bench "a column alone" "this library: $words must print a line for each of insert, hit-by-left, hit-by-right, miss-by-left, same-pair, overwrite, walk, walk-back, remove, bytes" 1000
     rm "$ours"
-    bench "no program" "this map: $words could not be started" 1000
+    bench "no program" "this library: $words could not be started" 1000
     printf '#!/bin/sh\nexit 4\n' >"$room/path/rt"
     bench "a program that is not proved" "crates/tool_bench could not be built: rt run ended with status 4"
     file=""
