@@ -14,7 +14,8 @@ use std::alloc::Global;
 ///
 /// A `Retain` keeps the pairs for which `test` returns true. A refused call leaves the pairs as they were.
 ///
-/// Condition: `test` may be called on each pair. For one key and one pair it always returns the same value.
+/// Condition: Any condition of `test` holds for each pair of the map. For one key and one pair `test` always returns
+/// the same value.
 ///
 /// Time: That of the call.
 ///
@@ -80,8 +81,8 @@ pub fn perform<L: Eq + Drop, R: Eq + Drop, K: Drop, B: Bijection<L, R>, F: Fn(&K
 ///
 /// `run` reserves no capacity for pairs ahead. A reply `NoRoom` does not end it.
 ///
-/// Condition: `test` may be called on each pair of the map and of a call. For one key and one pair it always returns
-/// the same value.
+/// Condition: Any condition of `test` holds for each pair of the map and each pair in a call. For one key and one pair
+/// `test` always returns the same value.
 ///
 /// Time: That of the calls.
 ///

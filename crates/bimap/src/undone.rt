@@ -25,8 +25,7 @@ pub struct UndoRunStopped<L, R> {
 ///
 /// Memory: It allocates only to put back `Both` when the capacity is used up. The capacity then doubles, to at least 4.
 ///
-/// `Err`: Out of memory. It hands back the entries that it did not undo, in order, and the entries behind them are
-/// undone.
+/// `Err`: Out of memory. It hands back the entries that it did not undo, which are the first of the list, in order.
 ///
 ///     // `entries` of the insertion of 'a' with 1: [('a', Overwritten::Both(('a', 3), ('b', 1)))]
 ///     undo_run(&mut seats, entries)?;

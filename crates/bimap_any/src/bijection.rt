@@ -100,7 +100,7 @@ pub trait Bijection<L: Eq + Drop, R: Eq + Drop> {
 
     /// Calls the closure once on each pair, in no set order.
     ///
-    /// Condition: If the closure has a condition, this is true at each pair, whatever the order of the pairs.
+    /// Condition: Any condition of the closure holds at each pair, whatever the order of the pairs.
     ///
     /// Time: O(capacity).
     ///
@@ -115,7 +115,7 @@ pub trait Bijection<L: Eq + Drop, R: Eq + Drop> {
     ///
     /// A map whose own `retain` asks in the order of `iter` asks in no set order here.
     ///
-    /// Condition: If the closure has a condition, this is true at each pair, whatever the order of the pairs.
+    /// Condition: Any condition of the closure holds at each pair, whatever the order of the pairs.
     ///
     /// Time: O(capacity), and that of a removal for each pair that goes.
     fn retain<F: FnMut(&L, &R) -> bool>(&mut self, f: F)

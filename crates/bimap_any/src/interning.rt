@@ -51,7 +51,7 @@ pub trait Interning<L: Eq + Drop, R: Copy + Eq + Drop>: Bijection<L, R> {
 ///
 /// The closure is called only if the map does not contain the left.
 ///
-/// Condition: If the closure has a condition, this is true, unless the map contains the left.
+/// Condition: If the map does not contain the left, any condition of the closure holds.
 ///
 /// Time: That of a look-up, and of an insertion if it inserts.
 ///

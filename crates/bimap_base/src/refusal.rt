@@ -39,7 +39,7 @@ pub enum NotInserted<L, R> {
 /// Why `insert_with` did not insert a pair. It hands the pair back, and nothing has changed.
 #[derive(Debug, Drop, Eq, Error, PartialEq)]
 pub enum NotInsertedWith<L, R> {
-    /// The map contains the left, and the policy refuses to overwrite it. The left is asked first.
+    /// The map contains the left, and the policy refuses to overwrite it. The call checks the left first.
     #[error("the left is already contained")]
     LeftHeld(L, R),
     /// The map contains the right, and the policy refuses to overwrite it.
@@ -64,7 +64,7 @@ pub struct ExtendStopped<L, R> {
 /// Why a value was not replaced. It hands the new value back, and nothing has changed.
 #[derive(Debug, Drop, Eq, Error, PartialEq)]
 pub enum NotReplaced<V> {
-    /// The map does not contain the old value. The old value is asked first.
+    /// The map does not contain the old value. The call looks for the old value first.
     #[error("the old value is not contained")]
     Missing(V),
     /// Another pair has the new value.

@@ -15,7 +15,7 @@ impl<L: Eq + Drop, R: Eq + Drop, I: Index<L>, J: Index<R>> BijectiveMap<L, R, I,
 
     /// Inserts each item in order, as [`insert`](Self::insert) does.
     ///
-    /// Condition: The iterator ends. If its `next` has a condition, this is true.
+    /// Condition: The iterator ends. Any condition of its `next` holds at each call.
     ///
     /// Time: That of `insert` for each item.
     ///
@@ -60,7 +60,7 @@ impl<L: Eq + Drop, R: Eq + Drop, I: EmptyIndex<L> + Drop, J: EmptyIndex<R> + Dro
     ///
     /// It inserts each item in order, as [`extend`](Self::extend) does.
     ///
-    /// Condition: The iterator ends. If its `next` has a condition, this is true.
+    /// Condition: The iterator ends. Any condition of its `next` holds at each call.
     ///
     /// Time: That of `insert` for each item.
     ///

@@ -65,7 +65,7 @@ impl<L: Ord, R: Eq, J: Index<R>> BijectiveMap<L, R, Ordered, J> {
     ///
     /// The capacity stays.
     ///
-    /// Time: O(log n) on the left. On the right O(log n) if ordered, expected O(1) if hashed.
+    /// Time: O(log n), expected if the right is hashed.
     ///
     ///     seats.pop_first_by_left(); // Some(('a', 3))
     pub fn pop_first_by_left(&mut self) -> Option<(L, R)>
@@ -80,7 +80,7 @@ impl<L: Ord, R: Eq, J: Index<R>> BijectiveMap<L, R, Ordered, J> {
     ///
     /// The capacity stays.
     ///
-    /// Time: O(log n) on the left. On the right O(log n) if ordered, expected O(1) if hashed.
+    /// Time: O(log n), expected if the right is hashed.
     ///
     ///     seats.pop_last_by_left(); // Some(('c', 2))
     pub fn pop_last_by_left(&mut self) -> Option<(L, R)>
@@ -245,7 +245,7 @@ impl<L: Eq, R: Ord, I: Index<L>> BijectiveMap<L, R, I, Ordered> {
     ///
     /// The capacity stays.
     ///
-    /// Time: O(log n) on the right. On the left O(log n) if ordered, expected O(1) if hashed.
+    /// Time: O(log n), expected if the left is hashed.
     ///
     ///     seats.pop_first_by_right(); // Some(('b', 1))
     pub fn pop_first_by_right(&mut self) -> Option<(L, R)>
@@ -262,7 +262,7 @@ impl<L: Eq, R: Ord, I: Index<L>> BijectiveMap<L, R, I, Ordered> {
     ///
     /// The capacity stays.
     ///
-    /// Time: O(log n) on the right. On the left O(log n) if ordered, expected O(1) if hashed.
+    /// Time: O(log n), expected if the left is hashed.
     ///
     ///     seats.pop_last_by_right(); // Some(('a', 3))
     pub fn pop_last_by_right(&mut self) -> Option<(L, R)>

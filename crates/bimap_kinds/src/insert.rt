@@ -66,7 +66,7 @@ impl<L: Eq + Drop, R: Eq + Drop, I: Index<L>, J: Index<R>> BijectiveMap<L, R, I,
     /// Inserts a pair if the policy allows it, and returns the pairs that it overwrote.
     ///
     /// For each side, the policy says what happens if the map already contains the value: its pair is overwritten, or
-    /// the new pair is refused. The left is asked first. Positions in insertion order are those of
+    /// the new pair is refused. The left is checked first. Positions in insertion order are those of
     /// [`insert`](Self::insert).
     ///
     /// Time: O(log n) with an ordered side, expected O(1) with two hashed sides. O(capacity) when the capacity grows.

@@ -18,7 +18,7 @@ impl<L: Eq + Drop, R: Eq + Drop, I: WalkedIndex<L>, J: Index<R>> BijectiveMap<L,
     /// The closure is called once on each pair. `Bijection::retain` calls it in no set order. The pairs that stay keep
     /// their order, and the capacity stays.
     ///
-    /// Condition: If the closure has a condition, this is true at each pair, in the order of [`iter`](Self::iter).
+    /// Condition: Any condition of the closure holds at each pair, in the order of [`iter`](Self::iter).
     ///
     /// Time: That of iterating, and of a removal for each pair that goes.
     ///
@@ -35,7 +35,7 @@ impl<L: Eq + Drop, R: Eq + Drop, I: WalkedIndex<L>, J: Index<R>> BijectiveMap<L,
     ///
     /// The closure is called once on each pair, in the order of [`iter`](Self::iter). The capacity of the map stays.
     ///
-    /// Condition: If the closure has a condition, this is true at each pair, in the order of [`iter`](Self::iter).
+    /// Condition: Any condition of the closure holds at each pair, in the order of [`iter`](Self::iter).
     ///
     /// Time: That of iterating, and of a removal for each pair that goes.
     ///

@@ -25,8 +25,8 @@ impl<L: Eq, R: Eq, I: WalkedIndex<L>, J: Index<R>> BijectiveMap<L, R, I, J> {
     /// iterates in insertion order. Any other hashed left is iterated in the order of the places, which no contract
     /// promises.
     ///
-    /// Time: O(1) for the call, O(log n) at most for a step with an ordered left, and O(1) for a step in insertion
-    /// order. Otherwise O(capacity) for all steps.
+    /// Time: O(1) for the call, O(log n) at most for a step with an ordered left, and O(1) for a step of a
+    /// `BiInsertionOrderMap`. Otherwise O(capacity) for all steps.
     ///
     ///     seats.iter().len(); // 3
     ///     seats.iter().next(); // Some((&'a', &3))

@@ -46,7 +46,7 @@ pub enum Outcome<L, R> {
     RemoveByLeft(Result<bool, NoMemory>),
     /// What [`remove_by_right`](Undoable::remove_by_right) returned.
     RemoveByRight(Result<bool, NoMemory>),
-    /// Whether the number was a mark. If it was not, nothing changed.
+    /// Whether the number was at most the number of recorded changes. If it was above, nothing changed.
     BackTo(bool),
 }
 

@@ -110,7 +110,7 @@ impl<B: Bijection<L, R> + Drop, L: CopyLeft + Drop, R: Eq + Drop> Undoable<B, L,
     /// Memory: It allocates for the record and the copy of the left, and for capacity as the map's `insert_with` does.
     ///
     /// `Err`: The policy refuses to overwrite a contained value (`LeftHeld`, `RightHeld`), or out of memory (`Memory`).
-    /// It hands the pair back, and nothing is recorded.
+    /// It hands the pair back, and nothing has changed.
     ///
     ///     let keep = Policy { left: OnHeld::Refuse, right: OnHeld::Refuse };
     ///     seats.insert_with('a', 1, keep)?;
@@ -141,14 +141,14 @@ impl<B: Bijection<L, R> + Drop, L: CopyLeft + Drop, R: Eq + Drop> Undoable<B, L,
     /// Each is recorded as an [`insert_with`](Undoable::insert_with), so a mark may lie between them. It asks the
     /// iterator for no item after a refused one. [`back_to`](Undoable::back_to) then takes back those before it.
     ///
-    /// Condition: The iterator ends. If its `next` has a condition, this is true.
+    /// Condition: The iterator ends. Any condition of its `next` holds at each call.
     ///
     /// Time: That of `insert_with` for each item. After a refusal, that of `back_to` is added.
     ///
     /// Memory: It allocates as `insert_with` does for each item.
     ///
-    /// `Err`: The first item that the policy refuses, or for which memory runs out, and its number. Pairs and marks are
-    /// as before, and the capacity may have grown.
+    /// `Err`: The first item that the policy refuses, or for which memory runs out, with its number from 0. Pairs and
+    /// marks are as before, and the capacity may have grown.
     ///
     ///     let keep = Policy { left: OnHeld::Refuse, right: OnHeld::Refuse };
     ///     seats.insert('a', 1)?;

@@ -15,7 +15,7 @@ use std::hash::{BuildHasher, Hash};
 
 /// Returns the JSON object of the pairs of a `BiHashMap`, whatever its hash builders.
 ///
-/// Time: That of iterating, and of O(n log n) comparisons of key texts.
+/// Time: That of iterating, and of O(n log n) comparisons of keys.
 ///
 /// Memory: It allocates an object with an entry for each pair.
 ///

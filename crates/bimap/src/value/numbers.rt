@@ -20,13 +20,13 @@ pub trait JsonKey: Copy + Eq {
     /// What a number is written as, and what reads as it.
     ghost form: { NumberForm Self };
 
-    /// Returns the key text of a number.
+    /// Returns the key of a number, as a text.
     fn to_text(self, alloc: Global) -> Result<String, NoMemory>
         ensures text { IfOk result (λ s. string_bytes s ≡ form.writes_key self) }
         ensures reads_back { OnOk result (ReadsBack Self.eq
             (form.reads_key (form.writes_key self)) self) };
 
-    /// Returns the number that a key text reads as.
+    /// Returns the number that a key reads as.
     fn of_text(text: &str) -> Option<Self>
         ensures { ReadsSome (form.reads_key text.now) result };
 }

@@ -32,14 +32,14 @@ pub enum JsonFault {
     /// The key reads as a left, and the value as no right.
     #[error("entry {0}: the value is no right")]
     BadValue(usize),
-    /// The map contains the left by then, and the policy refuses to overwrite it. The left is asked first.
+    /// The map contains the left by then, and the policy refuses to overwrite it. The left is checked first.
     #[error("entry {0}: the left is already contained")]
     LeftHeld(usize),
     /// The map contains the right by then, and the policy refuses to overwrite it.
     #[error("entry {0}: the right is already contained")]
     RightHeld(usize),
-    /// Memory ran out while a text was parsed, or at an entry. The entries before that one have no fault, and its key
-    /// reads as a left.
+    /// Memory ran out while a text was parsed, or at an entry. In the second case earlier entries have no fault, and
+    /// this key reads as a left.
     #[error("out of memory")]
     Memory,
 }
@@ -50,7 +50,7 @@ pub trait JsonObject<L: JsonKey + Drop, R: JsonValue + Drop>: Bijection<L, R> + 
     ///
     /// Each entry reads as a pair that equals the one from which it was written, on both sides.
     ///
-    /// Time: That of iterating, and of O(n log n) comparisons of key texts.
+    /// Time: That of iterating, and of O(n log n) comparisons of keys.
     ///
     /// Memory: It allocates an object with an entry for each pair.
     ///
@@ -85,11 +85,13 @@ pub trait JsonObject<L: JsonKey + Drop, R: JsonValue + Drop>: Bijection<L, R> + 
             (view value.now) (Self.holding bimap).pairs) };
 }
 
-/// Returns the JSON object of the pairs that an iterator gives, and of pairs with one key text only the last.
+/// Returns the JSON object of the pairs that an iterator gives.
 ///
-/// Condition: The iterator ends. If its `next` has a condition, this is true.
+/// Of several pairs with the same key, it has the last.
 ///
-/// Time: That of iterating, and of O(n log n) comparisons of key texts.
+/// Condition: The iterator ends. Any condition of its `next` holds at each call.
+///
+/// Time: That of iterating, and of O(n log n) comparisons of keys.
 ///
 /// Memory: It allocates an object with an entry for each pair.
 ///

@@ -48,7 +48,7 @@ fn array_of_two(alloc: Global, first: Value, second: Value) -> Result<Value, NoM
 ///
 /// Each pair is an array of its left and its right.
 ///
-/// Condition: The iterator ends. If its `next` has a condition, this is true.
+/// Condition: The iterator ends. Any condition of its `next` holds at each call.
 ///
 /// Time: O(number of pairs), and that of writing each side.
 ///

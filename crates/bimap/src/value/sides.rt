@@ -62,7 +62,7 @@ pub trait JsonKey: Eq + Sized {
     /// The text reads as the value.
     ghost reads_key: { List ℕ → Self → Type 0 };
 
-    /// Returns the key text of a value.
+    /// Returns the key of a value, as a text.
     ///
     /// Time: O(length of the text).
     ///
@@ -74,7 +74,7 @@ pub trait JsonKey: Eq + Sized {
         ensures reads_back { OnOk result (ReadsBack Self.eq
             (reads_key (writes_key self.now)) self.now) };
 
-    /// Returns the value that a key text reads as.
+    /// Returns the value that a key reads as.
     ///
     /// It runs out of memory only for a text that reads as some value.
     ///
