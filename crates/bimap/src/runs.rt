@@ -14,8 +14,8 @@ use std::alloc::Global;
 ///
 /// A `Retain` keeps the pairs for which `test` returns true. A refused call leaves the pairs as they were.
 ///
-/// Condition: Any condition of `test` holds for each pair of the map. For one key and one pair `test` always returns
-/// the same value.
+/// Condition: Any condition of `test` holds for the key of a `Retain` and each pair of the map. `test` always returns
+/// the same value for the same two.
 ///
 /// Time: That of the call.
 ///
@@ -81,8 +81,8 @@ pub fn perform<L: Eq + Drop, R: Eq + Drop, K: Drop, B: Bijection<L, R>, F: Fn(&K
 ///
 /// `run` reserves no capacity for pairs ahead. A reply `NoRoom` does not end it.
 ///
-/// Condition: Any condition of `test` holds for each pair of the map and each pair in a call. For one key and one pair
-/// `test` always returns the same value.
+/// Condition: Any condition of `test` holds for each key of a `Retain` and each pair of the map or a call. `test` always
+/// returns the same value for the same two.
 ///
 /// Time: That of the calls.
 ///

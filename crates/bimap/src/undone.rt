@@ -17,7 +17,8 @@ pub struct UndoRunStopped<L, R> {
 
 /// Undoes a list of insertions, the last one first.
 ///
-/// An entry is a left with what its insertion returned.
+/// An entry is a left with what its insertion returned. In insertion order the positions may change, as
+/// [`undo_insert`](Bijection::undo_insert) says. After an `Err`, the condition holds for the entries in `rest`.
 ///
 /// Condition: The insertions of the list, made in this order, led to the pairs that the map contains.
 ///

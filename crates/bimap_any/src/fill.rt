@@ -11,7 +11,7 @@ use std::mem;
 
 /// Inserts each item in order, as `insert` does.
 ///
-/// Condition: The iterator ends. Any condition of its `next` holds at each call.
+/// Condition: The iterator ends. If its `next` has a condition, it is true at each call of `next`.
 ///
 /// Time: That of `insert` for each item.
 ///
@@ -56,7 +56,7 @@ pub fn extend<L: Eq + Drop, R: Eq + Drop, B: Bijection<L, R>, I: IntoIterator<It
 ///
 /// It asks the iterator for no item after a refused one.
 ///
-/// Condition: The iterator ends. Any condition of its `next` holds at each call.
+/// Condition: The iterator ends. If its `next` has a condition, it is true at each call of `next`.
 ///
 /// Time: That of `insert_with` for each item.
 ///
@@ -107,7 +107,8 @@ pub fn extend_with<L: Eq + Drop, R: Eq + Drop, B: Bijection<L, R>, I: IntoIterat
 
 /// Inserts each item in order into an empty map, as `insert` does, and returns the map.
 ///
-/// Condition: `empty` contains no pair, and the iterator ends. Any condition of its `next` holds at each call.
+/// Condition: `empty` contains no pair, and the iterator ends. If its `next` has a condition, it is true at each call of
+/// `next`.
 ///
 /// Time: That of `insert` for each item.
 ///
@@ -140,7 +141,8 @@ pub fn from_iter<
 
 /// Inserts each item in order under the policy into an empty map, and returns the map.
 ///
-/// Condition: `empty` contains no pair, and the iterator ends. Any condition of its `next` holds at each call.
+/// Condition: `empty` contains no pair, and the iterator ends. If its `next` has a condition, it is true at each call of
+/// `next`.
 ///
 /// Time: That of `insert_with` for each item.
 ///

@@ -95,7 +95,7 @@ pub struct NotInverted<B> {
 #[derive(Debug, Drop, Eq, Error, PartialEq)]
 #[error("item {taken}: {why}")]
 pub struct ItemRefused<L, R> {
-    /// The item's number, from 0, or `usize::MAX` if that is less.
+    /// The item's number, from 0. If the number is above `usize::MAX`, this is `usize::MAX`.
     pub taken: usize,
     /// The reason, which hands the item back.
     pub why: NotInsertedWith<L, R>,

@@ -1,4 +1,4 @@
-//! Many pairs inserted at once, by calls of `bimap_base`.
+//! Many pairs inserted at once, by calls of `bimap_any`.
 ghost use Rattle.std.specs.Prelude.{[], OnOk, IfOk, IfErr};
 ghost use Rattle.std.specs.Iterator.{IsFiniteIterable};
 ghost use Rattle.bimap_any.specs.Extension.{IsExtension, IsExtensionStopped};
@@ -15,7 +15,7 @@ impl<L: Eq + Drop, R: Eq + Drop, I: Index<L>, J: Index<R>> BijectiveMap<L, R, I,
 
     /// Inserts each item in order, as [`insert`](Self::insert) does.
     ///
-    /// Condition: The iterator ends. Any condition of its `next` holds at each call.
+    /// Condition: The iterator ends. If its `next` has a condition, it is true at each call of `next`.
     ///
     /// Time: That of `insert` for each item.
     ///
@@ -60,7 +60,7 @@ impl<L: Eq + Drop, R: Eq + Drop, I: EmptyIndex<L> + Drop, J: EmptyIndex<R> + Dro
     ///
     /// It inserts each item in order, as [`extend`](Self::extend) does.
     ///
-    /// Condition: The iterator ends. Any condition of its `next` holds at each call.
+    /// Condition: The iterator ends. If its `next` has a condition, it is true at each call of `next`.
     ///
     /// Time: That of `insert` for each item.
     ///

@@ -64,7 +64,7 @@ impl<L: Eq + Hash, R: Eq + Hash, LS: BuildHasher, RS: BuildHasher> BiHashMap<L, 
     ///
     /// It inserts each item in order, as `extend` does.
     ///
-    /// Condition: The iterator ends. Any condition of its `next` holds at each call.
+    /// Condition: The iterator ends. If its `next` has a condition, it is true at each call of `next`.
     ///
     /// Time: That of `insert` for each item.
     ///

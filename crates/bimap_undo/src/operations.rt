@@ -27,11 +27,13 @@ pub enum Operation<L, R> {
     RemoveByLeft(L),
     /// A call of [`remove_by_right`](Undoable::remove_by_right).
     RemoveByRight(R),
-    /// A call of [`back_to`](Undoable::back_to) with this mark.
+    /// A call of [`back_to`](Undoable::back_to) with this mark. If the mark is above the number of recorded changes,
+    /// nothing is done.
     BackTo(usize),
 }
 
-/// What an operation returned: the result of the method of [`Undoable`] that performed it.
+/// What an operation returned: the result of the method of [`Undoable`] that performed it. `BackTo` has a `bool`, since
+/// `back_to` returns nothing.
 #[derive(Debug, Drop, Eq, PartialEq)]
 pub enum Outcome<L, R> {
     /// What [`insert`](Undoable::insert) returned.
@@ -46,7 +48,7 @@ pub enum Outcome<L, R> {
     RemoveByLeft(Result<bool, NoMemory>),
     /// What [`remove_by_right`](Undoable::remove_by_right) returned.
     RemoveByRight(Result<bool, NoMemory>),
-    /// Whether the number was at most the number of recorded changes. If it was above, nothing changed.
+    /// Whether the mark was at most the number of recorded changes. If it was above, nothing changed.
     BackTo(bool),
 }
 

@@ -139,16 +139,17 @@ impl<B: Bijection<L, R> + Drop, L: CopyLeft + Drop, R: Eq + Drop> Undoable<B, L,
     /// Inserts all items in order under the policy, or none of them.
     ///
     /// Each is recorded as an [`insert_with`](Undoable::insert_with), so a mark may lie between them. It asks the
-    /// iterator for no item after a refused one. [`back_to`](Undoable::back_to) then takes back those before it.
+    /// iterator for no item after a refused one. [`back_to`](Undoable::back_to) then takes back those before it. So in
+    /// insertion order the positions may change, and the capacity may have grown.
     ///
-    /// Condition: The iterator ends. Any condition of its `next` holds at each call.
+    /// Condition: The iterator ends. If its `next` has a condition, it is true at each call of `next`.
     ///
     /// Time: That of `insert_with` for each item. After a refusal, that of `back_to` is added.
     ///
     /// Memory: It allocates as `insert_with` does for each item.
     ///
-    /// `Err`: The first item that the policy refuses, or for which memory runs out, with its number from 0. Pairs and
-    /// marks are as before, and the capacity may have grown.
+    /// `Err`: The first item that the policy refuses, or for which memory runs out, with its number. Pairs and marks are
+    /// as before, and capacity and positions may have changed.
     ///
     ///     let keep = Policy { left: OnHeld::Refuse, right: OnHeld::Refuse };
     ///     seats.insert('a', 1)?;
@@ -347,12 +348,13 @@ impl<B: Bijection<L, R> + Drop, L: CopyLeft + Drop, R: Eq + Drop> Undoable<B, L,
 
     /// Goes back to a mark, so that the map contains exactly what the mark stands for.
     ///
-    /// The changes since the mark are taken back and leave the record. It is never refused. In insertion order the
-    /// pairs come back, and not their positions.
+    /// The changes since the mark are taken back and leave the record. All later marks end. It is never refused. In
+    /// insertion order the pairs come back, and their positions may change.
     ///
     /// Condition: `mark` is at most the number of recorded changes, which `mark()` returns.
     ///
-    /// Time: That of an `undo_insert`, or of a removal and an insertion at most, for each change since the mark.
+    /// Time: For each insertion since the mark, that of an `undo_insert`. For each other change, at most that of a removal
+    /// and an insertion.
     pub fn back_to(&mut self, mark: usize)
         requires recorded { mark ≤ length self.old.entries }
         ensures gone_back { IsReturn L.eq R.eq self.old mark self.new }

@@ -89,7 +89,7 @@ pub trait JsonObject<L: JsonKey + Drop, R: JsonValue + Drop>: Bijection<L, R> + 
 ///
 /// Of several pairs with the same key, it has the last.
 ///
-/// Condition: The iterator ends. Any condition of its `next` holds at each call.
+/// Condition: The iterator ends. If its `next` has a condition, it is true at each call of `next`.
 ///
 /// Time: That of iterating, and of O(n log n) comparisons of keys.
 ///

@@ -28,7 +28,8 @@ pub enum PairsFault {
     /// The first of the two reads as a left, and the second as no right.
     #[error("item {0}: the second is no right")]
     BadRight(usize),
-    /// Memory ran out at an item. The items before it have no fault. It is an array of two whose first reads as a left.
+    /// Memory ran out at an item that is not named. This item is an array of two, and its first reads as a left. Items
+    /// before it have no fault.
     #[error("out of memory")]
     Memory,
 }
@@ -48,7 +49,7 @@ fn array_of_two(alloc: Global, first: Value, second: Value) -> Result<Value, NoM
 ///
 /// Each pair is an array of its left and its right.
 ///
-/// Condition: The iterator ends. Any condition of its `next` holds at each call.
+/// Condition: The iterator ends. If its `next` has a condition, it is true at each call of `next`.
 ///
 /// Time: O(number of pairs), and that of writing each side.
 ///
