@@ -178,7 +178,11 @@ def call(owner, path, docs, generics, to, lines, at):
     before = "" if not owner or is_method and owner not in ("Bijection", "JsonObject", "JsonKey", "JsonValue", "CopyLeft", "Overwritten", "OnHeld") else f"{owner}::"
     before = "Map::" if not is_method and owner in ("BijectiveMap", "JsonObject") else before
     result = result.replace("Self", "Map") if before == "Map::" else result
-    told = f"{before}{name}({short(arguments, own)})" + (f" -> {short(result, own)}" if result else "")
+    #    (a type that two arguments share keeps its name)
+    shared = {it: bounds for it, bounds in own.items() if len(re.findall(rf"\b{it}\b", arguments)) > 1 and any(re.match(r"\w*Query\b", b) for b in bounds)}
+    once = {it: bounds for it, bounds in own.items() if it not in shared}
+    generics_told = f"<{', '.join(f'{it}: {bounds[0]}' for it, bounds in shared.items())}>" if shared else ""
+    told = f"{before}{name}{generics_told}({short(arguments, once)})" + (f" -> {short(result, once)}" if result else "")
     needs = needs_of({**generics, **own}, where, to)
     return Call("BijectiveMap" if owner == "BiHashMap" else owner, name, path, docs, told, needs, result, has_condition(lines, at))
 
