@@ -1,0 +1,53 @@
+"""Uses the toolchain's command `rt` as a module.
+
+It relies on private functions of `rt`. If a new toolchain changes them, the tools that need them fail. Then adapt this file and
+those tools.
+"""
+import importlib.machinery
+import importlib.util
+import os
+import re
+import shutil
+import sys
+
+from libraries import KIT, Libraries
+
+
+def load_rt():
+    """Returns the command as a module."""
+    path = shutil.which("rt") or sys.exit("rt is not on the path")
+    loader = importlib.machinery.SourceFileLoader("rt", os.path.realpath(path))
+    made = importlib.util.module_from_spec(importlib.util.spec_from_loader("rt", loader))
+    loader.exec_module(made)
+    return made
+
+
+def prove_static(name, built, log):
+    """Proves a static library of this repository, makes its archive in out/ of its crate, and returns whether both succeeded.
+
+    It uses the libraries of the tree `built`. First it makes the checks of `rt ci` that read the text alone.
+    """
+    if not Libraries(built, log).are_there(name):
+        return False
+    rt = load_rt()
+    here = os.getcwd()
+    rt.Crate.allowed = rt.handles_of(here)
+    every = rt.crates_of(here)
+    crate = next(it for it in every if it.name == name)
+    rt.rtlib.stop_on_links(crate.folder)
+    rt.rtlib.stop_on_unread(crate.folder, every)
+    rt.rtlib.stop_on_text(crate, "verdict")
+    rt.stop_on_words(crate)
+    code = rt.rtlib.code_of(crate.folder)
+    beyond = [it for it, words in rt.REACHES.items() if it not in crate.allowed and re.search(words, code)]
+    if beyond or re.search(rt.RENAMES, code):
+        sys.exit(f"{name} names what HANDLES does not allow, or renames std")
+    if rt.rtlib.fmt(crate.folder, "--check", sys.stdout):
+        sys.exit(f"run rt fmt in crates/{name}")
+    # Its first call sets the handler of a signal, which only the main thread may do.
+    rt.rtlib.guarded()
+    there = {it.name: it for it in rt.crates_of(built)}
+    crate.deps = [there[it.name] for it in crate.deps]
+    os.makedirs(f"{crate.folder}/out", exist_ok=True)
+    words = crate.words(["--jobs", "1"], keeps=False)
+    return not crate.prove(["build", *words, "--toolchain", f"{KIT}/toolchain", "--backend", "llvm", "-o", f"out/lib{name}.a"])
