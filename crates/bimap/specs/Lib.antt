@@ -4,6 +4,7 @@ pub use Rattle.bimap_base.specs.Holding
 pub use Rattle.bimap_any.specs.InterningByRight
 pub use Rattle.bimap_base.specs.Kept
 pub use Rattle.bimap_kinds.specs.Extraction
+pub use Rattle.bimap_kinds.specs.Seeded
 pub use Rattle.bimap_any.specs.Visited
 pub use Rattle.bimap_any.specs.Same
 pub use Rattle.bimap_any.specs.Copies
@@ -16,6 +17,7 @@ pub use Rattle.bimap_any.specs.Exchanged
 pub use Rattle.bimap_any.specs.Growth
 pub use Rattle.bimap_any.specs.Extension
 pub use Rattle.bimap_base.specs.Positions
+pub use Rattle.bimap_index.specs.Moves
 pub use Rattle.bimap_tree.specs.Ranges
 pub use Rattle.bimap_base.specs.Digits
 pub use Rattle.bimap_any.specs.Capacity

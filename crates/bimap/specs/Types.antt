@@ -14,3 +14,4 @@ pub use Rattle.bimap_base.specs.declared.refusal.NotReplaced.{NotReplaced}
 pub use Rattle.bimap_base.specs.declared.refusal.NotSwapped.{NotSwapped}
 pub use Rattle.bimap_base.specs.declared.refusal.ItemRefused.{ItemRefused}
 pub use Rattle.bimap_base.specs.declared.refusal.UndoStopped.{UndoStopped}
+pub use Rattle.bimap_kinds.specs.declared.seeded.Seeded.{Seeded}

@@ -32,7 +32,7 @@ pub enum Reply<L, R> {
     Inserted(Overwritten<L, R>),
     /// The map contains neither value, and there was no memory. The pair is handed back.
     NoRoom(L, R),
-    /// `insert_no_overwrite` inserted the pair. The function `put` has no reply.
+    /// `insert_no_overwrite` inserted the pair.
     Put,
     /// The map contains one of the values, or both. The pair is handed back.
     Occupied(L, R),

@@ -21,7 +21,7 @@ pub use bimap_base::{
 pub use bimap_index::{Index, Lookup};
 pub use bimap_kinds::{
     BiBTreeHashMap, BiBTreeMap, BiHashBTreeMap, BiHashMap, BiInsertionOrderMap, BijectiveMap,
-    WalkedIndex,
+    Seeded, WalkedIndex,
 };
 pub use bimap_tree::Ordered;
 pub use call::{Call, Reply, RunRefused};

@@ -14,8 +14,8 @@ use std::alloc::Global;
 ///
 /// A `Retain` keeps the pairs for which `test` returns true. A refused call leaves the pairs as they were.
 ///
-/// Condition: Any condition of `test` holds for the key of a `Retain` and each pair of the map. `test` always returns
-/// the same value for the same two.
+/// Condition: For the key of a `Retain` and each pair of the map, any condition of `test` holds, and `test` returns
+/// the same value each time.
 ///
 /// Time: That of the call.
 ///
@@ -81,8 +81,8 @@ pub fn perform<L: Eq + Drop, R: Eq + Drop, K: Drop, B: Bijection<L, R>, F: Fn(&K
 ///
 /// `run` reserves no capacity for pairs ahead. A reply `NoRoom` does not end it.
 ///
-/// Condition: Any condition of `test` holds for each key of a `Retain` and each pair of the map or a call. `test` always
-/// returns the same value for the same two.
+/// Condition: For each key of a `Retain` and each pair of the map or a call, any condition of `test` holds, and `test`
+/// returns the same value each time.
 ///
 /// Time: That of the calls.
 ///

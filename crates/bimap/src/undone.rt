@@ -24,7 +24,8 @@ pub struct UndoRunStopped<L, R> {
 ///
 /// Time: That of an `undo_insert` for each entry.
 ///
-/// Memory: It allocates only to put back `Both` when the capacity is used up. The capacity then doubles, to at least 4.
+/// Memory: It allocates only to put back two pairs when the capacity is used up. The capacity then doubles, to at least
+/// 4.
 ///
 /// `Err`: Out of memory. It hands back the entries that it did not undo, which are the first of the list, in order.
 ///

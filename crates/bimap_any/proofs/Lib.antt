@@ -1,4 +1,3 @@
-pub mod CopiesAlike
 pub mod Copying
 pub mod Extending
 pub mod Fits

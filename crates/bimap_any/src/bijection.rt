@@ -131,7 +131,7 @@ pub trait Bijection<L: Eq + Drop, R: Eq + Drop> {
         ensures room { (holding self.new).room ≡ (holding self.old).room }
         ensures lenders { lenders self.new ≡ lenders self.old };
 
-    /// Grows the capacity to exactly the length plus `more`, unless it is that or more.
+    /// Grows the capacity to exactly the length plus `more`, unless it is that large already.
     ///
     /// Time: O(new capacity) if it grows, otherwise O(1).
     ///
@@ -155,7 +155,7 @@ pub trait Bijection<L: Eq + Drop, R: Eq + Drop> {
     ///
     /// Time: That of the map's own `undo_insert`.
     ///
-    /// Memory: It allocates only to put back `Both` when the capacity is used up.
+    /// Memory: It allocates only to put back two pairs when the capacity is used up.
     ///
     /// `Err`: Out of memory. It hands the answer back, and the map is as before.
     fn undo_insert(

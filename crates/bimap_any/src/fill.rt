@@ -52,9 +52,9 @@ pub fn extend<L: Eq + Drop, R: Eq + Drop, B: Bijection<L, R>, I: IntoIterator<It
     }
 }
 
-/// Inserts each item in order under the policy, up to the first that is refused.
+/// Inserts each item in order under the policy, and stops at the first that it cannot insert.
 ///
-/// It asks the iterator for no item after a refused one.
+/// It asks the iterator for no item after that one.
 ///
 /// Condition: The iterator ends. If its `next` has a condition, it is true at each call of `next`.
 ///

@@ -47,11 +47,11 @@ pub trait Interning<L: Eq + Drop, R: Copy + Eq + Drop>: Bijection<L, R> {
 }
 
 /// Returns the right of the left, and first inserts the left with a right from the closure if the map does not contain
-/// it.
+/// the left.
 ///
 /// The closure is called only if the map does not contain the left.
 ///
-/// Condition: If the map does not contain the left, any condition of the closure holds.
+/// Condition: Any condition of the closure holds, unless the map contains the left.
 ///
 /// Time: That of a look-up, and of an insertion if it inserts.
 ///

@@ -31,8 +31,8 @@ pub fn contains_pair<L: Eq + Drop, R: Eq + Drop, B: Bijection<L, R>>(
 ///
 /// Memory: It allocates only if it overwrites nothing and the capacity is used up.
 ///
-/// `Err`: Another pair has a value, and the policy refuses to overwrite it (`LeftHeld`, `RightHeld`), or out of memory
-/// (`Memory`). It hands the pair back, and the map is as before.
+/// `Err`: Another pair shares a value, and the policy refuses to overwrite it (`LeftHeld`, `RightHeld`), or out of
+/// memory (`Memory`). It hands the pair back, and the map is as before.
 ///
 ///     // each left and each right once; ann has the seat 12
 ///     let once = Policy { left: OnHeld::Refuse, right: OnHeld::Refuse };

@@ -6,6 +6,7 @@ pub mod Digits
 pub mod FreeList
 pub mod FreeRuns
 pub mod Inverse
+pub mod Clones
 pub mod Members
 pub mod NodesInCells
 pub mod Passing

@@ -9,9 +9,11 @@ pub mod Digits
 pub mod Slots
 pub mod FreeSlots
 pub mod InverseSlots
+pub mod CloneSlots
 pub mod Keyed
 pub mod Numbered
 pub mod NodesInCells
 pub mod Places
+pub mod Clones
 pub mod PairsAt
 pub mod QueryLaws

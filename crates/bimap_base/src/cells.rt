@@ -4,6 +4,8 @@ ghost use Rattle.bimap_base.specs.Digits.{most_height};
 ghost use Rattle.bimap_base.specs.declared.cells.Node.{Node};
 ghost use Rattle.bimap_base.specs.NodesInCells.{IsThere, IsAmong, CanCount, counted, link_of, linked, recounted, narrow_node, wide_node, nodes_in};
 
+mod copy;
+
 use crate::meter::Meter;
 use crate::refusal::NoMemory;
 use std::alloc::Global;
@@ -80,7 +82,7 @@ pub struct WideCell {
 // From this count of places on, narrow cells are too narrow.
 const WIDE: usize = 67_108_864;
 
-/// Nodes by place, in cells of one width. Each public call takes constant time. No public call allocates.
+/// Nodes by place, in cells of one width. Each public call except `clone` takes constant time and allocates nothing.
 #[derive(Drop)]
 pub struct Nodes<C: Cell> {
     cells: Vec<C>,
@@ -100,7 +102,8 @@ impl<C: Cell> Model for Nodes<C> {
 /// A node for each place below some number. A node takes 12 bytes while there are fewer than 2^26 nodes. From then on it takes
 /// 32 bytes.
 ///
-/// Only `read`, `cell`, `write`, `set_child`, `recount` and `count` reach a node. Each of them counts one touch.
+/// Only `read`, `cell`, `write`, `set_child`, `recount` and `count` reach a single node. Each of them counts one touch.
+/// `clone` copies the cells without reading them, and counts nothing.
 #[derive(Drop)]
 pub enum Cells {
     Narrow(Nodes<NarrowCell>),

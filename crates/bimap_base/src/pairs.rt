@@ -4,6 +4,7 @@ ghost use Rattle.bimap_base.specs.Slots.{pair_at, IsLive, pair_count};
 ghost use Rattle.bimap_base.specs.Places.{pairs_in, compacted};
 ghost use Rattle.bimap_base.specs.FreeSlots.{pair_of, AddsFree, IsFreeList, IsRun, IsSound, IsGrown};
 
+mod copy;
 mod inverse;
 
 use crate::refusal::NoMemory;

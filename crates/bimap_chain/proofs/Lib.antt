@@ -5,3 +5,4 @@ pub mod Walk
 pub mod Kept
 pub mod Seen
 pub mod Filling
+pub mod Rehashed

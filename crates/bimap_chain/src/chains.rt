@@ -1,5 +1,5 @@
 //! The calls that follow a chain. They know keys only through `Spread`.
-ghost use Rattle.std.specs.Prelude.{◌≡◌, ℕ, ◌+◌, ◌*◌, ◌<◌, ◌≤◌, ◌-◌, ◌%◌, ◌^◌, ◌++◌, length, None, Some, replicate, slice_set, slice_index_or, OnOk, OnErr, IfSome, IfNone, IfOk};
+ghost use Rattle.std.specs.Prelude.{◌≡◌, ℕ, ◌+◌, ◌*◌, ◌<◌, ◌≤◌, ◌-◌, ◌%◌, ◌^◌, ◌++◌, length, None, Some, replicate, is_some, option_map, slice_set, slice_index_or, OnOk, OnErr, IfSome, IfNone, IfOk};
 ghost use Rattle.std.specs.Int.{IsPowerOfTwo};
 ghost use Rattle.bimap_base.specs.Places.{pairs_in, compacted};
 ghost use Rattle.bimap_chain.specs.Chains.{IsThreaded, IsListed, GoesOver, AreNumbered, Matches, link_or_head, number_at};
@@ -275,6 +275,27 @@ impl<L: Link> Threads<L> {
             }
         }
         Ok(kept)
+    }
+
+    /// Returns threads of as many cells, which list the same places. Each is listed under the number of its key. Hashes each key
+    /// once, and compares none. If it runs out of memory, it returns no threads.
+    pub(crate) fn rehashed<S: Spread>(&self, spread: &S) -> Result<Threads<L>, NoMemory>
+        requires sound { IsSound self.now }
+        requires keys { (place : ℕ) → is_some (S.key_at spread.now place)
+            ≡ is_some (number_at (numbers_of self.now) place) }
+        ensures sound { IfOk result (λ t. IsSound t) }
+        ensures cells { IfOk result (λ t. length (numbers_of t) ≡ length (numbers_of self.now)) }
+        ensures numbers { IfOk result (λ t. (place : ℕ) → number_at (numbers_of t) place
+            ≡ option_map (S.number_of spread.now) (S.key_at spread.now place)) }
+    {
+        let mut copy = self.blank()?;
+        for place in 0..self.len() {
+            if self.number(place).is_some() {
+                copy.list(place, spread.hash_place(place), None);
+            }
+        }
+        copy.thread();
+        Ok(copy)
     }
 
     /// Links all chains again by the numbers that the cells store. All heads must be empty before.

@@ -1,5 +1,5 @@
 //! `Hashed` and its calls. Each call finds out once which width the links have. Nothing here knows values.
-ghost use Rattle.std.specs.Prelude.{◌≡◌, ◌<◌, ◌≤◌, ◌-◌, ℕ, [], ◌++◌, length, None, Some, replicate, slice_set, IfSome, IfNone, IfOk, OnOk, OnErr, IsOk, IsSome};
+ghost use Rattle.std.specs.Prelude.{◌≡◌, ◌<◌, ◌≤◌, ◌-◌, ℕ, [], ◌++◌, length, None, Some, replicate, is_some, option_map, slice_set, IfSome, IfNone, IfOk, OnOk, OnErr, IsOk, IsSome};
 ghost use Rattle.bimap_base.specs.Places.{pairs_in, compacted};
 ghost use Rattle.bimap_chain.specs.Chains.{number_at, IsListed, AreNumbered, Matches};
 ghost use Rattle.bimap_chain.specs.Threads.{numbers_of, IsSound};
@@ -218,6 +218,24 @@ impl Hashed {
             ByWidth::Narrow(threads) => compacted_of(threads, to),
             ByWidth::Wide(threads) => compacted_of(threads, to),
         }
+    }
+
+    /// Returns an index of as many cells, which lists the same places. Each is listed under the present hash number of its key.
+    /// Hashes each key once, and compares none. Takes time linear in the number of cells.
+    ///
+    /// Allocates all cells at once. If it runs out of memory, it returns no index.
+    pub fn rehashed<S: Spread>(&self, spread: &S) -> Result<Self, NoMemory>
+        requires { (place : ℕ) → is_some (S.key_at spread.now place)
+            ≡ is_some (number_at self.now place) }
+        ensures cells { IfOk result (λ h. length h ≡ length self.now) }
+        ensures numbers { IfOk result (λ h. (place : ℕ) → number_at h place
+            ≡ option_map (S.number_of spread.now) (S.key_at spread.now place)) }
+    {
+        let by_width = match &self.by_width {
+            ByWidth::Narrow(threads) => ByWidth::Narrow(threads.rehashed(spread)?),
+            ByWidth::Wide(threads) => ByWidth::Wide(threads.rehashed(spread)?),
+        };
+        Ok(Hashed { by_width })
     }
 
     /// Removes all places. The cells stay.

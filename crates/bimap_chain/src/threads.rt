@@ -1,6 +1,6 @@
 //! The cells and the heads of a hashed index, and the reads and writes of each. The code here knows no keys, and follows no
 //! chain.
-ghost use Rattle.std.specs.Prelude.{◌≡◌, ◌<◌, ◌≤◌, ◌-◌, ◌++◌, [], length, None, Some, replicate, slice_set, slice_index_or, vec_capacity, OnOk, OnErr, IfSome, nat_eq};
+ghost use Rattle.std.specs.Prelude.{◌≡◌, ◌<◌, ◌≤◌, ◌-◌, ◌++◌, [], length, None, Some, replicate, slice_set, slice_index_or, vec_capacity, OnOk, OnErr, IfOk, IfSome, nat_eq};
 ghost use Rattle.std.specs.Option.{option_eq};
 ghost use Rattle.bimap_chain.specs.Cells.{free_cell};
 ghost use Rattle.bimap_chain.specs.Chains.{IsListed, Links, number_at};
@@ -59,6 +59,17 @@ impl<L: Link> Threads<L> {
             cells: Vec::new(alloc),
             heads: Vec::new(alloc),
         }
+    }
+
+    /// Returns threads of as many cells and heads as these. No place is listed, and all heads are empty. Allocates once for the cells
+    /// and once for the heads. If it runs out of memory, it returns no threads.
+    pub(crate) fn blank(&self) -> Result<Self, NoMemory>
+        ensures cells { IfOk result (λ t. t.cells ≡ replicate (length self.now.cells) free_cell) }
+        ensures heads { IfOk result (λ t. t.heads ≡ replicate (length self.now.heads) None) }
+    {
+        let mut threads = Threads::new(self.allocator());
+        threads.extend(self.cells.len(), self.heads.len())?;
+        Ok(threads)
     }
 
     /// Returns the number of cells.

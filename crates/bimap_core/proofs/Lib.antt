@@ -19,3 +19,5 @@ pub mod InOrder
 pub mod Below
 pub mod Writing
 pub mod Positions
+pub mod Cloning
+pub mod Moves

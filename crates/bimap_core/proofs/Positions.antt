@@ -89,7 +89,7 @@ module _ {P : Type 0} (slots : List (Option P)) (place : ℕ) where
       by None e here rest = rw (here, e) rest
       by (Some p) e here rest = rw (here, e) (ap (λ ps. p ∷ ps) rest)
 
-  one : (slots : List (Option P)) (p : P) (places : List ℕ) → pair_at slots place ≡ Some p → pairs_at slots (place ∷ places) ≡ p ∷ pairs_at slots places
+  pub one : (slots : List (Option P)) (p : P) (places : List ℕ) → pair_at slots place ≡ Some p → pairs_at slots (place ∷ places) ≡ p ∷ pairs_at slots places
   one slots p places is = rw is refl
 
   -- If a place was linked last, its pair is the last one.
@@ -100,7 +100,7 @@ module _ {P : Type 0} (slots : List (Option P)) (place : ℕ) where
       ∙ ap (λ ps. pairs_at slots places ++ ps) (one (written (Some p)) p [] (get_or-set_same slots place (Some p) None inside))
 
   module _ (q : P) (is : pair_at slots place ≡ Some q) (places : List ℕ) (distinct : AllPairs (λ a b. a ≢ b) places) where
-    stood_between : (before after : List ℕ) → places ≡ before ++ place ∷ after → pairs_at slots places ≡ pairs_at slots before ++ q ∷ pairs_at slots after
+    pub stood_between : (before after : List ℕ) → places ≡ before ++ place ∷ after → pairs_at slots places ≡ pairs_at slots before ++ q ∷ pairs_at slots after
     stood_between before after stood =
         ap (pairs_at slots) stood ∙ filter_map-append (pair_at slots) before (place ∷ after) ∙ ap (λ ps. pairs_at slots before ++ ps) (one slots q after is)
 
@@ -118,17 +118,21 @@ module _ {P : Type 0} (slots : List (Option P)) (place : ℕ) where
               ∙ ap (λ ps. pairs_at slots r.0 ++ ps) (one (written (Some p)) p r.1 (get_or-set_same slots place (Some p) None (live_within slots place q is)) ∙ ap (λ ps. p ∷ ps) (shown (Some p) r.1 off.1));
         }
 
-    -- Without the place, iteration shows the other pairs.
+    -- Without the place, iteration shows the pairs before it and those after it.
+    pub left_between : (x : Option P) (rest before after : List ℕ) → places ≡ before ++ place ∷ after → rest ≡ before ++ after → pairs_at (written x) rest ≡ pairs_at slots before ++ pairs_at slots after
+    left_between x rest before after stood left =
+        let off = around before after place (subst (AllPairs (λ a b. a ≢ b)) stood distinct) in
+        ap (pairs_at (written x)) left ∙ filter_map-append (pair_at (written x)) before after
+        ∙ ap (λ ps. ps ++ pairs_at (written x) after) (shown x before off.0)
+        ∙ ap (λ ps. pairs_at slots before ++ ps) (shown x after off.1)
+
     pub shown_without : (x : Option P) (rest : List ℕ) → IsTakenOut places place rest → IsTakenOut (pairs_at slots places) q (pairs_at (written x) rest)
     shown_without x rest out =
-        let off = around out.before out.after place (subst (AllPairs (λ a b. a ≢ b)) out.stood distinct) in
         record {
           before = pairs_at slots out.before;
           after = pairs_at slots out.after;
           stood = stood_between out.before out.after out.stood;
-          left = ap (pairs_at (written x)) out.left ∙ filter_map-append (pair_at (written x)) out.before out.after
-              ∙ ap (λ ps. ps ++ pairs_at (written x) out.after) (shown x out.before off.0)
-              ∙ ap (λ ps. pairs_at slots out.before ++ ps) (shown x out.after off.1);
+          left = left_between x rest out.before out.after out.stood out.left;
         }
 
     absent_after : (rest : List ℕ) → IsTakenOut places place rest → Contains rest place → ⊥

@@ -6,6 +6,7 @@ mod compact;
 mod copy;
 mod for_each;
 mod insert;
+mod insertion_order;
 mod intern;
 mod inverse;
 mod outlet;

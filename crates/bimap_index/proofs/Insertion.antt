@@ -12,7 +12,8 @@ use Rattle.bimap_base.specs.Keyed.{Drops}
 use Rattle.bimap_base.proofs.Members.{any_in, in_any}
 use Rattle.bimap_index.specs.ByInsertion.{ListsByInsertion}
 use Rattle.bimap_index.specs.Listed.{IsWithout}
-use Rattle.bimap_base.specs.Positions.{IsTakenOut}
+use Rattle.bimap_index.specs.Moves.{ComesFirst}
+use Rattle.bimap_base.specs.Positions.{ComesLast, IsTakenOut}
 
 -- If the places of one list are distinct and all in another list, the first list is no longer than the second.
 no_longer : (xs ys : List ℕ) → AllPairs (λ a b. a ≢ b) xs → ((p : ℕ) → Contains xs p → Contains ys p) → length xs ≤ length ys
@@ -32,7 +33,8 @@ module _ {X K : Type 0} (IsListing : X → (ℕ → Option K) → Type 0) (place
       let fewer = no_longer (places index) list (distinct index f listing.found) (λ p c. (listing.lists p).1 ((theirs p).0 c)) in
       omega (arith, more, fewer)
 
-split : (xs : List ℕ) (k x : ℕ) → slice_get xs k ≡ Some x → xs ≡ take k xs ++ x ∷ drop (suc k) xs
+-- A list is the elements before an index, the element there, and the elements after it.
+pub split : (xs : List ℕ) (k x : ℕ) → slice_get xs k ≡ Some x → xs ≡ take k xs ++ x ∷ drop (suc k) xs
 split [] k x is = cc
 split (y ∷ ys) zero x is = let e : y ≡ x = cc in ap (λ z. z ∷ ys) e
 split (y ∷ ys) (suc k) x is = ap (λ zs. y ∷ zs) (split ys k x is)
@@ -87,3 +89,14 @@ side_without g place q = cond (eqb q place) None (g q)
 
 pub is_without : {K : Type 0} (g : ℕ → Option K) (place : ℕ) → IsWithout (side_without g place) g place
 is_without g place = record { free = grind arith; others = λ q away. grind arith }
+
+-- A place was put at an end of the list.
+pub put_first : (old new : List ℕ) (place : ℕ) → Contains old place → ((k : ℕ) → slice_get old k ≡ Some place → new ≡ place ∷ remove old k) → ComesFirst old place new
+put_first old new place c moved =
+    let is = slice_get-get_or old c.0 place c.1 ∙ ap Some c.2 in
+    record { rest = remove old c.0; out = record { before = take c.0 old; after = drop (suc c.0) old; stood = split old c.0 place is; left = refl }; first = moved c.0 is }
+
+pub put_last : (old new : List ℕ) (place : ℕ) → Contains old place → ((k : ℕ) → slice_get old k ≡ Some place → new ≡ remove old k ++ place ∷ []) → ComesLast old place place new
+put_last old new place c moved =
+    let is = slice_get-get_or old c.0 place c.1 ∙ ap Some c.2 in
+    record { rest = remove old c.0; out = record { before = take c.0 old; after = drop (suc c.0) old; stood = split old c.0 place is; left = refl }; last = moved c.0 is }

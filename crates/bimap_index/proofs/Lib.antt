@@ -5,3 +5,4 @@ pub mod Grown
 pub mod Hashing
 pub mod Insertion
 pub mod Ranked
+pub mod Copied

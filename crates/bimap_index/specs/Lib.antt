@@ -6,3 +6,4 @@ pub mod OrderLaws
 pub mod HashLaws
 pub mod ByInsertion
 pub mod InsertionLaws
+pub mod Moves

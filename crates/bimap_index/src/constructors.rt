@@ -1,5 +1,5 @@
-//! Traits to make an index: an empty one, a copy, and one for a store that was compacted.
-ghost use Rattle.std.specs.Prelude.{◌≡◌, ◌≤◌, ◌+◌, ◌*◌, ℕ, List, Option, None, IfOk, IfErr, length};
+//! Traits to make an index: an empty one, a copy for a store of clones, and one for a store that was compacted.
+ghost use Rattle.std.specs.Prelude.{◌≡◌, ◌≤◌, ◌+◌, ◌*◌, ℕ, List, Option, None, IfOk, length};
 ghost use Rattle.bimap_base.specs.PairsAt.{pairs_at};
 ghost use Rattle.bimap_base.specs.Places.{pairs_in};
 ghost use Rattle.bimap_base.specs.Slots.{pair_at};
@@ -21,22 +21,24 @@ pub trait EmptyIndex<K: Eq>: Index<K> {
 /// or inside an `InsertionOrder`.
 pub trait DefaultIndex<K: Eq>: EmptyIndex<K> {}
 
-/// An index that can be made like another one.
+/// An index that can be copied for a store of the clones of the pairs.
 pub trait CopiedIndex<K: Eq>: Index<K> {
     /// The second index finds keys as a copy of the first one does. Its hash builder is a clone of the first one's, if
     /// there is one.
     ghost finds_as: { Self → Self → Type 0 };
 
-    /// Copying this index never runs out of memory.
-    ghost is_infallible: { Self → Type 0 };
-
-    /// Returns an index that lists no place and has no cells, and that finds keys as this index does. It allocates only
-    /// what cloning the hash builder allocates. If the hash builder cannot be cloned, there is no index.
-    fn copied(&self, alloc: Global) -> Result<Self, NoMemory>
-        ensures listing { IfOk result (λ index. Self.is_listing index (λ _. None)) }
-        ensures cells { IfOk result (λ index. Self.cells index ≡ 0) }
-        ensures finds { IfOk result (λ index. finds_as self.now index) }
-        ensures err { IfErr result (λ _. ¬ is_infallible self.now) };
+    /// Returns an index of the same places in the same order, with as many cells, that finds keys as this index does. It
+    /// compares no keys. Its time is linear in the number of cells. If it has a hash builder, it hashes each key once,
+    /// by the clone of the builder.
+    ///
+    /// It allocates all cells at once, and what cloning the hash builder allocates. If it runs out of memory, there is
+    /// no index.
+    fn copied<S: Side<K>>(&self, side: S) -> Result<Self, NoMemory>
+        requires listing { Self.is_listing self.now (S.key_at side) }
+        ensures listing { IfOk result (λ index. Self.is_listing index (S.key_at side)) }
+        ensures places { IfOk result (λ index. Self.places index ≡ Self.places self.now) }
+        ensures cells { IfOk result (λ index. Self.cells index ≡ Self.cells self.now) }
+        ensures finds { IfOk result (λ index. finds_as self.now index) };
 
     /// If a copy and a later index find keys by the same builder, the later index finds keys as the copy does.
     ghost finds_on: { (index copy later : Self) → Self.finds_by later ≡ Self.finds_by copy →

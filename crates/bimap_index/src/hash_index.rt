@@ -215,13 +215,15 @@ impl<K: Eq + Hash> DefaultIndex<K> for HashIndex<BuildHasherDefault<FoldHasher>>
 impl<K: Eq + Hash, B: BuildHasher + Clone> CopiedIndex<K> for HashIndex<B> {
     ghost finds_as = { λ h copy. B.is_clone h.builder copy.builder };
 
-    ghost is_infallible = { λ h. B.is_infallible h.builder };
-
     ghost finds_on = { λ h copy later same finds. subst (B.is_clone h.builder) (sym same) finds };
 
-    fn copied(&self, alloc: Global) -> Result<Self, NoMemory> {
+    // A clone of the builder may hash a key to another number.
+    fn copied<S: Side<K>>(&self, side: S) -> Result<Self, NoMemory> {
         let builder = self.builder.clone()?;
-        Ok(HashIndex::new(alloc, builder))
+        let hashed = self
+            .hashed
+            .rehashed::<ByHash<K, &K, S, B>>(&ByHash::new(side, &builder))?;
+        Ok(HashIndex { hashed, builder })
     }
 }
 

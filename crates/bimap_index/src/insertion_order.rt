@@ -1,11 +1,12 @@
 //! An index that iterates in the order in which its places were listed. It consists of a list of places and another
 //! index, which finds them.
-ghost use Rattle.std.specs.Prelude.{◌≡◌, ◌≢◌, ◌≤◌, ◌+◌, ◌*◌, ⊤, ℕ, Option, min, length, refl, IfSome, IfNone};
-ghost use Rattle.std.specs.List.{AllPairs};
+ghost use Rattle.std.specs.Prelude.{◌≡◌, ◌≢◌, ◌≤◌, ◌+◌, ◌*◌, ⊤, ℕ, Option, [], min, length, refl, IfSome, IfNone};
+ghost use Rattle.std.specs.List.{AllPairs, Contains};
 ghost use Rattle.std.specs.declared.cmp.Ordering.TheVariants.{Less};
 ghost use Rattle.bimap_index.specs.ByInsertion.{ListsByInsertion};
 ghost use Rattle.bimap_index.specs.Listed.{IsFoundBy, IsWithout};
-ghost use Rattle.bimap_base.specs.Positions.{IsTakenOut};
+ghost use Rattle.bimap_index.specs.Moves.{ComesFirst};
+ghost use Rattle.bimap_base.specs.Positions.{ComesLast, IsTakenOut};
 ghost use Rattle.bimap_list.specs.Ranks.{AreRanks};
 ghost use Rattle.bimap_index.specs.InsertionLaws.{insertion_respects, insertion_settled};
 
@@ -27,6 +28,18 @@ pub struct InsertionOrder<I> {
 }
 
 impl<I> InsertionOrder<I> {
+    /// Returns this index with an empty list, for an index that lists no place. Never allocates.
+    pub fn new(alloc: Global, index: I) -> Self
+        ensures index { result.index ≡ index }
+        ensures places { result.list.places ≡ [] }
+        ensures cells { result.list.cells ≡ 0 }
+    {
+        InsertionOrder {
+            index,
+            list: LinkedList::new(alloc),
+        }
+    }
+
     /// Returns the list of places, in the order in which they were listed.
     pub fn list(&self) -> &LinkedList
         ensures { result.now ≡ self.now.list }
@@ -49,8 +62,30 @@ impl<I> InsertionOrder<I> {
 }
 
 impl<I> InsertionOrder<I> {
-    // Returns the place whose key the look-up asks for, if there is one.
-    pub(crate) fn find_listed<K: Eq, S: Side<K>, Q: Query<K>, M: Meter>(
+    /// Puts a listed place before all others. The index that finds it stays as it is.
+    pub fn to_front(&mut self, place: usize)
+        requires { Contains self.old.list.places place }
+        ensures moved { ComesFirst self.old.list.places place self.new.list.places }
+        ensures distinct { AllPairs (λ a b. a ≢ b) self.new.list.places }
+        ensures index { self.new.index ≡ self.old.index }
+        ensures cells { self.new.list.cells ≡ self.old.list.cells }
+    {
+        self.list.to_front(place);
+    }
+
+    /// Puts a listed place after all others. The index that finds it stays as it is.
+    pub fn to_back(&mut self, place: usize)
+        requires { Contains self.old.list.places place }
+        ensures moved { ComesLast self.old.list.places place place self.new.list.places }
+        ensures distinct { AllPairs (λ a b. a ≢ b) self.new.list.places }
+        ensures index { self.new.index ≡ self.old.index }
+        ensures cells { self.new.list.cells ≡ self.old.list.cells }
+    {
+        self.list.to_back(place);
+    }
+
+    /// Returns the place whose key the look-up asks for, if there is one.
+    pub fn find_listed<K: Eq, S: Side<K>, Q: Query<K>, M: Meter>(
         &self,
         side: S,
         query: Q,
@@ -225,10 +260,7 @@ impl<K: Eq, I: Index<K>> Index<K> for InsertionOrder<I> {
 
 impl<K: Eq, I: EmptyIndex<K>> EmptyIndex<K> for InsertionOrder<I> {
     fn empty(alloc: Global) -> Self {
-        InsertionOrder {
-            index: I::empty(alloc),
-            list: LinkedList::new(alloc),
-        }
+        InsertionOrder::new(alloc, I::empty(alloc))
     }
 }
 
@@ -237,17 +269,13 @@ impl<K: Eq, I: DefaultIndex<K>> DefaultIndex<K> for InsertionOrder<I> {}
 impl<K: Eq, I: CopiedIndex<K> + Drop> CopiedIndex<K> for InsertionOrder<I> {
     ghost finds_as = { λ o copy. I.finds_as o.index copy.index };
 
-    ghost is_infallible = { λ o. I.is_infallible o.index };
-
     ghost finds_on = { λ o copy later same finds. I.finds_on o.index copy.index later.index same
         finds };
 
-    fn copied(&self, alloc: Global) -> Result<Self, NoMemory> {
-        let index = self.index.copied(alloc)?;
-        Ok(InsertionOrder {
-            index,
-            list: LinkedList::new(alloc),
-        })
+    fn copied<S: Side<K>>(&self, side: S) -> Result<Self, NoMemory> {
+        let index = self.index.copied(side)?;
+        let list = self.list.clone()?;
+        Ok(InsertionOrder { index, list })
     }
 }
 

@@ -191,12 +191,10 @@ impl<K: Ord> DefaultIndex<K> for Ordered {}
 impl<K: Ord> CopiedIndex<K> for Ordered {
     ghost finds_as = { λ o copy. ⊤ };
 
-    ghost is_infallible = { λ o. ⊤ };
-
     ghost finds_on = { λ o copy later same finds. tt };
 
-    fn copied(&self, alloc: Global) -> Result<Self, NoMemory> {
-        Ok(Ordered::new(alloc))
+    fn copied<S: Side<K>>(&self, _side: S) -> Result<Self, NoMemory> {
+        Ok(self.clone()?)
     }
 }
 

@@ -2,3 +2,4 @@ pub mod Held
 pub mod HeldTable
 pub mod Sorted
 pub mod Extraction
+pub mod Seeded

@@ -56,9 +56,7 @@ impl<L: Eq + Drop, R: Eq + Drop, I: EmptyIndex<L> + Drop, J: EmptyIndex<R> + Dro
 > {
     ghost use Rattle.bimap_kinds.specs.Held.{holding};
 
-    /// Returns a map of the items, for a map type whose hash builders implement `Default`.
-    ///
-    /// It inserts each item in order, as [`extend`](Self::extend) does.
+    /// Returns a map made by an `insert` of each item in order, for a map type whose hash builders implement `Default`.
     ///
     /// Condition: The iterator ends. If its `next` has a condition, it is true at each call of `next`.
     ///

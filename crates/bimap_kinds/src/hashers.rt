@@ -1,12 +1,13 @@
-//! Maps of two hashed sides with hash builders handed in.
+//! Maps with hash builders handed in, of each kind that has a hashed side.
 ghost use Rattle.std.specs.Prelude.{◌≡◌, [], IfOk, IfErr, IsOk};
 ghost use Rattle.std.specs.Iterator.{IsFiniteIterable};
 ghost use Rattle.bimap_any.specs.Extension.{IsExtension, IsExtensionStopped};
 ghost use Rattle.bimap_base.specs.Holding.{Holding};
 
-use crate::map::{BiHashMap, BijectiveMap};
+use crate::map::{BiBTreeHashMap, BiHashBTreeMap, BiHashMap, BiInsertionOrderMap, BijectiveMap};
 use bimap_base::{ExtendStopped, NoMemory};
-use bimap_index::HashIndex;
+use bimap_index::{HashIndex, InsertionOrder};
+use bimap_tree::Ordered;
 use std::alloc::Global;
 use std::hash::{BuildHasher, Hash};
 
@@ -60,9 +61,7 @@ impl<L: Eq + Hash, R: Eq + Hash, LS: BuildHasher, RS: BuildHasher> BiHashMap<L, 
         Ok(bimap)
     }
 
-    /// Returns a map of the items, with these hash builders.
-    ///
-    /// It inserts each item in order, as `extend` does.
+    /// Returns a map with these hash builders, made by an `insert` of each item in order.
     ///
     /// Condition: The iterator ends. If its `next` has a condition, it is true at each call of `next`.
     ///
@@ -97,5 +96,66 @@ impl<L: Eq + Hash, R: Eq + Hash, LS: BuildHasher, RS: BuildHasher> BiHashMap<L, 
     {
         let empty = BiHashMap::with_hashers(alloc, left_builder, right_builder);
         bimap_any::from_iter(empty, items)
+    }
+}
+
+impl<L: Ord, R: Eq + Hash, RS: BuildHasher> BiBTreeHashMap<L, R, RS> {
+    ghost use Rattle.bimap_kinds.specs.Held.{holding};
+
+    /// Returns an empty map of capacity 0, with this hash builder for the rights.
+    ///
+    /// Time: O(1).
+    ///
+    ///     let mut seats = BiBTreeHashMap::with_hasher(alloc, RandomState::new(&rt)?);
+    ///     seats.insert('a', 3); // Ok(Overwritten::Neither)
+    pub fn with_hasher(alloc: Global, right_builder: RS) -> Self
+        ensures pairs { (holding result).pairs ≡ [] }
+        ensures room { (holding result).room ≡ 0 }
+    {
+        let rights = HashIndex::new(alloc, right_builder);
+        BijectiveMap::over(alloc, Ordered::new(alloc), rights)
+    }
+}
+
+impl<L: Eq + Hash, R: Ord, LS: BuildHasher> BiHashBTreeMap<L, R, LS> {
+    ghost use Rattle.bimap_kinds.specs.Held.{holding};
+
+    /// Returns an empty map of capacity 0, with this hash builder for the lefts.
+    ///
+    /// Time: O(1).
+    ///
+    ///     let mut seats = BiHashBTreeMap::with_hasher(alloc, RandomState::new(&rt)?);
+    ///     seats.insert('a', 3); // Ok(Overwritten::Neither)
+    pub fn with_hasher(alloc: Global, left_builder: LS) -> Self
+        ensures pairs { (holding result).pairs ≡ [] }
+        ensures room { (holding result).room ≡ 0 }
+    {
+        let lefts = HashIndex::new(alloc, left_builder);
+        BijectiveMap::over(alloc, lefts, Ordered::new(alloc))
+    }
+}
+
+impl<L: Eq + Hash, R: Eq + Hash, LS: BuildHasher, RS: BuildHasher> BiInsertionOrderMap<
+    L,
+    R,
+    LS,
+    RS,
+> {
+    ghost use Rattle.bimap_kinds.specs.Held.{holding};
+
+    /// Returns an empty map of capacity 0, with these hash builders.
+    ///
+    /// Time: O(1).
+    ///
+    ///     let (left, right) = (RandomState::new(&rt)?, RandomState::new(&rt)?);
+    ///     let mut seats = BiInsertionOrderMap::with_hashers(alloc, left, right);
+    ///     seats.insert('a', 3); // Ok(Overwritten::Neither)
+    pub fn with_hashers(alloc: Global, left_builder: LS, right_builder: RS) -> Self
+        ensures pairs { (holding result).pairs ≡ [] }
+        ensures room { (holding result).room ≡ 0 }
+    {
+        let lefts = InsertionOrder::new(alloc, HashIndex::new(alloc, left_builder));
+        let rights = HashIndex::new(alloc, right_builder);
+        BijectiveMap::over(alloc, lefts, rights)
     }
 }

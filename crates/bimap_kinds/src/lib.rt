@@ -14,6 +14,7 @@ mod debug;
 mod ends;
 mod hashers;
 mod insert;
+mod insertion_order;
 mod inverse;
 mod look_up;
 mod loops;
@@ -22,6 +23,7 @@ mod map;
 mod remove;
 mod retain;
 mod room;
+mod seeded;
 mod subset;
 mod undo;
 mod walked_index;
@@ -30,4 +32,5 @@ mod walks;
 pub use map::{
     BiBTreeHashMap, BiBTreeMap, BiHashBTreeMap, BiHashMap, BiInsertionOrderMap, BijectiveMap,
 };
+pub use seeded::Seeded;
 pub use walked_index::WalkedIndex;

@@ -89,7 +89,7 @@ impl<'a, L: Eq + Drop, R: Eq + Drop, I: Index<L>, J: Index<R>> IntoIterator
     type IntoIter = by_insertion::Iter<'a, L, R>;
 
     ghost into_iter_gives = { λ m r. (r ≡ (holding m.now).pairs)
-        × ShowsInOrder (deref_pair {K = L} {X = R}) };
+        × ShowsInOrder (deref_pair {K = L} {X = R}) × ShowsInReverse (deref_pair {K = L} {X = R}) };
 
     fn into_iter(self) -> by_insertion::Iter<'a, L, R> {
         self.iter()
@@ -105,7 +105,8 @@ impl<L: Eq + Drop, R: Eq + Drop, I: Index<L> + Drop, J: Index<R> + Drop> IntoIte
 
     type IntoIter = by_insertion::IntoIter<L, R>;
 
-    ghost into_iter_gives = { λ m r. (r ≡ (holding m).pairs) × GivesInOrder (L × R) };
+    ghost into_iter_gives = { λ m r. (r ≡ (holding m).pairs) × GivesInOrder (L × R)
+        × GivesInReverse (L × R) };
 
     fn into_iter(self) -> by_insertion::IntoIter<L, R> {
         let Table { pairs, left, .. } = self.into_table();

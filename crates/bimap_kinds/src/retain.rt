@@ -31,7 +31,7 @@ impl<L: Eq + Drop, R: Eq + Drop, I: WalkedIndex<L>, J: Index<R>> BijectiveMap<L,
         I::partition_ordered(&mut self.table, false, f, &mut Dropped, &mut Count::new());
     }
 
-    /// Moves the pairs for which the closure returns true to the end of a `Vec`.
+    /// Moves to the end of a `Vec` the pairs for which the closure returns true.
     ///
     /// The closure is called once on each pair, in the order of [`iter`](Self::iter). The capacity of the map stays.
     ///

@@ -8,7 +8,7 @@ use bimap_index::{CompactedIndex, Index};
 impl<L: Eq, R: Eq, I: Index<L>, J: Index<R>> BijectiveMap<L, R, I, J> {
     ghost use Rattle.bimap_kinds.specs.Held.{holding};
 
-    /// Grows the capacity to exactly the length plus `more`, unless it is that or more.
+    /// Grows the capacity to exactly the length plus `more`, unless it is that large already.
     ///
     /// After an `Ok`, the next `more` insertions cannot run out of memory.
     ///

@@ -22,7 +22,7 @@ impl<L: Eq + Drop, R: Eq + Drop, I: Index<L>, J: Index<R>> BijectiveMap<L, R, I,
     ///
     /// Time: O(log n) with an ordered side, expected O(1) with two hashed sides. O(capacity) when the capacity grows.
     ///
-    /// Memory: It allocates only to put back `Both` when the capacity is used up. The capacity then doubles, to at
+    /// Memory: It allocates only to put back two pairs when the capacity is used up. The capacity then doubles, to at
     /// least 4.
     ///
     /// `Err`: Out of memory. It hands the answer back, and the map is as before.

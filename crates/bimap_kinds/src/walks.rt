@@ -21,8 +21,8 @@ use std::ops::{Bound, RangeBounds};
 impl<L: Eq, R: Eq, I: WalkedIndex<L>, J: Index<R>> BijectiveMap<L, R, I, J> {
     /// Returns an iterator over the pairs, each as `(&L, &R)`.
     ///
-    /// With an ordered left it goes in ascending order of the lefts, and also from the back. A `BiInsertionOrderMap`
-    /// iterates in insertion order. Any other hashed left is iterated in the order of the places, which no contract
+    /// With an ordered left it goes in ascending order of the lefts. A `BiInsertionOrderMap` iterates in insertion order.
+    /// Both also go from the back. Any other hashed left is iterated in the order of the places, which no contract
     /// promises.
     ///
     /// Time: O(1) for the call, O(log n) at most for a step with an ordered left, and O(1) for a step of a

@@ -1,5 +1,5 @@
 -- A ring of cells, in which one place is appended or removed.
-use Rattle.std.proofs.Common.{◌≡◌, ◌≢◌, ℕ, zero, suc, ◌+◌, ◌-◌, ◌<◌, ◌≤◌, List, [], ◌∷◌, ◌++◌, length, get_or, replicate, take, Some, map, refl, sym, ap, subst, ◌∙◌, inl, inr, arith, eqb, add-one, length-append, length-set, get_or-set_same, get_or-set_other}
+use Rattle.std.proofs.Common.{◌≡◌, ◌≢◌, ℕ, zero, suc, ◌+◌, ◌-◌, ◌<◌, ◌≤◌, List, [], ◌∷◌, ◌++◌, length, get_or, replicate, take, Some, None, map, refl, sym, ap, subst, ◌∙◌, inl, inr, arith, eqb, add-one, length-append, length-set, get_or-set_same, get_or-set_other}
 use Rattle.std.specs.Prelude.{slice_get, slice_index_or, slice_set}
 use Rattle.std.specs.List.{All, AllPairs, Contains, remove}
 use Rattle.std.proofs.lemmas.Bool.{cases_eq}
@@ -29,6 +29,12 @@ heads x xs distinct k d inside = distinct 0 (suc k) d (omega arith) (omega (arit
 
 distinct_pushed : (xs : List ℕ) (p : ℕ) → AllPairs (λ a b. a ≢ b) xs → (Contains xs p → ⊥) → AllPairs (λ a b. a ≢ b) (xs ++ p ∷ [])
 distinct_pushed xs p distinct absent = all_pairs_push (λ a b. a ≢ b) xs p distinct (λ k d inside e. absent (k, inside, get_or_default xs k p d inside ∙ e))
+
+distinct_first : (xs : List ℕ) (p : ℕ) → AllPairs (λ a b. a ≢ b) xs → (Contains xs p → ⊥) → AllPairs (λ a b. a ≢ b) (p ∷ xs)
+distinct_first xs p distinct absent zero zero d before inside = absurd (omega (arith, before))
+distinct_first xs p distinct absent zero (suc j) d before inside = λ e. absent (j, omega (arith, inside), get_or_default xs j p d (omega (arith, inside)) ∙ sym e)
+distinct_first xs p distinct absent (suc i) zero d before inside = absurd (omega (arith, before))
+distinct_first xs p distinct absent (suc i) (suc j) d before inside = distinct i j d (omega (arith, before)) (omega (arith, inside))
 
 All-removed : (P : ℕ → Type 0) (xs : List ℕ) (k : ℕ) → All P xs → All P (remove xs k)
 All-removed P xs k all = All-append P _ _ (All-take P k xs all) (All-drop P (suc k) xs all)
@@ -98,6 +104,21 @@ module _ (cells : List (Links ℕ)) where
   read_after (p ∷ ps) from zero place linked is = let e : p ≡ place = cc in subst (λ q. place_of (next_at cells (q + 1)) ≡ slice_get ps 0) e (head_after ps (p + 1) linked.1)
   read_after (p ∷ ps) from (suc k) place linked is = read_after ps (p + 1) k place linked.1 is
 
+  -- These places are read before a cell.
+  pub read_last : (ps : List ℕ) (from to p : ℕ) → LeadsThrough cells from (p ∷ ps) to → place_of (previous_at cells to) ≡ slice_get (p ∷ ps) (length ps)
+  read_last [] from to p linked = ap place_of (linked.1.1 ∙ add-one p)
+  read_last (q ∷ qs) from to p linked = read_last qs (p + 1) to q linked.1
+
+  pub read_before : (ps : List ℕ) (from k place : ℕ) → LeadsThrough cells from ps 0 → slice_get ps (suc k) ≡ Some place → place_of (previous_at cells (place + 1)) ≡ slice_get ps k
+  read_before [] from k place linked is = cc
+  read_before (p ∷ []) from k place linked is = cc
+  read_before (p ∷ q ∷ qs) from zero place linked is = let e : q ≡ place = cc in subst (λ r. place_of (previous_at cells (r + 1)) ≡ Some p) e (ap place_of (linked.1.0.1 ∙ add-one p))
+  read_before (p ∷ q ∷ qs) from (suc k) place linked is = read_before (q ∷ qs) (p + 1) k place linked.1 is
+
+  pub none_before : (ps : List ℕ) (place : ℕ) → LeadsThrough cells 0 ps 0 → slice_get ps 0 ≡ Some place → place_of (previous_at cells (place + 1)) ≡ None
+  none_before [] place linked is = cc
+  none_before (p ∷ ps) place linked is = let e : p ≡ place = cc in subst (λ r. place_of (previous_at cells (r + 1)) ≡ None) e (ap place_of linked.0.1)
+
 -- The cells of the places and cell 0 have the same links in another list of cells.
 pub same_cells : (old new : List (Links ℕ)) (bound : ℕ) → ((cell : ℕ) → cell ≤ bound → slice_index_or new cell unlinked ≡ slice_index_or old cell unlinked) → (ps : List ℕ) (from to : ℕ) → from ≤ bound → to ≤ bound → All (λ p. p < bound) ps → LeadsThrough old from ps to → LeadsThrough new from ps to
 same_cells old new bound same [] from to first last below linked = (ap (λ c. c.next) (same from first) ∙ linked.0, ap (λ c. c.previous) (same to last) ∙ linked.1)
@@ -126,6 +147,42 @@ module _ (old mid new : List (Links ℕ)) (place : ℕ) (first : IsJoined old (p
           second.previous_kept (p + 1) (λ e. absurd (omega (arith, e))) ∙ first.previous_kept (p + 1) (λ e. other (omega (arith, e))) ∙ linked.0.1,
         ),
         appended ps (p + 1) linked.1 (λ e. other (omega (arith, e))) (λ c. absent (more_in p ps place c)),
+      )
+
+-- A place is put before all others.
+module _ (old mid new : List (Links ℕ)) (place : ℕ) (first : IsJoined old (place + 1) (next_at old 0) mid) (second : IsJoined mid 0 (place + 1) new) where
+  link_behind : (from to : ℕ) → Leads old from to → from ≢ 0 → from ≢ place + 1 → to ≢ next_at old 0 → to ≢ place + 1 → Leads new from to
+  link_behind from to leads some away front other = (
+    second.next_kept from some ∙ first.next_kept from away ∙ leads.0,
+    second.previous_kept to other ∙ first.previous_kept to front ∙ leads.1,
+  )
+
+  behind : (ps : List ℕ) (from : ℕ) → LeadsThrough old from ps 0 → from ≢ 0 → from ≢ place + 1 → 0 ≢ next_at old 0 → All (λ q. q + 1 ≢ next_at old 0) ps → (Contains ps place → ⊥) → LeadsThrough new from ps 0
+  behind [] from linked some away front fronts absent = link_behind from 0 linked some away front (λ e. absurd (omega (arith, e)))
+  behind (p ∷ ps) from linked some away front fronts absent =
+      let other : p + 1 ≢ place + 1 = λ e. absent (subst (Contains (p ∷ ps)) (omega (arith, e)) (head_in p ps)) in (
+        link_behind from (p + 1) linked.0 some away (All-head (λ q. q + 1 ≢ next_at old 0) p ps fronts) other,
+        behind ps (p + 1) linked.1 (λ e. absurd (omega (arith, e))) other front (All-tail (λ q. q + 1 ≢ next_at old 0) p ps fronts) (λ c. absent (more_in p ps place c)),
+      )
+
+  -- The new cell leads to the cell that was the first.
+  leads_on : (cell : ℕ) → next_at old 0 ≡ cell → cell ≢ place + 1 → Leads new (place + 1) cell
+  leads_on cell is other = subst (Leads new (place + 1)) is (
+    second.next_kept (place + 1) (λ e. absurd (omega (arith, e))) ∙ first.leads.0,
+    second.previous_kept (next_at old 0) (λ e. other (sym is ∙ e)) ∙ first.leads.1,
+  )
+
+  put_first : (ps : List ℕ) → LeadsThrough old 0 ps 0 → AllPairs (λ a b. a ≢ b) ps → (Contains ps place → ⊥) → LeadsThrough new 0 (place ∷ ps) 0
+  put_first [] linked distinct absent = (second.leads, leads_on 0 linked.0 (λ e. absurd (omega (arith, e))))
+  put_first (p ∷ ps) linked distinct absent =
+      let is = linked.0.0 in
+      let other : p + 1 ≢ place + 1 = λ e. absent (subst (Contains (p ∷ ps)) (omega (arith, e)) (head_in p ps)) in (
+        second.leads,
+        (
+          leads_on (p + 1) is other,
+          behind ps (p + 1) linked.1 (λ e. absurd (omega (arith, e))) other (λ e. absurd (omega (arith, e, is)))
+              (All-weaker (λ q. p ≢ q) (λ q. q + 1 ≢ next_at old 0) (λ q away e. away (omega (arith, e, is))) ps (heads p ps distinct)) (λ c. absent (more_in p ps place c)),
+        ),
       )
 
 -- A place is removed.
@@ -233,6 +290,24 @@ module _ (cells : List (Links ℕ)) (l : Listing) (whole : IsRing cells (places_
           within = subst (λ n. All (λ p. p + 1 < n) (l.places ++ place ∷ [])) (sym long) (All-push (λ p. p + 1 < length cells) l.places place ring_of.within (omega (arith, inside, cells_of)));
         }
 
+  -- The cell after cell 0, as it is read.
+  module _ (links : Links ℕ) (some : 0 < l.cells) (read : links ≡ get_or cells 0 links) where
+    next_at_start : next_at cells 0 ≡ links.next
+    next_at_start = ap (λ c. c.next) (get_or_default cells 0 unlinked links (omega (arith, some, cells_of)) ∙ sym read)
+
+    pub first_within : links.next < length cells
+    first_within =
+        let first = first_of cells (λ cell. cell < length cells) l.places 0 0 ring_of.linked ring_of.within (omega (arith, some, cells_of)) in
+        subst (λ cell. cell < length cells) (sym first.1.0 ∙ next_at_start) first.2
+
+    pub pushed_first : (mid new : List (Links ℕ)) (place : ℕ) → place < l.cells → (Contains l.places place → ⊥) → IsJoined cells (place + 1) links.next mid → IsJoined mid 0 (place + 1) new → length new ≡ length cells → IsRing new (place ∷ l.places)
+    pushed_first mid new place inside absent first second long =
+        record {
+          linked = put_first cells mid new place (subst (λ cell. IsJoined cells (place + 1) cell mid) (sym next_at_start) first) second l.places ring_of.linked ring_of.distinct absent;
+          distinct = distinct_first l.places place ring_of.distinct absent;
+          within = subst (λ n. All (λ p. p + 1 < n) (place ∷ l.places)) (sym long) (All-cons (λ p. p + 1 < length cells) place l.places (omega (arith, inside, cells_of)) ring_of.within);
+        }
+
   -- The cells before and after the cell of a place, as they are read.
   module _ (links : Links ℕ) (k place : ℕ) (here : slice_get l.places k ≡ Some place) (read : links ≡ get_or cells (place + 1) links) where
     pub at_place : slice_index_or cells (place + 1) unlinked ≡ links
@@ -330,6 +405,25 @@ module _ {N : Type 0} (value : N → ℕ) (xs : List (Links N)) where
     pushed_there x d some r from last mid new place inside absent first second long =
         pushed (told value xs) l whole is (links_in value x) some (cell_0 x d some r) (told value mid) (told value new) place inside absent
         (subst (λ from. IsJoined (told value xs) from (place + 1) (told value mid)) last first) second (length-map new (links_in value) ∙ long ∙ sym as_many)
+
+    pub first_inside : (x d : Links N) → 0 < l.cells → x ≡ get_or xs 0 d → value x.next < length xs
+    first_inside x d some r = omega (arith, first_within (told value xs) l whole is (links_in value x) some (cell_0 x d some r), as_many)
+
+    pub pushed_before : (x d : Links N) (some : 0 < l.cells) (r : x ≡ get_or xs 0 d) (to : ℕ) → to ≡ value x.next → (mid new : List (Links N)) (place : ℕ) → place < l.cells → (Contains l.places place → ⊥) → IsJoined (told value xs) (place + 1) to (told value mid) → IsJoined (told value mid) 0 (place + 1) (told value new) → length new ≡ length xs → IsRing (told value new) (place ∷ l.places)
+    pushed_before x d some r to first mid new place inside absent joined second long =
+        pushed_first (told value xs) l whole is (links_in value x) some (cell_0 x d some r) (told value mid) (told value new) place inside absent
+        (subst (λ to. IsJoined (told value xs) (place + 1) to (told value mid)) first joined) second (length-map new (links_in value) ∙ long ∙ sym as_many)
+
+    -- The last place is read at cell 0.
+    pub last_read : (x d : Links N) → 0 < length xs → x ≡ get_or xs 0 d → place_of (value x.previous) ≡ slice_get l.places (length l.places - 1)
+    last_read x d some r =
+        let ring = ring_of (told value xs) l whole is in
+        let cell = read 0 x d unlinked some r in
+        ap (λ c. place_of (Links.previous c)) cell ∙ by l.places ring.linked
+      where
+        by : (ps : List ℕ) → LeadsThrough (told value xs) 0 ps 0 → place_of (previous_at (told value xs) 0) ≡ slice_get ps (length ps - 1)
+        by [] linked = ap place_of linked.1
+        by (p ∷ ps) linked = let e : length (p ∷ ps) - 1 ≡ length ps = omega arith in read_last (told value xs) ps 0 0 p linked ∙ ap (slice_get (p ∷ ps)) (sym e)
 
     -- The cells before and after the cell of a place.
     module _ (x d : Links N) (k place : ℕ) (here : slice_get l.places k ≡ Some place) (r : x ≡ get_or xs (place + 1) d) where

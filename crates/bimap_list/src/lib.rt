@@ -1,6 +1,7 @@
-//! A doubly linked list of places, in the order in which they were appended. It knows no values and no keys.
+//! A doubly linked list of places, in the order in which they were appended or moved to an end. It knows no values and no
+//! keys.
 //!
-//! Each call takes constant time, except `grow` and `ranks`. These two are also the only calls that allocate.
+//! Each call takes constant time, except `grow`, `ranks` and `clone`. These three are also the only calls that allocate.
 #![tactic(auto)]
 
 mod cell_number;

@@ -1,11 +1,11 @@
 //! `LinkedList` and its calls. Each call finds out once which width the links have.
-ghost use Rattle.std.specs.Prelude.{◌≡◌, ◌≢◌, ℕ, ◌+◌, ◌<◌, ◌≤◌, ◌++◌, ◌∷◌, [], length, max, slice_get, Some, IsOk, OnOk, OnErr};
+ghost use Rattle.std.specs.Prelude.{◌≡◌, ◌≢◌, ℕ, ◌+◌, ◌<◌, ◌≤◌, ◌-◌, ◌++◌, ◌∷◌, [], length, max, slice_get, Some, None, IsOk, OnOk, OnErr};
 ghost use Rattle.std.specs.List.{AllPairs, Contains, remove};
 ghost use Rattle.bimap_base.specs.Keyed.{Drops};
 
 use crate::ring::Ring;
 use bimap_base::NoMemory;
-use std::alloc::Global;
+use std::alloc::{AllocError, Global};
 use std::marker::Model;
 
 // From this count of places on, links of four bytes are too narrow.
@@ -132,6 +132,36 @@ impl LinkedList {
         }
     }
 
+    /// Puts a place of the list before all others.
+    #[inline(always)]
+    pub fn to_front(&mut self, place: usize)
+        requires { Contains self.old.places place }
+        ensures places { (k : ℕ) → slice_get self.old.places k ≡ Some place →
+            self.new.places ≡ place ∷ remove self.old.places k }
+        ensures cells { self.new.cells ≡ self.old.cells }
+        ensures distinct { AllPairs (λ a b. a ≢ b) self.new.places }
+    {
+        match &mut self.by_width {
+            ByWidth::Narrow(ring) => ring.to_front(place),
+            ByWidth::Wide(ring) => ring.to_front(place),
+        }
+    }
+
+    /// Puts a place of the list after all others.
+    #[inline(always)]
+    pub fn to_back(&mut self, place: usize)
+        requires { Contains self.old.places place }
+        ensures places { (k : ℕ) → slice_get self.old.places k ≡ Some place →
+            self.new.places ≡ remove self.old.places k ++ place ∷ [] }
+        ensures cells { self.new.cells ≡ self.old.cells }
+        ensures distinct { AllPairs (λ a b. a ≢ b) self.new.places }
+    {
+        match &mut self.by_width {
+            ByWidth::Narrow(ring) => ring.to_back(place),
+            ByWidth::Wide(ring) => ring.to_back(place),
+        }
+    }
+
     /// Removes all places from the list. The cells stay.
     pub fn clear(&mut self)
         ensures places { self.new.places ≡ [] }
@@ -165,5 +195,43 @@ impl LinkedList {
             ByWidth::Narrow(ring) => ring.after(place),
             ByWidth::Wide(ring) => ring.after(place),
         }
+    }
+    /// Returns the last place, or `None` if the list is empty.
+    #[inline(always)]
+    pub fn last(&self) -> Option<usize>
+        ensures { result ≡ slice_get self.now.places (length self.now.places - 1) }
+    {
+        match &self.by_width {
+            ByWidth::Narrow(ring) => ring.last(),
+            ByWidth::Wide(ring) => ring.last(),
+        }
+    }
+
+    /// Returns the place before `place` in the list, or `None` if `place` is the first.
+    #[inline(always)]
+    pub fn before(&self, place: usize) -> Option<usize>
+        requires { Contains self.now.places place }
+        ensures between { (k : ℕ) → slice_get self.now.places (k + 1) ≡ Some place →
+            result ≡ slice_get self.now.places k }
+        ensures first { slice_get self.now.places 0 ≡ Some place → result ≡ None }
+    {
+        match &self.by_width {
+            ByWidth::Narrow(ring) => ring.before(place),
+            ByWidth::Wide(ring) => ring.before(place),
+        }
+    }
+}
+
+impl Clone for LinkedList {
+    ghost is_clone = { λ list copy. copy ≡ list };
+
+    /// Returns a list of the same places in the same order, with as many cells. Takes time linear in the number of cells, and
+    /// allocates all cells at once. If it runs out of memory, it returns no list.
+    fn clone(&self) -> Result<Self, AllocError> {
+        let by_width = match &self.by_width {
+            ByWidth::Narrow(ring) => ByWidth::Narrow(ring.clone()?),
+            ByWidth::Wide(ring) => ByWidth::Wide(ring.clone()?),
+        };
+        Ok(LinkedList { by_width })
     }
 }

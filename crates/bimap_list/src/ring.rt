@@ -1,12 +1,12 @@
 //! A ring of cells whose links all have the same width.
-ghost use Rattle.std.specs.Prelude.{◌≡◌, ◌≢◌, ℕ, ◌+◌, ◌<◌, ◌≤◌, ◌++◌, ◌∷◌, [], length, slice_get, Some, OnOk, OnErr, IfOk};
+ghost use Rattle.std.specs.Prelude.{◌≡◌, ◌≢◌, ℕ, ◌+◌, ◌<◌, ◌≤◌, ◌-◌, ◌++◌, ◌∷◌, [], length, slice_get, Some, None, OnOk, OnErr, IfOk};
 ghost use Rattle.std.specs.List.{AllPairs, Contains, remove};
 ghost use Rattle.bimap_base.specs.Keyed.{Drops};
 ghost use Rattle.bimap_list.specs.Ring.{IsJoined, links_in, place_of, told, unlinked};
 
 use crate::cell_number::CellNumber;
 use bimap_base::NoMemory;
-use std::alloc::Global;
+use std::alloc::{AllocError, Global};
 use std::marker::Model;
 
 /// A cell of the ring. It stores the numbers of the cells before and after it. A cell takes 8 bytes if a number has four bytes,
@@ -164,6 +164,20 @@ impl<N: CellNumber> Ring<N> {
         join(&mut self.cells, place + 1, 0);
     }
 
+    /// Puts a place before all others.
+    #[inline(always)]
+    pub(crate) fn push_front(&mut self, place: usize)
+        requires cell { place < self.old.cells }
+        requires absent { Contains self.old.places place → ⊥ }
+        ensures places { self.new.places ≡ place ∷ self.old.places }
+        ensures cells { self.new.cells ≡ self.old.cells }
+        ensures distinct { AllPairs (λ a b. a ≢ b) self.new.places }
+    {
+        let first = self.cells[0].next;
+        join(&mut self.cells, place + 1, first.get());
+        join(&mut self.cells, 0, place + 1);
+    }
+
     /// Removes a place from the ring.
     #[inline(always)]
     pub(crate) fn remove(&mut self, place: usize)
@@ -172,10 +186,37 @@ impl<N: CellNumber> Ring<N> {
             self.new.places ≡ remove self.old.places k }
         ensures drops { Drops self.old.places place self.new.places }
         ensures cells { self.new.cells ≡ self.old.cells }
+        ensures cell { place < self.new.cells }
         ensures distinct { AllPairs (λ a b. a ≢ b) self.new.places }
     {
         let Links { previous, next } = self.cells[place + 1];
         join(&mut self.cells, previous.get(), next.get());
+    }
+
+    /// Puts a place of the ring before all others.
+    #[inline(always)]
+    pub(crate) fn to_front(&mut self, place: usize)
+        requires { Contains self.old.places place }
+        ensures places { (k : ℕ) → slice_get self.old.places k ≡ Some place →
+            self.new.places ≡ place ∷ remove self.old.places k }
+        ensures cells { self.new.cells ≡ self.old.cells }
+        ensures distinct { AllPairs (λ a b. a ≢ b) self.new.places }
+    {
+        self.remove(place);
+        self.push_front(place);
+    }
+
+    /// Puts a place of the ring after all others.
+    #[inline(always)]
+    pub(crate) fn to_back(&mut self, place: usize)
+        requires { Contains self.old.places place }
+        ensures places { (k : ℕ) → slice_get self.old.places k ≡ Some place →
+            self.new.places ≡ remove self.old.places k ++ place ∷ [] }
+        ensures cells { self.new.cells ≡ self.old.cells }
+        ensures distinct { AllPairs (λ a b. a ≢ b) self.new.places }
+    {
+        self.remove(place);
+        self.push_back(place);
     }
 
     /// Removes all places from the ring. The cells stay.
@@ -207,5 +248,36 @@ impl<N: CellNumber> Ring<N> {
             result ≡ slice_get self.now.places (k + 1) }
     {
         place_of(self.cells[place + 1].next)
+    }
+    /// Returns the last place, or `None` if the ring has no place.
+    #[inline(always)]
+    pub(crate) fn last(&self) -> Option<usize>
+        ensures { result ≡ slice_get self.now.places (length self.now.places - 1) }
+    {
+        if self.cells.is_empty() {
+            return None;
+        }
+        place_of(self.cells[0].previous)
+    }
+
+    /// Returns the place before `place` in the ring, or `None` if `place` is the first.
+    #[inline(always)]
+    pub(crate) fn before(&self, place: usize) -> Option<usize>
+        requires { Contains self.now.places place }
+        ensures between { (k : ℕ) → slice_get self.now.places (k + 1) ≡ Some place →
+            result ≡ slice_get self.now.places k }
+        ensures first { slice_get self.now.places 0 ≡ Some place → result ≡ None }
+    {
+        place_of(self.cells[place + 1].previous)
+    }
+}
+
+impl<N: CellNumber> Clone for Ring<N> {
+    ghost is_clone = { λ ring copy. copy ≡ ring };
+
+    /// Returns a ring of the same places, with as many cells. Allocates all cells at once.
+    fn clone(&self) -> Result<Self, AllocError> {
+        let cells = Vec::from_slice(*self.cells.allocator(), &self.cells)?;
+        Ok(Ring { cells })
     }
 }

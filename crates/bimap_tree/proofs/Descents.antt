@@ -1,5 +1,5 @@
 -- The invariants of loops down a tree. They say what the loop has cost, and what it finds from the present position.
-use Rattle.std.proofs.Common.{◌≡◌, ◌≢◌, ℕ, ◌+◌, ◌-◌, ◌*◌, ◌≤◌, ◌<◌, ◌^◌, Bool, true, false, List, Option, Some, None, length, subst, refl, sym, ◌∙◌, ap, arith, inl, inr}
+use Rattle.std.proofs.Common.{◌≡◌, ◌≢◌, ℕ, ◌+◌, ◌-◌, ◌*◌, ◌≤◌, ◌<◌, ◌^◌, Bool, true, false, cond, List, Option, Some, None, length, subst, refl, sym, ◌∙◌, ap, arith, inl, inr}
 use Rattle.std.proofs.Math.Nat.{mul-le-mul_left, mul-suc}
 use Rattle.std.specs.Prelude.{slice_get}
 use Rattle.std.specs.Ordering.{is_eq, is_lt}
@@ -79,6 +79,15 @@ module _ (ns : List Node) (top : Option ℕ) (each before : ℕ) where
             let (s, k, few) = c.within t h in
             let (near, st, low) = near_stands s k in
             omega (arith, height_told ns root s k, height_told ns next near (Stands-at ns (near_of direction node) next near (sym e) st))
+
+-- A level costs three touches at most, and one if the search does not look ahead.
+pub reads_within : (ahead : Bool) (levels : ℕ) → (1 + cond ahead 2 0) * levels ≤ 3 * levels
+reads_within true levels = omega arith
+reads_within false levels = omega arith
+
+pub reads_alone : (ahead : Bool) (levels : ℕ) → ahead ≡ false → (1 + cond ahead 2 0) * levels ≡ levels
+reads_alone true levels off = cc
+reads_alone false levels off = omega arith
 
 -- ---- What a descent finds.
 module _ (ns : List Node) (live : ℕ → Type 0) (go : ℕ → Ordering) where

@@ -44,8 +44,10 @@ pub fn route_in_tree<S: SearchKey, M: Meter>(
         M.touches meter.new ≤ M.touches meter.old + height s }
 {
     match cells {
-        Cells::Narrow(nodes) => route::route_in_tree(nodes, root, depth, sought, route, meter),
-        Cells::Wide(nodes) => route::route_in_tree(nodes, root, depth, sought, route, meter),
+        Cells::Narrow(nodes) => route::route_in_tree(
+            nodes, root, depth, sought, false, route, meter,
+        ),
+        Cells::Wide(nodes) => route::route_in_tree(nodes, root, depth, sought, false, route, meter),
     }
 }
 
@@ -69,7 +71,7 @@ pub fn route_from_first<S: SearchKey, M: Meter>(
     ensures comparisons { (t : Tree) → Stands (nodes_in cells.now) root t → IsBalanced t →
         M.comparisons meter.new ≤ M.comparisons meter.old + most_height (size t) }
     ensures touches { (t : Tree) → Stands (nodes_in cells.now) root t →
-        M.touches meter.new ≤ M.touches meter.old + 2 * height t }
+        M.touches meter.new ≤ M.touches meter.old + 4 * height t }
 {
     match cells {
         Cells::Narrow(nodes) => route::route_from_first(

@@ -115,5 +115,13 @@ pub fn finish_in_tree<C: Cell, S: SearchKey, M: Meter>(
     if descent.is_found {
         return descent.root;
     }
-    route_in_tree(cells, descent.root, descent.depth, sought, route, meter)
+    route_in_tree(
+        cells,
+        descent.root,
+        descent.depth,
+        sought,
+        false,
+        route,
+        meter,
+    )
 }

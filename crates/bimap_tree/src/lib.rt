@@ -1,6 +1,7 @@
 //! An index of places in the order of their keys. It is a balanced tree over cells, and compares keys only through `Keys`.
 #![tactic(auto)]
 
+mod ahead;
 mod batch;
 mod by_width;
 mod descent;

@@ -14,6 +14,8 @@ ghost use Rattle.bimap_tree.specs.IndexView.{IsBalancedIndex};
 ghost use Rattle.bimap_tree.specs.Route.{IsRoute};
 ghost use Rattle.bimap_tree.specs.Spans.{IsCut};
 
+mod copy;
+
 use crate::by_width::{
     fill_around, place_in_tree, put_at, rank_in_tree, route_from_first, route_in_tree, take_at,
 };
@@ -37,6 +39,8 @@ pub struct Ordered {
     // Whether the last removed place was probably the first one. If it was, the next removal tries the first place before it
     // searches.
     takes_first: bool,
+    // What the last removal has read ahead, as a number that means nothing. The compiler keeps the reads because it is stored.
+    seen: usize,
 }
 
 impl Model for Ordered {
@@ -63,6 +67,7 @@ impl Ordered {
             root: None,
             len: 0,
             takes_first: false,
+            seen: 0,
         }
     }
 
@@ -285,6 +290,7 @@ impl Ordered {
             meter,
         );
         self.takes_first = route.goes_left();
+        self.seen = route.seen();
         self.root = take_at(&mut self.cells, self.root, &mut route, place, meter);
         self.len -= 1;
     }
@@ -321,6 +327,7 @@ impl Ordered {
             meter,
         )?;
         self.takes_first = route.goes_left();
+        self.seen = route.seen();
         self.root = take_at(&mut self.cells, self.root, &mut route, found, meter);
         self.len -= 1;
         Some(found)

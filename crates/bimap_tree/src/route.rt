@@ -1,5 +1,5 @@
 //! The route of a search down a tree. The code here knows in which direction a key lies, and not the key.
-ghost use Rattle.std.specs.Prelude.{◌≡◌, ℕ, ◌+◌, ◌*◌, ◌<◌, ◌≤◌};
+ghost use Rattle.std.specs.Prelude.{◌≡◌, ℕ, ◌+◌, ◌*◌, ◌<◌, ◌≤◌, false};
 ghost use Rattle.std.specs.declared.cmp.Ordering.{Ordering};
 ghost use Rattle.bimap_tree.specs.Tree.{IsBalanced, Tree, leaf, Stands, height, reading, size};
 ghost use Rattle.bimap_base.specs.Digits.{most_height};
@@ -8,6 +8,7 @@ ghost use Rattle.bimap_tree.specs.IndexView.{IndexView, IsBalancedIndex};
 ghost use Rattle.bimap_tree.specs.Path.{Path, plug, top};
 ghost use Rattle.bimap_tree.specs.Route.{CanFollow, IsFollowed, IsRoute};
 
+use crate::ahead::{look_ahead, looks_ahead};
 use crate::notes::{PACKED, Steps};
 use crate::remove::first_in_tree;
 use crate::search_key::SearchKey;
@@ -21,6 +22,8 @@ pub struct Route {
     // The entry of each depth. It is the place modulo 2^31, times 2, plus 1 if the route goes on to the right of the place.
     steps: [u32; 91],
     depth: usize,
+    // What the search has read ahead, as a number that means nothing.
+    seen: usize,
 }
 
 impl Route {
@@ -32,6 +35,7 @@ impl Route {
         Route {
             steps: [0; 91],
             depth: 0,
+            seen: 0,
         }
     }
 
@@ -44,6 +48,11 @@ impl Route {
         }
         let steps = &self.steps;
         (steps[0] | steps[1] | steps[2] | steps[depth / 2] | steps[depth - 1]) % 2 == 0
+    }
+
+    // Returns what the search has read ahead, as a number that means nothing.
+    pub(crate) fn seen(&self) -> usize {
+        self.seen
     }
 }
 
@@ -80,12 +89,15 @@ pub fn branches_on_direction<C: Cell, S: SearchKey>(cells: &Nodes<C>) -> bool {
     S::has_wide_keys() && cells.places() >= FAR
 }
 
-// Goes on down to what is searched for, and notes the route. Returns the place there, or `None`.
+// Goes on down to what is searched for, and notes the route. Returns the place there, or `None`. If `ahead` is true, reads the
+// nodes of both children on each level before it compares.
+#[inline(always)]
 pub fn route_in_tree<C: Cell, S: SearchKey, M: Meter>(
     cells: &Nodes<C>,
     root: Option<usize>,
     depth: usize,
     sought: &S,
+    ahead: bool,
     route: &mut Route,
     meter: &mut M,
 ) -> Option<usize>
@@ -105,13 +117,17 @@ pub fn route_in_tree<C: Cell, S: SearchKey, M: Meter>(
     ensures comparisons { (s : Tree) → Stands cells.now root s →
         M.comparisons meter.new ≤ M.comparisons meter.old + height s }
     ensures touches { (s : Tree) → Stands cells.now root s →
+        M.touches meter.new ≤ M.touches meter.old + 3 * height s }
+    ensures alone { ahead ≡ false → (s : Tree) → Stands cells.now root s →
         M.touches meter.new ≤ M.touches meter.old + height s }
 {
     let is_far = branches_on_direction::<C, S>(cells);
     let mut root = root;
     let mut depth = depth;
+    let mut seen = 0;
     while let Some(at) = root {
         let cell = cells.cell(at, meter);
+        seen ^= look_ahead(cells, cell, ahead, meter);
         let ordering = sought.ordering(at, meter);
         if ordering.is_eq() {
             break;
@@ -129,11 +145,12 @@ pub fn route_in_tree<C: Cell, S: SearchKey, M: Meter>(
         }
     }
     route.depth = depth;
+    route.seen = seen;
     root
 }
 
 // Goes down to what is searched for, and notes the route. Returns the place there, or `None`. If that place is probably the
-// first one, tries the first place before any other.
+// first one, tries the first place before any other. In a large tree, looks ahead.
 pub fn route_from_first<C: Cell, S: SearchKey, M: Meter>(
     cells: &Nodes<C>,
     root: Option<usize>,
@@ -152,7 +169,7 @@ pub fn route_from_first<C: Cell, S: SearchKey, M: Meter>(
     ensures comparisons { (t : Tree) → Stands cells.now root t → IsBalanced t →
         M.comparisons meter.new ≤ M.comparisons meter.old + most_height (size t) }
     ensures touches { (t : Tree) → Stands cells.now root t →
-        M.touches meter.new ≤ M.touches meter.old + 2 * height t }
+        M.touches meter.new ≤ M.touches meter.old + 4 * height t }
 {
     if let (true, Some(at)) = (is_first, root) {
         let (first, depth) = first_in_tree(cells, at, 0, route, meter);
@@ -161,5 +178,6 @@ pub fn route_from_first<C: Cell, S: SearchKey, M: Meter>(
             return Some(first);
         }
     }
-    route_in_tree(cells, root, 0, sought, route, meter)
+    let ahead = looks_ahead(cells);
+    route_in_tree(cells, root, 0, sought, ahead, route, meter)
 }

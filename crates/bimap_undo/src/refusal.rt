@@ -8,7 +8,7 @@ pub enum NotRecorded<V> {
     /// No pair has the old value, or another pair has the new value.
     #[error("{0}")]
     Refused(NotReplaced<V>),
-    /// There was no memory for the record. The map might have refused the new value too.
+    /// Out of memory. The map might have refused the new value too.
     #[error("out of memory")]
     Memory(V),
 }

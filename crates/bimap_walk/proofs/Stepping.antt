@@ -12,7 +12,8 @@ use Rattle.bimap_walk.specs.declared.window.Window.{Window}
 use Rattle.bimap_walk.proofs.Ends.{All-first, All-behind, All-last, All-before, AllPairs-first, AllPairs-last}
 use Rattle.bimap_walk.proofs.Listed.{pairs_at-first, pairs_at-last, live_beside, pairs_beside}
 
-AllPairs-between : {X : Type 0} (R : X → X → Type 0) (xs : List X) (i j : ℕ) → j ≤ length xs → AllPairs R xs → AllPairs R (between i j xs)
+-- Any two elements of a part of a list are two elements of the list.
+pub AllPairs-between : {X : Type 0} (R : X → X → Type 0) (xs : List X) (i j : ℕ) → j ≤ length xs → AllPairs R xs → AllPairs R (between i j xs)
 AllPairs-between R xs i j within all a b d before inside =
     let long = length-between xs i j within in
     subst (λ y. R y (get_or (between i j xs) b d)) (sym (get_or-between xs i j a d (omega (arith, before, inside, long))))

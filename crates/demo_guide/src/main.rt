@@ -105,6 +105,38 @@ fn iterate(rt: &(impl Print + AllocGlobal)) -> Result<()> {
     Ok(())
 }
 
+// Insertion order
+// A list of the two names that were used last.
+fn use_name(
+    recent: &mut BiInsertionOrderMap<&'static str, u32>,
+    name: &'static str,
+    number: u32,
+) -> Result<()> {
+    if !recent.to_back(name) {
+        recent.insert(name, number)?;
+    }
+    if recent.len() > 2 {
+        recent.pop_first();
+    }
+    Ok(())
+}
+
+fn in_order(rt: &(impl Print + AllocGlobal)) -> Result<()> {
+    let mut recent: BiInsertionOrderMap<&str, u32> = BiInsertionOrderMap::new(rt.alloc());
+    use_name(&mut recent, "ann", 12)?;
+    use_name(&mut recent, "bob", 7)?;
+    use_name(&mut recent, "ann", 12)?;
+    use_name(&mut recent, "cat", 3)?;
+    println!(rt; "{recent:?}")?; // {"ann" <> 12, "cat" <> 3}
+    println!(rt; "{:?} {:?}", recent.first(), recent.last())?; // Some(("ann", 12)) Some(("cat", 3))
+    println!(rt;
+        "{} {:?}",
+        recent.to_front("cat"),
+        recent.iter().next_back()
+    )?; // true Some(("ann", 12))
+    Ok(())
+}
+
 // Capacity, and running out of memory
 fn capacity(rt: &(impl Print + AllocGlobal)) -> Result<()> {
     let mut seats: BiHashMap<&str, u32> = BiHashMap::with_capacity(rt.alloc(), 2)?;
@@ -228,6 +260,7 @@ fn main(rt: HostRuntime) -> Result<()> {
     policies(&rt)?;
     remove(&rt)?;
     iterate(&rt)?;
+    in_order(&rt)?;
     capacity(&rt)?;
     whole(&rt)?;
     json(&rt)?;

@@ -13,5 +13,6 @@ mod no_bytes;
 mod places;
 mod positions;
 mod seats;
+mod seeds;
 mod texts;
 mod undo_runs;

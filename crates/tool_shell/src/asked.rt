@@ -133,6 +133,9 @@ impl ShellKind for BiInsertionOrderMap<Word, Word> {
         meter: &mut Counter<Count>,
         said: &mut String,
     ) -> Result<bool, AllocError> {
-        counted(self, request, meter, said)
+        Ok(
+            counted(self, request, meter, said)?
+                || insertion_left::count(self, request, meter, said)?,
+        )
     }
 }

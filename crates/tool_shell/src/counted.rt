@@ -10,7 +10,7 @@ use test_support::{CopyKind, at_zero};
 // Returns how many searches by left and by right the bound of a call allows.
 fn searches(call: &str) -> (u64, u64) {
     match call {
-        "get_by_left" | "left_rank" => (1, 0),
+        "get_by_left" | "left_rank" | "to_front" | "to_back" => (1, 0),
         "get_by_right" | "right_rank" => (0, 1),
         "insert" => (3, 5),
         "first_by_left" | "last_by_left" | "pair_at_left_rank" => (0, 0),

@@ -18,6 +18,7 @@ STEPS: front back len copy rest   RANGE: .. b.. b..d b..=d ..d ..=d, and >b.. wi
   kinds: NAME ..                              uses these kinds, or all; every map is empty then
   anew                                        empties every map
   new · with_capacity N · from_iter PAIRS · from_iter_with POLICY PAIRS
+  with_hashers                                if both sides are hashed; if one side is, with_hasher
   show · len · is_empty · capacity · for_each
   get_by_left L · get_by_right R · contains_left L · contains_right R · contains_pair L R
   insert L R · insert_no_overwrite L R · insert_with POLICY L R · get_by_left_or_insert L R
@@ -35,6 +36,7 @@ STEPS: front back len copy rest   RANGE: .. b.. b..d b..=d ..d ..=d, and >b.. wi
   left_range_between RANGE STEPS · right_range_between RANGE STEPS     (empty if it runs backwards)
   first_by_left · last_by_left · pop_first_by_left · pop_last_by_left
   pair_at_left_rank N · left_rank L           these six exist by right too
+  first · last · pop_first · pop_last · to_front L · to_back L     (of insertion-order)
   into_inverse                                exchanges the sides, shows the map, and exchanges them again
   clone · swap · eq · partial_cmp · cmp · hash · is_subset_of · holds_same_pairs     (with the other map, which clone makes)
   undoable insert L R · undoable insert_with POLICY L R · undoable insert_all POLICY PAIRS

@@ -1,28 +1,76 @@
 //! The calls of a map that is iterated in insertion order.
-use crate::course::follow;
+use crate::course::{BothEnds, follow};
 use crate::kind::{self, say};
 use crate::request::Request;
 use crate::word::Word;
 use bimap::BiInsertionOrderMap;
+use bimap::btree::Count;
 use std::alloc::AllocError;
+use test_support::Counter;
 
-/// Makes the call, if it is an iteration, `==`, or a call that every map has.
+fn walk(
+    bimap: &BiInsertionOrderMap<Word, Word>,
+    request: &Request<'_>,
+    said: &mut String,
+) -> Result<bool, AllocError> {
+    let steps = request.steps.as_slice();
+    match request.call {
+        "iter" => follow(BothEnds(bimap.iter()), steps, said),
+        "left_values" => follow(BothEnds(bimap.left_values()), steps, said),
+        "right_values" => follow(BothEnds(bimap.right_values()), steps, said),
+        "into_iter" => match bimap.clone() {
+            Ok(copy) => follow(BothEnds(copy.into_iter()), steps, said),
+            Err(_) => Err(AllocError),
+        },
+        _ => Ok(false),
+    }
+}
+
+fn end(
+    bimap: &mut BiInsertionOrderMap<Word, Word>,
+    request: &Request<'_>,
+    said: &mut String,
+) -> Result<bool, AllocError> {
+    match request.call {
+        "first" => say(bimap.first(), said),
+        "last" => say(bimap.last(), said),
+        "pop_first" => say(bimap.pop_first(), said),
+        "pop_last" => say(bimap.pop_last(), said),
+        "to_front" => say(bimap.to_front(&request.first), said),
+        "to_back" => say(bimap.to_back(&request.first), said),
+        _ => Ok(false),
+    }
+}
+
+/// Makes the call, if it is an iteration, a call at an end, `==`, or a call that every map has.
 pub fn call(
     bimap: &mut BiInsertionOrderMap<Word, Word>,
     other: &mut BiInsertionOrderMap<Word, Word>,
     request: &Request<'_>,
     said: &mut String,
 ) -> Result<bool, AllocError> {
-    let steps = request.steps.as_slice();
     match request.call {
-        "iter" => follow(bimap.iter(), steps, said),
-        "left_values" => follow(bimap.left_values(), steps, said),
-        "right_values" => follow(bimap.right_values(), steps, said),
-        "into_iter" => match bimap.clone() {
-            Ok(copy) => follow(copy.into_iter(), steps, said),
-            Err(_) => Err(AllocError),
-        },
         "eq" => say(*bimap == *other, said),
-        _ => kind::call(bimap, other, request, said),
+        _ => Ok(
+            walk(bimap, request, said)?
+                || end(bimap, request, said)?
+                || kind::call(bimap, other, request, said)?,
+        ),
+    }
+}
+
+/// Makes a call at an end, with a meter.
+pub fn count(
+    bimap: &mut BiInsertionOrderMap<Word, Word>,
+    request: &Request<'_>,
+    meter: &mut Counter<Count>,
+    said: &mut String,
+) -> Result<bool, AllocError> {
+    match request.call {
+        "pop_first" => say(bimap.pop_first_metered(meter), said),
+        "pop_last" => say(bimap.pop_last_metered(meter), said),
+        "to_front" => say(bimap.to_front_metered(&request.first, meter), said),
+        "to_back" => say(bimap.to_back_metered(&request.first, meter), said),
+        _ => Ok(false),
     }
 }

@@ -5,6 +5,7 @@ use crate::short_memory;
 use crate::word::Word;
 use bimap::{BiBTreeHashMap, BiBTreeMap, BiHashBTreeMap, BiHashMap, BiInsertionOrderMap};
 use std::alloc::AllocError;
+use std::hash::BuildHasherDefault;
 use test_support::{Crowded, Zero};
 use tool_shell_json::{JsonCall, json_call};
 
@@ -28,13 +29,19 @@ pub fn has_ordered_right(kind: usize) -> bool {
     kind == 0 || kind == 3
 }
 
-// Makes the map, if the call makes one.
+// Makes the map, if the call makes one. A map with a hashed side has one more such call, which is passed hash builders.
 macro_rules! made {
     ($request:ident, $new:expr, $with_capacity:expr) => {
         match $request.call {
             "new" if $request.on == On::Bimap => Some(Ok($new)),
             "with_capacity" => Some($with_capacity),
             _ => None,
+        }
+    };
+    ($request:ident, $new:expr, $with_capacity:expr, $name:literal, $with_builders:expr) => {
+        match $request.call {
+            $name => Some(Ok($with_builders)),
+            _ => made!($request, $new, $with_capacity),
         }
     };
 }
@@ -72,7 +79,9 @@ impl Hashed {
         let made = made!(
             request,
             BiHashMap::new(alloc),
-            BiHashMap::with_capacity(alloc, capacity)
+            BiHashMap::with_capacity(alloc, capacity),
+            "with_hashers",
+            BiHashMap::with_hashers(alloc, BuildHasherDefault::new(), BuildHasherDefault::new())
         );
         short_memory::call(&mut self.session, made, request, said)
     }
@@ -90,7 +99,9 @@ impl OrderedLeft {
         let made = made!(
             request,
             BiBTreeHashMap::new(alloc),
-            BiBTreeHashMap::with_capacity(alloc, capacity)
+            BiBTreeHashMap::with_capacity(alloc, capacity),
+            "with_hasher",
+            BiBTreeHashMap::with_hasher(alloc, BuildHasherDefault::new())
         );
         short_memory::call(&mut self.session, made, request, said)
     }
@@ -108,7 +119,9 @@ impl OrderedRight {
         let made = made!(
             request,
             BiHashBTreeMap::new(alloc),
-            BiHashBTreeMap::with_capacity(alloc, capacity)
+            BiHashBTreeMap::with_capacity(alloc, capacity),
+            "with_hasher",
+            BiHashBTreeMap::with_hasher(alloc, BuildHasherDefault::new())
         );
         short_memory::call(&mut self.session, made, request, said)
     }
@@ -126,7 +139,9 @@ impl OneNumber {
         let made = made!(
             request,
             BiHashMap::with_hashers(alloc, Zero, Zero),
-            BiHashMap::with_capacity_and_hashers(alloc, capacity, Zero, Zero)
+            BiHashMap::with_capacity_and_hashers(alloc, capacity, Zero, Zero),
+            "with_hashers",
+            BiHashMap::with_hashers(alloc, Zero, Zero)
         );
         short_memory::call(&mut self.session, made, request, said)
     }
@@ -144,7 +159,13 @@ impl InsertionOrder {
         let made = made!(
             request,
             BiInsertionOrderMap::new(alloc),
-            BiInsertionOrderMap::with_capacity(alloc, capacity)
+            BiInsertionOrderMap::with_capacity(alloc, capacity),
+            "with_hashers",
+            BiInsertionOrderMap::with_hashers(
+                alloc,
+                BuildHasherDefault::new(),
+                BuildHasherDefault::new()
+            )
         );
         short_memory::call(&mut self.session, made, request, said)
     }

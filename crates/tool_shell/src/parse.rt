@@ -35,7 +35,9 @@ fn words_of(name: &str) -> Option<Words> {
         | "retain"
         | "extract_into"
         | "left_rank"
-        | "right_rank" => Some(Words::Value),
+        | "right_rank"
+        | "to_front"
+        | "to_back" => Some(Words::Value),
         "insert"
         | "insert_no_overwrite"
         | "get_by_left_or_insert"
@@ -72,6 +74,8 @@ fn nothing_after(name: &str) -> bool {
     match name {
         "anew"
         | "new"
+        | "with_hasher"
+        | "with_hashers"
         | "show"
         | "len"
         | "is_empty"
@@ -91,6 +95,7 @@ fn nothing_after(name: &str) -> bool {
         | "into_inverse" => true,
         "first_by_left" | "last_by_left" | "pop_first_by_left" | "pop_last_by_left" => true,
         "first_by_right" | "last_by_right" | "pop_first_by_right" | "pop_last_by_right" => true,
+        "first" | "last" | "pop_first" | "pop_last" => true,
         "last_change" | "mark" | "forget" | "held" | "into_inner" => true,
         _ => false,
     }

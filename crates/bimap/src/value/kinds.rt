@@ -42,7 +42,7 @@ pub fn hash_to_value<
 ///
 /// Memory: It allocates as each insertion does, and what reading each side allocates. Nothing is reserved ahead.
 ///
-/// `Err`: The value is no object, an entry does not read, or out of memory (`Memory`). There is no map.
+/// `Err`: The value is no object, an entry cannot be read, or out of memory (`Memory`). There is no map.
 pub fn from_value_with_hashers<
     L: JsonKey + Hash + Drop,
     R: JsonValue + Hash + Drop,

@@ -17,10 +17,12 @@ use thiserror::Error;
 /// Why no map was read. An entry is named by its number, from 0, in ascending byte order of the keys.
 #[derive(Clone, Copy, Debug, Eq, Error, PartialEq)]
 pub enum JsonFault {
-    /// The text is no JSON, has a number out of range, or has more than 127 levels of arrays and objects.
+    /// The text is no JSON, has a number beyond the range of `f64`, or has more than 127 levels of arrays and
+    /// objects.
     #[error("not JSON")]
     NotJson,
-    /// An object in the text has a name twice, and `policy.left` is `Refuse`.
+    /// An object in the text has the same name twice, and `policy.left` is `Refuse`. This includes objects inside
+    /// a value.
     #[error("a name stands twice in an object")]
     NameTwice,
     /// The value is not an object.
@@ -73,7 +75,7 @@ pub trait JsonObject<L: JsonKey + Drop, R: JsonValue + Drop>: Bijection<L, R> + 
     ///
     /// Memory: It allocates as each insertion does, and what reading each side allocates. Nothing is reserved ahead.
     ///
-    /// `Err`: The value is no object, an entry does not read, or out of memory (`Memory`). There is no map.
+    /// `Err`: The value is no object, an entry cannot be read, or out of memory (`Memory`). There is no map.
     ///
     ///     // of {"A": 1, "B": 2, "C": 1}
     ///     let seats: BiBTreeMap<char, u32> = BiBTreeMap::from_value(alloc, &value)?;
@@ -129,7 +131,7 @@ pub fn write_walk<'a, L: JsonKey + 'a, R: JsonValue + 'a, I: IntoIterator<Item =
 ///
 /// Memory: It allocates as each insertion does, and what reading each side allocates. Nothing is reserved ahead.
 ///
-/// `Err`: The value is no object, an entry does not read, or out of memory (`Memory`). The map is dropped.
+/// `Err`: The value is no object, an entry cannot be read, or out of memory (`Memory`). The map is dropped.
 pub fn read_into<L: JsonKey + Drop, R: JsonValue + Drop, B: Bijection<L, R> + Drop>(
     alloc: Global,
     empty: B,
@@ -158,7 +160,7 @@ pub fn read_into<L: JsonKey + Drop, R: JsonValue + Drop, B: Bijection<L, R> + Dr
 ///
 /// Memory: It allocates as each insertion does, and what reading each side allocates. Nothing is reserved ahead.
 ///
-/// `Err`: The value is no object, an entry does not read or is refused, or out of memory (`Memory`). The map is
+/// `Err`: The value is no object, an entry cannot be read or is refused, or out of memory (`Memory`). The map is
 /// dropped.
 ///
 ///     // no seat twice: {"A": 1, "B": 2, "C": 1} gives Err(JsonFault::RightHeld(2))

@@ -103,7 +103,7 @@ fn as_two(value: &Value) -> Option<(&Value, &Value)>
 ///
 /// Memory: It allocates the `Vec`, and what reading each side allocates.
 ///
-/// `Err`: The value is no array, an item does not read, or out of memory (`Memory`). It names the first such item, and
+/// `Err`: The value is no array, memory ran out (`Memory`), or an item cannot be read. It names the first such item, and
 /// there are no pairs.
 ///
 ///     // of [["c", 2], ["a", 3]]

@@ -1,7 +1,10 @@
 //! Examples of making a map. Each example has a test of its own, because a function that names several kinds of map
 //! takes minutes to prove.
 use super::{PAIRS, Seats, holds, ordered};
-use bimap::{BiBTreeMap, BiHashMap, NoMemory, NotInverted, Overwritten};
+use bimap::{
+    BiBTreeHashMap, BiBTreeMap, BiHashBTreeMap, BiHashMap, BiInsertionOrderMap, NoMemory,
+    NotInverted, Overwritten, Seeded,
+};
 use std::alloc::Global;
 use std::hash::RandomState;
 use std::process::Abort;
@@ -91,4 +94,36 @@ fn makes_of_items_under_handed_builders(rt: HostRuntime) -> Result<(), Fail> {
     let seats = BiHashMap::from_iter_with_hashers(alloc, left, right, [('a', 3), ('b', 1)])?;
     assert!(&rt; seats.len() == 2);
     Ok(())
+}
+
+#[test]
+fn makes_under_a_handed_right_builder(rt: HostRuntime) -> Result<(), Fail> {
+    let alloc = rt.alloc();
+    let mut seats = BiBTreeHashMap::with_hasher(alloc, RandomState::new(&rt)?);
+    assert!(&rt; seats.insert('a', 3) == Ok(Overwritten::Neither));
+    Ok(())
+}
+
+#[test]
+fn makes_under_a_handed_left_builder(rt: HostRuntime) -> Result<(), Fail> {
+    let alloc = rt.alloc();
+    let mut seats = BiHashBTreeMap::with_hasher(alloc, RandomState::new(&rt)?);
+    assert!(&rt; seats.insert('a', 3) == Ok(Overwritten::Neither));
+    Ok(())
+}
+
+#[test]
+fn makes_in_insertion_order_under_handed_builders(rt: HostRuntime) -> Result<(), Fail> {
+    let alloc = rt.alloc();
+    let (left, right) = (RandomState::new(&rt)?, RandomState::new(&rt)?);
+    let mut seats = BiInsertionOrderMap::with_hashers(alloc, left, right);
+    assert!(&rt; seats.insert('a', 3) == Ok(Overwritten::Neither));
+    Ok(())
+}
+
+#[test]
+fn makes_under_seeds(rt: HostRuntime) {
+    let alloc = rt.alloc();
+    let mut seats = BiHashMap::with_hashers(alloc, Seeded::new(1), Seeded::new(1));
+    assert!(&rt; seats.insert('a', 3) == Ok(Overwritten::Neither));
 }

@@ -1,6 +1,6 @@
-//! Examples of look-ups, ends and ranks.
-use super::{Seats, ordered};
-use bimap::{BiHashMap, Overwritten};
+//! Examples of look-ups, ends, ranks and moves.
+use super::{PAIRS, Seats, ordered};
+use bimap::{BiHashMap, BiInsertionOrderMap, Overwritten};
 use std::process::Abort;
 
 fn counts(rt: &impl Abort, seats: &Seats) {
@@ -62,6 +62,40 @@ fn last_out(rt: &impl Abort, seats: &mut Seats, other: &mut Seats) {
 fn takes_the_ends_out(rt: HostRuntime) {
     first_out(&rt, &mut ordered(&rt), &mut ordered(&rt));
     last_out(&rt, &mut ordered(&rt), &mut ordered(&rt));
+}
+
+type InOrder = BiInsertionOrderMap<char, u32>;
+
+fn in_order(rt: &(impl Abort + AllocGlobal)) -> InOrder {
+    InOrder::from_iter(rt.alloc(), PAIRS)
+        .ok()
+        .expect(rt, "no memory")
+}
+
+fn first_and_last(rt: &impl Abort, seats: &InOrder) {
+    assert!(rt; seats.first() == Some((&'a', &3)));
+    assert!(rt; seats.last() == Some((&'c', &2)));
+}
+
+// Each call removes an end from a map of its own.
+fn pops(rt: &impl Abort, seats: &mut InOrder, other: &mut InOrder) {
+    assert!(rt; seats.pop_first() == Some(('a', 3)));
+    let seats = other;
+    assert!(rt; seats.pop_last() == Some(('c', 2)));
+}
+
+fn moves(rt: &impl Abort, seats: &mut InOrder) {
+    assert!(rt; seats.to_front(&'b') == true);
+    assert!(rt; seats.first() == Some((&'b', &1)));
+    assert!(rt; seats.to_back(&'b') == true);
+    assert!(rt; seats.last() == Some((&'b', &1)));
+}
+
+#[test]
+fn takes_and_moves_in_insertion_order(rt: HostRuntime) {
+    first_and_last(&rt, &in_order(&rt));
+    pops(&rt, &mut in_order(&rt), &mut in_order(&rt));
+    moves(&rt, &mut in_order(&rt));
 }
 
 fn compares(rt: &impl Abort, seats: &Seats, hashed: &BiHashMap<char, u32>) {

@@ -8,17 +8,17 @@ use Rattle.bimap_tree.proofs.route.route_from_first.Goals.{in-true-Some+else-is_
 pub ordering-requires : goal.ordering-requires
 ordering-requires g c =
     let (lefts, rest, i) = c.first_in_tree-first.ensures.first _ (can_descend_first _ _ _ _ _ _ c.requires.1 _ c.in-true-Some.is-1) in
-    first_live _ _ _ _ _ _ c.requires.1 _ _ _ lefts rest i
+    first_live _ _ _ _ _ _ c.requires.1 c.first_in_tree-first.new.notes _ _ lefts rest i
 
 pub returns-then-is_eq-clause-found : goal.returns-then-is_eq-clause-found
 returns-then-is_eq-clause-found g c t h =
     let (lefts, rest, i) = c.first_in_tree-first.ensures.first t (can_descend_first _ _ _ _ _ t h _ c.in-true-Some.is-1) in
-    first_found _ _ _ _ _ t h _ _ _ lefts rest i (is_equal _ _ _ c.ordering.ensures.ordering c.is_eq.ensures c.if-is_eq.true)
+    first_found _ _ _ _ _ t h c.first_in_tree-first.new.notes _ _ lefts rest i (is_equal _ _ _ c.ordering.ensures.ordering c.is_eq.ensures c.if-is_eq.true)
 
 pub returns-then-is_eq-clause-follows : goal.returns-then-is_eq-clause-follows
 returns-then-is_eq-clause-follows g c t h =
     let (lefts, rest, i) = c.first_in_tree-first.ensures.first t (can_descend_first _ _ _ _ _ t h _ c.in-true-Some.is-1) in
-    (_, _, first_notes _ _ _ _ _ t h _ _ _ lefts rest i (is_equal _ _ _ c.ordering.ensures.ordering c.is_eq.ensures c.if-is_eq.true) _ refl refl)
+    (_, _, first_notes _ _ _ _ _ t h c.first_in_tree-first.new.notes _ _ lefts rest i (is_equal _ _ _ c.ordering.ensures.ordering c.is_eq.ensures c.if-is_eq.true) _ refl refl)
 
 pub returns-then-is_eq-clause-comparisons : goal.returns-then-is_eq-clause-comparisons
 returns-then-is_eq-clause-comparisons g c t h b = omega (arith, some_levels _ _ t h _ c.in-true-Some.is-1 b)

@@ -12,4 +12,4 @@ into_iter-requires g c =
 
 pub returns : goal.returns
 unfolding held
-returns g c = let table = c.into_table-pairs.result in record { into_iter_gives = (c.into_iter.ensures.rest ∙ ap (λ l. pairs_at table.pairs l.places) c.into_list.ensures ∙ ap (λ t. (held t).pairs) c.into_table-pairs.ensures, c.into_iter.ensures.runs) }
+returns g c = let table = c.into_table-pairs.result in record { into_iter_gives = (c.into_iter.ensures.rest ∙ ap (λ l. pairs_at table.pairs l.places) c.into_list.ensures ∙ ap (λ t. (held t).pairs) c.into_table-pairs.ensures, c.into_iter.ensures.runs, c.into_iter.ensures.runs_back) }

@@ -1,0 +1,5 @@
+use Rattle.std.proofs.Common.{refl}
+use Rattle.bimap_list.proofs.ring.Ring.to_back.Goals as goal
+
+pub push_back-requires-clause-absent : goal.push_back-requires-clause-absent
+push_back-requires-clause-absent g c has = ((c.remove.ensures.drops c.args.place).0 has).1 refl
