@@ -3,8 +3,11 @@ import re
 from collections import namedtuple
 from glob import glob
 
+#    The names of maps that have calls of their own, each with its indexes. Such a call begins with the name.
+MAPS = {"BiHashMap": ["HashIndex", "HashIndex"], "BiBTreeHashMap": ["Ordered", "HashIndex"], "BiHashBTreeMap": ["HashIndex", "Ordered"],
+        "BiInsertionOrderMap": ["HashIndex", "HashIndex"]}
 #    Where calls are: the types and traits that have them, and the files.
-OWNERS = ["BijectiveMap", "BiHashMap", "Bijection", "Interning", "Inverse", "JsonObject", "JsonKey", "JsonValue", "Undoable", "CopyLeft", "Overwritten", "OnHeld"]
+OWNERS = ["BijectiveMap", *MAPS, "Seeded", "Bijection", "Interning", "Inverse", "JsonObject", "JsonKey", "JsonValue", "Undoable", "CopyLeft", "Overwritten", "OnHeld"]
 SOURCES = ["crates/bimap_kinds/src/*.rt", "crates/bimap_any/src/*.rt", "crates/bimap_base/src/*.rt", "crates/bimap/src/**/*.rt", "crates/bimap_undo/src/*.rt"]
 #    Traits of these names that no caller names: the numbers of JSON.
 WITHOUT_CALLS = ["crates/bimap/src/value/numbers.rt"]
@@ -12,7 +15,8 @@ WITHOUT_CALLS = ["crates/bimap/src/value/numbers.rt"]
 MODULES = {"bimap": "crates/bimap/src/lib.rt", "bimap::btree": "crates/bimap/src/btree.rt", "bimap::hash": "crates/bimap/src/hash.rt",
            "bimap::insertion_order": "crates/bimap/src/insertion_order.rt", "bimap::value": "crates/bimap/src/value.rt", "bimap_undo": "crates/bimap_undo/src/lib.rt"}
 #    The types that calls return or take, in the order of the page.
-TYPES = ["crates/bimap_base/src/overwritten.rt", "crates/bimap_base/src/policy.rt", "crates/bimap_base/src/refusal.rt", "crates/bimap/src/call.rt",
+TYPES = ["crates/bimap_base/src/overwritten.rt", "crates/bimap_base/src/policy.rt", "crates/bimap_base/src/refusal.rt", "crates/bimap_kinds/src/seeded.rt",
+         "crates/bimap/src/call.rt",
          "crates/bimap/src/undone.rt", "crates/bimap/src/value/object.rt", "crates/bimap/src/value/pairs.rt", "crates/bimap/src/value/sides.rt",
          "crates/bimap_undo/src/entry.rt", "crates/bimap_undo/src/refusal.rt", "crates/bimap_undo/src/operations.rt"]
 #    What is not named in brackets: all types of values have these, and an index is what a map's name says.
@@ -132,8 +136,7 @@ def needs_of(given, where, to):
         arguments = parts_of(arguments[0][len("BijectiveMap<") : -1])
     sides = [re.match(r"\w+", it)[0] for it in arguments[2:4]] if len(arguments) == 4 else []
     needs += [OF_SIDES[it][side] for side, it in enumerate(sides) if it in OF_SIDES]
-    # (a call of `BiHashMap` alone begins with its name)
-    sides = ["HashIndex", "HashIndex"] if to.startswith("BiHashMap<") else sides
+    sides = MAPS.get(to.partition("<")[0], sides)
     if any("CopiedIndex" in it for bounds in given.values() for it in bounds):
         needs.append("hash builders: `Clone`")
     for name, bounds in [*given.items(), *bounds_of(where).items()]:
@@ -184,7 +187,7 @@ def call(owner, path, docs, generics, to, lines, at):
     generics_told = f"<{', '.join(f'{it}: {bounds[0]}' for it, bounds in shared.items())}>" if shared else ""
     told = f"{before}{name}{generics_told}({short(arguments, once)})" + (f" -> {short(result, once)}" if result else "")
     needs = needs_of({**generics, **own}, where, to)
-    return Call("BijectiveMap" if owner == "BiHashMap" else owner, name, path, docs, told, needs, result, has_condition(lines, at))
+    return Call("BijectiveMap" if owner in MAPS else owner, name, path, docs, told, needs, result, has_condition(lines, at))
 
 
 def operator(owner, trait, path, docs, generics, to):

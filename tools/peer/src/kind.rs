@@ -3,7 +3,7 @@
 use crate::word::Word;
 use bimap::{BiBTreeMap, BiHashMap, Overwritten};
 use std::fmt::Debug;
-use std::hash::{DefaultHasher, Hash, Hasher};
+use std::hash::{DefaultHasher, Hash, Hasher, RandomState};
 
 pub type Ordered = BiBTreeMap<Word, Word>;
 pub type Hashed = BiHashMap<Word, Word>;
@@ -28,6 +28,9 @@ pub trait Kind: Clone + Debug + Default + Extend<(Word, Word)> + FromIterator<(W
     /// Returns an empty map with this capacity.
     fn with_room(room: usize) -> Option<Self>;
 
+    /// Returns an empty map that is passed hash builders, if both sides are hashed.
+    fn with_hashers() -> Option<Self>;
+
     /// Makes the capacity greater or smaller.
     fn change_room(&mut self, call: &str, words: &[&str]) -> Option<String>;
 
@@ -43,7 +46,7 @@ pub trait Kind: Clone + Debug + Default + Extend<(Word, Word)> + FromIterator<(W
 }
 
 macro_rules! kind {
-    ($kind:ident, $with_room:path, $change_room:path, $walk:path, $compare:path, $end:path) => {
+    ($kind:ident, $with_room:path, $with_hashers:path, $change_room:path, $walk:path, $compare:path, $end:path) => {
         impl Kind for $kind {
             fn contains_left(&self, left: &Word) -> bool {
                 self.contains_left(left)
@@ -103,6 +106,10 @@ macro_rules! kind {
                 $with_room(room)
             }
 
+            fn with_hashers() -> Option<Self> {
+                $with_hashers()
+            }
+
             fn change_room(&mut self, call: &str, words: &[&str]) -> Option<String> {
                 $change_room(self, call, words)
             }
@@ -122,8 +129,10 @@ macro_rules! kind {
     };
 }
 
-kind!(Ordered, ordered::with_room, ordered::change_room, ordered::walk, ordered::compare, ordered::end);
-kind!(Hashed, hashed::with_room, hashed::change_room, hashed::walk, hashed::compare, hashed::end);
+kind!(
+    Ordered, ordered::with_room, ordered::with_hashers, ordered::change_room, ordered::walk, ordered::compare, ordered::end
+);
+kind!(Hashed, hashed::with_room, hashed::with_hashers, hashed::change_room, hashed::walk, hashed::compare, hashed::end);
 
 type Back<I> = fn(&mut I) -> Option<<I as Iterator>::Item>;
 
@@ -160,6 +169,10 @@ mod ordered {
     use super::*;
 
     pub fn with_room(_room: usize) -> Option<Ordered> {
+        None
+    }
+
+    pub fn with_hashers() -> Option<Ordered> {
         None
     }
 
@@ -221,6 +234,10 @@ mod hashed {
 
     pub fn with_room(room: usize) -> Option<Hashed> {
         Some(Hashed::with_capacity(room))
+    }
+
+    pub fn with_hashers() -> Option<Hashed> {
+        Some(Hashed::with_hashers(RandomState::new(), RandomState::new()))
     }
 
     pub fn change_room(bimap: &mut Hashed, call: &str, words: &[&str]) -> Option<String> {

@@ -66,6 +66,8 @@ impl<B: Kind> Held<B> {
             }
             ["new"] => self.begin(B::default()),
             ["with_capacity", room] => self.begin_with_room(room.parse().ok()?),
+            ["with_hashers"] => self.begin(B::with_hashers()?),
+            ["with_hasher"] => None,
             ["from_iter", words @ ..] => self.begin(Word::read_pairs(words)?.into_iter().collect()),
             ["from_iter_with", policy, words @ ..] => {
                 let mut bimap = B::default();
