@@ -23,7 +23,7 @@ use std::alloc::Global;
 /// doubles, to at least 4.
 ///
 ///     let reply = perform(&mut seats, Call::InsertNoOverwrite('a', 1), &|_: &u32, _: &char, _: &u32| true);
-///     // Reply::Put, or Reply::Occupied('a', 1), or Reply::NoRoom('a', 1)
+///     // Reply::Put, or Reply::Occupied('a', 1)
 pub fn perform<L: Eq + Drop, R: Eq + Drop, K: Drop, B: Bijection<L, R>, F: Fn(&K, &L, &R) -> bool>(
     bimap: &mut B,
     call: Call<L, R, K>,
