@@ -1,6 +1,6 @@
 /* Guests and their seats. A guest has one seat, and a seat has one guest.
  *
- *     cc example.c libjetukoma.a -o example && ./example
+ *     cc example.c $(pkg-config --cflags --libs jetukoma) -o example && ./example
  */
 #include "jetukoma.h"
 #include <stdio.h>

@@ -8,14 +8,14 @@
  *         jetukoma_btree_u64_u64_free(&seats);
  *     }
  *
- * The caller owns the handle. A handle `{0}` has no table. `.._new` makes a table, and `.._free` frees it. After that the handle
- * has no table. You may move a handle with a table. You must not copy it or use its fields. You may use a handle from any
- * thread, but from one thread at a time. The memory of a table comes from `malloc`, and `.._free` returns it. The caller owns
- * what a call writes.
+ * The caller owns the handle. A handle `{0}` has no table. In C++, write `{}`. `.._new` makes a table, and `.._free` frees it.
+ * After that the handle has no table. You may move a handle with a table. You must not copy it or use its fields. You may use a
+ * handle from any thread, but from one thread at a time. The memory of a table comes from `malloc`, and `.._free` returns it. The
+ * caller owns what a call writes.
  *
- * Each call returns one of the statuses below. A call accepts all values, and it tests for null pointers. It writes its
- * out-parameters on JETUKOMA_DONE alone, unless its text says otherwise. The things that you pass to one call must not overlap.
- * A pointer that comes with a number must point to this number of values. Do not make a call from a signal handler.
+ * Each call on a handle returns one of the statuses below. A call accepts all values, and it tests for null pointers. It writes
+ * its out-parameters on JETUKOMA_DONE alone, unless its text says otherwise. The things that you pass to one call must not
+ * overlap. A pointer that comes with a number must point to this number of values. Do not make a call from a signal handler.
  *
  * Pass bytes as a pointer, which is not null, and their number. A call copies them. Byte strings are compared byte by byte, so
  * texts in UTF-8 are in the order of their code points. A call writes bytes to the front of a buffer, and their number. If the
@@ -48,6 +48,13 @@ extern "C" {
 #ifndef JETUKOMA_API
 #define JETUKOMA_API static inline
 #endif
+
+/* The version of this header. */
+#define JETUKOMA_VERSION "0.1.0"
+
+/* Returns the version of the library that the program runs with. It may differ from the version of the header that the
+ * program was compiled with. */
+const char *jetukoma_version(void);
 
 enum {
     /* The call did what its description says. */

@@ -6,7 +6,7 @@
  * - It writes and reads a JSON object with a pair for every ten of these calls.
  * - It refuses each allocation once.
  *
- *     cc -std=c11 -Wl,--wrap=malloc,--wrap=realloc,--wrap=free test.c libjetukoma.a -o test
+ *     cc -std=c11 -Wl,--wrap=malloc,--wrap=realloc,--wrap=free bindings/c/test.c out/lib/libjetukoma.a -o test
  */
 #include "jetukoma.h"
 #include <stdio.h>
@@ -138,6 +138,8 @@ static void of_another_type(void) {
     CHECK(!jetukoma_hash_u64_u64_free(it) && jetukoma_btree_bytes_u64_free(&t) == JETUKOMA_NO_TABLE && blocks == 0);
 }
 
+static void version(void) { CHECK(!strcmp(jetukoma_version(), JETUKOMA_VERSION)); }
+
 int main(int count, char **words) {
     if (count > 1) calls = atol(words[1]);
     btree_u64_u64_tests();
@@ -147,6 +149,7 @@ int main(int count, char **words) {
     hash_bytes_u64_tests();
     hash_bytes_bytes_tests();
     test("a table", "of another type", of_another_type);
+    test("the library", "version of the header", version);
     printf("%d passed, %d failed\n", tests_passed, tests_failed);
     return tests_failed != 0;
 }
