@@ -140,7 +140,7 @@ static void OUR(large_json)(void) {
     OUR(table) t = {0}, back = {0};
     size_t pairs = (size_t)calls / 10, room = pairs * 32 + 2, len = 0, n = 0;
     uint8_t *text = malloc(room);
-    char name[24];
+    char name[32];
     uint64_t right = 0;
     CHECK(text && !CALL(new)(&t) && !CALL(new)(&back));
     for (size_t at = 0; at < pairs && failed < 20; at++)
