@@ -1,4 +1,4 @@
--- Lemmas for the proofs of a loose box and of a slot.
+-- Lemmas for the proofs of a raw box and of a table pointer.
 pub use Rattle.std.proofs.Common.{◌≡◌, ℕ, List, [], ◌∷◌, ◌++◌, refl, subst, sym, ap, ◌∙◌}
 pub use base.Fml.{ftrue, fsep, flft}
 pub use base.Logic.{never, fst∗, SProp, ent, emp, id⊢}

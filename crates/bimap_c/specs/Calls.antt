@@ -5,30 +5,53 @@ use Rattle.bimap.specs.Capacity.{IsReservation}
 use Rattle.bimap.specs.Types.{NoMemory, NotInserted, NotInsertedWith, OnHeld, Overwrite, Refuse}
 use Rattle.bimap_base.specs.declared.refusal.NotInserted.TheVariants.{Occupied, Memory}
 use Rattle.bimap_base.specs.declared.refusal.NotInsertedWith.TheVariants.{LeftHeld, RightHeld, Memory as MemoryWith}
-use Rattle.bimap_c.specs.declared.table.Table.{Table}
+use Rattle.bimap_c.specs.Kinds.{Kinds, MatchKind, MatchKinds, IsOfKind}
+use Rattle.bimap_c.specs.declared.c_table.CTable.{CTable}
 
 -- An out-parameter is written on status 0 alone.
 abbrev pub IsWritten : {X : Type 0} → ℕ → X → X → Type 0
 IsWritten status old new = (status ≡ 0 → ⊥) → new ≡ old
 
-module _ {H : Type 0} (find : Option Table → Option H) (old : Option Table) (status : ℕ) where
-  -- What a call that changes nothing does. Its statement is true of the table. Or the table is of another kind, and the
-  -- status is 2.
+module _ {H : Type 0} (find : Option CTable → Option (Kinds H)) (old : Option CTable) (status : ℕ) where
+  -- What a call that changes nothing does. Its statement is true of the table. Or the table has other sides, and the status
+  -- is 2.
   abbrev pub Reads : (H → Type 0) → Type 0
-  Reads holds = MatchOption (find old) (status ≡ 2) holds
+  Reads holds = MatchOption (find old) (status ≡ 2) (MatchKind holds holds holds)
 
-  -- What a call that may change the table does. Its statement is true of the table before and after. Or the table is of
-  -- another kind, and nothing changes.
-  abbrev pub Changes : Option Table → (H → H → Type 0) → Type 0
-  Changes new holds = MatchOption (find old) ((status ≡ 2) × (new ≡ old)) (λ before. MatchOption (find new) ⊥ (holds before))
+  -- The same for a call that needs an ordered table. For a table of another kind the status is 6.
+  abbrev pub ReadsOrdered : (H → Type 0) → Type 0
+  ReadsOrdered holds = MatchOption (find old) (status ≡ 2) (MatchKind holds (λ _. status ≡ 6) (λ _. status ≡ 6))
 
-  -- What `new` does. If the handle had no table, it has one then, or there was no memory. If it had a table, nothing
-  -- changes.
-  abbrev pub Makes : Option Table → (H → Type 0) → Type 0
-  Makes new holds = MatchOption old (((status ≡ 0) × MatchOption (find new) ⊥ holds) ⊎ ((status ≡ 1) × (new ≡ None))) (λ _. (status ≡ 2) × (new ≡ old))
+  module _ (new : Option CTable) where
+    -- What is done to a table of each kind, which stays of its kind. If the table has other sides, nothing changes.
+    abbrev pub ChangesByKind : (H → H → Type 0) → (H → H → Type 0) → (H → H → Type 0) → Type 0
+    ChangesByKind ordered hashed in_order =
+        MatchOption (find old) ((status ≡ 2) × (new ≡ old)) (λ before. MatchOption (find new) ⊥ (MatchKinds ordered hashed in_order before))
+
+    -- The call has no meaning for the kind of the table, and nothing changes.
+    abbrev pub HasNoOrder : H → H → Type 0
+    HasNoOrder before after = (status ≡ 6) × (new ≡ old)
+
+    -- What a call that may change the table does. Its statement is true of the table before and after.
+    abbrev pub Changes : (H → H → Type 0) → Type 0
+    Changes holds = ChangesByKind holds holds holds
+
+    -- The same for a call that needs an ordered table.
+    abbrev pub ChangesOrdered : (H → H → Type 0) → Type 0
+    ChangesOrdered holds = ChangesByKind holds HasNoOrder HasNoOrder
+
+    -- The same for a call that needs a table that is ordered or keeps the insertion order.
+    abbrev pub ChangesAtEnd : (H → H → Type 0) → Type 0
+    ChangesAtEnd holds = ChangesByKind holds HasNoOrder holds
+
+    -- What `new` does, by the number of the kind. If the handle had no table, it has one of this kind then, or there was no
+    -- memory. If it had a table, or there is no such kind, nothing changes.
+    pub record Makes (kind : ℕ) (holds : H → Type 0) : Type 0 where
+      pub kinds : kind ≤ 2 → MatchOption old (((status ≡ 0) × MatchOption (find new) ⊥ (IsOfKind kind holds)) ⊎ ((status ≡ 1) × (new ≡ None))) (λ _. (status ≡ 2) × (new ≡ old))
+      pub others : (kind ≤ 2 → ⊥) → (status ≡ 3) × (new ≡ old)
 
 -- What `free` does. If the handle had a table, it has none then.
-abbrev pub Frees : Option Table → ℕ → Option Table → Type 0
+abbrev pub Frees : Option CTable → ℕ → Option CTable → Type 0
 Frees old status new = (new ≡ None) × MatchOption old (status ≡ 2) (λ _. status ≡ 0)
 
 -- The status says whether the call was done or ran out of memory.

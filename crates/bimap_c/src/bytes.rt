@@ -1,18 +1,24 @@
 //! The tables whose lefts are byte strings, and the bodies of their calls. They work on any map.
-ghost use Rattle.std.specs.Prelude.{◌≡◌, Option, ◌<◌, ◌≤◌, [], length, true, false, vec_capacity, option_map, slice_get, Contains};
+ghost use Rattle.std.specs.Prelude.{◌≡◌, Option, ◌<◌, ◌≤◌, [], length, true, false, vec_capacity, option_map, slice_get, Contains, IfSome, IfNone};
 ghost use Rattle.std.specs.Borrow.{Bor};
 ghost use Rattle.std.specs.Map.Iter.{deref, deref_pair};
+ghost use Rattle.bimap.specs.BTree.{holding};
 ghost use Rattle.bimap.specs.Holding.{IsFoundByRight};
 ghost use Rattle.bimap.specs.Sets.{HasLeft, HasRight};
 ghost use Rattle.bimap_c.specs.Calls.{IsWritten, Tests};
 ghost use Rattle.bimap_c.specs.declared.byte_string.ByteString.{ByteString};
-ghost use Rattle.bimap_c.specs.Bytes.{kept, same_bytes, named_pairs, kind_of, IsRead, IsByKey, IsCopiedOut, AreBytesOut, IsLengthWritten, IsStruck, RemovesByLeft, RemovesByRight, ClearsAll, Inserts, InsertsFlagged, IsKind};
+ghost use Rattle.bimap_c.specs.Bytes.{kept, same_bytes, named_pairs, kind_of, IsRead, IsByKey, IsCopiedOut, AreBytesOut, IsLengthWritten, IsStruck, IsRanked, RemovesByLeft, RemovesByRight, ClearsAll, Inserts, InsertsFlagged, IsKind};
+ghost use Rattle.bimap_c.specs.Kinds.{IsOfKind, map_kinds};
 
 use crate::byte_string::ByteString;
-use crate::calls::{found, policy, refused};
+use crate::calls::{found, new_map, policy, refused};
 use crate::status::{BUFFER_TOO_SHORT, DONE, NO_MEMORY, NOT_FOUND, REFUSED};
-use bimap::{Bijection, OnHeld, Overwritten, Policy};
+use bimap::{
+    BiBTreeMap, BiHashMap, BiInsertionOrderMap, Bijection, OnHeld, Overwritten, Policy, Seeded,
+};
+use bimap_dynamic::AnyOf;
 use std::alloc::Global;
+use std::hash::Hash;
 
 /// A map whose lefts are byte strings, with what its calls keep beside it.
 #[derive(Drop)]
@@ -23,10 +29,40 @@ pub struct BytesTable<R, B> {
     pub struck: Overwritten<ByteString, R>,
     /// The key of the last look-up.
     pub key: ByteString,
+    /// The seed of the hashes, for a map that replaces this one.
+    pub seed: u64,
 }
 
-/// Returns a new table with this map.
-pub(crate) fn table_of<R, B>(alloc: Global, map: B) -> BytesTable<R, B>
+/// A table whose kind is chosen when it is made.
+pub type AnyBytesTable<R> = AnyOf<
+    BytesTable<R, BiBTreeMap<ByteString, R>>,
+    BytesTable<R, BiHashMap<ByteString, R, Seeded, Seeded>>,
+    BytesTable<R, BiInsertionOrderMap<ByteString, R, Seeded, Seeded>>,
+>;
+
+/// Returns an empty table of a kind, or `None` if there is no such kind.
+pub(crate) fn new_table<R: Ord + Hash + Drop>(
+    alloc: Global,
+    kind: u32,
+    seed: u64,
+) -> Option<AnyBytesTable<R>>
+    ensures some { IfSome result (λ table. (kind ≤ 2) × IsOfKind kind
+        (λ it. (it.held.pairs ≡ []) × (it.held.room ≡ 0) × (it.struck ≡ Overwritten.Neither))
+        (map_kinds (kept holding) (kept holding) (kept holding) table)) }
+    ensures none { IfNone result (kind ≤ 2 → ⊥) }
+{
+    match new_map(alloc, kind, seed) {
+        Some(AnyOf::Ordered(map)) => Some(AnyOf::Ordered(table_of(alloc, map, seed))),
+        Some(AnyOf::Hashed(map)) => Some(AnyOf::Hashed(table_of(alloc, map, seed))),
+        Some(AnyOf::InsertionOrder(map)) => {
+            Some(AnyOf::InsertionOrder(table_of(alloc, map, seed)))
+        }
+        None => None,
+    }
+}
+
+// Returns a new table with this map.
+fn table_of<R, B>(alloc: Global, map: B, seed: u64) -> BytesTable<R, B>
     ensures map { result.map ≡ map }
     ensures struck { result.struck ≡ Overwritten.Neither }
 {
@@ -36,6 +72,7 @@ pub(crate) fn table_of<R, B>(alloc: Global, map: B) -> BytesTable<R, B>
         key: ByteString {
             bytes: Vec::new(alloc),
         },
+        seed,
     }
 }
 
@@ -322,6 +359,24 @@ pub(crate) fn overwritten_left<R, B>(
     ensures len { IsLengthWritten result len.old len.new }
 {
     tell_bytes(left_at(&table.struck, index), buf, len)
+}
+
+/// Writes how many lefts are less than this one, and returns the status.
+pub(crate) fn left_rank<R: Ord + Drop>(
+    table: &mut BytesTable<R, BiBTreeMap<ByteString, R>>,
+    left: &[u8],
+    rank: &mut usize,
+) -> u32
+    ensures ranked { IsRanked (kept holding table.old) left.now result rank.new
+        (kept holding table.new) }
+    ensures out { IsWritten result rank.old rank.new }
+    ensures read { IsRead (kept holding table.old) (kept holding table.new) }
+{
+    if !note(&mut table.key, left) {
+        return NO_MEMORY;
+    }
+    *rank = table.map.left_rank(&table.key);
+    DONE
 }
 
 /// Removes all pairs, and forgets which pairs the last change overwrote or removed.

@@ -1,9 +1,38 @@
 //! The bodies of the calls that do not depend on the types of the sides. They work on any map.
-ghost use Rattle.std.specs.Prelude.{◌≡◌, length, if◌then◌else◌, IfSome, IfNone};
+ghost use Rattle.std.specs.Prelude.{◌≡◌, ◌≤◌, [], length, if◌then◌else◌, IfSome, IfNone};
+ghost use Rattle.bimap.specs.BTree.{holding};
 ghost use Rattle.bimap_c.specs.Calls.{refused, Reserves, Clears, AreFlags, on_held};
+ghost use Rattle.bimap_c.specs.Kinds.{IsOfKind, map_kinds};
 
+use crate::kind::{HASHED, INSERTION_ORDER, ORDERED};
 use crate::status::{DONE, NO_MEMORY, NOT_FOUND, REFUSED};
-use bimap::{Bijection, NotInsertedWith, OnHeld, Policy};
+use bimap::{
+    BiBTreeMap, BiHashMap, BiInsertionOrderMap, Bijection, NotInsertedWith, OnHeld, Policy, Seeded,
+};
+use bimap_dynamic::{AnyMap, AnyOf};
+use std::alloc::Global;
+use std::hash::Hash;
+
+/// Returns an empty map of a kind, or `None` if there is no such kind.
+pub(crate) fn new_map<L: Ord + Hash, R: Ord + Hash>(
+    alloc: Global,
+    kind: u32,
+    seed: u64,
+) -> Option<AnyMap<L, R, Seeded, Seeded>>
+    ensures some { IfSome result (λ map. (kind ≤ 2) × IsOfKind kind
+        (λ held. (held.pairs ≡ []) × (held.room ≡ 0)) (map_kinds holding holding holding map)) }
+    ensures none { IfNone result (kind ≤ 2 → ⊥) }
+{
+    let builder = Seeded::new(seed);
+    match kind {
+        ORDERED => Some(AnyOf::Ordered(BiBTreeMap::new(alloc))),
+        HASHED => Some(AnyOf::Hashed(BiHashMap::with_hashers(alloc, builder, builder))),
+        INSERTION_ORDER => Some(AnyOf::InsertionOrder(BiInsertionOrderMap::with_hashers(
+            alloc, builder, builder,
+        ))),
+        _ => None,
+    }
+}
 
 pub(crate) fn len<L: Eq + Drop, R: Eq + Drop, B: Bijection<L, R>>(map: &B, len: &mut usize) -> u32
     ensures { (result ≡ 0) × (len.new ≡ length (B.holding map.now).pairs) }

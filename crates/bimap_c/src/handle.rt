@@ -3,10 +3,10 @@ ghost use Rattle.std.specs.Prelude.{◌≡◌, ◌⊎◌, None, Some, is_some, M
 ghost use Rattle.std.specs.Option.{option_map};
 ghost use Rattle.bimap_c.specs.Calls.{Frees};
 
-use crate::loose::Loose;
-use crate::slot::Slot;
+use crate::c_table::CTable;
+use crate::raw_box::RawBox;
 use crate::status::{DONE, NO_MEMORY, NO_TABLE};
-use crate::table::Table;
+use crate::table_pointer::TablePointer;
 use std::alloc::Global;
 use std::marker::Send;
 use std::mem::replace;
@@ -15,54 +15,54 @@ use std::mem::replace;
 #[repr(C)]
 #[derive(Drop)]
 pub struct Handle {
-    slot: Slot,
+    table: TablePointer,
     live: bool,
     /// Whether there is a table.
-    pub ghost tie: { is_some slot.value ≡ live },
+    pub ghost tie: { is_some table.value ≡ live },
 }
 
 impl Handle {
     /// Returns a handle with no table.
     pub fn none(alloc: Global) -> Handle
-        ensures { result.slot.value ≡ None }
+        ensures { result.table.value ≡ None }
     {
         Handle {
-            slot: Slot::empty(alloc),
+            table: TablePointer::empty(alloc),
             live: false,
         }
     }
 
     /// Takes the table out of the handle, and returns it.
-    pub fn take(&mut self, alloc: Global) -> Option<Box<Table>>
-        ensures table { option_map (λ b. b.value) result ≡ self.old.slot.value }
-        ensures left { self.new.slot.value ≡ None }
+    pub fn take(&mut self, alloc: Global) -> Option<Box<CTable>>
+        ensures table { option_map (λ b. b.value) result ≡ self.old.table.value }
+        ensures left { self.new.table.value ≡ None }
     {
-        let Handle { slot, live } = replace(self, Handle::none(alloc));
+        let Handle { table, live } = replace(self, Handle::none(alloc));
         if live {
-            Some(slot.into_loose().into_box())
+            Some(table.into_parts().into_box())
         } else {
             None
         }
     }
 
     /// Puts a table into a handle that has none.
-    pub fn put(&mut self, table: Box<Table>)
-        requires { self.old.slot.value ≡ None }
-        ensures { self.new.slot.value ≡ Some table.value }
+    pub fn put(&mut self, boxed: Box<CTable>)
+        requires { self.old.table.value ≡ None }
+        ensures { self.new.table.value ≡ Some boxed.value }
     {
         let full = Handle {
-            slot: Slot::of_loose(Loose::of(table)),
+            table: TablePointer::of_parts(RawBox::of(boxed)),
             live: true,
         };
         drop(replace(self, full));
     }
 
     /// Puts a new table into a handle that has none, and returns the status.
-    pub fn make(&mut self, alloc: Global, table: Table) -> u32
-        ensures { MatchOption self.old.slot.value
-            (((result ≡ 0) × (self.new.slot.value ≡ Some table))
-            ⊎ ((result ≡ 1) × (self.new.slot.value ≡ None)))
-            (λ _. (result ≡ 2) × (self.new.slot.value ≡ self.old.slot.value)) }
+    pub fn make(&mut self, alloc: Global, table: CTable) -> u32
+        ensures { MatchOption self.old.table.value
+            (((result ≡ 0) × (self.new.table.value ≡ Some table))
+            ⊎ ((result ≡ 1) × (self.new.table.value ≡ None)))
+            (λ _. (result ≡ 2) × (self.new.table.value ≡ self.old.table.value)) }
     {
         if let Some(held) = self.take(alloc) {
             self.put(held);
@@ -79,7 +79,7 @@ impl Handle {
 
     /// Frees the table if there is one, and returns the status.
     pub fn free(&mut self, alloc: Global) -> u32
-        ensures { Frees self.old.slot.value result self.new.slot.value }
+        ensures { Frees self.old.table.value result self.new.table.value }
     {
         match self.take(alloc) {
             Some(table) => {

@@ -1,7 +1,0 @@
-use Rattle.std.proofs.Common.{refl}
-use Rattle.std.proofs.lemmas.Iterator.Adapters.{YieldsList-from_skip}
-use Rattle.std.proofs.lemmas.Iterator.Consumers.{YieldsList-from_rest}
-use Rattle.bimap_c.proofs.hash_u64_u64_walk.fill.Goals as goal
-
-pub returns : goal.returns
-returns c = (refl, c.write_row.ensures _ (YieldsList-from_skip c.args.start (YieldsList-from_rest _ (cc)) (cc)).runs)

@@ -1,0 +1,23 @@
+-- `of_parts` moves two fields, and what they own goes with them.
+use Rattle.bimap_c.proofs.Steps.{sym, refl, subst, List, [], ◌∷◌, ◌++◌, Some, Val, SProp, ent, emp, id⊢, ftrue, fsep, WpFn, tables, ‵, raw, ◌⊛◌, ◌$◌, ◌∵◌, !, qed, move, drop, use1, join, split, fsplit, fjoin, suffices, done, whole, sub, agg, stop, fld, no_more, and_then, of_opd, returns, enter, alloc_all, pass_all, free_all, look_at, get, get_in, sets, yes, type_at, plain, nothing, says, Stays, stay_dropped, walk_of, ends_at, Goes-dropped, proved_at, D, B, word, box_typed, box_out, box_in}
+use Rattle.bimap_c.proofs.TableAsBox.{E}
+use Rattle.bimap_c.specs.contracts.raw_box.RawBox
+use Rattle.bimap_c.specs.contracts.table_pointer.TablePointer.of_parts as F
+use Rattle.bimap_c.specs.contracts.table_pointer.TablePointer.of_parts.Key.{name as #self}
+use Rattle.bimap_c.proofs.table_pointer.TablePointer.of_parts.Statement.{statement}
+use Rattle.bimap_c.proofs.table_pointer.TablePointer.of_parts.Code as code
+
+pub of_parts_spec : {M : Type 1} → statement M
+of_parts_spec 𝓤 𝓛 𝓜 𝓡 wired =
+    let H = 𝓛.H in let 𝓣 = tables 𝓤 H 𝓜 𝓡 𝓡.env in let c = F.clauses 𝓛 𝓜.mem 𝓡.returns in let hs : Stays F.ended.signature.params F.ended.kept = (stay_dropped (plain (λ _. RawBox.the_row E.row E.al.row E.al.g)) yes, tt) in
+    proved_at 𝓛 F.ended hs c 𝓜 𝓡 (Goes-dropped 𝓛 0 (plain (λ _. RawBox.the_row E.row E.al.row E.al.g)) yes (λ κs x f. refl), tt) #self code.function (code.unfolded 𝓤 H 𝓜 𝓡 wired) (λ z are.
+    let v : D E = record { ptr = z.0.3.0.at; alloc = z.0.3.0.alloc; value = z.0.3.0.value } in let To = type_at F.signature.result tt in let made : To.Denot = record { at = v.ptr; alloc = v.alloc; value = Some v.value } in
+    let Run : List Val → SProp 𝓤 = λ us. WpFn 𝓤 H 𝓣.C 𝓣.Λ code.function us ((walk_of 𝓛 F.ended hs c).post z) in
+    qed 𝓛 ((‵ ftrue ⊛ ‵ (fsep ((B E).own_val v z.0.4.0) ftrue)) ∷ raw (emp 𝓤) ∷ []) ∵ split ! $ drop ! $ fsplit ! $
+    box_out E ! v z.0.4.0 (λ b o hv e ws fa. box_in E ! v b o v.value e refl $ let w = word E hv b o in use1 𝓛 (‵ (To.own_val made (w ∷ []))) (id⊢ 𝓤 _) $ move ! (1 ∷ 2 ∷ []) $ drop ! $ drop ! $
+    suffices ! (Run (w ∷ [])) (subst (λ (us : List Val). ent 𝓤 (Run (w ∷ [])) (Run us)) (sym (λ i. ws i ++ [])) (id⊢ 𝓤 (Run (w ∷ [])))) $
+    enter ! 𝓣.C 𝓣.Λ code.function (w ∷ []) _ $ alloc_all ! (λ ls. pass_all ! refl (box_typed E hv b o fa, tt) $
+    sets ! (of_opd ! (get_in ! (fld ! refl (stop !)) (sub ! 0 refl (whole !)))) refl (tt, tt) $ sets ! (of_opd ! (get_in ! (fld ! refl (stop !)) (sub ! 1 refl (whole !)))) refl fa $
+    sets ! (of_opd ! (get ! refl)) refl (tt, tt) $ sets ! (agg ! (and_then ! (get ! refl) (and_then ! (get ! refl) (no_more !)))) refl (box_typed E hv b o fa) $ returns ! (look_at ! 0 refl) $ free_all ! refl $
+    suffices ! _ (ends_at 𝓛 F.ended hs c z w made (tt, tt) (tt, tt)) $ says ! refl $
+    nothing ! $ nothing ! $ fjoin ! $ join ! $ nothing ! $ join ! $ done !)))

@@ -1,0 +1,92 @@
+//! The functions for C of a table of two byte strings that use an order: ranks and ends.
+ghost use Rattle.std.specs.Prelude.{◌≡◌, slice_get};
+ghost use Rattle.bimap_c.specs.Bytes.{IsLengthWritten, IsRead, IsRanked, PopsFirst, PopsLast};
+ghost use Rattle.bimap_c.specs.BytesBytes.{AreBothOut};
+ghost use Rattle.bimap_c.specs.Calls.{IsWritten, ReadsOrdered, ChangesOrdered, ChangesAtEnd};
+ghost use Rattle.bimap_c.specs.Tables.{bytes_bytes};
+
+use crate::handle::Handle;
+use crate::status::NO_ORDER;
+use crate::{bytes, bytes_bytes};
+use std::alloc::Global;
+
+/// Writes the pair whose left has exactly `rank` lefts below it. It writes each value to the front of its buffer, and
+/// the two lengths. It takes one search. Returns 4 if a buffer is too short, 5 if there are no more pairs, and 6 if the
+/// table is not ordered. On 4 it has written the lengths alone.
+#[unsafe(no_mangle)]
+pub extern "C" fn jetukoma_bytes_bytes_pair_at_rank_unchecked(
+    alloc: Global,
+    handle: &mut Handle,
+    rank: usize,
+    left_buf: &mut [u8],
+    left_len: &mut usize,
+    right_buf: &mut [u8],
+    right_len: &mut usize,
+) -> u32
+    ensures answer { ReadsOrdered bytes_bytes handle.old.table.value result
+        (λ kept. AreBothOut (slice_get kept.held.pairs rank) result left_buf.old left_buf.new
+        left_len.new right_buf.old right_buf.new right_len.new) }
+    ensures unchanged { handle.new.table.value ≡ handle.old.table.value }
+    ensures left_buf { IsWritten result left_buf.old left_buf.new }
+    ensures left_len { IsLengthWritten result left_len.old left_len.new }
+    ensures right_buf { IsWritten result right_buf.old right_buf.new }
+    ensures right_len { IsLengthWritten result right_len.old right_len.new }
+{
+    on_table!(handle, alloc, BytesBytes,
+        Ordered(table) => bytes_bytes::pair_at_rank(table, rank, left_buf, left_len, right_buf, right_len),
+        Hashed(_table) => NO_ORDER,
+        InsertionOrder(_table) => NO_ORDER)
+}
+
+/// Writes how many lefts are less than this one, compared byte by byte. This one need not be contained. It allocates
+/// as `get_by_left` does. Returns 1 if there is no memory for that, and 6 if the table is not ordered.
+#[unsafe(no_mangle)]
+pub extern "C" fn jetukoma_bytes_bytes_left_rank_unchecked(
+    alloc: Global,
+    handle: &mut Handle,
+    left: &[u8],
+    rank: &mut usize,
+) -> u32
+    ensures answer { ChangesOrdered bytes_bytes handle.old.table.value result handle.new.table.value
+        (λ old new. IsRanked old left.now result rank.new new × IsRead old new) }
+    ensures out { IsWritten result rank.old rank.new }
+{
+    on_table!(handle, alloc, BytesBytes,
+        Ordered(table) => bytes::left_rank(table, left, rank),
+        Hashed(_table) => NO_ORDER,
+        InsertionOrder(_table) => NO_ORDER)
+}
+
+/// Removes a pair. In an ordered table it is the pair of the least left. In a table in insertion order it is the first
+/// pair. The table keeps it, so that `overwritten_left` and `overwritten_right` copy it. Returns 5 if there are no
+/// pairs, and 6 if the table is hashed.
+#[unsafe(no_mangle)]
+pub extern "C" fn jetukoma_bytes_bytes_pop_first_unchecked(
+    alloc: Global,
+    handle: &mut Handle,
+) -> u32
+    ensures { ChangesAtEnd bytes_bytes handle.old.table.value result handle.new.table.value
+        (λ old new. PopsFirst old result new) }
+{
+    on_table!(handle, alloc, BytesBytes,
+        Ordered(table) => bytes::strike(&mut table.struck, table.map.pop_first_by_left()),
+        Hashed(_table) => NO_ORDER,
+        InsertionOrder(table) => bytes::strike(&mut table.struck, table.map.pop_first()))
+}
+
+/// Removes a pair. In an ordered table it is the pair of the greatest left. In a table in insertion order it is the last
+/// pair. The table keeps it, so that `overwritten_left` and `overwritten_right` copy it. Returns 5 if there are no
+/// pairs, and 6 if the table is hashed.
+#[unsafe(no_mangle)]
+pub extern "C" fn jetukoma_bytes_bytes_pop_last_unchecked(
+    alloc: Global,
+    handle: &mut Handle,
+) -> u32
+    ensures { ChangesAtEnd bytes_bytes handle.old.table.value result handle.new.table.value
+        (λ old new. PopsLast old result new) }
+{
+    on_table!(handle, alloc, BytesBytes,
+        Ordered(table) => bytes::strike(&mut table.struck, table.map.pop_last_by_left()),
+        Hashed(_table) => NO_ORDER,
+        InsertionOrder(table) => bytes::strike(&mut table.struck, table.map.pop_last()))
+}

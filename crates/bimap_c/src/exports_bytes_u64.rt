@@ -1,0 +1,348 @@
+//! The functions for C of a table of byte strings and numbers.
+ghost use Rattle.std.specs.Prelude.{◌≡◌, ◌≤◌, ℕ, Option, [], length, nat_eq, option_map, slice_get, vec_capacity, Contains};
+ghost use Rattle.std.specs.Borrow.{Bor};
+ghost use Rattle.std.specs.Map.Iter.{deref};
+ghost use Rattle.bimap.specs.Holding.{IsFoundByLeft, IsFoundByRight};
+ghost use Rattle.bimap.specs.Sets.{HasLeft, HasRight};
+ghost use Rattle.bimap_c.specs.Bytes.{same_bytes, named_pairs, AreBytesOut, IsLengthWritten, IsRead, IsByKey, RemovesByLeft, RemovesByRight, ClearsAll, Inserts, InsertsFlagged, IsKind};
+ghost use Rattle.bimap_c.specs.Calls.{IsWritten, Reads, Changes, Makes, Frees, Tells, Tests, Reserves};
+ghost use Rattle.bimap_c.specs.declared.byte_string.ByteString.{ByteString};
+ghost use Rattle.bimap_c.specs.Json.{WritesTexts, ReadsJson};
+ghost use Rattle.bimap_c.specs.Tables.{bytes_u64};
+
+use crate::c_table::CTable;
+use crate::handle::Handle;
+use crate::status::REFUSED;
+use crate::{bytes, bytes_u64, calls, json};
+use bimap::{BiBTreeMap, BiHashMap, BiInsertionOrderMap, OnHeld, Overwritten, Seeded};
+use std::alloc::Global;
+
+/// Makes an empty table of capacity 0 for a handle that has no table. The kind is one of the numbers above. The hashes of
+/// both sides depend on the seed. An ordered table does not use the seed. The call takes constant time. Returns 1 if
+/// there is no memory, 2 if the handle has a table, and 3 if there is no such kind.
+#[unsafe(no_mangle)]
+pub extern "C" fn jetukoma_bytes_u64_new_unchecked(
+    alloc: Global,
+    handle: &mut Handle,
+    kind: u32,
+    seed: u64,
+) -> u32
+    ensures { Makes bytes_u64 handle.old.table.value result handle.new.table.value kind
+        (λ kept. (kept.held.pairs ≡ []) × (kept.held.room ≡ 0)
+        × (kept.struck ≡ Overwritten.Neither)) }
+{
+    match bytes::new_table(alloc, kind, seed) {
+        Some(table) => handle.make(alloc, CTable::BytesU64(table)),
+        None => REFUSED,
+    }
+}
+
+/// Frees the table and all its bytes. The handle has no table then. The time grows with the capacity. Returns 2 if
+/// the handle has no table.
+#[unsafe(no_mangle)]
+pub extern "C" fn jetukoma_bytes_u64_free_unchecked(alloc: Global, handle: &mut Handle) -> u32
+    ensures { Frees handle.old.table.value result handle.new.table.value }
+{
+    handle.free(alloc)
+}
+
+/// Writes the number of pairs. It takes constant time.
+#[unsafe(no_mangle)]
+pub extern "C" fn jetukoma_bytes_u64_len_unchecked(
+    alloc: Global,
+    handle: &mut Handle,
+    len: &mut usize,
+) -> u32
+    ensures answer { Reads bytes_u64 handle.old.table.value result
+        (λ kept. (result ≡ 0) × (len.new ≡ length kept.held.pairs)) }
+    ensures unchanged { handle.new.table.value ≡ handle.old.table.value }
+    ensures out { IsWritten result len.old len.new }
+{
+    on_table!(handle, alloc, BytesU64, table => calls::len(&table.map, len))
+}
+
+/// Writes the capacity, which is the number of pairs for which there is memory. It takes constant time.
+#[unsafe(no_mangle)]
+pub extern "C" fn jetukoma_bytes_u64_capacity_unchecked(
+    alloc: Global,
+    handle: &mut Handle,
+    capacity: &mut usize,
+) -> u32
+    ensures answer { Reads bytes_u64 handle.old.table.value result
+        (λ kept. (result ≡ 0) × (capacity.new ≡ kept.held.room)) }
+    ensures unchanged { handle.new.table.value ≡ handle.old.table.value }
+    ensures out { IsWritten result capacity.old capacity.new }
+{
+    on_table!(handle, alloc, BytesU64, table => calls::capacity(&table.map, capacity))
+}
+
+/// Makes the capacity at least the number of pairs plus `more`. It makes it no greater than needed. Each of the next
+/// `more` insertions then allocates only for its bytes. Returns 1 if there is no memory.
+#[unsafe(no_mangle)]
+pub extern "C" fn jetukoma_bytes_u64_reserve_unchecked(
+    alloc: Global,
+    handle: &mut Handle,
+    more: usize,
+) -> u32
+    ensures { Changes bytes_u64 handle.old.table.value result handle.new.table.value
+        (λ old new. Reserves old.held more result new.held
+        × (new.struck ≡ old.struck) × (new.key ≡ old.key)) }
+{
+    on_table!(handle, alloc, BytesU64, table => calls::reserve(&mut table.map, more))
+}
+
+/// Inserts a copy of the left with the right. They overwrite the pairs with which they share a value. `kind` says
+/// which pairs those are: 0 for none, 1 for the pair of the left alone, 2 for the pair of the right alone, 3 for one
+/// pair with both values, and 4 for the pair of the left and the pair of the right. The table keeps the overwritten
+/// pairs until the next insertion, removal or clear that is done. `overwritten_left` and `overwritten_right` copy
+/// them. The call allocates for the bytes. It allocates for the pair only if it overwrites none and there is no spare
+/// capacity. Returns 1 if there is no memory.
+#[unsafe(no_mangle)]
+pub extern "C" fn jetukoma_bytes_u64_insert_unchecked(
+    alloc: Global,
+    handle: &mut Handle,
+    left: &[u8],
+    right: u64,
+    kind: &mut u32,
+) -> u32
+    ensures change { Changes bytes_u64 handle.old.table.value result handle.new.table.value
+        (λ old new. Inserts nat_eq old left.now right
+        (record { left = OnHeld.Overwrite; right = OnHeld.Overwrite }) result new
+        × IsKind result kind.new new) }
+    ensures out { IsWritten result kind.old kind.new }
+{
+    on_table!(handle, alloc, BytesU64, table => bytes::insert(alloc, table, left, right, kind))
+}
+
+/// Inserts a copy of the left with the right if neither is contained. The table keeps no overwritten pair then.
+/// Returns 1 if there is no memory, and 3 if a value is contained.
+#[unsafe(no_mangle)]
+pub extern "C" fn jetukoma_bytes_u64_insert_no_overwrite_unchecked(
+    alloc: Global,
+    handle: &mut Handle,
+    left: &[u8],
+    right: u64,
+) -> u32
+    ensures { Changes bytes_u64 handle.old.table.value result handle.new.table.value
+        (λ old new. Inserts nat_eq old left.now right
+        (record { left = OnHeld.Refuse; right = OnHeld.Refuse }) result new) }
+{
+    on_table!(handle, alloc, BytesU64, table => bytes::insert_no_overwrite(alloc, table, left, right))
+}
+
+/// Inserts as `insert` does, under a policy of two flags. If the flag of a side is 1, a contained value of this side
+/// refuses the insertion. If it is 0, the value is overwritten. Returns 1 if there is no memory. Returns 3 if the
+/// insertion is refused or a flag is above 1.
+#[unsafe(no_mangle)]
+pub extern "C" fn jetukoma_bytes_u64_insert_with_unchecked(
+    alloc: Global,
+    handle: &mut Handle,
+    left: &[u8],
+    right: u64,
+    left_refuses: u8,
+    right_refuses: u8,
+    kind: &mut u32,
+) -> u32
+    ensures change { Changes bytes_u64 handle.old.table.value result handle.new.table.value
+        (λ old new. InsertsFlagged nat_eq old left.now right left_refuses right_refuses result new
+        × IsKind result kind.new new) }
+    ensures out { IsWritten result kind.old kind.new }
+{
+    on_table!(handle, alloc, BytesU64, table => bytes::insert_with(alloc, table, left, right, left_refuses, right_refuses, kind))
+}
+
+/// Writes the right of a left. It allocates if the left is longer than every left that was looked up or removed
+/// before. Returns 1 if there is no memory for that, and 5 if the left is not contained.
+#[unsafe(no_mangle)]
+pub extern "C" fn jetukoma_bytes_u64_get_by_left_unchecked(
+    alloc: Global,
+    handle: &mut Handle,
+    left: &[u8],
+    right: &mut u64,
+) -> u32
+    ensures answer { Changes bytes_u64 handle.old.table.value result handle.new.table.value
+        (λ old new. IsByKey old left.now result new (λ key. (found : Option (Bor ℕ))
+        × IsFoundByLeft same_bytes old.held key found
+        × Tells (option_map deref found) result right.new) × IsRead old new) }
+    ensures out { IsWritten result right.old right.new }
+{
+    on_table!(handle, alloc, BytesU64, table => bytes_u64::get_by_left(table, left, right))
+}
+
+/// Writes the left of a right to the front of a buffer, and its length. Returns 4 if the buffer is too short, and 5
+/// if the right is not contained. On 4 it has written the length alone.
+#[unsafe(no_mangle)]
+pub extern "C" fn jetukoma_bytes_u64_get_by_right_unchecked(
+    alloc: Global,
+    handle: &mut Handle,
+    right: u64,
+    buf: &mut [u8],
+    len: &mut usize,
+) -> u32
+    ensures answer { Reads bytes_u64 handle.old.table.value result
+        (λ kept. (found : Option (Bor ByteString)) × IsFoundByRight nat_eq kept.held right found
+        × AreBytesOut (option_map (λ left. left.now.bytes.items) found) result buf.old buf.new
+        len.new) }
+    ensures unchanged { handle.new.table.value ≡ handle.old.table.value }
+    ensures buf { IsWritten result buf.old buf.new }
+    ensures len { IsLengthWritten result len.old len.new }
+{
+    on_table!(handle, alloc, BytesU64, table => bytes::get_by_right(table, &right, buf, len))
+}
+
+/// Returns 0 if the left is contained, and 5 if it is not. It allocates as `get_by_left` does. Returns 1 if there is
+/// no memory for that.
+#[unsafe(no_mangle)]
+pub extern "C" fn jetukoma_bytes_u64_contains_left_unchecked(
+    alloc: Global,
+    handle: &mut Handle,
+    left: &[u8],
+) -> u32
+    ensures { Changes bytes_u64 handle.old.table.value result handle.new.table.value
+        (λ old new. IsByKey old left.now result new (λ key.
+        Tests (HasLeft same_bytes (Contains old.held.pairs) key) result) × IsRead old new) }
+{
+    on_table!(handle, alloc, BytesU64, table => bytes::contains_left(table, left))
+}
+
+/// Returns 0 if the right is contained, and 5 if it is not.
+#[unsafe(no_mangle)]
+pub extern "C" fn jetukoma_bytes_u64_contains_right_unchecked(
+    alloc: Global,
+    handle: &mut Handle,
+    right: u64,
+) -> u32
+    ensures answer { Reads bytes_u64 handle.old.table.value result
+        (λ kept. Tests (HasRight nat_eq (Contains kept.held.pairs) right) result) }
+    ensures unchanged { handle.new.table.value ≡ handle.old.table.value }
+{
+    on_table!(handle, alloc, BytesU64, table => bytes::contains_right(table, &right))
+}
+
+/// Removes the pair of a left. The table keeps the pair, so that `overwritten_left` and `overwritten_right` copy it.
+/// The call allocates as `get_by_left` does. Returns 1 if there is no memory for that, and 5 if the left is not
+/// contained.
+#[unsafe(no_mangle)]
+pub extern "C" fn jetukoma_bytes_u64_remove_by_left_unchecked(
+    alloc: Global,
+    handle: &mut Handle,
+    left: &[u8],
+) -> u32
+    ensures { Changes bytes_u64 handle.old.table.value result handle.new.table.value
+        (λ old new. RemovesByLeft old left.now result new
+        × (vec_capacity old.key.bytes ≤ vec_capacity new.key.bytes)) }
+{
+    on_table!(handle, alloc, BytesU64, table => bytes::remove_by_left(table, left))
+}
+
+/// Removes the pair of a right. The table keeps the pair, so that `overwritten_left` and `overwritten_right` copy it.
+/// Returns 5 if the right is not contained.
+#[unsafe(no_mangle)]
+pub extern "C" fn jetukoma_bytes_u64_remove_by_right_unchecked(
+    alloc: Global,
+    handle: &mut Handle,
+    right: u64,
+) -> u32
+    ensures { Changes bytes_u64 handle.old.table.value result handle.new.table.value
+        (λ old new. RemovesByRight nat_eq old right result new
+        × (new.key ≡ old.key)) }
+{
+    on_table!(handle, alloc, BytesU64, table => bytes::remove_by_right(table, &right))
+}
+
+/// Writes the left of a pair that the last change overwrote or removed to the front of a buffer, and its length. If
+/// the change was an insertion that overwrote two pairs, index 0 is the pair of the left, and index 1 is the pair of
+/// the right. Otherwise index 0 is the pair. Returns 4 if the buffer is too short, and 5 if there is no such pair. On
+/// 4 it has written the length alone.
+#[unsafe(no_mangle)]
+pub extern "C" fn jetukoma_bytes_u64_overwritten_left_unchecked(
+    alloc: Global,
+    handle: &mut Handle,
+    index: usize,
+    buf: &mut [u8],
+    len: &mut usize,
+) -> u32
+    ensures answer { Reads bytes_u64 handle.old.table.value result
+        (λ kept. AreBytesOut (option_map (λ p. p.0.bytes.items)
+        (slice_get (named_pairs kept.struck) index)) result buf.old buf.new len.new) }
+    ensures unchanged { handle.new.table.value ≡ handle.old.table.value }
+    ensures buf { IsWritten result buf.old buf.new }
+    ensures len { IsLengthWritten result len.old len.new }
+{
+    on_table!(handle, alloc, BytesU64, table => bytes::overwritten_left(table, index, buf, len))
+}
+
+/// Writes the right of a pair that the last change overwrote or removed. The index is that of `overwritten_left`.
+/// Returns 5 if there is no such pair.
+#[unsafe(no_mangle)]
+pub extern "C" fn jetukoma_bytes_u64_overwritten_right_unchecked(
+    alloc: Global,
+    handle: &mut Handle,
+    index: usize,
+    right: &mut u64,
+) -> u32
+    ensures answer { Reads bytes_u64 handle.old.table.value result
+        (λ kept. Tells (option_map (λ p. p.1)
+        (slice_get (named_pairs kept.struck) index)) result right.new) }
+    ensures unchanged { handle.new.table.value ≡ handle.old.table.value }
+    ensures out { IsWritten result right.old right.new }
+{
+    on_table!(handle, alloc, BytesU64, table => bytes_u64::overwritten_right(table, index, right))
+}
+
+/// Removes all pairs. The capacity does not change. The time grows with the capacity. The table keeps no overwritten
+/// pair then.
+#[unsafe(no_mangle)]
+pub extern "C" fn jetukoma_bytes_u64_clear_unchecked(
+    alloc: Global,
+    handle: &mut Handle,
+) -> u32
+    ensures { Changes bytes_u64 handle.old.table.value result handle.new.table.value
+        (λ old new. ClearsAll old result new) }
+{
+    on_table!(handle, alloc, BytesU64, table => bytes::clear(table))
+}
+
+/// Writes the pairs as the text of a JSON object to the front of a buffer, and its length. Each pair is a name and
+/// its number. The names are in ascending order of their bytes. The call allocates for all pairs. Returns 1 if there
+/// is no memory, 3 if a left is not UTF-8, and 4 if the buffer is too short. On 4 it has written the length alone.
+#[unsafe(no_mangle)]
+pub extern "C" fn jetukoma_bytes_u64_to_json_unchecked(
+    alloc: Global,
+    handle: &mut Handle,
+    buf: &mut [u8],
+    len: &mut usize,
+) -> u32
+    ensures answer { Reads bytes_u64 handle.old.table.value result
+        (λ kept. WritesTexts kept.held.pairs result buf.old buf.new len.new) }
+    ensures unchanged { handle.new.table.value ≡ handle.old.table.value }
+    ensures buf { IsWritten result buf.old buf.new }
+    ensures len { IsLengthWritten result len.old len.new }
+{
+    on_table!(handle, alloc, BytesU64, table => json::to_json(alloc, &table.map, buf, len))
+}
+
+/// Reads the text of such an object. Its pairs replace those of the table, and the table keeps no overwritten pair
+/// then. The kind and the seed stay. The pairs are inserted in ascending order of their names. The call allocates for
+/// all pairs. Returns 1 if there is no memory. Returns 3 if the text is no such object, or if it has a name or a
+/// number twice.
+#[unsafe(no_mangle)]
+pub extern "C" fn jetukoma_bytes_u64_from_json_unchecked(
+    alloc: Global,
+    handle: &mut Handle,
+    text: &[u8],
+) -> u32
+    ensures { Changes bytes_u64 handle.old.table.value result handle.new.table.value
+        (λ old new. ReadsJson old text.now result new) }
+{
+    on_table!(handle, alloc, BytesU64,
+        Ordered(table) => json::from_json(alloc, table, BiBTreeMap::new(alloc), text),
+        Hashed(table) => {
+            let builder = Seeded::new(table.seed);
+            json::from_json(alloc, table, BiHashMap::with_hashers(alloc, builder, builder), text)
+        },
+        InsertionOrder(table) => {
+            let builder = Seeded::new(table.seed);
+            json::from_json(alloc, table, BiInsertionOrderMap::with_hashers(alloc, builder, builder), text)
+        })
+}
