@@ -7,7 +7,8 @@
 #![tactic(auto)]
 
 // Makes a call on the table of a handle, and returns the status. A table of each kind has a call of its own, or all kinds
-// have the same. The status is `NO_TABLE` if the handle has no table of these sides.
+// have the same. The status is `NO_TABLE` if the handle has no table of these sides. Each way out of the function is
+// proved separately.
 macro_rules! on_table {
     ($handle:ident, $alloc:ident, $sides:ident, $table:ident => $call:expr) => {
         on_table!($handle, $alloc, $sides, Ordered($table) => $call, Hashed($table) => $call, InsertionOrder($table) => $call)
@@ -16,12 +17,17 @@ macro_rules! on_table {
         let Some(mut held) = $handle.take($alloc) else {
             return crate::status::NO_TABLE;
         };
-        let status = match &mut *held {
-            $(crate::c_table::CTable::$sides(bimap_dynamic::AnyOf::$kind($table)) => $call,)+
-            _ => crate::status::NO_TABLE,
-        };
-        $handle.put(held);
-        status
+        match &mut *held {
+            $(crate::c_table::CTable::$sides(bimap_dynamic::AnyOf::$kind($table)) => {
+                let status = $call;
+                $handle.put(held);
+                status
+            })+
+            _ => {
+                $handle.put(held);
+                crate::status::NO_TABLE
+            }
+        }
     }};
 }
 
