@@ -12,43 +12,47 @@ use Rattle.bimap_c.specs.declared.c_table.CTable.{CTable}
 abbrev pub IsWritten : {X : Type 0} → ℕ → X → X → Type 0
 IsWritten status old new = (status ≡ 0 → ⊥) → new ≡ old
 
-module _ {H : Type 0} (find : Option CTable → Option (Kinds H)) (old : Option CTable) (status : ℕ) where
-  -- What a call that changes nothing does. Its statement is true of the table. Or the table has other sides, and the status
-  -- is 2.
+module _ {H : Type 0} (find : Option CTable → Option (Kinds H)) (old : Option CTable) (status : ℕ) (new : Option CTable) where
+  -- What is true of a table of each kind. If the handle has no table of these sides, the status is 2. The table does not
+  -- change.
+  abbrev pub ReadsByKind : (H → Type 0) → (H → Type 0) → Type 0
+  ReadsByKind ordered others = (new ≡ old) × MatchOption (find old) (status ≡ 2) (MatchKind ordered others others)
+
+  -- What a call that changes nothing does, on a table of any kind.
   abbrev pub Reads : (H → Type 0) → Type 0
-  Reads holds = MatchOption (find old) (status ≡ 2) (MatchKind holds holds holds)
+  Reads holds = ReadsByKind holds holds
 
-  -- The same for a call that needs an ordered table. For a table of another kind the status is 6.
+  -- What such a call does if it needs an ordered table. For a table of another kind the status is 6.
   abbrev pub ReadsOrdered : (H → Type 0) → Type 0
-  ReadsOrdered holds = MatchOption (find old) (status ≡ 2) (MatchKind holds (λ _. status ≡ 6) (λ _. status ≡ 6))
+  ReadsOrdered holds = ReadsByKind holds (λ _. status ≡ 6)
 
-  module _ (new : Option CTable) where
-    -- What is done to a table of each kind, which stays of its kind. If the table has other sides, nothing changes.
-    abbrev pub ChangesByKind : (H → H → Type 0) → (H → H → Type 0) → (H → H → Type 0) → Type 0
-    ChangesByKind ordered hashed in_order =
-        MatchOption (find old) ((status ≡ 2) × (new ≡ old)) (λ before. MatchOption (find new) ⊥ (MatchKinds ordered hashed in_order before))
+  -- What is true of a table of each kind before and after. It stays of its kind. If the handle has no table of these sides,
+  -- nothing changes.
+  abbrev pub ChangesByKind : (H → H → Type 0) → (H → H → Type 0) → (H → H → Type 0) → Type 0
+  ChangesByKind ordered hashed in_order =
+      MatchOption (find old) ((status ≡ 2) × (new ≡ old)) (λ before. MatchOption (find new) ⊥ (MatchKinds ordered hashed in_order before))
 
-    -- The call has no meaning for the kind of the table, and nothing changes.
-    abbrev pub HasNoOrder : H → H → Type 0
-    HasNoOrder before after = (status ≡ 6) × (new ≡ old)
+  -- A table of this kind has no order that the call could use, and nothing changes.
+  abbrev pub HasNoOrder : H → H → Type 0
+  HasNoOrder before after = (status ≡ 6) × (new ≡ old)
 
-    -- What a call that may change the table does. Its statement is true of the table before and after.
-    abbrev pub Changes : (H → H → Type 0) → Type 0
-    Changes holds = ChangesByKind holds holds holds
+  -- What a call that may change the table does, on a table of any kind.
+  abbrev pub Changes : (H → H → Type 0) → Type 0
+  Changes holds = ChangesByKind holds holds holds
 
-    -- The same for a call that needs an ordered table.
-    abbrev pub ChangesOrdered : (H → H → Type 0) → Type 0
-    ChangesOrdered holds = ChangesByKind holds HasNoOrder HasNoOrder
+  -- What such a call does if it needs an ordered table.
+  abbrev pub ChangesOrdered : (H → H → Type 0) → Type 0
+  ChangesOrdered holds = ChangesByKind holds HasNoOrder HasNoOrder
 
-    -- The same for a call that needs a table that is ordered or keeps the insertion order.
-    abbrev pub ChangesAtEnd : (H → H → Type 0) → Type 0
-    ChangesAtEnd holds = ChangesByKind holds HasNoOrder holds
+  -- What such a call does if it needs a first or last pair, as an ordered table has and one in insertion order.
+  abbrev pub ChangesAtEnd : (H → H → Type 0) → Type 0
+  ChangesAtEnd holds = ChangesByKind holds HasNoOrder holds
 
-    -- What `new` does, by the number of the kind. If the handle had no table, it has one of this kind then, or there was no
-    -- memory. If it had a table, or there is no such kind, nothing changes.
-    pub record Makes (kind : ℕ) (holds : H → Type 0) : Type 0 where
-      pub kinds : kind ≤ 2 → MatchOption old (((status ≡ 0) × MatchOption (find new) ⊥ (IsOfKind kind holds)) ⊎ ((status ≡ 1) × (new ≡ None))) (λ _. (status ≡ 2) × (new ≡ old))
-      pub others : (kind ≤ 2 → ⊥) → (status ≡ 3) × (new ≡ old)
+  -- What `new` does, by the number of the kind. If the handle had no table, it has one of this kind then, or there was no
+  -- memory. If it had a table, or there is no such kind, nothing changes.
+  pub record Makes (kind : ℕ) (holds : H → Type 0) : Type 0 where
+    pub kinds : kind ≤ 2 → MatchOption old (((status ≡ 0) × MatchOption (find new) ⊥ (IsOfKind kind holds)) ⊎ ((status ≡ 1) × (new ≡ None))) (λ _. (status ≡ 2) × (new ≡ old))
+    pub others : (kind ≤ 2 → ⊥) → (status ≡ 3) × (new ≡ old)
 
 -- What `free` does. If the handle had a table, it has none then.
 abbrev pub Frees : Option CTable → ℕ → Option CTable → Type 0

@@ -1,13 +1,11 @@
 //! The tables whose lefts are byte strings, and the bodies of their calls. They work on any map.
 ghost use Rattle.std.specs.Prelude.{◌≡◌, Option, ◌<◌, ◌≤◌, [], length, true, false, vec_capacity, option_map, slice_get, Contains, IfSome, IfNone};
-ghost use Rattle.std.specs.Borrow.{Bor};
 ghost use Rattle.std.specs.Map.Iter.{deref, deref_pair};
 ghost use Rattle.bimap.specs.BTree.{holding};
-ghost use Rattle.bimap.specs.Holding.{IsFoundByRight};
-ghost use Rattle.bimap.specs.Sets.{HasLeft, HasRight};
+ghost use Rattle.bimap.specs.Sets.{HasLeft};
 ghost use Rattle.bimap_c.specs.Calls.{IsWritten, Tests};
 ghost use Rattle.bimap_c.specs.declared.byte_string.ByteString.{ByteString};
-ghost use Rattle.bimap_c.specs.Bytes.{kept, same_bytes, named_pairs, kind_of, IsRead, IsByKey, IsCopiedOut, AreBytesOut, IsLengthWritten, IsStruck, IsRanked, RemovesByLeft, RemovesByRight, ClearsAll, Inserts, InsertsFlagged, IsKind};
+ghost use Rattle.bimap_c.specs.Bytes.{kept, same_bytes, named_pairs, kind_of, IsRead, IsByKey, IsCopiedOut, AreBytesOut, IsLengthWritten, IsStruck, IsRanked, RemovesByLeft, ClearsAll, Inserts, InsertsFlagged, IsKind};
 ghost use Rattle.bimap_c.specs.Kinds.{IsOfKind, map_kinds};
 
 use crate::byte_string::ByteString;
@@ -145,8 +143,8 @@ fn named_at<L, R>(answer: &Overwritten<L, R>, index: usize) -> Option<(&L, &R)>
     }
 }
 
-// Returns the left of the pair at this index.
-fn left_at<L, R>(answer: &Overwritten<L, R>, index: usize) -> Option<&L>
+/// Returns the left of the pair at this index among the overwritten pairs.
+pub(crate) fn left_at<L, R>(answer: &Overwritten<L, R>, index: usize) -> Option<&L>
     ensures { option_map deref result
         ≡ option_map (λ p. p.0) (slice_get (named_pairs answer.now) index) }
 {
@@ -156,6 +154,7 @@ fn left_at<L, R>(answer: &Overwritten<L, R>, index: usize) -> Option<&L>
     }
 }
 
+/// Returns the right of the pair at this index among the overwritten pairs.
 pub(crate) fn right_at<L, R>(answer: &Overwritten<L, R>, index: usize) -> Option<&R>
     ensures { option_map deref result
         ≡ option_map (λ p. p.1) (slice_get (named_pairs answer.now) index) }
@@ -276,22 +275,6 @@ pub(crate) fn insert_with<R: Eq + Drop, B: Bijection<ByteString, R>>(
     status
 }
 
-/// Writes the left of a right, and returns the status.
-pub(crate) fn get_by_right<R: Eq + Drop, B: Bijection<ByteString, R>>(
-    table: &BytesTable<R, B>,
-    right: &R,
-    buf: &mut [u8],
-    len: &mut usize,
-) -> u32
-    ensures told { (found : Option (Bor ByteString))
-        × IsFoundByRight R.eq (B.holding table.now.map) right.now found
-        × AreBytesOut (option_map (λ v. v.now.bytes.items) found) result buf.old buf.new len.new }
-    ensures buf { IsWritten result buf.old buf.new }
-    ensures len { IsLengthWritten result len.old len.new }
-{
-    tell_bytes(table.map.get_by_right(right), buf, len)
-}
-
 /// Returns the status that says whether the left is contained.
 pub(crate) fn contains_left<R: Eq + Drop, B: Bijection<ByteString, R>>(
     table: &mut BytesTable<R, B>,
@@ -308,17 +291,6 @@ pub(crate) fn contains_left<R: Eq + Drop, B: Bijection<ByteString, R>>(
     found(table.map.contains_left(&table.key))
 }
 
-/// Returns the status that says whether the right is contained.
-pub(crate) fn contains_right<R: Eq + Drop, B: Bijection<ByteString, R>>(
-    table: &BytesTable<R, B>,
-    right: &R,
-) -> u32
-    ensures { Tests (HasRight R.eq (Contains (B.holding table.now.map).pairs) right.now)
-        result }
-{
-    found(table.map.contains_right(right))
-}
-
 /// Removes the pair of a left, and returns the status.
 pub(crate) fn remove_by_left<R: Eq + Drop, B: Bijection<ByteString, R>>(
     table: &mut BytesTable<R, B>,
@@ -332,33 +304,6 @@ pub(crate) fn remove_by_left<R: Eq + Drop, B: Bijection<ByteString, R>>(
         return NO_MEMORY;
     }
     strike(&mut table.struck, table.map.remove_by_left(&table.key))
-}
-
-/// Removes the pair of a right, and returns the status.
-pub(crate) fn remove_by_right<R: Eq + Drop, B: Bijection<ByteString, R>>(
-    table: &mut BytesTable<R, B>,
-    right: &R,
-) -> u32
-    ensures removed { RemovesByRight R.eq (kept B.holding table.old) right.now result
-        (kept B.holding table.new) }
-    ensures room { table.new.key ≡ table.old.key }
-{
-    strike(&mut table.struck, table.map.remove_by_right(right))
-}
-
-/// Writes the left at this index of the pairs that the last change overwrote or removed. Returns the status.
-pub(crate) fn overwritten_left<R, B>(
-    table: &BytesTable<R, B>,
-    index: usize,
-    buf: &mut [u8],
-    len: &mut usize,
-) -> u32
-    ensures told { AreBytesOut (option_map (λ p. p.0.bytes.items)
-        (slice_get (named_pairs table.now.struck) index)) result buf.old buf.new len.new }
-    ensures buf { IsWritten result buf.old buf.new }
-    ensures len { IsLengthWritten result len.old len.new }
-{
-    tell_bytes(left_at(&table.struck, index), buf, len)
 }
 
 /// Writes how many lefts are less than this one, and returns the status.

@@ -1,20 +1,19 @@
 //! The bodies of the calls whose rights are byte strings. They work on any map of two byte strings.
-ghost use Rattle.std.specs.Prelude.{◌≤◌, ℕ, Option, option_map, slice_get, vec_capacity, Contains};
+ghost use Rattle.std.specs.Prelude.{◌≤◌, Option, option_map, vec_capacity, Contains};
 ghost use Rattle.std.specs.Borrow.{Bor};
 ghost use Rattle.std.specs.Map.Iter.{deref_pair};
-ghost use Rattle.bimap.specs.BTree.{holding};
 ghost use Rattle.bimap.specs.Holding.{IsFoundByLeft, IsFoundByRight};
 ghost use Rattle.bimap.specs.Sets.{HasRight};
 ghost use Rattle.bimap_c.specs.Calls.{IsWritten, Tests};
-ghost use Rattle.bimap_c.specs.Bytes.{kept, same_bytes, named_pairs, AreBytesOut, IsLengthWritten, IsRead, IsByKey, RemovesByRight, Inserts, InsertsFlagged, IsKind};
+ghost use Rattle.bimap_c.specs.Bytes.{kept, same_bytes, AreBytesOut, IsLengthWritten, IsRead, IsByKey, RemovesByRight, Inserts, InsertsFlagged, IsKind};
 ghost use Rattle.bimap_c.specs.declared.byte_string.ByteString.{ByteString};
 ghost use Rattle.bimap_c.specs.BytesBytes.{WithCopy, AreBothOut};
 
 use crate::byte_string::ByteString;
-use crate::bytes::{self, BytesTable, note, right_at, strike, tell_bytes};
+use crate::bytes::{self, BytesTable, note, strike, tell_bytes};
 use crate::calls::found;
 use crate::status::{BUFFER_TOO_SHORT, DONE, NO_MEMORY, NOT_FOUND};
-use bimap::{BiBTreeMap, Bijection, OnHeld};
+use bimap::{Bijection, OnHeld};
 use std::alloc::Global;
 
 /// Inserts copies of both values. They overwrite the pairs with which they share a value.
@@ -152,23 +151,8 @@ pub(crate) fn remove_by_right<B: Bijection<ByteString, ByteString>>(
     strike(&mut table.struck, table.map.remove_by_right(&table.key))
 }
 
-/// Writes the right at this index of the pairs that the last change overwrote or removed. Returns the status.
-pub(crate) fn overwritten_right<B>(
-    table: &BytesTable<ByteString, B>,
-    index: usize,
-    buf: &mut [u8],
-    len: &mut usize,
-) -> u32
-    ensures told { AreBytesOut (option_map (λ p. p.1.bytes.items)
-        (slice_get (named_pairs table.now.struck) index)) result buf.old buf.new len.new }
-    ensures buf { IsWritten result buf.old buf.new }
-    ensures len { IsLengthWritten result len.old len.new }
-{
-    tell_bytes(right_at(&table.struck, index), buf, len)
-}
-
-// Writes a pair if there is one, and returns the status.
-fn tell_pair(
+/// Writes a pair if there is one, and returns the status.
+pub(crate) fn tell_pair(
     found: Option<(&ByteString, &ByteString)>,
     left_buf: &mut [u8],
     left_len: &mut usize,
@@ -193,29 +177,4 @@ fn tell_pair(
     left_buf[..left.bytes.len()].copy_from_slice(&left.bytes);
     right_buf[..right.bytes.len()].copy_from_slice(&right.bytes);
     DONE
-}
-
-/// Writes the pair whose left has exactly `rank` lefts below it. Returns the status.
-pub(crate) fn pair_at_rank(
-    table: &BytesTable<ByteString, BiBTreeMap<ByteString, ByteString>>,
-    rank: usize,
-    left_buf: &mut [u8],
-    left_len: &mut usize,
-    right_buf: &mut [u8],
-    right_len: &mut usize,
-) -> u32
-    ensures told { AreBothOut (slice_get (holding table.now.map).pairs rank) result left_buf.old
-        left_buf.new left_len.new right_buf.old right_buf.new right_len.new }
-    ensures left_buf { IsWritten result left_buf.old left_buf.new }
-    ensures left_len { IsLengthWritten result left_len.old left_len.new }
-    ensures right_buf { IsWritten result right_buf.old right_buf.new }
-    ensures right_len { IsLengthWritten result right_len.old right_len.new }
-{
-    tell_pair(
-        table.map.pair_at_left_rank(rank),
-        left_buf,
-        left_len,
-        right_buf,
-        right_len,
-    )
 }

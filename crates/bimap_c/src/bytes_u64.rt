@@ -1,17 +1,16 @@
 //! The bodies of the calls whose rights are numbers. They work on any map of byte strings and numbers.
-ghost use Rattle.std.specs.Prelude.{ℕ, Option, option_map, slice_get};
+ghost use Rattle.std.specs.Prelude.{ℕ, Option, option_map};
 ghost use Rattle.std.specs.Borrow.{Bor};
 ghost use Rattle.std.specs.Map.Iter.{deref, deref_pair};
-ghost use Rattle.bimap.specs.BTree.{holding};
 ghost use Rattle.bimap.specs.Holding.{IsFoundByLeft};
 ghost use Rattle.bimap_c.specs.Calls.{IsWritten, Tells};
-ghost use Rattle.bimap_c.specs.Bytes.{kept, same_bytes, named_pairs, IsRead, IsByKey, IsPairOut, IsLengthWritten};
+ghost use Rattle.bimap_c.specs.Bytes.{kept, same_bytes, IsRead, IsByKey, IsPairOut, IsLengthWritten};
 
 use crate::byte_string::ByteString;
-use crate::bytes::{BytesTable, copy_out, note, right_at};
+use crate::bytes::{BytesTable, copy_out, note};
 use crate::status::{DONE, NO_MEMORY, NOT_FOUND};
 use crate::u64_u64::tell_value;
-use bimap::{BiBTreeMap, Bijection};
+use bimap::Bijection;
 
 /// Writes the right of a left, and returns the status.
 pub(crate) fn get_by_left<B: Bijection<ByteString, u64>>(
@@ -31,17 +30,8 @@ pub(crate) fn get_by_left<B: Bijection<ByteString, u64>>(
     tell_value(table.map.get_by_left(&table.key), right)
 }
 
-/// Writes the right at this index of the pairs that the last change overwrote or removed. Returns the status.
-pub(crate) fn overwritten_right<B>(table: &BytesTable<u64, B>, index: usize, right: &mut u64) -> u32
-    ensures told { Tells (option_map (λ p. p.1)
-        (slice_get (named_pairs table.now.struck) index)) result right.new }
-    ensures out { IsWritten result right.old right.new }
-{
-    tell_value(right_at(&table.struck, index), right)
-}
-
-// Writes a pair if there is one, and returns the status.
-fn tell_pair(
+/// Writes a pair if there is one, and returns the status.
+pub(crate) fn tell_pair(
     found: Option<(&ByteString, &u64)>,
     buf: &mut [u8],
     len: &mut usize,
@@ -61,21 +51,4 @@ fn tell_pair(
         *right = *number;
     }
     status
-}
-
-/// Writes the pair whose left has exactly `rank` lefts below it. Returns the status.
-pub(crate) fn pair_at_rank(
-    table: &BytesTable<u64, BiBTreeMap<ByteString, u64>>,
-    rank: usize,
-    buf: &mut [u8],
-    len: &mut usize,
-    right: &mut u64,
-) -> u32
-    ensures told { IsPairOut (slice_get (holding table.now.map).pairs rank) result buf.old buf.new
-        len.new right.new }
-    ensures buf { IsWritten result buf.old buf.new }
-    ensures len { IsLengthWritten result len.old len.new }
-    ensures out { IsWritten result right.old right.new }
-{
-    tell_pair(table.map.pair_at_left_rank(rank), buf, len, right)
 }

@@ -1,5 +1,5 @@
 //! The functions for C of a table of two byte strings.
-ghost use Rattle.std.specs.Prelude.{◌≡◌, ◌≤◌, ℕ, Option, [], length, option_map, slice_get, vec_capacity, Contains};
+ghost use Rattle.std.specs.Prelude.{◌≡◌, ◌≤◌, Option, [], length, option_map, slice_get, vec_capacity, Contains};
 ghost use Rattle.std.specs.Borrow.{Bor};
 ghost use Rattle.bimap.specs.Holding.{IsFoundByLeft, IsFoundByRight};
 ghost use Rattle.bimap.specs.Sets.{HasLeft, HasRight};
@@ -9,6 +9,7 @@ ghost use Rattle.bimap_c.specs.Calls.{IsWritten, Reads, Changes, Makes, Frees, T
 ghost use Rattle.bimap_c.specs.declared.byte_string.ByteString.{ByteString};
 ghost use Rattle.bimap_c.specs.Tables.{bytes_bytes};
 
+use crate::bytes::{left_at, right_at, tell_bytes};
 use crate::c_table::CTable;
 use crate::handle::Handle;
 use crate::status::REFUSED;
@@ -55,9 +56,8 @@ pub extern "C" fn jetukoma_bytes_bytes_len_unchecked(
     handle: &mut Handle,
     len: &mut usize,
 ) -> u32
-    ensures answer { Reads bytes_bytes handle.old.table.value result
+    ensures answer { Reads bytes_bytes handle.old.table.value result handle.new.table.value
         (λ kept. (result ≡ 0) × (len.new ≡ length kept.held.pairs)) }
-    ensures unchanged { handle.new.table.value ≡ handle.old.table.value }
     ensures out { IsWritten result len.old len.new }
 {
     on_table!(handle, alloc, BytesBytes, table => calls::len(&table.map, len))
@@ -70,9 +70,8 @@ pub extern "C" fn jetukoma_bytes_bytes_capacity_unchecked(
     handle: &mut Handle,
     capacity: &mut usize,
 ) -> u32
-    ensures answer { Reads bytes_bytes handle.old.table.value result
+    ensures answer { Reads bytes_bytes handle.old.table.value result handle.new.table.value
         (λ kept. (result ≡ 0) × (capacity.new ≡ kept.held.room)) }
-    ensures unchanged { handle.new.table.value ≡ handle.old.table.value }
     ensures out { IsWritten result capacity.old capacity.new }
 {
     on_table!(handle, alloc, BytesBytes, table => calls::capacity(&table.map, capacity))
@@ -272,14 +271,13 @@ pub extern "C" fn jetukoma_bytes_bytes_overwritten_left_unchecked(
     buf: &mut [u8],
     len: &mut usize,
 ) -> u32
-    ensures answer { Reads bytes_bytes handle.old.table.value result
+    ensures answer { Reads bytes_bytes handle.old.table.value result handle.new.table.value
         (λ kept. AreBytesOut (option_map (λ p. p.0.bytes.items)
         (slice_get (named_pairs kept.struck) index)) result buf.old buf.new len.new) }
-    ensures unchanged { handle.new.table.value ≡ handle.old.table.value }
     ensures buf { IsWritten result buf.old buf.new }
     ensures len { IsLengthWritten result len.old len.new }
 {
-    on_table!(handle, alloc, BytesBytes, table => bytes::overwritten_left(table, index, buf, len))
+    on_table!(handle, alloc, BytesBytes, table => tell_bytes(left_at(&table.struck, index), buf, len))
 }
 
 /// Writes the right of a pair that the last change overwrote or removed to the front of a buffer, and its length. The
@@ -292,14 +290,13 @@ pub extern "C" fn jetukoma_bytes_bytes_overwritten_right_unchecked(
     buf: &mut [u8],
     len: &mut usize,
 ) -> u32
-    ensures answer { Reads bytes_bytes handle.old.table.value result
+    ensures answer { Reads bytes_bytes handle.old.table.value result handle.new.table.value
         (λ kept. AreBytesOut (option_map (λ p. p.1.bytes.items)
         (slice_get (named_pairs kept.struck) index)) result buf.old buf.new len.new) }
-    ensures unchanged { handle.new.table.value ≡ handle.old.table.value }
     ensures buf { IsWritten result buf.old buf.new }
     ensures len { IsLengthWritten result len.old len.new }
 {
-    on_table!(handle, alloc, BytesBytes, table => bytes_bytes::overwritten_right(table, index, buf, len))
+    on_table!(handle, alloc, BytesBytes, table => tell_bytes(right_at(&table.struck, index), buf, len))
 }
 
 /// Removes all pairs. The capacity does not change. The time grows with the capacity. The table keeps no overwritten

@@ -1,13 +1,14 @@
 //! The functions for C of a table of two byte strings that use an order: ranks and ends.
-ghost use Rattle.std.specs.Prelude.{◌≡◌, slice_get};
+ghost use Rattle.std.specs.Prelude.{slice_get};
 ghost use Rattle.bimap_c.specs.Bytes.{IsLengthWritten, IsRead, IsRanked, PopsFirst, PopsLast};
 ghost use Rattle.bimap_c.specs.BytesBytes.{AreBothOut};
 ghost use Rattle.bimap_c.specs.Calls.{IsWritten, ReadsOrdered, ChangesOrdered, ChangesAtEnd};
 ghost use Rattle.bimap_c.specs.Tables.{bytes_bytes};
 
+use crate::bytes::{left_rank, strike};
+use crate::bytes_bytes::tell_pair;
 use crate::handle::Handle;
 use crate::status::NO_ORDER;
-use crate::{bytes, bytes_bytes};
 use std::alloc::Global;
 
 /// Writes the pair whose left has exactly `rank` lefts below it. It writes each value to the front of its buffer, and
@@ -23,17 +24,16 @@ pub extern "C" fn jetukoma_bytes_bytes_pair_at_rank_unchecked(
     right_buf: &mut [u8],
     right_len: &mut usize,
 ) -> u32
-    ensures answer { ReadsOrdered bytes_bytes handle.old.table.value result
+    ensures answer { ReadsOrdered bytes_bytes handle.old.table.value result handle.new.table.value
         (λ kept. AreBothOut (slice_get kept.held.pairs rank) result left_buf.old left_buf.new
         left_len.new right_buf.old right_buf.new right_len.new) }
-    ensures unchanged { handle.new.table.value ≡ handle.old.table.value }
     ensures left_buf { IsWritten result left_buf.old left_buf.new }
     ensures left_len { IsLengthWritten result left_len.old left_len.new }
     ensures right_buf { IsWritten result right_buf.old right_buf.new }
     ensures right_len { IsLengthWritten result right_len.old right_len.new }
 {
     on_table!(handle, alloc, BytesBytes,
-        Ordered(table) => bytes_bytes::pair_at_rank(table, rank, left_buf, left_len, right_buf, right_len),
+        Ordered(table) => tell_pair(table.map.pair_at_left_rank(rank), left_buf, left_len, right_buf, right_len),
         Hashed(_table) => NO_ORDER,
         InsertionOrder(_table) => NO_ORDER)
 }
@@ -52,7 +52,7 @@ pub extern "C" fn jetukoma_bytes_bytes_left_rank_unchecked(
     ensures out { IsWritten result rank.old rank.new }
 {
     on_table!(handle, alloc, BytesBytes,
-        Ordered(table) => bytes::left_rank(table, left, rank),
+        Ordered(table) => left_rank(table, left, rank),
         Hashed(_table) => NO_ORDER,
         InsertionOrder(_table) => NO_ORDER)
 }
@@ -69,9 +69,9 @@ pub extern "C" fn jetukoma_bytes_bytes_pop_first_unchecked(
         (λ old new. PopsFirst old result new) }
 {
     on_table!(handle, alloc, BytesBytes,
-        Ordered(table) => bytes::strike(&mut table.struck, table.map.pop_first_by_left()),
+        Ordered(table) => strike(&mut table.struck, table.map.pop_first_by_left()),
         Hashed(_table) => NO_ORDER,
-        InsertionOrder(table) => bytes::strike(&mut table.struck, table.map.pop_first()))
+        InsertionOrder(table) => strike(&mut table.struck, table.map.pop_first()))
 }
 
 /// Removes a pair. In an ordered table it is the pair of the greatest left. In a table in insertion order it is the last
@@ -86,7 +86,7 @@ pub extern "C" fn jetukoma_bytes_bytes_pop_last_unchecked(
         (λ old new. PopsLast old result new) }
 {
     on_table!(handle, alloc, BytesBytes,
-        Ordered(table) => bytes::strike(&mut table.struck, table.map.pop_last_by_left()),
+        Ordered(table) => strike(&mut table.struck, table.map.pop_last_by_left()),
         Hashed(_table) => NO_ORDER,
-        InsertionOrder(table) => bytes::strike(&mut table.struck, table.map.pop_last()))
+        InsertionOrder(table) => strike(&mut table.struck, table.map.pop_last()))
 }

@@ -10,9 +10,11 @@ ghost use Rattle.bimap_c.specs.declared.byte_string.ByteString.{ByteString};
 ghost use Rattle.bimap_c.specs.Json.{WritesTexts, ReadsJson};
 ghost use Rattle.bimap_c.specs.Tables.{bytes_u64};
 
+use crate::bytes::{left_at, right_at, strike, tell_bytes};
 use crate::c_table::CTable;
 use crate::handle::Handle;
 use crate::status::REFUSED;
+use crate::u64_u64::tell_value;
 use crate::{bytes, bytes_u64, calls, json};
 use bimap::{BiBTreeMap, BiHashMap, BiInsertionOrderMap, OnHeld, Overwritten, Seeded};
 use std::alloc::Global;
@@ -53,9 +55,8 @@ pub extern "C" fn jetukoma_bytes_u64_len_unchecked(
     handle: &mut Handle,
     len: &mut usize,
 ) -> u32
-    ensures answer { Reads bytes_u64 handle.old.table.value result
+    ensures answer { Reads bytes_u64 handle.old.table.value result handle.new.table.value
         (λ kept. (result ≡ 0) × (len.new ≡ length kept.held.pairs)) }
-    ensures unchanged { handle.new.table.value ≡ handle.old.table.value }
     ensures out { IsWritten result len.old len.new }
 {
     on_table!(handle, alloc, BytesU64, table => calls::len(&table.map, len))
@@ -68,9 +69,8 @@ pub extern "C" fn jetukoma_bytes_u64_capacity_unchecked(
     handle: &mut Handle,
     capacity: &mut usize,
 ) -> u32
-    ensures answer { Reads bytes_u64 handle.old.table.value result
+    ensures answer { Reads bytes_u64 handle.old.table.value result handle.new.table.value
         (λ kept. (result ≡ 0) × (capacity.new ≡ kept.held.room)) }
-    ensures unchanged { handle.new.table.value ≡ handle.old.table.value }
     ensures out { IsWritten result capacity.old capacity.new }
 {
     on_table!(handle, alloc, BytesU64, table => calls::capacity(&table.map, capacity))
@@ -179,15 +179,14 @@ pub extern "C" fn jetukoma_bytes_u64_get_by_right_unchecked(
     buf: &mut [u8],
     len: &mut usize,
 ) -> u32
-    ensures answer { Reads bytes_u64 handle.old.table.value result
+    ensures answer { Reads bytes_u64 handle.old.table.value result handle.new.table.value
         (λ kept. (found : Option (Bor ByteString)) × IsFoundByRight nat_eq kept.held right found
         × AreBytesOut (option_map (λ left. left.now.bytes.items) found) result buf.old buf.new
         len.new) }
-    ensures unchanged { handle.new.table.value ≡ handle.old.table.value }
     ensures buf { IsWritten result buf.old buf.new }
     ensures len { IsLengthWritten result len.old len.new }
 {
-    on_table!(handle, alloc, BytesU64, table => bytes::get_by_right(table, &right, buf, len))
+    on_table!(handle, alloc, BytesU64, table => tell_bytes(table.map.get_by_right(&right), buf, len))
 }
 
 /// Returns 0 if the left is contained, and 5 if it is not. It allocates as `get_by_left` does. Returns 1 if there is
@@ -212,11 +211,10 @@ pub extern "C" fn jetukoma_bytes_u64_contains_right_unchecked(
     handle: &mut Handle,
     right: u64,
 ) -> u32
-    ensures answer { Reads bytes_u64 handle.old.table.value result
+    ensures answer { Reads bytes_u64 handle.old.table.value result handle.new.table.value
         (λ kept. Tests (HasRight nat_eq (Contains kept.held.pairs) right) result) }
-    ensures unchanged { handle.new.table.value ≡ handle.old.table.value }
 {
-    on_table!(handle, alloc, BytesU64, table => bytes::contains_right(table, &right))
+    on_table!(handle, alloc, BytesU64, table => calls::found(table.map.contains_right(&right)))
 }
 
 /// Removes the pair of a left. The table keeps the pair, so that `overwritten_left` and `overwritten_right` copy it.
@@ -247,7 +245,7 @@ pub extern "C" fn jetukoma_bytes_u64_remove_by_right_unchecked(
         (λ old new. RemovesByRight nat_eq old right result new
         × (new.key ≡ old.key)) }
 {
-    on_table!(handle, alloc, BytesU64, table => bytes::remove_by_right(table, &right))
+    on_table!(handle, alloc, BytesU64, table => strike(&mut table.struck, table.map.remove_by_right(&right)))
 }
 
 /// Writes the left of a pair that the last change overwrote or removed to the front of a buffer, and its length. If
@@ -262,14 +260,13 @@ pub extern "C" fn jetukoma_bytes_u64_overwritten_left_unchecked(
     buf: &mut [u8],
     len: &mut usize,
 ) -> u32
-    ensures answer { Reads bytes_u64 handle.old.table.value result
+    ensures answer { Reads bytes_u64 handle.old.table.value result handle.new.table.value
         (λ kept. AreBytesOut (option_map (λ p. p.0.bytes.items)
         (slice_get (named_pairs kept.struck) index)) result buf.old buf.new len.new) }
-    ensures unchanged { handle.new.table.value ≡ handle.old.table.value }
     ensures buf { IsWritten result buf.old buf.new }
     ensures len { IsLengthWritten result len.old len.new }
 {
-    on_table!(handle, alloc, BytesU64, table => bytes::overwritten_left(table, index, buf, len))
+    on_table!(handle, alloc, BytesU64, table => tell_bytes(left_at(&table.struck, index), buf, len))
 }
 
 /// Writes the right of a pair that the last change overwrote or removed. The index is that of `overwritten_left`.
@@ -281,13 +278,12 @@ pub extern "C" fn jetukoma_bytes_u64_overwritten_right_unchecked(
     index: usize,
     right: &mut u64,
 ) -> u32
-    ensures answer { Reads bytes_u64 handle.old.table.value result
+    ensures answer { Reads bytes_u64 handle.old.table.value result handle.new.table.value
         (λ kept. Tells (option_map (λ p. p.1)
         (slice_get (named_pairs kept.struck) index)) result right.new) }
-    ensures unchanged { handle.new.table.value ≡ handle.old.table.value }
     ensures out { IsWritten result right.old right.new }
 {
-    on_table!(handle, alloc, BytesU64, table => bytes_u64::overwritten_right(table, index, right))
+    on_table!(handle, alloc, BytesU64, table => tell_value(right_at(&table.struck, index), right))
 }
 
 /// Removes all pairs. The capacity does not change. The time grows with the capacity. The table keeps no overwritten
@@ -313,9 +309,8 @@ pub extern "C" fn jetukoma_bytes_u64_to_json_unchecked(
     buf: &mut [u8],
     len: &mut usize,
 ) -> u32
-    ensures answer { Reads bytes_u64 handle.old.table.value result
+    ensures answer { Reads bytes_u64 handle.old.table.value result handle.new.table.value
         (λ kept. WritesTexts kept.held.pairs result buf.old buf.new len.new) }
-    ensures unchanged { handle.new.table.value ≡ handle.old.table.value }
     ensures buf { IsWritten result buf.old buf.new }
     ensures len { IsLengthWritten result len.old len.new }
 {

@@ -1,12 +1,13 @@
 //! The functions for C of a table of byte strings and numbers that use an order: ranks and ends.
-ghost use Rattle.std.specs.Prelude.{◌≡◌, slice_get};
+ghost use Rattle.std.specs.Prelude.{slice_get};
 ghost use Rattle.bimap_c.specs.Bytes.{IsPairOut, IsLengthWritten, IsRead, IsRanked, PopsFirst, PopsLast};
 ghost use Rattle.bimap_c.specs.Calls.{IsWritten, ReadsOrdered, ChangesOrdered, ChangesAtEnd};
 ghost use Rattle.bimap_c.specs.Tables.{bytes_u64};
 
+use crate::bytes::{left_rank, strike};
+use crate::bytes_u64::tell_pair;
 use crate::handle::Handle;
 use crate::status::NO_ORDER;
-use crate::{bytes, bytes_u64};
 use std::alloc::Global;
 
 /// Writes the pair whose left has exactly `rank` lefts below it. It writes the left to the front of a buffer, and its
@@ -21,16 +22,15 @@ pub extern "C" fn jetukoma_bytes_u64_pair_at_rank_unchecked(
     len: &mut usize,
     right: &mut u64,
 ) -> u32
-    ensures answer { ReadsOrdered bytes_u64 handle.old.table.value result
+    ensures answer { ReadsOrdered bytes_u64 handle.old.table.value result handle.new.table.value
         (λ kept. IsPairOut (slice_get kept.held.pairs rank) result buf.old buf.new len.new
         right.new) }
-    ensures unchanged { handle.new.table.value ≡ handle.old.table.value }
     ensures buf { IsWritten result buf.old buf.new }
     ensures len { IsLengthWritten result len.old len.new }
     ensures out { IsWritten result right.old right.new }
 {
     on_table!(handle, alloc, BytesU64,
-        Ordered(table) => bytes_u64::pair_at_rank(table, rank, buf, len, right),
+        Ordered(table) => tell_pair(table.map.pair_at_left_rank(rank), buf, len, right),
         Hashed(_table) => NO_ORDER,
         InsertionOrder(_table) => NO_ORDER)
 }
@@ -49,7 +49,7 @@ pub extern "C" fn jetukoma_bytes_u64_left_rank_unchecked(
     ensures out { IsWritten result rank.old rank.new }
 {
     on_table!(handle, alloc, BytesU64,
-        Ordered(table) => bytes::left_rank(table, left, rank),
+        Ordered(table) => left_rank(table, left, rank),
         Hashed(_table) => NO_ORDER,
         InsertionOrder(_table) => NO_ORDER)
 }
@@ -66,9 +66,9 @@ pub extern "C" fn jetukoma_bytes_u64_pop_first_unchecked(
         (λ old new. PopsFirst old result new) }
 {
     on_table!(handle, alloc, BytesU64,
-        Ordered(table) => bytes::strike(&mut table.struck, table.map.pop_first_by_left()),
+        Ordered(table) => strike(&mut table.struck, table.map.pop_first_by_left()),
         Hashed(_table) => NO_ORDER,
-        InsertionOrder(table) => bytes::strike(&mut table.struck, table.map.pop_first()))
+        InsertionOrder(table) => strike(&mut table.struck, table.map.pop_first()))
 }
 
 /// Removes a pair. In an ordered table it is the pair of the greatest left. In a table in insertion order it is the last
@@ -83,7 +83,7 @@ pub extern "C" fn jetukoma_bytes_u64_pop_last_unchecked(
         (λ old new. PopsLast old result new) }
 {
     on_table!(handle, alloc, BytesU64,
-        Ordered(table) => bytes::strike(&mut table.struck, table.map.pop_last_by_left()),
+        Ordered(table) => strike(&mut table.struck, table.map.pop_last_by_left()),
         Hashed(_table) => NO_ORDER,
-        InsertionOrder(table) => bytes::strike(&mut table.struck, table.map.pop_last()))
+        InsertionOrder(table) => strike(&mut table.struck, table.map.pop_last()))
 }

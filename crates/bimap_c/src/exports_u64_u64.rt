@@ -9,7 +9,7 @@ use crate::c_table::CTable;
 use crate::calls;
 use crate::handle::Handle;
 use crate::status::REFUSED;
-use crate::u64_u64::{self, Overwritten, Pair};
+use crate::u64_u64::{self, Overwritten, Pair, tell_pair, tell_value};
 use std::alloc::Global;
 
 /// Makes an empty table of capacity 0 for a handle that has no table. The kind is one of the numbers above. The hashes of
@@ -47,9 +47,8 @@ pub extern "C" fn jetukoma_u64_u64_len_unchecked(
     handle: &mut Handle,
     len: &mut usize,
 ) -> u32
-    ensures answer { Reads u64_u64 handle.old.table.value result
+    ensures answer { Reads u64_u64 handle.old.table.value result handle.new.table.value
         (λ held. (result ≡ 0) × (len.new ≡ length held.pairs)) }
-    ensures unchanged { handle.new.table.value ≡ handle.old.table.value }
     ensures out { IsWritten result len.old len.new }
 {
     on_table!(handle, alloc, U64U64, map => calls::len(map, len))
@@ -62,9 +61,8 @@ pub extern "C" fn jetukoma_u64_u64_capacity_unchecked(
     handle: &mut Handle,
     capacity: &mut usize,
 ) -> u32
-    ensures answer { Reads u64_u64 handle.old.table.value result
+    ensures answer { Reads u64_u64 handle.old.table.value result handle.new.table.value
         (λ held. (result ≡ 0) × (capacity.new ≡ held.room)) }
-    ensures unchanged { handle.new.table.value ≡ handle.old.table.value }
     ensures out { IsWritten result capacity.old capacity.new }
 {
     on_table!(handle, alloc, U64U64, map => calls::capacity(map, capacity))
@@ -161,12 +159,11 @@ pub extern "C" fn jetukoma_u64_u64_get_by_left_unchecked(
     left: u64,
     right: &mut u64,
 ) -> u32
-    ensures answer { Reads u64_u64 handle.old.table.value result
+    ensures answer { Reads u64_u64 handle.old.table.value result handle.new.table.value
         (λ held. GetsByLeft held result left right.new) }
-    ensures unchanged { handle.new.table.value ≡ handle.old.table.value }
     ensures out { IsWritten result right.old right.new }
 {
-    on_table!(handle, alloc, U64U64, map => u64_u64::get_by_left(map, left, right))
+    on_table!(handle, alloc, U64U64, map => tell_value(map.get_by_left(&left), right))
 }
 
 /// Writes the left of a right. Returns 5 if the right is not contained.
@@ -177,12 +174,11 @@ pub extern "C" fn jetukoma_u64_u64_get_by_right_unchecked(
     right: u64,
     left: &mut u64,
 ) -> u32
-    ensures answer { Reads u64_u64 handle.old.table.value result
+    ensures answer { Reads u64_u64 handle.old.table.value result handle.new.table.value
         (λ held. GetsByRight held result right left.new) }
-    ensures unchanged { handle.new.table.value ≡ handle.old.table.value }
     ensures out { IsWritten result left.old left.new }
 {
-    on_table!(handle, alloc, U64U64, map => u64_u64::get_by_right(map, right, left))
+    on_table!(handle, alloc, U64U64, map => tell_value(map.get_by_right(&right), left))
 }
 
 /// Returns 0 if the left is contained, and 5 if it is not.
@@ -192,9 +188,8 @@ pub extern "C" fn jetukoma_u64_u64_contains_left_unchecked(
     handle: &mut Handle,
     left: u64,
 ) -> u32
-    ensures answer { Reads u64_u64 handle.old.table.value result
+    ensures answer { Reads u64_u64 handle.old.table.value result handle.new.table.value
         (λ held. Tests (HasLeft nat_eq (Contains held.pairs) left) result) }
-    ensures unchanged { handle.new.table.value ≡ handle.old.table.value }
 {
     on_table!(handle, alloc, U64U64, map => calls::found(map.contains_left(&left)))
 }
@@ -206,9 +201,8 @@ pub extern "C" fn jetukoma_u64_u64_contains_right_unchecked(
     handle: &mut Handle,
     right: u64,
 ) -> u32
-    ensures answer { Reads u64_u64 handle.old.table.value result
+    ensures answer { Reads u64_u64 handle.old.table.value result handle.new.table.value
         (λ held. Tests (HasRight nat_eq (Contains held.pairs) right) result) }
-    ensures unchanged { handle.new.table.value ≡ handle.old.table.value }
 {
     on_table!(handle, alloc, U64U64, map => calls::found(map.contains_right(&right)))
 }
@@ -225,7 +219,7 @@ pub extern "C" fn jetukoma_u64_u64_remove_by_left_unchecked(
         (λ old new. RemovesByLeft old result new left pair.new) }
     ensures out { IsWritten result pair.old pair.new }
 {
-    on_table!(handle, alloc, U64U64, map => u64_u64::remove_by_left(map, left, pair))
+    on_table!(handle, alloc, U64U64, map => tell_pair(map.remove_by_left(&left), pair))
 }
 
 /// Removes the pair of a right, and writes it. Returns 5 if the right is not contained.
@@ -240,7 +234,7 @@ pub extern "C" fn jetukoma_u64_u64_remove_by_right_unchecked(
         (λ old new. RemovesByRight old result new right pair.new) }
     ensures out { IsWritten result pair.old pair.new }
 {
-    on_table!(handle, alloc, U64U64, map => u64_u64::remove_by_right(map, right, pair))
+    on_table!(handle, alloc, U64U64, map => tell_pair(map.remove_by_right(&right), pair))
 }
 
 /// Removes all pairs. The capacity does not change. The time grows with the capacity.

@@ -25,9 +25,8 @@ pub extern "C" fn jetukoma_u64_u64_fill_unchecked(
     row: &mut [Pair],
     filled: &mut usize,
 ) -> u32
-    ensures answer { Reads u64_u64 handle.old.table.value result
+    ensures answer { Reads u64_u64 handle.old.table.value result handle.new.table.value
         (λ held. Fills (drop start held.pairs) result row.old filled.new row.new) }
-    ensures unchanged { handle.new.table.value ≡ handle.old.table.value }
     ensures out { IsWritten result filled.old filled.new }
     ensures row { IsWritten result row.old row.new }
 {
@@ -46,10 +45,9 @@ pub extern "C" fn jetukoma_u64_u64_fill_from_unchecked(
     row: &mut [Pair],
     filled: &mut usize,
 ) -> u32
-    ensures answer { ReadsOrdered u64_u64 handle.old.table.value result
+    ensures answer { ReadsOrdered u64_u64 handle.old.table.value result handle.new.table.value
         (λ held. Fills (filter (λ p. not (nat_lt p.0 from)) held.pairs) result row.old
         filled.new row.new) }
-    ensures unchanged { handle.new.table.value ≡ handle.old.table.value }
     ensures out { IsWritten result filled.old filled.new }
     ensures row { IsWritten result row.old row.new }
 {
@@ -67,9 +65,8 @@ pub extern "C" fn jetukoma_u64_u64_left_rank_unchecked(
     left: u64,
     rank: &mut usize,
 ) -> u32
-    ensures answer { ReadsOrdered u64_u64 handle.old.table.value result
+    ensures answer { ReadsOrdered u64_u64 handle.old.table.value result handle.new.table.value
         (λ held. (result ≡ 0) × (rank.new ≡ count_by (λ p. nat_lt p.0 left) held.pairs)) }
-    ensures unchanged { handle.new.table.value ≡ handle.old.table.value }
     ensures out { IsWritten result rank.old rank.new }
 {
     on_table!(handle, alloc, U64U64,

@@ -3,7 +3,7 @@ ghost use Rattle.std.specs.Prelude.{◌≡◌, option_map};
 ghost use Rattle.std.specs.Iterator.{IsFinite};
 ghost use Rattle.std.specs.Map.Iter.{deref};
 ghost use Rattle.bimap_c.specs.Calls.{IsWritten, Tells};
-ghost use Rattle.bimap_c.specs.U64U64.{row, shown, IsFilledBy, GetsByLeft, GetsByRight, Inserts, InsertsNew, InsertsFlagged, InsertsMany, RemovesByLeft, RemovesByRight};
+ghost use Rattle.bimap_c.specs.U64U64.{row, shown, IsFilledBy, Inserts, InsertsNew, InsertsFlagged, InsertsMany};
 
 use crate::calls::{policy, refused};
 use crate::status::{DONE, NO_MEMORY, NOT_FOUND, REFUSED};
@@ -148,38 +148,6 @@ pub(crate) fn insert_many<B: Bijection<u64, u64>>(
             NO_MEMORY
         }
     }
-}
-
-pub(crate) fn get_by_left<B: Bijection<u64, u64>>(map: &B, left: u64, right: &mut u64) -> u32
-    ensures got { GetsByLeft (B.holding map.now) result left right.new }
-    ensures out { IsWritten result right.old right.new }
-{
-    tell_value(map.get_by_left(&left), right)
-}
-
-pub(crate) fn get_by_right<B: Bijection<u64, u64>>(map: &B, right: u64, left: &mut u64) -> u32
-    ensures got { GetsByRight (B.holding map.now) result right left.new }
-    ensures out { IsWritten result left.old left.new }
-{
-    tell_value(map.get_by_right(&right), left)
-}
-
-pub(crate) fn remove_by_left<B: Bijection<u64, u64>>(map: &mut B, left: u64, pair: &mut Pair) -> u32
-    ensures removed { RemovesByLeft (B.holding map.old) result (B.holding map.new) left pair.new }
-    ensures out { IsWritten result pair.old pair.new }
-{
-    tell_pair(map.remove_by_left(&left), pair)
-}
-
-pub(crate) fn remove_by_right<B: Bijection<u64, u64>>(
-    map: &mut B,
-    right: u64,
-    pair: &mut Pair,
-) -> u32
-    ensures removed { RemovesByRight (B.holding map.old) result (B.holding map.new) right pair.new }
-    ensures out { IsWritten result pair.old pair.new }
-{
-    tell_pair(map.remove_by_right(&right), pair)
 }
 
 /// Writes the pairs of an iterator to the front of a row, until the row is full or there are no more. Returns how

@@ -1,6 +1,4 @@
-use Rattle.std.proofs.Common.{rules, refl, subst, ℕ}
-use Rattle.std.specs.Bool.{MatchBool}
-use Rattle.std.specs.List.{AllWithin, HoldsAt}
+use Rattle.std.proofs.Common.{rules, refl}
 use Rattle.std.specs.Str.{IsUtf8}
 use Rattle.std.proofs.lemmas.Iterator.{cases_from_all}
 use Rattle.std.proofs.lemmas.Iterator.Consumers.{YieldsList-from_rest}

@@ -1,7 +1,7 @@
 -- `of_parts` moves two fields, and what they own goes with them.
 use Rattle.bimap_c.proofs.Steps.{sym, refl, subst, List, [], ◌∷◌, ◌++◌, Some, Val, SProp, ent, emp, id⊢, ftrue, fsep, WpFn, tables, ‵, raw, ◌⊛◌, ◌$◌, ◌∵◌, !, qed, move, drop, use1, join, split, fsplit, fjoin, suffices, done, whole, sub, agg, stop, fld, no_more, and_then, of_opd, returns, enter, alloc_all, pass_all, free_all, look_at, get, get_in, sets, yes, type_at, plain, nothing, says, Stays, stay_dropped, walk_of, ends_at, Goes-dropped, proved_at, D, B, word, box_typed, box_out, box_in}
 use Rattle.bimap_c.proofs.TableAsBox.{E}
-use Rattle.bimap_c.specs.contracts.raw_box.RawBox
+use Rattle.bimap_c.specs.contracts.raw_box.RawBox as RawBox
 use Rattle.bimap_c.specs.contracts.table_pointer.TablePointer.of_parts as F
 use Rattle.bimap_c.specs.contracts.table_pointer.TablePointer.of_parts.Key.{name as #self}
 use Rattle.bimap_c.proofs.table_pointer.TablePointer.of_parts.Statement.{statement}
