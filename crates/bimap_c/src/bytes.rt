@@ -12,7 +12,7 @@ use crate::byte_string::ByteString;
 use crate::calls::{found, new_map, policy, refused};
 use crate::status::{BUFFER_TOO_SHORT, DONE, NO_MEMORY, NOT_FOUND, REFUSED};
 use bimap::{
-    BiBTreeMap, BiHashMap, BiInsertionOrderMap, Bijection, OnHeld, Overwritten, Policy, Seeded,
+    BiBTreeMap, BiHashMap, BiInsertionOrderMap, Bijection, Overwritten, Policy, Seeded,
 };
 use bimap_dynamic::AnyOf;
 use std::alloc::Global;
@@ -178,78 +178,32 @@ fn kind_of<L, R>(answer: &Overwritten<L, R>) -> u32
     }
 }
 
-// Inserts a copy of the left with the right, under a policy.
-fn insert_under<R: Eq + Drop, B: Bijection<ByteString, R>>(
+/// Inserts a copy of the left with the right, under a policy. If that was done, it writes the number by which C knows
+/// what was overwritten.
+pub(crate) fn insert_under<R: Eq + Drop, B: Bijection<ByteString, R>>(
     alloc: Global,
     table: &mut BytesTable<R, B>,
     left: &[u8],
     right: R,
     policy: Policy,
+    kind: &mut u32,
 ) -> u32
-    ensures { Inserts R.eq (kept B.holding table.old) left.now right policy result
+    ensures inserted { Inserts R.eq (kept B.holding table.old) left.now right policy result
         (kept B.holding table.new) }
+    ensures kind { IsKind result kind.new (kept B.holding table.new) }
+    ensures out { IsWritten result kind.old kind.new }
 {
     let Some(left) = ByteString::copy_of(alloc, left) else {
         return NO_MEMORY;
     };
     match table.map.insert_with(left, right, policy) {
         Ok(answer) => {
+            *kind = kind_of(&answer);
             table.struck = answer;
             DONE
         }
         Err(why) => refused(&why),
     }
-}
-
-// Writes the number of what an insertion overwrote, if it was made.
-fn tell_kind<R, B>(table: &BytesTable<R, B>, status: u32, kind: &mut u32)
-    ensures kind { status ≡ 0 → kind.new ≡ kind_of table.now.struck }
-    ensures out { IsWritten status kind.old kind.new }
-{
-    if status == DONE {
-        *kind = kind_of(&table.struck);
-    }
-}
-
-/// Inserts a copy of the left with the right. They overwrite the pairs with which they share a value.
-pub(crate) fn insert<R: Eq + Drop, B: Bijection<ByteString, R>>(
-    alloc: Global,
-    table: &mut BytesTable<R, B>,
-    left: &[u8],
-    right: R,
-    kind: &mut u32,
-) -> u32
-    ensures inserted { Inserts R.eq (kept B.holding table.old) left.now right
-        (record { left = OnHeld.Overwrite; right = OnHeld.Overwrite }) result
-        (kept B.holding table.new) }
-    ensures kind { IsKind result kind.new (kept B.holding table.new) }
-    ensures out { IsWritten result kind.old kind.new }
-{
-    let policy = Policy {
-        left: OnHeld::Overwrite,
-        right: OnHeld::Overwrite,
-    };
-    let status = insert_under(alloc, table, left, right, policy);
-    tell_kind(table, status, kind);
-    status
-}
-
-/// Inserts a copy of the left with the right if neither is contained.
-pub(crate) fn insert_no_overwrite<R: Eq + Drop, B: Bijection<ByteString, R>>(
-    alloc: Global,
-    table: &mut BytesTable<R, B>,
-    left: &[u8],
-    right: R,
-) -> u32
-    ensures { Inserts R.eq (kept B.holding table.old) left.now right
-        (record { left = OnHeld.Refuse; right = OnHeld.Refuse }) result
-        (kept B.holding table.new) }
-{
-    let policy = Policy {
-        left: OnHeld::Refuse,
-        right: OnHeld::Refuse,
-    };
-    insert_under(alloc, table, left, right, policy)
 }
 
 /// Inserts a copy of the left with the right, under a policy of two flags.
@@ -267,12 +221,10 @@ pub(crate) fn insert_with<R: Eq + Drop, B: Bijection<ByteString, R>>(
     ensures kind { IsKind result kind.new (kept B.holding table.new) }
     ensures out { IsWritten result kind.old kind.new }
 {
-    let Some(policy) = policy(left_refuses, right_refuses) else {
-        return REFUSED;
-    };
-    let status = insert_under(alloc, table, left, right, policy);
-    tell_kind(table, status, kind);
-    status
+    match policy(left_refuses, right_refuses) {
+        Some(policy) => insert_under(alloc, table, left, right, policy, kind),
+        None => REFUSED,
+    }
 }
 
 /// Returns the status that says whether the left is contained.

@@ -13,46 +13,28 @@ use crate::byte_string::ByteString;
 use crate::bytes::{self, BytesTable, note, strike, tell_bytes};
 use crate::calls::found;
 use crate::status::{BUFFER_TOO_SHORT, DONE, NO_MEMORY, NOT_FOUND};
-use bimap::{Bijection, OnHeld};
+use bimap::{Bijection, Policy};
 use std::alloc::Global;
 
-/// Inserts copies of both values. They overwrite the pairs with which they share a value.
-pub(crate) fn insert<B: Bijection<ByteString, ByteString>>(
+/// Inserts copies of both values, under a policy. If that was done, it writes the number of what was overwritten.
+pub(crate) fn insert_under<B: Bijection<ByteString, ByteString>>(
     alloc: Global,
     table: &mut BytesTable<ByteString, B>,
     left: &[u8],
     right: &[u8],
+    policy: Policy,
     kind: &mut u32,
 ) -> u32
     ensures inserted { WithCopy (kept B.holding table.old) right.now result
         (kept B.holding table.new) (λ copy. Inserts same_bytes (kept B.holding table.old) left.now
-        copy (record { left = OnHeld.Overwrite; right = OnHeld.Overwrite }) result
-        (kept B.holding table.new)) }
+        copy policy result (kept B.holding table.new)) }
     ensures kind { IsKind result kind.new (kept B.holding table.new) }
     ensures out { IsWritten result kind.old kind.new }
 {
     let Some(copy) = ByteString::copy_of(alloc, right) else {
         return NO_MEMORY;
     };
-    bytes::insert(alloc, table, left, copy, kind)
-}
-
-/// Inserts copies of both values if neither is contained.
-pub(crate) fn insert_no_overwrite<B: Bijection<ByteString, ByteString>>(
-    alloc: Global,
-    table: &mut BytesTable<ByteString, B>,
-    left: &[u8],
-    right: &[u8],
-) -> u32
-    ensures { WithCopy (kept B.holding table.old) right.now result (kept B.holding table.new)
-        (λ copy. Inserts same_bytes (kept B.holding table.old) left.now copy
-        (record { left = OnHeld.Refuse; right = OnHeld.Refuse }) result
-        (kept B.holding table.new)) }
-{
-    let Some(copy) = ByteString::copy_of(alloc, right) else {
-        return NO_MEMORY;
-    };
-    bytes::insert_no_overwrite(alloc, table, left, copy)
+    bytes::insert_under(alloc, table, left, copy, policy, kind)
 }
 
 /// Inserts copies of both values, under a policy of two flags.

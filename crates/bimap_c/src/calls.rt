@@ -13,6 +13,18 @@ use bimap_dynamic::{AnyMap, AnyOf};
 use std::alloc::Global;
 use std::hash::Hash;
 
+/// Contained values are overwritten.
+pub(crate) const OVERWRITE_BOTH: Policy = Policy {
+    left: OnHeld::Overwrite,
+    right: OnHeld::Overwrite,
+};
+
+/// A contained value refuses the insertion.
+pub(crate) const REFUSE_BOTH: Policy = Policy {
+    left: OnHeld::Refuse,
+    right: OnHeld::Refuse,
+};
+
 /// Returns an empty map of a kind, or `None` if there is no such kind.
 pub(crate) fn new_map<L: Ord + Hash, R: Ord + Hash>(
     alloc: Global,

@@ -11,9 +11,10 @@ ghost use Rattle.bimap_c.specs.Tables.{bytes_bytes};
 
 use crate::bytes::{left_at, right_at, tell_bytes};
 use crate::c_table::CTable;
+use crate::calls::{self, OVERWRITE_BOTH, REFUSE_BOTH};
 use crate::handle::Handle;
 use crate::status::REFUSED;
-use crate::{bytes, bytes_bytes, calls};
+use crate::{bytes, bytes_bytes};
 use bimap::{OnHeld, Overwritten};
 use std::alloc::Global;
 
@@ -112,7 +113,7 @@ pub extern "C" fn jetukoma_bytes_bytes_insert_unchecked(
         × IsKind result kind.new new) }
     ensures out { IsWritten result kind.old kind.new }
 {
-    on_table!(handle, alloc, BytesBytes, table => bytes_bytes::insert(alloc, table, left, right, kind))
+    on_table!(handle, alloc, BytesBytes, table => bytes_bytes::insert_under(alloc, table, left, right, OVERWRITE_BOTH, kind))
 }
 
 /// Inserts copies of the left and the right if neither is contained. The table keeps no overwritten pair then.
@@ -128,7 +129,7 @@ pub extern "C" fn jetukoma_bytes_bytes_insert_no_overwrite_unchecked(
         (λ old new. WithCopy old right.now result new (λ copy. Inserts same_bytes old left.now copy
         (record { left = OnHeld.Refuse; right = OnHeld.Refuse }) result new)) }
 {
-    on_table!(handle, alloc, BytesBytes, table => bytes_bytes::insert_no_overwrite(alloc, table, left, right))
+    on_table!(handle, alloc, BytesBytes, table => bytes_bytes::insert_under(alloc, table, left, right, REFUSE_BOTH, &mut 0))
 }
 
 /// Inserts as `insert` does, under a policy of two flags. If the flag of a side is 1, a contained value of this side

@@ -12,10 +12,11 @@ ghost use Rattle.bimap_c.specs.Tables.{bytes_u64};
 
 use crate::bytes::{left_at, right_at, strike, tell_bytes};
 use crate::c_table::CTable;
+use crate::calls::{self, OVERWRITE_BOTH, REFUSE_BOTH};
 use crate::handle::Handle;
 use crate::status::REFUSED;
 use crate::u64_u64::tell_value;
-use crate::{bytes, bytes_u64, calls, json};
+use crate::{bytes, bytes_u64, json};
 use bimap::{BiBTreeMap, BiHashMap, BiInsertionOrderMap, OnHeld, Overwritten, Seeded};
 use std::alloc::Global;
 
@@ -111,7 +112,7 @@ pub extern "C" fn jetukoma_bytes_u64_insert_unchecked(
         × IsKind result kind.new new) }
     ensures out { IsWritten result kind.old kind.new }
 {
-    on_table!(handle, alloc, BytesU64, table => bytes::insert(alloc, table, left, right, kind))
+    on_table!(handle, alloc, BytesU64, table => bytes::insert_under(alloc, table, left, right, OVERWRITE_BOTH, kind))
 }
 
 /// Inserts a copy of the left with the right if neither is contained. The table keeps no overwritten pair then.
@@ -127,7 +128,7 @@ pub extern "C" fn jetukoma_bytes_u64_insert_no_overwrite_unchecked(
         (λ old new. Inserts nat_eq old left.now right
         (record { left = OnHeld.Refuse; right = OnHeld.Refuse }) result new) }
 {
-    on_table!(handle, alloc, BytesU64, table => bytes::insert_no_overwrite(alloc, table, left, right))
+    on_table!(handle, alloc, BytesU64, table => bytes::insert_under(alloc, table, left, right, REFUSE_BOTH, &mut 0))
 }
 
 /// Inserts as `insert` does, under a policy of two flags. If the flag of a side is 1, a contained value of this side

@@ -10,9 +10,10 @@ ghost use Rattle.bimap_c.specs.Json.{WritesJson, WritesTexts, ReadsJson, read_st
 
 use crate::byte_string::ByteString;
 use crate::bytes::{BytesTable, copy_out};
+use crate::calls::REFUSE_BOTH;
 use crate::status::{DONE, NO_MEMORY, REFUSED};
 use bimap::value::{JsonFault, JsonKey, JsonValue, Value, read_text_with, write_walk};
-use bimap::{Bijection, BijectiveMap, Index, NoMemory, OnHeld, Overwritten, Policy, WalkedIndex};
+use bimap::{Bijection, BijectiveMap, Index, NoMemory, Overwritten, WalkedIndex};
 use std::alloc::Global;
 use std::str;
 
@@ -84,11 +85,7 @@ pub(crate) fn from_json<B: Bijection<ByteString, u64> + Drop>(
     let Ok(text) = str::from_utf8(text) else {
         return REFUSED;
     };
-    let once = Policy {
-        left: OnHeld::Refuse,
-        right: OnHeld::Refuse,
-    };
-    match read_text_with(alloc, empty, text, once) {
+    match read_text_with(alloc, empty, text, REFUSE_BOTH) {
         Ok(map) => {
             table.map = map;
             table.struck = Overwritten::Neither;

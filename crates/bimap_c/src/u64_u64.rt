@@ -30,8 +30,6 @@ pub struct Overwritten {
     pub second: Pair,
 }
 
-const NO_PAIR: Pair = Pair { left: 0, right: 0 };
-
 // Returns what was overwritten, as C sees it.
 fn show(answer: bimap::Overwritten<u64, u64>) -> Overwritten
     ensures { result ≡ shown answer }
