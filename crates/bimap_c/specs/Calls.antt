@@ -51,7 +51,7 @@ module _ {H : Type 0} (find : Option CTable → Option (Kinds H)) (old : Option 
   -- What `new` does, by the number of the kind. If the handle had no table, it has one of this kind then, or there was no
   -- memory. If it had a table, or there is no such kind, nothing changes.
   pub record Makes (kind : ℕ) (holds : H → Type 0) : Type 0 where
-    pub kinds : kind ≤ 2 → MatchOption old (((status ≡ 0) × MatchOption (find new) ⊥ (IsOfKind kind holds)) ⊎ ((status ≡ 1) × (new ≡ None))) (λ _. (status ≡ 2) × (new ≡ old))
+    pub kinds : kind ≤ 2 → MatchOption old (((status ≡ 0) × MatchOption (find new) ⊥ (λ made. IsOfKind kind made holds)) ⊎ ((status ≡ 1) × (new ≡ None))) (λ _. (status ≡ 2) × (new ≡ old))
     pub others : (kind ≤ 2 → ⊥) → (status ≡ 3) × (new ≡ old)
 
 -- What `free` does. If the handle had a table, it has none then.

@@ -28,7 +28,7 @@ module _ {X : Type 0} where
   MatchKinds o h i x y = ⊥
 
   -- It is of the kind that has this number in C, and the statement is true.
-  abbrev pub IsOfKind : ℕ → (X → Type 0) → Kinds X → Type 0
-  IsOfKind kind holds (Ordered x) = (kind ≡ 0) × holds x
-  IsOfKind kind holds (Hashed x) = (kind ≡ 1) × holds x
-  IsOfKind kind holds (InsertionOrder x) = (kind ≡ 2) × holds x
+  abbrev pub IsOfKind : ℕ → Kinds X → (X → Type 0) → Type 0
+  IsOfKind kind (Ordered x) holds = (kind ≡ 0) × holds x
+  IsOfKind kind (Hashed x) holds = (kind ≡ 1) × holds x
+  IsOfKind kind (InsertionOrder x) holds = (kind ≡ 2) × holds x

@@ -45,8 +45,8 @@ pub(crate) fn new_table<R: Ord + Hash + Drop>(
     seed: u64,
 ) -> Option<AnyBytesTable<R>>
     ensures some { IfSome result (λ table. (kind ≤ 2) × IsOfKind kind
-        (λ it. (it.held.pairs ≡ []) × (it.held.room ≡ 0) × (it.struck ≡ Overwritten.Neither))
-        (map_kinds (kept holding) (kept holding) (kept holding) table)) }
+        (map_kinds (kept holding) (kept holding) (kept holding) table)
+        (λ it. (it.held.pairs ≡ []) × (it.held.room ≡ 0) × (it.struck ≡ Overwritten.Neither))) }
     ensures none { IfNone result (kind ≤ 2 → ⊥) }
 {
     match new_map(alloc, kind, seed) {

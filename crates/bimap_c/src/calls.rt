@@ -32,7 +32,7 @@ pub(crate) fn new_map<L: Ord + Hash, R: Ord + Hash>(
     seed: u64,
 ) -> Option<AnyMap<L, R, Seeded, Seeded>>
     ensures some { IfSome result (λ map. (kind ≤ 2) × IsOfKind kind
-        (λ held. (held.pairs ≡ []) × (held.room ≡ 0)) (map_kinds holding holding holding map)) }
+        (map_kinds holding holding holding map) (λ held. (held.pairs ≡ []) × (held.room ≡ 0))) }
     ensures none { IfNone result (kind ≤ 2 → ⊥) }
 {
     let builder = Seeded::new(seed);
