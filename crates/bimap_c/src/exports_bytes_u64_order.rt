@@ -71,8 +71,8 @@ pub extern "C" fn jetukoma_bytes_u64_pop_first_unchecked(
         InsertionOrder(table) => strike(&mut table.struck, table.map.pop_first()))
 }
 
-/// Removes a pair. In an ordered table it is the pair of the greatest left. In a table in insertion order it is the last
-/// pair. The table keeps it, so that `overwritten_left` and `overwritten_right` copy it. Returns 5 if there are no
+/// Removes a pair. In an ordered table it is the pair of the greatest left. In a table in insertion order it is the
+/// last pair. The table keeps it, so that `overwritten_left` and `overwritten_right` copy it. Returns 5 if there are no
 /// pairs, and 6 if the table is hashed.
 #[unsafe(no_mangle)]
 pub extern "C" fn jetukoma_bytes_u64_pop_last_unchecked(

@@ -12,8 +12,8 @@ use crate::status::REFUSED;
 use crate::u64_u64::{self, Overwritten, Pair, tell_pair, tell_value};
 use std::alloc::Global;
 
-/// Makes an empty table of capacity 0 for a handle that has no table. The kind is one of the numbers above. The hashes of
-/// both sides depend on the seed. An ordered table does not use the seed. The call takes constant time. Returns 1 if
+/// Makes an empty table of capacity 0 for a handle that has no table. The kind is one of the numbers above. The hashes
+/// of both sides depend on the seed. An ordered table does not use the seed. The call takes constant time. Returns 1 if
 /// there is no memory, 2 if the handle has a table, and 3 if there is no such kind.
 #[unsafe(no_mangle)]
 pub extern "C" fn jetukoma_u64_u64_new_unchecked(

@@ -75,8 +75,8 @@ pub extern "C" fn jetukoma_u64_u64_left_rank_unchecked(
         InsertionOrder(_map) => NO_ORDER)
 }
 
-/// Removes a pair, and writes it. In an ordered table it is the pair of the least left. In a table in insertion order it
-/// is the first pair. Returns 5 if there are no pairs, and 6 if the table is hashed.
+/// Removes a pair, and writes it. In an ordered table it is the pair of the least left. In a table in insertion order
+/// it is the first pair. Returns 5 if there are no pairs, and 6 if the table is hashed.
 #[unsafe(no_mangle)]
 pub extern "C" fn jetukoma_u64_u64_pop_first_unchecked(
     alloc: Global,
@@ -93,8 +93,8 @@ pub extern "C" fn jetukoma_u64_u64_pop_first_unchecked(
         InsertionOrder(map) => tell_pair(map.pop_first(), pair))
 }
 
-/// Removes a pair, and writes it. In an ordered table it is the pair of the greatest left. In a table in insertion order
-/// it is the last pair. Returns 5 if there are no pairs, and 6 if the table is hashed.
+/// Removes a pair, and writes it. In an ordered table it is the pair of the greatest left. In a table in insertion
+/// order it is the last pair. Returns 5 if there are no pairs, and 6 if the table is hashed.
 #[unsafe(no_mangle)]
 pub extern "C" fn jetukoma_u64_u64_pop_last_unchecked(
     alloc: Global,

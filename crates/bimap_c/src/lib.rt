@@ -6,9 +6,9 @@
 //! calls `jetukoma_.._unchecked`.
 #![tactic(auto)]
 
-// Makes a call on the table of a handle, and returns the status. A table of each kind has a call of its own, or all kinds
-// have the same. The status is `NO_TABLE` if the handle has no table of these sides. Each way out of the function is
-// proved separately.
+// Makes a call on the table of a handle, and returns the status. A table of each kind has a call of its own, or all
+// kinds have the same. The status is `NO_TABLE` if the handle has no table of these sides. Each way out of the function
+// is proved separately.
 macro_rules! on_table {
     ($handle:ident, $alloc:ident, $sides:ident, $table:ident => $call:expr) => {
         on_table!($handle, $alloc, $sides, Ordered($table) => $call, Hashed($table) => $call, InsertionOrder($table) => $call)
