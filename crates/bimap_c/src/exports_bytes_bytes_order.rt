@@ -34,8 +34,8 @@ pub extern "C" fn jetukoma_bytes_bytes_pair_at_rank_unchecked(
 {
     on_table!(handle, alloc, BytesBytes,
         Ordered(table) => tell_pair(table.map.pair_at_left_rank(rank), left_buf, left_len, right_buf, right_len),
-        Hashed(_table) => NO_ORDER,
-        InsertionOrder(_table) => NO_ORDER)
+        Hashed(_) => NO_ORDER,
+        InsertionOrder(_) => NO_ORDER)
 }
 
 /// Writes how many lefts are less than this one, compared byte by byte. This one need not be contained. It allocates
@@ -53,8 +53,8 @@ pub extern "C" fn jetukoma_bytes_bytes_left_rank_unchecked(
 {
     on_table!(handle, alloc, BytesBytes,
         Ordered(table) => left_rank(table, left, rank),
-        Hashed(_table) => NO_ORDER,
-        InsertionOrder(_table) => NO_ORDER)
+        Hashed(_) => NO_ORDER,
+        InsertionOrder(_) => NO_ORDER)
 }
 
 /// Removes a pair. In an ordered table it is the pair of the least left. In a table in insertion order it is the first
@@ -70,7 +70,7 @@ pub extern "C" fn jetukoma_bytes_bytes_pop_first_unchecked(
 {
     on_table!(handle, alloc, BytesBytes,
         Ordered(table) => strike(&mut table.struck, table.map.pop_first_by_left()),
-        Hashed(_table) => NO_ORDER,
+        Hashed(_) => NO_ORDER,
         InsertionOrder(table) => strike(&mut table.struck, table.map.pop_first()))
 }
 
@@ -87,6 +87,6 @@ pub extern "C" fn jetukoma_bytes_bytes_pop_last_unchecked(
 {
     on_table!(handle, alloc, BytesBytes,
         Ordered(table) => strike(&mut table.struck, table.map.pop_last_by_left()),
-        Hashed(_table) => NO_ORDER,
+        Hashed(_) => NO_ORDER,
         InsertionOrder(table) => strike(&mut table.struck, table.map.pop_last()))
 }

@@ -31,8 +31,8 @@ pub extern "C" fn jetukoma_bytes_u64_pair_at_rank_unchecked(
 {
     on_table!(handle, alloc, BytesU64,
         Ordered(table) => tell_pair(table.map.pair_at_left_rank(rank), buf, len, right),
-        Hashed(_table) => NO_ORDER,
-        InsertionOrder(_table) => NO_ORDER)
+        Hashed(_) => NO_ORDER,
+        InsertionOrder(_) => NO_ORDER)
 }
 
 /// Writes how many lefts are less than this one, compared byte by byte. This one need not be contained. It allocates
@@ -50,8 +50,8 @@ pub extern "C" fn jetukoma_bytes_u64_left_rank_unchecked(
 {
     on_table!(handle, alloc, BytesU64,
         Ordered(table) => left_rank(table, left, rank),
-        Hashed(_table) => NO_ORDER,
-        InsertionOrder(_table) => NO_ORDER)
+        Hashed(_) => NO_ORDER,
+        InsertionOrder(_) => NO_ORDER)
 }
 
 /// Removes a pair. In an ordered table it is the pair of the least left. In a table in insertion order it is the first
@@ -67,7 +67,7 @@ pub extern "C" fn jetukoma_bytes_u64_pop_first_unchecked(
 {
     on_table!(handle, alloc, BytesU64,
         Ordered(table) => strike(&mut table.struck, table.map.pop_first_by_left()),
-        Hashed(_table) => NO_ORDER,
+        Hashed(_) => NO_ORDER,
         InsertionOrder(table) => strike(&mut table.struck, table.map.pop_first()))
 }
 
@@ -84,6 +84,6 @@ pub extern "C" fn jetukoma_bytes_u64_pop_last_unchecked(
 {
     on_table!(handle, alloc, BytesU64,
         Ordered(table) => strike(&mut table.struck, table.map.pop_last_by_left()),
-        Hashed(_table) => NO_ORDER,
+        Hashed(_) => NO_ORDER,
         InsertionOrder(table) => strike(&mut table.struck, table.map.pop_last()))
 }

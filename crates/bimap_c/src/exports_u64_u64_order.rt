@@ -53,8 +53,8 @@ pub extern "C" fn jetukoma_u64_u64_fill_from_unchecked(
 {
     on_table!(handle, alloc, U64U64,
         Ordered(map) => fill_from(map, from, row, filled),
-        Hashed(_map) => NO_ORDER,
-        InsertionOrder(_map) => NO_ORDER)
+        Hashed(_) => NO_ORDER,
+        InsertionOrder(_) => NO_ORDER)
 }
 
 /// Writes how many lefts are less than this one, which need not be contained. Returns 6 if the table is not ordered.
@@ -71,8 +71,8 @@ pub extern "C" fn jetukoma_u64_u64_left_rank_unchecked(
 {
     on_table!(handle, alloc, U64U64,
         Ordered(map) => left_rank(map, left, rank),
-        Hashed(_map) => NO_ORDER,
-        InsertionOrder(_map) => NO_ORDER)
+        Hashed(_) => NO_ORDER,
+        InsertionOrder(_) => NO_ORDER)
 }
 
 /// Removes a pair, and writes it. In an ordered table it is the pair of the least left. In a table in insertion order
@@ -89,7 +89,7 @@ pub extern "C" fn jetukoma_u64_u64_pop_first_unchecked(
 {
     on_table!(handle, alloc, U64U64,
         Ordered(map) => tell_pair(map.pop_first_by_left(), pair),
-        Hashed(_map) => NO_ORDER,
+        Hashed(_) => NO_ORDER,
         InsertionOrder(map) => tell_pair(map.pop_first(), pair))
 }
 
@@ -107,7 +107,7 @@ pub extern "C" fn jetukoma_u64_u64_pop_last_unchecked(
 {
     on_table!(handle, alloc, U64U64,
         Ordered(map) => tell_pair(map.pop_last_by_left(), pair),
-        Hashed(_map) => NO_ORDER,
+        Hashed(_) => NO_ORDER,
         InsertionOrder(map) => tell_pair(map.pop_last(), pair))
 }
 

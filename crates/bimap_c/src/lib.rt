@@ -13,7 +13,7 @@ macro_rules! on_table {
     ($handle:ident, $alloc:ident, $sides:ident, $table:ident => $call:expr) => {
         on_table!($handle, $alloc, $sides, Ordered($table) => $call, Hashed($table) => $call, InsertionOrder($table) => $call)
     };
-    ($handle:ident, $alloc:ident, $sides:ident, $($kind:ident($table:ident) => $call:expr),+) => {{
+    ($handle:ident, $alloc:ident, $sides:ident, $($kind:ident($table:pat) => $call:expr),+) => {{
         let Some(mut held) = $handle.take($alloc) else {
             return crate::status::NO_TABLE;
         };
