@@ -1,8 +1,8 @@
-/* Tests each call of jetukoma.h on each type of table.
+/* Tests each call of jetukoma.h on each kind of table, with each pair of sides.
  *
- * - It tests every status, null pointers, lengths of 0, lengths that exceed the memory, and bad flags. It tests a table that is
- *   freed twice and used after that.
- * - It makes random calls beside a model. The first argument is their number for each type, by default 100,000.
+ * - It tests every status, null pointers, lengths of 0, lengths that exceed the memory, bad flags and unknown kinds. It tests a
+ *   table that is freed twice and used after that.
+ * - It makes random calls beside a model. The first argument is their number for each kind and pair of sides, by default 100,000.
  * - It writes and reads a JSON object with a pair for every ten of these calls.
  * - It refuses each allocation once.
  *
@@ -15,12 +15,16 @@
 
 static int failed, tests_passed, tests_failed;
 static long calls = 100000;
+/* The kind of the tables in a test. */
+static uint32_t table_kind;
+static const char *const kinds[] = {"ordered", "hashed", "in insertion order"};
+enum { KINDS = sizeof kinds / sizeof *kinds };
 #define CHECK(it) ((it) ? 0 : (failed++, printf("%s:%d: %s\n", __FILE__, __LINE__, #it)))
 
-static void test(const char *type, const char *name, void (*run)(void)) {
+static void test(const char *sides, const char *name, void (*run)(void)) {
     failed = 0;
     run();
-    if (failed) tests_failed++, printf("%s: %s failed\n", type, name);
+    if (failed) tests_failed++, printf("%s, %s: %s failed\n", sides, kinds[table_kind], name);
     else tests_passed++;
 }
 
@@ -62,6 +66,8 @@ struct pair { int left, right; };
 struct told { uint32_t kind; struct pair first, second; };
 static const struct pair no_pair = {NONE, NONE};
 static int right_of[MANY], left_of[MANY], held;
+/* The position of each left in insertion order. */
+static long position_of[MANY], next_position;
 static struct told last;
 
 static void empty_model(void) {
@@ -69,7 +75,7 @@ static void empty_model(void) {
     held = 0, last = (struct told){0, no_pair, no_pair};
 }
 static struct pair model_remove(int left) {
-    struct pair it = {left, left == NONE ? NONE : right_of[left]};
+    struct pair it = {left, left < 0 ? NONE : right_of[left]};
     if (it.right == NONE) return no_pair;
     right_of[left] = left_of[it.right] = NONE;
     held--, last = (struct told){0, it, no_pair};
@@ -81,6 +87,8 @@ static uint32_t model_insert(int left, int right, int left_refuses, int right_re
     told->kind = has_left && has_right ? (right_of[left] == right ? 3 : 4) : has_left ? 1 : has_right ? 2 : 0;
     told->first = model_remove(has_left ? left : left_of[right]);
     told->second = model_remove(left_of[right]);
+    /* An insertion that overwrites the pair of its left keeps the position of that pair. */
+    if (!has_left) position_of[left] = next_position++;
     right_of[left] = right, left_of[right] = left, held++, last = *told;
     return JETUKOMA_DONE;
 }
@@ -94,62 +102,50 @@ static int chance(int below) {
     return (int)((state >> 33) % (uint64_t)below);
 }
 
-#define PASTE(kind, sides, call) jetukoma_##kind##_##sides##_##call
-#define NAME(kind, sides, call) PASTE(kind, sides, call)
-#define PASTE_TYPE(kind, sides) jetukoma_##kind##_##sides
-#define TYPE(kind, sides) PASTE_TYPE(kind, sides)
-#define PASTE_OURS(kind, sides, name) kind##_##sides##_##name
-#define JOIN(kind, sides, name) PASTE_OURS(kind, sides, name)
+#define PASTE(sides, call) jetukoma_##sides##_##call
+#define NAME(sides, call) PASTE(sides, call)
+#define PASTE_TYPE(sides) jetukoma_##sides
+#define TYPE(sides) PASTE_TYPE(sides)
+#define PASTE_OURS(sides, name) sides##_##name
+#define JOIN(sides, name) PASTE_OURS(sides, name)
 #define TEXT_OF(it) #it
 #define TEXT(it) TEXT_OF(it)
 
-#define KIND btree
-#define ORDERED 1
 #include "test_numbers.h"
 #define RIGHT_IS_BYTES 0
 #include "test_bytes.h"
 #define RIGHT_IS_BYTES 1
 #include "test_bytes.h"
-#undef KIND
-#undef ORDERED
-#define KIND hash
-#define ORDERED 0
-#include "test_numbers.h"
-#define RIGHT_IS_BYTES 0
-#include "test_bytes.h"
-#define RIGHT_IS_BYTES 1
-#include "test_bytes.h"
-#undef KIND
-#undef ORDERED
 
-/* For every call but `free`, a handle with a table of another type has no table. */
-static void of_another_type(void) {
-    jetukoma_btree_bytes_u64 t = {0};
+/* For every call but `free`, a handle with a table of other sides has no table. */
+static void of_other_sides(void) {
+    jetukoma_bytes_u64 t = {0};
+    jetukoma_u64_u64_pair pair;
     void *it = &t;
     size_t n = 99;
     uint64_t number = 99;
-    CHECK(!jetukoma_btree_bytes_u64_new(&t) && !jetukoma_btree_bytes_u64_insert_no_overwrite(&t, bytes(3), 3, 7));
-    CHECK(jetukoma_hash_bytes_u64_len(it, &n) == JETUKOMA_NO_TABLE && jetukoma_btree_u64_u64_len(it, &n) == JETUKOMA_NO_TABLE && n == 99);
-    CHECK(jetukoma_hash_u64_u64_new(it) == JETUKOMA_NO_TABLE && jetukoma_hash_u64_u64_reserve(it, 1) == JETUKOMA_NO_TABLE);
-    CHECK(jetukoma_btree_u64_u64_clear(it) == JETUKOMA_NO_TABLE && jetukoma_hash_bytes_bytes_clear(it) == JETUKOMA_NO_TABLE);
-    CHECK(jetukoma_hash_u64_u64_insert_no_overwrite(it, 4, 8) == JETUKOMA_NO_TABLE);
-    CHECK(jetukoma_hash_bytes_u64_get_by_left(it, bytes(3), 3, &number) == JETUKOMA_NO_TABLE && number == 99);
-    CHECK(!jetukoma_btree_bytes_u64_get_by_left(&t, bytes(3), 3, &number) && number == 7 && !jetukoma_btree_bytes_u64_len(&t, &n) && n == 1);
-    CHECK(!jetukoma_hash_u64_u64_free(it) && jetukoma_btree_bytes_u64_free(&t) == JETUKOMA_NO_TABLE && blocks == 0);
+    CHECK(!jetukoma_bytes_u64_new(&t, table_kind, 1) && !jetukoma_bytes_u64_insert_no_overwrite(&t, bytes(3), 3, 7));
+    CHECK(jetukoma_bytes_bytes_len(it, &n) == JETUKOMA_NO_TABLE && jetukoma_u64_u64_len(it, &n) == JETUKOMA_NO_TABLE && n == 99);
+    CHECK(jetukoma_u64_u64_new(it, table_kind, 1) == JETUKOMA_NO_TABLE && jetukoma_u64_u64_reserve(it, 1) == JETUKOMA_NO_TABLE);
+    CHECK(jetukoma_u64_u64_clear(it) == JETUKOMA_NO_TABLE && jetukoma_bytes_bytes_clear(it) == JETUKOMA_NO_TABLE);
+    CHECK(jetukoma_u64_u64_insert_no_overwrite(it, 4, 8) == JETUKOMA_NO_TABLE);
+    CHECK(jetukoma_u64_u64_get_by_left(it, 4, &number) == JETUKOMA_NO_TABLE && number == 99);
+    CHECK(jetukoma_u64_u64_pop_first(it, &pair) == JETUKOMA_NO_TABLE && jetukoma_bytes_bytes_pop_last(it) == JETUKOMA_NO_TABLE);
+    CHECK(!jetukoma_bytes_u64_get_by_left(&t, bytes(3), 3, &number) && number == 7 && !jetukoma_bytes_u64_len(&t, &n) && n == 1);
+    CHECK(!jetukoma_u64_u64_free(it) && jetukoma_bytes_u64_free(&t) == JETUKOMA_NO_TABLE && blocks == 0);
 }
 
 static void version(void) { CHECK(!strcmp(jetukoma_version(), JETUKOMA_VERSION)); }
 
 int main(int count, char **words) {
     if (count > 1) calls = atol(words[1]);
-    btree_u64_u64_tests();
-    btree_bytes_u64_tests();
-    btree_bytes_bytes_tests();
-    hash_u64_u64_tests();
-    hash_bytes_u64_tests();
-    hash_bytes_bytes_tests();
-    test("a table", "of another type", of_another_type);
     test("the library", "version of the header", version);
+    for (table_kind = 0; table_kind < KINDS; table_kind++) {
+        u64_u64_tests();
+        bytes_u64_tests();
+        bytes_bytes_tests();
+        test("a table", "of other sides", of_other_sides);
+    }
     printf("%d passed, %d failed\n", tests_passed, tests_failed);
     return tests_failed != 0;
 }

@@ -12,9 +12,9 @@
 #define RIGHT_OUT(it) &it.number
 #define OF_RIGHT(it) of_number(it.number)
 #endif
-#define CALL(it) NAME(KIND, SIDES, it)
-#define OUR(it) JOIN(KIND, SIDES, it)
-typedef TYPE(KIND, SIDES) OUR(table);
+#define CALL(it) NAME(SIDES, it)
+#define OUR(it) JOIN(SIDES, it)
+typedef TYPE(SIDES) OUR(table);
 typedef struct { uint8_t bytes[MANY]; size_t len; uint64_t number; } OUR(out);
 
 /* The pair that the last call removed or overwrote. */
@@ -62,7 +62,6 @@ static uint32_t OUR(remove_by_right)(OUR(table) *table, int right, struct pair *
     uint32_t status = CALL(remove_by_right)(table, RIGHT(right));
     return status ? status : (*pair = OUR(gone)(table, 0), 0);
 }
-#if ORDERED
 static int OUR(below)(int a, int b) { return below_bytes(a, b); }
 static uint32_t OUR(pop)(OUR(table) *table, int first, struct pair *pair) {
     uint32_t status = first ? CALL(pop_first)(table) : CALL(pop_last)(table);
@@ -71,21 +70,16 @@ static uint32_t OUR(pop)(OUR(table) *table, int first, struct pair *pair) {
 static uint32_t OUR(walk)(OUR(table) *table, struct pair *row, size_t *count) {
     OUR(out) left, right;
     uint32_t status;
-    *count = 0;
+    size_t rank = 99;
+    *count = 0, left.len = 99;
     while (!(status = CALL(pair_at_rank)(table, *count, left.bytes, sizeof left.bytes, &left.len, RIGHT_OUT(right)))) {
-        size_t rank;
         struct pair it = {of_bytes(left.bytes, left.len), OF_RIGHT(right)};
-        CHECK(!*count || below_bytes(row[*count - 1].left, it.left));
         CHECK(!CALL(left_rank)(table, LEFT(it.left), &rank) && rank == *count);
         row[(*count)++] = it;
     }
+    if (status == JETUKOMA_NO_ORDER) CHECK(left.len == 99 && CALL(left_rank)(table, LEFT(1), &rank) == status && rank == 99);
     return status == JETUKOMA_NOT_FOUND ? 0 : status;
 }
-#else
-static uint32_t OUR(walk)(OUR(table) *table, struct pair *row, size_t *count) {
-    return (void)table, (void)row, (void)count, JETUKOMA_REFUSED;
-}
-#endif
 
 #if !RIGHT_IS_BYTES
 /* Writes JSON and reads it. A refused call must change nothing. */
@@ -106,7 +100,7 @@ static void OUR(json)(void) {
     uint64_t right;
     CHECK(CALL(to_json)(NULL, out, 80, &len) == JETUKOMA_NO_TABLE && CALL(from_json)(NULL, out, 0) == JETUKOMA_NO_TABLE);
     CHECK(CALL(to_json)(&t, out, 80, &len) == JETUKOMA_NO_TABLE && CALL(from_json)(&t, out, 0) == JETUKOMA_NO_TABLE && len == 99);
-    CHECK(!CALL(new)(&t));
+    CHECK(!CALL(new)(&t, table_kind, 5));
     OUR(reads)(&t, "", JETUKOMA_REFUSED, "{}");
     OUR(reads)(&t, " {\"bob\": 7, \"\\u0061nn\": 12}\n", 0, ann);
     CHECK(!CALL(get_by_left)(&t, (const uint8_t *)"ann", 3, &right) && right == 12 && !CALL(len)(&t, &n) && n == 2);
@@ -120,6 +114,13 @@ static void OUR(json)(void) {
     CHECK(!CALL(insert_no_overwrite)(&t, (const uint8_t *)"\xff", 1, 1));
     out[0] = 77, len = 99;
     CHECK(CALL(to_json)(&t, out, 80, &len) == JETUKOMA_REFUSED && out[0] == 77 && len == 99);
+    /* The table keeps its kind: "aa" is its first left by order, and its last left by insertion. */
+    OUR(reads)(&t, ann, 0, ann);
+    CHECK(!CALL(insert_no_overwrite)(&t, (const uint8_t *)"aa", 2, 1));
+    CHECK(CALL(pop_last)(&t) == (table_kind == JETUKOMA_HASHED ? JETUKOMA_NO_ORDER : 0));
+    CHECK(CALL(contains_left)(&t, (const uint8_t *)"bob", 3) == (table_kind == JETUKOMA_ORDERED ? JETUKOMA_NOT_FOUND : 0));
+    CHECK(CALL(contains_left)(&t, (const uint8_t *)"aa", 2) == (table_kind == JETUKOMA_INSERTION_ORDER ? JETUKOMA_NOT_FOUND : 0));
+    CHECK(CALL(pair_at_rank)(&t, 1, out, 80, &len, &right) == (table_kind == JETUKOMA_ORDERED ? 0 : JETUKOMA_NO_ORDER));
     OUR(reads)(&t, both, 0, both);
     /* Each allocation is refused once. */
     for (size_t most = 0, refused = 1; refused && most < 1000; most++) {
@@ -142,7 +143,7 @@ static void OUR(large_json)(void) {
     uint8_t *text = malloc(room);
     char name[32];
     uint64_t right = 0;
-    CHECK(text && !CALL(new)(&t) && !CALL(new)(&back));
+    CHECK(text && !CALL(new)(&t, table_kind, 1) && !CALL(new)(&back, table_kind, 2));
     for (size_t at = 0; at < pairs && failed < 20; at++)
         CHECK(!CALL(insert_no_overwrite)(&t, (uint8_t *)name, (size_t)sprintf(name, "name %zu", at), pairs - at));
     CHECK(!CALL(to_json)(&t, text, room, &len) && len > pairs * 10 && !CALL(from_json)(&back, text, len));
@@ -157,15 +158,13 @@ static void OUR(large_json)(void) {
 static void OUR(own)(OUR(table) *table, uint32_t status) {
     OUR(out) left, right;
     size_t len = 99;
-    uint32_t missing = status ? status : JETUKOMA_NOT_FOUND;
+    size_t rank = 99;
+    uint32_t missing = status ? status : JETUKOMA_NOT_FOUND, unordered = !status && table_kind != JETUKOMA_ORDERED ? JETUKOMA_NO_ORDER : 0;
     CHECK(CALL(overwritten_left)(table, 0, left.bytes, MANY, &len) == missing && CALL(overwritten_right)(table, 0, RIGHT_OUT(right)) == missing);
     CHECK(CALL(overwritten_left)(table, SIZE_MAX, left.bytes, MANY, &len) == missing && len == 99);
-#if ORDERED
-    size_t rank = 99;
-    CHECK(CALL(pair_at_rank)(table, 0, left.bytes, MANY, &len, RIGHT_OUT(right)) == missing && len == 99);
-    CHECK(CALL(pair_at_rank)(table, SIZE_MAX, left.bytes, MANY, &len, RIGHT_OUT(right)) == missing);
-    CHECK(CALL(left_rank)(table, LEFT(3), &rank) == status && rank == (status ? 99 : 0));
-#endif
+    CHECK(CALL(pair_at_rank)(table, 0, left.bytes, MANY, &len, RIGHT_OUT(right)) == (unordered ? unordered : missing) && len == 99);
+    CHECK(CALL(pair_at_rank)(table, SIZE_MAX, left.bytes, MANY, &len, RIGHT_OUT(right)) == (unordered ? unordered : missing));
+    CHECK(CALL(left_rank)(table, LEFT(3), &rank) == (unordered ? unordered : status) && rank == (status || unordered ? 99 : 0));
     if (status) return;
     /* An empty byte string is inserted and looked up. A buffer of length 0 is long enough for it. */
     uint8_t byte = 77;
@@ -195,10 +194,8 @@ static void OUR(nulls)(OUR(table) *table, uint32_t null, uint32_t beyond) {
 #else
     CHECK(CALL(get_by_left)(table, LEFT(1), NULL) == null && CALL(overwritten_right)(table, 0, NULL) == null);
 #endif
-#if ORDERED
     CHECK(CALL(pair_at_rank)(table, 0, NULL, 0, &len, RIGHT_OUT(right)) == null && CALL(pair_at_rank)(table, 0, &byte, 1, NULL, RIGHT_OUT(right)) == null);
     CHECK(CALL(left_rank)(table, NULL, 0, &len) == null && CALL(left_rank)(table, LEFT(1), NULL) == null && CALL(left_rank)(table, &byte, SIZE_MAX, &len) == beyond);
-#endif
 }
 
 #include "test_calls.h"

@@ -1,4 +1,4 @@
-/* The tests of one type of table. The calls here take the numbers of values. */
+/* The tests of tables with one pair of sides, of each kind. The calls here take the numbers of values. */
 static void OUR(statuses)(void) {
     OUR(table) t = {0};
     size_t n = 99;
@@ -7,14 +7,15 @@ static void OUR(statuses)(void) {
     int it;
     OUR(own)(NULL, JETUKOMA_NO_TABLE);
     OUR(nulls)(NULL, JETUKOMA_NO_TABLE, JETUKOMA_NO_TABLE);
-    CHECK(CALL(new)(NULL) == JETUKOMA_NO_TABLE && CALL(free)(NULL) == JETUKOMA_NO_TABLE && CALL(clear)(NULL) == JETUKOMA_NO_TABLE);
+    CHECK(CALL(new)(NULL, table_kind, 0) == JETUKOMA_NO_TABLE && CALL(free)(NULL) == JETUKOMA_NO_TABLE && CALL(clear)(NULL) == JETUKOMA_NO_TABLE);
     CHECK(CALL(len)(NULL, &n) == JETUKOMA_NO_TABLE && CALL(capacity)(NULL, &n) == JETUKOMA_NO_TABLE && n == 99);
     CHECK(CALL(reserve)(NULL, 1) == JETUKOMA_NO_TABLE && CALL(free)(&t) == JETUKOMA_NO_TABLE);
     /* The handle has no table, then it has one, and then the table was freed twice. */
     for (int round = 0; round < 3; round++) {
         uint32_t status = round == 1 ? 0 : JETUKOMA_NO_TABLE, missing = status ? status : JETUKOMA_NOT_FOUND;
-        uint32_t refused = status ? status : JETUKOMA_REFUSED;
-        if (round == 1) CHECK(!CALL(new)(&t) && CALL(new)(&t) == JETUKOMA_NO_TABLE);
+        uint32_t refused = status ? status : JETUKOMA_REFUSED, endless = status || table_kind != JETUKOMA_HASHED ? missing : JETUKOMA_NO_ORDER;
+        if (round == 1) CHECK(!CALL(new)(&t, table_kind, 7) && CALL(new)(&t, table_kind, 7) == JETUKOMA_NO_TABLE);
+        CHECK(CALL(new)(&t, KINDS, 7) == JETUKOMA_REFUSED && CALL(new)(&t, UINT32_MAX, 7) == JETUKOMA_REFUSED && t.live == (round == 1));
         n = 99, it = 99, pair = no_pair, told.kind = 99;
         OUR(nulls)(&t, JETUKOMA_REFUSED, JETUKOMA_REFUSED);
         CHECK(CALL(len)(&t, NULL) == JETUKOMA_REFUSED && CALL(capacity)(&t, NULL) == JETUKOMA_REFUSED);
@@ -22,9 +23,7 @@ static void OUR(statuses)(void) {
         CHECK(OUR(get_by_left)(&t, 1, &it) == missing && OUR(get_by_right)(&t, 1, &it) == missing && it == 99);
         CHECK(CALL(contains_left)(&t, LEFT(1)) == missing && CALL(contains_right)(&t, RIGHT(0)) == missing);
         CHECK(OUR(remove_by_left)(&t, 1, &pair) == missing && OUR(remove_by_right)(&t, 0, &pair) == missing && pair.left == NONE);
-#if ORDERED
-        CHECK(OUR(pop)(&t, 1, &pair) == missing && OUR(pop)(&t, 0, &pair) == missing && pair.left == NONE);
-#endif
+        CHECK(OUR(pop)(&t, 1, &pair) == endless && OUR(pop)(&t, 0, &pair) == endless && pair.left == NONE);
         OUR(own)(&t, status);
         CHECK(CALL(clear)(&t) == status && CALL(reserve)(&t, 0) == status && CALL(reserve)(&t, 6) == status);
         CHECK(CALL(capacity)(&t, &n) == status && (status || n >= 6));
@@ -46,7 +45,10 @@ static void OUR(statuses)(void) {
     CHECK(blocks == 0);
 }
 
-/* Returns whether the table has exactly the pairs of the model. */
+/* Returns whether the pair of left a comes before the pair of left b. */
+static int OUR(before)(int a, int b) { return table_kind == JETUKOMA_ORDERED ? OUR(below)(a, b) : position_of[a] < position_of[b]; }
+
+/* Tests that the table has exactly the pairs of the model, in their order. */
 static void OUR(same)(OUR(table) *t) {
     size_t len, capacity;
     CHECK(!CALL(len)(t, &len) && len == (size_t)held && !CALL(capacity)(t, &capacity) && capacity >= len);
@@ -56,10 +58,11 @@ static void OUR(same)(OUR(table) *t) {
         CHECK(OUR(get_by_right)(t, value, &left) == (left_of[value] == NONE ? JETUKOMA_NOT_FOUND : 0) && left == left_of[value]);
     }
     struct pair row[MANY + 1];
-    if (OUR(walk)(t, row, &len) == JETUKOMA_REFUSED) return;
-    CHECK(len == (size_t)held);
+    uint32_t status = OUR(walk)(t, row, &len), unordered = BYTES && table_kind != JETUKOMA_ORDERED;
+    CHECK(status == (unordered ? JETUKOMA_NO_ORDER : 0) && len == (unordered ? 0 : (size_t)held));
     for (size_t at = 0; at < len; at++) {
         CHECK(row[at].left >= 0 && right_of[row[at].left] == row[at].right);
+        CHECK(!at || table_kind == JETUKOMA_HASHED || OUR(before)(row[at - 1].left, row[at].left));
         for (size_t other = 0; other < at; other++) CHECK(row[other].left != row[at].left);
     }
 }
@@ -71,7 +74,7 @@ static void OUR(one)(OUR(table) *t) {
     struct pair pair = no_pair;
     uint32_t missing_left = right_of[left] == NONE ? JETUKOMA_NOT_FOUND : 0;
     uint32_t missing_right = left_of[right] == NONE ? JETUKOMA_NOT_FOUND : 0;
-    switch (chance(ORDERED ? 11 : 10)) {
+    switch (chance(11)) {
     case 0: CHECK(OUR(insert)(t, left, right, &told) == model_insert(left, right, 0, 0, &wanted) && same_told(told, wanted)); break;
     case 1: CHECK(OUR(insert_with)(t, left, right, l, r, &told) == model_insert(left, right, l, r, &wanted) && same_told(told, wanted)); break;
     case 2: CHECK(CALL(insert_no_overwrite)(t, LEFT(left), RIGHT(right)) == model_insert(left, right, 1, 1, &wanted)); break;
@@ -82,14 +85,12 @@ static void OUR(one)(OUR(table) *t) {
     case 7: CHECK(OUR(remove_by_right)(t, right, &pair) == missing_right && same_pair(pair, model_remove(left_of[right]))); break;
     case 8: if (!chance(400)) CHECK(!CALL(clear)(t)), empty_model(); break;
     case 9: if (!chance(400)) CHECK(!CALL(reserve)(t, (size_t)chance(30))); break;
-#if ORDERED
     case 10:
         if (chance(4)) break;
-        CHECK(OUR(pop)(t, l, &pair) == (held ? 0 : JETUKOMA_NOT_FOUND));
-        for (int value = 0; held && value < MANY; value++)
-            if (right_of[value] != NONE && value != pair.left) CHECK(OUR(below)(l ? pair.left : value, l ? value : pair.left));
+        CHECK(OUR(pop)(t, l, &pair) == (table_kind == JETUKOMA_HASHED ? JETUKOMA_NO_ORDER : held ? 0 : JETUKOMA_NOT_FOUND));
+        for (int value = 0; pair.left >= 0 && value < MANY; value++)
+            if (right_of[value] != NONE && value != pair.left) CHECK(OUR(before)(l ? pair.left : value, l ? value : pair.left));
         CHECK(same_pair(pair, model_remove(pair.left)));
-#endif
     }
 #if BYTES
     CHECK(same_pair(OUR(gone)(t, 0), last.first) && same_pair(OUR(gone)(t, 1), last.second));
@@ -98,7 +99,7 @@ static void OUR(one)(OUR(table) *t) {
 static void OUR(calls)(void) {
     OUR(table) t = {0};
     empty_model();
-    CHECK(!CALL(new)(&t));
+    CHECK(!CALL(new)(&t, table_kind, (uint64_t)calls));
     for (long call = 0; call < calls && failed < 20; call++) {
         OUR(one)(&t);
         if (call % (calls / 1000) == 0) OUR(same)(&t);
@@ -114,10 +115,10 @@ static void OUR(memory)(void) {
         struct told told = {0, no_pair, no_pair}, wanted = told;
         empty_model();
         refused = 0, granted = most;
-        if (CALL(new)(&t)) {
-            CHECK(CALL(new)(&t) == JETUKOMA_NO_MEMORY && !t.live && CALL(free)(&t) == JETUKOMA_NO_TABLE);
+        if (CALL(new)(&t, table_kind, most)) {
+            CHECK(CALL(new)(&t, table_kind, most) == JETUKOMA_NO_MEMORY && !t.live && CALL(free)(&t) == JETUKOMA_NO_TABLE);
             refused = 1, granted = SIZE_MAX;
-            CHECK(!CALL(new)(&t));
+            CHECK(!CALL(new)(&t, table_kind, most));
             granted = 0;
         }
 #if BYTES
@@ -173,14 +174,14 @@ static void OUR(memory)(void) {
 }
 
 static void OUR(tests)(void) {
-    test(TEXT(KIND) " " TEXT(SIDES), "statuses", OUR(statuses));
-    test(TEXT(KIND) " " TEXT(SIDES), "calls by chance", OUR(calls));
-    test(TEXT(KIND) " " TEXT(SIDES), "memory refused", OUR(memory));
+    test(TEXT(SIDES), "statuses", OUR(statuses));
+    test(TEXT(SIDES), "calls by chance", OUR(calls));
+    test(TEXT(SIDES), "memory refused", OUR(memory));
 #if !BYTES
-    test(TEXT(KIND) " " TEXT(SIDES), "pairs kept by a walk", OUR(retain));
+    test(TEXT(SIDES), "pairs kept by a walk", OUR(retain));
 #elif !RIGHT_IS_BYTES
-    test(TEXT(KIND) " " TEXT(SIDES), "JSON", OUR(json));
-    test(TEXT(KIND) " " TEXT(SIDES), "a large JSON", OUR(large_json));
+    test(TEXT(SIDES), "JSON", OUR(json));
+    test(TEXT(SIDES), "a large JSON", OUR(large_json));
 #endif
 }
 #undef SIDES

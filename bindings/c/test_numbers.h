@@ -1,9 +1,9 @@
 /* The calls that test_calls.h makes, for maps of two numbers. They take the numbers of values. */
 #define SIDES u64_u64
 #define BYTES 0
-#define CALL(it) NAME(KIND, SIDES, it)
-#define OUR(it) JOIN(KIND, SIDES, it)
-typedef TYPE(KIND, SIDES) OUR(table);
+#define CALL(it) NAME(SIDES, it)
+#define OUR(it) JOIN(SIDES, it)
+typedef TYPE(SIDES) OUR(table);
 #define LEFT(it) number(it)
 #define RIGHT(it) number(it)
 
@@ -48,37 +48,35 @@ static uint32_t OUR(walk)(OUR(table) *table, struct pair *row, size_t *count) {
     if (status) return status;
     for (size_t at = 0; at < *count; at++) row[at] = OUR(named)(its[at]);
     /* `fill` from a random start gives the same pairs from there on. */
-    size_t start = *count ? (size_t)chance((int)*count) : 3, filled;
+    size_t start = *count ? (size_t)chance((int)*count) : 3, filled, rank = 99;
     CHECK(!CALL(fill)(table, start, from, MANY + 1, &filled) && filled == (start < *count ? *count - start : 0));
     CHECK(!filled || !memcmp(from, its + start, filled * sizeof *its));
-#if ORDERED
-    for (size_t at = 1; at < *count; at++) CHECK(its[at - 1].left < its[at].left);
-    if (!*count) return 0;
-    size_t rank;
-    CHECK(!CALL(left_rank)(table, its[start].left, &rank) && rank == start);
-    CHECK(!CALL(left_rank)(table, its[start].left + 1, &rank) && rank == start + 1);
-    CHECK(!CALL(fill_from)(table, its[start].left, from, 2, &filled) && filled == (start + 1 < *count ? 2 : 1));
-    CHECK(!memcmp(from, its + start, filled * sizeof *its));
-#endif
+    if (table_kind != JETUKOMA_ORDERED) {
+        CHECK(CALL(left_rank)(table, 0, &rank) == JETUKOMA_NO_ORDER && rank == 99);
+        CHECK(CALL(fill_from)(table, 0, its, 2, &rank) == JETUKOMA_NO_ORDER && rank == 99);
+        CHECK(!filled || !memcmp(from, its + start, filled * sizeof *its));
+    } else if (*count) {
+        CHECK(!CALL(left_rank)(table, its[start].left, &rank) && rank == start);
+        CHECK(!CALL(left_rank)(table, its[start].left + 1, &rank) && rank == start + 1);
+        CHECK(!CALL(fill_from)(table, its[start].left, from, 2, &filled) && filled == (start + 1 < *count ? 2 : 1));
+        CHECK(!memcmp(from, its + start, filled * sizeof *its));
+    }
     return 0;
 }
-#if ORDERED
 static int OUR(below)(int a, int b) { return number(a) < number(b); }
 static uint32_t OUR(pop)(OUR(table) *table, int first, struct pair *pair) {
-    jetukoma_u64_u64_pair it;
+    jetukoma_u64_u64_pair it = {99, 99};
     uint32_t status = first ? CALL(pop_first)(table, &it) : CALL(pop_last)(table, &it);
-    return status ? status : (*pair = OUR(named)(it), 0);
+    if (status) return CHECK(it.left == 99 && it.right == 99), status;
+    return *pair = OUR(named)(it), 0;
 }
-#endif
-
-/* Tests the calls of this type alone: on a table, on a handle without one, and on null. */
 /* Removes pairs by a test, as the header shows. */
 static int OUR(keeps)(jetukoma_u64_u64_pair it) { return it.left % 3 == 0; }
 static void OUR(retain)(void) {
     OUR(table) t = {0};
     size_t n, taken;
     jetukoma_u64_u64_pair row[64], one;
-    CHECK(!CALL(new)(&t));
+    CHECK(!CALL(new)(&t, table_kind, 3));
     for (uint64_t left = 0; left < 1000; left++) one.left = left, one.right = left * 7, CHECK(!CALL(insert_many)(&t, &one, 1, &taken) && taken == 1);
     for (size_t at = 0, count; !CALL(fill)(&t, at, row, 64, &count) && count;) {
         for (size_t i = 0; i < count; i++)
@@ -89,21 +87,22 @@ static void OUR(retain)(void) {
     for (uint64_t left = 0; left < 1000; left++) CHECK(CALL(contains_left)(&t, left) == (left % 3 ? JETUKOMA_NOT_FOUND : 0));
     CHECK(!CALL(free)(&t) && blocks == 0);
 }
+/* Tests the calls of this type alone: on a table, on a handle without one, and on null. */
 static void OUR(own)(OUR(table) *table, uint32_t status) {
     jetukoma_u64_u64_pair row[3] = {{7, 7}, {8, 8}, {7, 9}};
-    size_t n = 99;
+    uint32_t ordered = !status && table_kind != JETUKOMA_ORDERED ? JETUKOMA_NO_ORDER : status;
+    size_t n = 99, rank = 99;
     CHECK(CALL(fill)(table, 0, row, 0, &n) == status && n == (status ? 99 : 0));
     CHECK(CALL(insert_many)(table, row, 0, &n) == status && n == (status ? 99 : 0));
     CHECK(CALL(insert_many)(table, row, 3, &n) == status && n == (status ? 99 : 3));
     memset(row, 0, sizeof row);
-    CHECK(CALL(fill)(table, 1, row, 3, &n) == status && n == (status ? 99 : 1) && (status || row[0].left < 9));
-#if ORDERED
-    size_t rank = 99;
-    CHECK(CALL(fill_from)(table, 0, row, 3, &n) == status && n == (status ? 99 : 2));
-    CHECK(status ? !row[0].left : row[0].left == 7 && row[0].right == 9 && row[1].left == 8 && row[1].right == 8);
-    CHECK(CALL(fill_from)(table, 9, row, 3, &n) == status && n == (status ? 99 : 0));
-    CHECK(CALL(left_rank)(table, 8, &rank) == status && rank == (status ? 99 : 1));
-#endif
+    CHECK(CALL(fill)(table, 1, row, 3, &n) == status && n == (status ? 99 : 1));
+    CHECK(row[0].left == (status ? 0 : 8) || (table_kind == JETUKOMA_HASHED && row[0].left == 7));
+    n = 99, memset(row, 0, sizeof row);
+    CHECK(CALL(fill_from)(table, 0, row, 3, &n) == ordered && n == (ordered ? 99 : 2));
+    CHECK(ordered ? !row[0].left : row[0].left == 7 && row[0].right == 9 && row[1].left == 8 && row[1].right == 8);
+    CHECK(CALL(fill_from)(table, 9, row, 3, &n) == ordered && n == (ordered ? 99 : 0));
+    CHECK(CALL(left_rank)(table, 8, &rank) == ordered && rank == (ordered ? 99 : 1));
 }
 static void OUR(nulls)(OUR(table) *table, uint32_t null, uint32_t beyond) {
     jetukoma_u64_u64_pair row[1];
@@ -115,11 +114,9 @@ static void OUR(nulls)(OUR(table) *table, uint32_t null, uint32_t beyond) {
     CHECK(CALL(fill)(table, 0, NULL, 0, &n) == null && CALL(fill)(table, 0, row, 1, NULL) == null);
     CHECK(CALL(insert_many)(table, row, SIZE_MAX, &n) == beyond && CALL(insert_many)(table, row, SIZE_MAX / 16, &n) == beyond);
     CHECK(CALL(fill)(table, 0, row, SIZE_MAX, &n) == beyond && CALL(fill)(table, 0, row, SIZE_MAX / 16, &n) == beyond);
-#if ORDERED
     CHECK(CALL(fill_from)(table, 0, NULL, 0, &n) == null && CALL(fill_from)(table, 0, row, 1, NULL) == null);
     CHECK(CALL(fill_from)(table, 0, row, SIZE_MAX / 16, &n) == beyond && CALL(left_rank)(table, 0, NULL) == null);
     CHECK(CALL(pop_first)(table, NULL) == null && CALL(pop_last)(table, NULL) == null);
-#endif
 }
 
 #include "test_calls.h"
