@@ -14,8 +14,9 @@
 //!
 //! # The types of the sides
 //! The pairs of types are `u64` with `u64`, `Vec<u8>` or `String` with `u64`, and `Vec<u8>` with `Vec<u8>`. [`BiBTreeMap`] has
-//! its pairs in ascending order of their lefts. Bytes are compared one by one. [`BiHashMap`] hashes both sides. You cannot
-//! iterate over a hashed map of bytes.
+//! its pairs in ascending order of their lefts. Bytes are compared one by one. [`BiHashMap`] hashes both sides.
+//! [`BiInsertionOrderMap`] hashes them too, and has its pairs in the order in which they were inserted. With bytes, you can
+//! iterate only over a [`BiBTreeMap`].
 //!
 //! # What differs from `bimap`
 //! - The library contains the values. Look-ups and iterators return copies of them, by value.
@@ -46,11 +47,18 @@ pub enum Ordered {}
 /// The kind of a map with two hashed sides.
 pub enum Hashed {}
 
+/// The kind of a map in insertion order. Both sides are hashed.
+pub enum InsertionOrder {}
+
 /// A map that iterates in ascending order of its lefts.
 pub type BiBTreeMap<L, R> = BijectiveMap<L, R, Ordered>;
 
 /// A map whose calls take expected constant time.
 pub type BiHashMap<L, R> = BijectiveMap<L, R, Hashed>;
+
+/// A map whose calls take expected constant time, and which iterates in insertion order. A pair that overwrites the pair of
+/// the same left keeps that pair's position. Any other new pair goes to the end.
+pub type BiInsertionOrderMap<L, R> = BijectiveMap<L, R, InsertionOrder>;
 
 /// The same as [`BiHashMap`].
 pub type BiMap<L, R> = BiHashMap<L, R>;

@@ -1,9 +1,11 @@
 //! The calls of the C library, made safe. A `Handle` has a table from the time that it is made.
+use std::collections::hash_map::RandomState;
 use std::ffi::c_void;
+use std::hash::BuildHasher;
 use std::marker::PhantomData;
 use std::ptr::null_mut;
 
-use crate::{Overwritten, Policy};
+use crate::{Hashed, InsertionOrder, Ordered, Overwritten, Policy};
 
 /// The reasons for which a call is refused.
 pub enum Refusal {
@@ -11,11 +13,38 @@ pub enum Refusal {
     Held,
 }
 
-/// The handle of a table. Its type says which calls it is for.
+/// A kind of table, with its number in the library.
+pub trait Kind {
+    const NUMBER: u32;
+}
+
+impl Kind for Ordered {
+    const NUMBER: u32 = 0;
+}
+
+impl Kind for Hashed {
+    const NUMBER: u32 = 1;
+}
+
+impl Kind for InsertionOrder {
+    const NUMBER: u32 = 2;
+}
+
+/// The kinds that do not order their rights.
+pub trait Unsorted: Kind {}
+impl Unsorted for Hashed {}
+impl Unsorted for InsertionOrder {}
+
+/// A handle as the library reads it.
 #[repr(C)]
-pub struct Handle<B: Library> {
+pub struct Raw {
     at: *mut c_void,
     live: bool,
+}
+
+/// The handle of a table. Its type says which calls it is for.
+pub struct Handle<B: Library> {
+    raw: Raw,
     calls: PhantomData<B>,
 }
 
@@ -24,11 +53,11 @@ unsafe impl<B: Library> Send for Handle<B> {}
 
 impl<B: Library> Handle<B> {
     pub fn new() -> Result<Handle<B>, Refusal> {
-        let mut handle = Handle {
+        let raw = Raw {
             at: null_mut(),
             live: false,
-            calls: PhantomData,
         };
+        let mut handle = Handle { raw, calls: PhantomData };
         B::make(&mut handle)?;
         Ok(handle)
     }
@@ -46,7 +75,8 @@ type Found<B> = (Owned<<B as Library>::Left>, Owned<<B as Library>::Right>);
 type Told<B> = Overwritten<Owned<<B as Library>::Left>, Owned<<B as Library>::Right>>;
 type Asked<T> = Result<Option<T>, Refusal>;
 
-/// The calls on one kind of table.
+/// The calls on tables of one kind and one pair of sides. The last three need an order. The map has them only for kinds with this
+/// order.
 pub trait Library: Sized {
     type Left: ?Sized + ToOwned;
     type Right: ?Sized + ToOwned;
@@ -64,11 +94,14 @@ pub trait Library: Sized {
     fn contains_right(handle: &mut Handle<Self>, right: &Self::Right) -> Result<bool, Refusal>;
     fn remove_by_left(handle: &mut Handle<Self>, left: &Self::Left) -> Asked<Found<Self>>;
     fn remove_by_right(handle: &mut Handle<Self>, right: &Self::Right) -> Asked<Found<Self>>;
+    fn left_rank(handle: &mut Handle<Self>, left: &Self::Left) -> Result<usize, Refusal>;
+    fn pop_first(handle: &mut Handle<Self>) -> Option<Found<Self>>;
+    fn pop_last(handle: &mut Handle<Self>) -> Option<Found<Self>>;
 }
 
 /// The calls of a table that can be iterated.
 pub trait Walked: Library {
-    /// The longest row to ask for. A hashed table goes from its first pair to the start of each row.
+    /// The longest row to ask for. A table that is not ordered goes from its first pair to the start of each row.
     const LONGEST: usize;
     /// Returns at most this many pairs, from the start-th pair on.
     fn row(handle: &mut Handle<Self>, start: usize, most: usize) -> Vec<Found<Self>>;
@@ -78,13 +111,6 @@ pub trait Walked: Library {
 pub trait Json: Library {
     fn to_json(handle: &mut Handle<Self>) -> Result<Vec<u8>, Refusal>;
     fn from_json(handle: &mut Handle<Self>, text: &[u8]) -> Result<(), Refusal>;
-}
-
-/// The calls of a table with two ordered sides.
-pub trait InOrder: Walked {
-    fn left_rank(handle: &mut Handle<Self>, left: &Self::Left) -> Result<usize, Refusal>;
-    fn pop_first(handle: &mut Handle<Self>) -> Option<Found<Self>>;
-    fn pop_last(handle: &mut Handle<Self>) -> Option<Found<Self>>;
 }
 
 // The statuses.
@@ -158,12 +184,12 @@ fn bytes(mut call: impl FnMut(*mut u8, usize, *mut usize) -> u32) -> Asked<Vec<u
     }
 }
 
-/// Declares calls of the library on tables of a type.
+/// Declares calls of the library on tables of these sides.
 macro_rules! external {
-    ($name:ident $prefix:literal: $($call:ident($($given:ident: $type:ty),*);)*) => {
+    ($sides:literal: $($call:ident($($given:ident: $type:ty),*);)*) => {
         unsafe extern "C" { $(
-            #[link_name = concat!("jetukoma_", $prefix, "_", stringify!($call), "_unchecked")]
-            fn $call(handle: *mut Handle<$name> $(, $given: $type)*) -> u32;
+            #[link_name = concat!("jetukoma_", $sides, "_", stringify!($call), "_unchecked")]
+            fn $call(handle: *mut Raw $(, $given: $type)*) -> u32;
         )* }
     };
 }
@@ -172,31 +198,32 @@ macro_rules! external {
 // pointers with their lengths, and the library keeps none of them. Of the program it calls only malloc, realloc and
 // free.
 
-/// The calls that take no value.
+/// The calls that take no value, for a table of the kind `K`.
 macro_rules! plain {
     () => {
         fn make(handle: &mut Handle<Self>) -> Result<(), Refusal> {
-            done(unsafe { new(handle) })
+            // `RandomState` has random keys, so its hash of nothing is a random seed.
+            done(unsafe { new(&mut handle.raw, K::NUMBER, RandomState::new().hash_one(())) })
         }
         fn free(handle: &mut Handle<Self>) {
             // A handle whose table could not be made has no table.
-            unsafe { free(handle) };
+            unsafe { free(&mut handle.raw) };
         }
         fn len(handle: &mut Handle<Self>) -> usize {
             let mut it = 0;
-            sure(unsafe { len(handle, &mut it) });
+            sure(unsafe { len(&mut handle.raw, &mut it) });
             it
         }
         fn capacity(handle: &mut Handle<Self>) -> usize {
             let mut it = 0;
-            sure(unsafe { capacity(handle, &mut it) });
+            sure(unsafe { capacity(&mut handle.raw, &mut it) });
             it
         }
         fn reserve(handle: &mut Handle<Self>, more: usize) -> Result<(), Refusal> {
-            done(unsafe { reserve(handle, more) })
+            done(unsafe { reserve(&mut handle.raw, more) })
         }
         fn clear(handle: &mut Handle<Self>) {
-            sure(unsafe { clear(handle) });
+            sure(unsafe { clear(&mut handle.raw) });
         }
     };
 }

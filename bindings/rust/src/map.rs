@@ -7,13 +7,13 @@ use std::fmt;
 use std::hash::{Hash, Hasher};
 use std::ops::{Bound, RangeBounds};
 
-use crate::library::{Handle, InOrder, Json, Library, Refusal, Walked};
+use crate::library::{Handle, Json, Library, Refusal, Unsorted, Walked};
 use crate::sides::{Key, PairedWith, Value};
 use crate::walk::{IntoIter, Iter, Walk};
-use crate::{Hashed, NoMemory, NotInserted, Ordered, Overwritten, Policy};
+use crate::{InsertionOrder, NoMemory, NotInserted, Ordered, Overwritten, Policy};
 
-/// A two-way map between lefts `L` and rights `R`. The kind `K` says whether it is a [`BiBTreeMap`](crate::BiBTreeMap)
-/// or a [`BiHashMap`](crate::BiHashMap).
+/// A two-way map between lefts `L` and rights `R`. The kind `K` says whether it is a [`BiBTreeMap`](crate::BiBTreeMap),
+/// a [`BiHashMap`](crate::BiHashMap) or a [`BiInsertionOrderMap`](crate::BiInsertionOrderMap).
 pub struct BijectiveMap<L: PairedWith<R, K>, R: Value, K> {
     // A look-up takes the table out of its handle and puts it back, so it writes to a shared map too. Two calls never
     // run at the same time: the cell keeps the map on one thread, and of the program the library calls only the
@@ -200,8 +200,8 @@ impl<L: PairedWith<R, K, Library: Walked>, R: Value, K> BijectiveMap<L, R, K> {
         L::Library::row(self.handle(), start, most).into_iter().map(pair).collect()
     }
 
-    /// Returns an iterator over the pairs. If the left side is ordered, the pairs are in ascending order of their
-    /// lefts.
+    /// Returns an iterator over the pairs. A [`BiBTreeMap`](crate::BiBTreeMap) has them in ascending order of their
+    /// lefts, and a [`BiInsertionOrderMap`](crate::BiInsertionOrderMap) in insertion order.
     pub fn iter(&self) -> Iter<'_, L, R, K> {
         Walk::new(self, 0, self.len())
     }
@@ -242,7 +242,7 @@ impl<L: PairedWith<u64, K, Library: Json>, K> BijectiveMap<L, u64, K> {
     }
 }
 
-impl<R: Value + Ord, L: PairedWith<R, Ordered, Library: InOrder>> BijectiveMap<L, R, Ordered> {
+impl<R: Value + Ord, L: PairedWith<R, Ordered, Library: Walked>> BijectiveMap<L, R, Ordered> {
     /// Returns an iterator over the rights in ascending order. It copies and sorts them first.
     pub fn right_values(&self) -> impl Iterator<Item = R> {
         let mut all: Vec<R> = self.iter().map(|(_, right)| right).collect();
@@ -285,7 +285,19 @@ impl<R: Value + Ord, L: PairedWith<R, Ordered, Library: InOrder>> BijectiveMap<L
     }
 }
 
-impl<R: Value, L: PairedWith<R, Hashed, Library: Walked>> BijectiveMap<L, R, Hashed> {
+impl<R: Value, L: PairedWith<R, InsertionOrder>> BijectiveMap<L, R, InsertionOrder> {
+    /// Removes the first pair in insertion order and returns it.
+    pub fn pop_first(&mut self) -> Option<(L, R)> {
+        L::Library::pop_first(self.handle()).map(pair)
+    }
+
+    /// Removes the last pair in insertion order and returns it.
+    pub fn pop_last(&mut self) -> Option<(L, R)> {
+        L::Library::pop_last(self.handle()).map(pair)
+    }
+}
+
+impl<L: PairedWith<R, K, Library: Walked>, R: Value, K: Unsorted> BijectiveMap<L, R, K> {
     /// Returns an iterator over the rights, in the order of [`iter`](Self::iter).
     pub fn right_values(&self) -> impl Iterator<Item = R> {
         self.iter().map(|(_, right)| right)

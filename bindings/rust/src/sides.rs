@@ -1,6 +1,5 @@
 //! The types of sides, and which pairs of them the library has.
-use crate::library::{BTreeBytesBytes, BTreeBytesU64, BTreeU64U64, HashBytesBytes, HashBytesU64, HashU64U64, Library};
-use crate::{Hashed, Ordered};
+use crate::library::{BytesBytes, BytesU64, Kind, Library, U64U64};
 
 // Nobody outside this crate can name this trait, so nobody outside can implement it.
 mod sealed {
@@ -69,21 +68,17 @@ impl Value for String {
 }
 
 macro_rules! pairs {
-    ($($L:ty, $R:ty: $ordered:ident $hashed:ident;)*) => { $(
-        impl sealed::Paired<$R, Ordered> for $L {}
-        impl sealed::Paired<$R, Hashed> for $L {}
-        impl PairedWith<$R, Ordered> for $L {
-            type Library = $ordered;
-        }
-        impl PairedWith<$R, Hashed> for $L {
-            type Library = $hashed;
+    ($($L:ty, $R:ty: $library:ident;)*) => { $(
+        impl<K: Kind> sealed::Paired<$R, K> for $L {}
+        impl<K: Kind> PairedWith<$R, K> for $L {
+            type Library = $library<K>;
         }
     )* };
 }
 
 pairs! {
-    u64, u64: BTreeU64U64 HashU64U64;
-    Vec<u8>, u64: BTreeBytesU64 HashBytesU64;
-    String, u64: BTreeBytesU64 HashBytesU64;
-    Vec<u8>, Vec<u8>: BTreeBytesBytes HashBytesBytes;
+    u64, u64: U64U64;
+    Vec<u8>, u64: BytesU64;
+    String, u64: BytesU64;
+    Vec<u8>, Vec<u8>: BytesBytes;
 }

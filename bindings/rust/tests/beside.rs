@@ -1,6 +1,6 @@
 //! Tests what the crate `bimap` does not have: policies, refusals of memory, and threads. It also makes random calls
 //! beside two maps of std.
-use jetukoma::{BiBTreeMap, BiHashMap, NoMemory, NotInserted, OnHeld, Overwritten, Policy};
+use jetukoma::{BiBTreeMap, BiHashMap, BiInsertionOrderMap, NoMemory, NotInserted, OnHeld, Overwritten, Policy};
 use std::collections::BTreeMap;
 use std::process::Command;
 
@@ -258,6 +258,7 @@ fn text(it: u64) -> String {
 beside_a_model! {
     ordered_numbers BiBTreeMap number, number;
     hashed_numbers BiHashMap number, number;
+    numbers_in_insertion_order BiInsertionOrderMap number, number;
     ordered_texts BiBTreeMap text, number;
     hashed_texts BiHashMap text, number;
     ordered_bytes_and_numbers BiBTreeMap bytes, number;

@@ -1,5 +1,5 @@
 //! Tests what the documentation of the crate `bimap` says about its calls, at the types that this crate has.
-use jetukoma::{BiBTreeMap, BiHashMap, BiMap, Overwritten};
+use jetukoma::{BiBTreeMap, BiHashMap, BiInsertionOrderMap, BiMap, Overwritten};
 use std::collections::HashSet;
 
 /// Returns a text, or its bytes.
@@ -18,6 +18,11 @@ macro_rules! of_each_kind {
         mod hashed {
             use super::*;
             type Map<L, R> = BiHashMap<L, R>;
+            $($test)*
+        }
+        mod in_insertion_order {
+            use super::*;
+            type Map<L, R> = BiInsertionOrderMap<L, R>;
             $($test)*
         }
     };
@@ -219,6 +224,20 @@ fn ordered_maps_compare_and_hash() {
         &[(0, 1), (1, 0)],
     ];
     assert_eq!(lists.map(of).into_iter().collect::<HashSet<_>>().len(), 3);
+}
+
+#[test]
+fn insertion_order() {
+    let mut bimap = BiInsertionOrderMap::from_iter([(30, 1), (10, 2), (20, 3)]);
+    // The first pair keeps the position of the left 30. The other one overwrites the pair of the right 2.
+    bimap.extend([(30, 4), (40, 2)]);
+    assert_eq!(bimap.iter().collect::<Vec<_>>(), [(30, 4), (20, 3), (40, 2)]);
+    assert_eq!(bimap.right_values().collect::<Vec<_>>(), [4, 3, 2]);
+    assert_eq!(format!("{:?}", bimap.clone()), "{30 <> 4, 20 <> 3, 40 <> 2}");
+    assert_eq!((bimap.pop_first(), bimap.pop_last()), (Some((30, 4)), Some((40, 2))));
+    assert_eq!((bimap.pop_last(), bimap.pop_first()), (Some((20, 3)), None));
+    let mut bimap: BiInsertionOrderMap<String, u64> = [("b", 1), ("a", 2)].map(|(l, r)| (s(l), r)).into_iter().collect();
+    assert_eq!(bimap.pop_first(), Some((s("b"), 1)));
 }
 
 #[test]

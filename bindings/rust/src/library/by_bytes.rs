@@ -8,11 +8,11 @@ pub trait Bytes: Library {
 
 /// The calls of tables with one type of right. The arguments say how a right is passed, and how the library writes one.
 macro_rules! with_bytes {
-    ($name:ident $prefix:literal $Right:ty: $right:ident => ($($arg:expr),*), ($($given:ident: $type:ty),*), $read:ident($($out:ident: $of:ty),*)) => {
-        pub struct $name;
+    ($name:ident $sides:literal $Right:ty: $right:ident => ($($arg:expr),*), ($($given:ident: $type:ty),*), $read:ident($($out:ident: $of:ty),*)) => {
+        pub struct $name<K>(PhantomData<K>);
         const _: () = {
-            external! { $name $prefix:
-                new(); free(); len(it: *mut usize); capacity(it: *mut usize); reserve(more: usize); clear();
+            external! { $sides:
+                new(kind: u32, seed: u64); free(); len(it: *mut usize); capacity(it: *mut usize); reserve(more: usize); clear();
                 insert_with(left: *const u8, left_len: usize, $($given: $type,)* left_refuses: u8, right_refuses: u8, kind: *mut u32);
                 get_by_left(left: *const u8, left_len: usize, $($out: $of),*);
                 get_by_right($($given: $type,)* buffer: *mut u8, size: usize, len: *mut usize);
@@ -20,103 +20,85 @@ macro_rules! with_bytes {
                 remove_by_left(left: *const u8, left_len: usize); remove_by_right($($given: $type),*);
                 overwritten_left(index: usize, buffer: *mut u8, size: usize, len: *mut usize);
                 overwritten_right(index: usize, $($out: $of),*);
+                left_rank(left: *const u8, left_len: usize, it: *mut usize); pop_first(); pop_last();
             }
-            impl Bytes for $name {
+            impl<K: Kind> Bytes for $name<K> {
                 fn gone(handle: &mut Handle<Self>, index: usize) -> Found<Self> {
-                    let left = bytes(|buffer, size, len| unsafe { overwritten_left(handle, index, buffer, size, len) });
-                    let right = $read(|$($out),*| unsafe { overwritten_right(handle, index, $($out),*) });
+                    let left = bytes(|buffer, size, len| unsafe { overwritten_left(&mut handle.raw, index, buffer, size, len) });
+                    let right = $read(|$($out),*| unsafe { overwritten_right(&mut handle.raw, index, $($out),*) });
                     let (Ok(Some(left)), Ok(Some(right))) = (left, right) else { unreachable!("it is kept") };
                     (left, right)
                 }
             }
-            impl Library for $name {
+            impl<K: Kind> Library for $name<K> {
                 type Left = [u8];
                 type Right = $Right;
                 plain!();
                 fn insert_with(handle: &mut Handle<Self>, left: &[u8], $right: &$Right, policy: Policy) -> Result<Told<Self>, Refusal> {
                     let mut kind = 0;
                     let [l, r] = policy.flags();
-                    done(unsafe { insert_with(handle, left.as_ptr(), left.len(), $($arg,)* l, r, &mut kind) })?;
+                    done(unsafe { insert_with(&mut handle.raw, left.as_ptr(), left.len(), $($arg,)* l, r, &mut kind) })?;
                     Ok(overwritten(kind, |at| Self::gone(handle, at)))
                 }
                 fn get_by_left(handle: &mut Handle<Self>, left: &[u8]) -> Asked<Owned<$Right>> {
-                    $read(|$($out),*| unsafe { get_by_left(handle, left.as_ptr(), left.len(), $($out),*) })
+                    $read(|$($out),*| unsafe { get_by_left(&mut handle.raw, left.as_ptr(), left.len(), $($out),*) })
                 }
                 fn get_by_right(handle: &mut Handle<Self>, $right: &$Right) -> Asked<Vec<u8>> {
-                    bytes(|buffer, size, len| unsafe { get_by_right(handle, $($arg,)* buffer, size, len) })
+                    bytes(|buffer, size, len| unsafe { get_by_right(&mut handle.raw, $($arg,)* buffer, size, len) })
                 }
                 fn contains_left(handle: &mut Handle<Self>, left: &[u8]) -> Result<bool, Refusal> {
-                    found(unsafe { contains_left(handle, left.as_ptr(), left.len()) })
+                    found(unsafe { contains_left(&mut handle.raw, left.as_ptr(), left.len()) })
                 }
                 fn contains_right(handle: &mut Handle<Self>, $right: &$Right) -> Result<bool, Refusal> {
-                    found(unsafe { contains_right(handle, $($arg),*) })
+                    found(unsafe { contains_right(&mut handle.raw, $($arg),*) })
                 }
                 fn remove_by_left(handle: &mut Handle<Self>, left: &[u8]) -> Asked<Found<Self>> {
-                    let held = found(unsafe { remove_by_left(handle, left.as_ptr(), left.len()) })?;
+                    let held = found(unsafe { remove_by_left(&mut handle.raw, left.as_ptr(), left.len()) })?;
                     Ok(held.then(|| Self::gone(handle, 0)))
                 }
                 fn remove_by_right(handle: &mut Handle<Self>, $right: &$Right) -> Asked<Found<Self>> {
-                    let held = found(unsafe { remove_by_right(handle, $($arg),*) })?;
+                    let held = found(unsafe { remove_by_right(&mut handle.raw, $($arg),*) })?;
                     Ok(held.then(|| Self::gone(handle, 0)))
                 }
-            }
-        };
-    };
-}
-
-macro_rules! with_bytes_u64 {
-    ($name:ident $prefix:literal) => {
-        with_bytes!($name $prefix u64: right => (*right), (right: u64), number(it: *mut u64));
-        const _: () = {
-            external! { $name $prefix: to_json(buffer: *mut u8, size: usize, len: *mut usize); from_json(text: *const u8, text_len: usize); }
-            impl Json for $name {
-                fn to_json(handle: &mut Handle<Self>) -> Result<Vec<u8>, Refusal> {
-                    let text = bytes(|buffer, size, len| unsafe { to_json(handle, buffer, size, len) })?;
-                    Ok(text.expect("a table has JSON"))
-                }
-                fn from_json(handle: &mut Handle<Self>, text: &[u8]) -> Result<(), Refusal> {
-                    done(unsafe { from_json(handle, text.as_ptr(), text.len()) })
-                }
-            }
-        };
-    };
-}
-
-macro_rules! with_bytes_bytes {
-    ($name:ident $prefix:literal) => {
-        with_bytes!($name $prefix [u8]: right => (right.as_ptr(), right.len()), (right: *const u8, right_len: usize), bytes(buffer: *mut u8, size: usize, len: *mut usize));
-    };
-}
-
-with_bytes_u64!(BTreeBytesU64 "btree_bytes_u64");
-with_bytes_u64!(HashBytesU64 "hash_bytes_u64");
-with_bytes_bytes!(BTreeBytesBytes "btree_bytes_bytes");
-with_bytes_bytes!(HashBytesBytes "hash_bytes_bytes");
-
-/// The calls that only ordered tables have.
-macro_rules! in_order {
-    ($name:ident $prefix:literal $read:ident($($out:ident: $of:ty),*)) => {
-        const _: () = {
-            external! { $name $prefix:
-                left_rank(left: *const u8, left_len: usize, it: *mut usize); pop_first(); pop_last();
-                pair_at_rank(rank: usize, buffer: *mut u8, size: usize, len: *mut usize, $($out: $of),*);
-            }
-            impl Walked for $name {
-                const LONGEST: usize = 64;
-                fn row(handle: &mut Handle<Self>, start: usize, most: usize) -> Vec<Found<Self>> {
-                    let mut at = |rank| $read(|buffer, size, len, $($out),*| unsafe { pair_at_rank(handle, rank, buffer, size, len, $($out),*) });
-                    (start..start.saturating_add(most)).map_while(|rank| at(rank).ok().flatten()).collect()
-                }
-            }
-            impl InOrder for $name {
                 fn left_rank(handle: &mut Handle<Self>, left: &[u8]) -> Result<usize, Refusal> {
-                    size(|it| unsafe { left_rank(handle, left.as_ptr(), left.len(), it) })
+                    size(|it| unsafe { left_rank(&mut handle.raw, left.as_ptr(), left.len(), it) })
                 }
                 fn pop_first(handle: &mut Handle<Self>) -> Option<Found<Self>> {
-                    found(unsafe { pop_first(handle) }).ok()?.then(|| Self::gone(handle, 0))
+                    found(unsafe { pop_first(&mut handle.raw) }).ok()?.then(|| Self::gone(handle, 0))
                 }
                 fn pop_last(handle: &mut Handle<Self>) -> Option<Found<Self>> {
-                    found(unsafe { pop_last(handle) }).ok()?.then(|| Self::gone(handle, 0))
+                    found(unsafe { pop_last(&mut handle.raw) }).ok()?.then(|| Self::gone(handle, 0))
+                }
+            }
+        };
+    };
+}
+
+with_bytes!(BytesU64 "bytes_u64" u64: right => (*right), (right: u64), number(it: *mut u64));
+with_bytes!(BytesBytes "bytes_bytes" [u8]: right => (right.as_ptr(), right.len()), (right: *const u8, right_len: usize), bytes(buffer: *mut u8, size: usize, len: *mut usize));
+
+external! { "bytes_u64": to_json(buffer: *mut u8, size: usize, len: *mut usize); from_json(text: *const u8, text_len: usize); }
+
+impl<K: Kind> Json for BytesU64<K> {
+    fn to_json(handle: &mut Handle<Self>) -> Result<Vec<u8>, Refusal> {
+        let text = bytes(|buffer, size, len| unsafe { to_json(&mut handle.raw, buffer, size, len) })?;
+        Ok(text.expect("a table has JSON"))
+    }
+    fn from_json(handle: &mut Handle<Self>, text: &[u8]) -> Result<(), Refusal> {
+        done(unsafe { from_json(&mut handle.raw, text.as_ptr(), text.len()) })
+    }
+}
+
+/// The iteration of the tables with one type of right. Only an ordered table has it.
+macro_rules! walked {
+    ($name:ident $sides:literal $read:ident($($out:ident: $of:ty),*)) => {
+        const _: () = {
+            external! { $sides: pair_at_rank(rank: usize, buffer: *mut u8, size: usize, len: *mut usize, $($out: $of),*); }
+            impl Walked for $name<Ordered> {
+                const LONGEST: usize = 64;
+                fn row(handle: &mut Handle<Self>, start: usize, most: usize) -> Vec<Found<Self>> {
+                    let mut at = |rank| $read(|buffer, size, len, $($out),*| unsafe { pair_at_rank(&mut handle.raw, rank, buffer, size, len, $($out),*) });
+                    (start..start.saturating_add(most)).map_while(|rank| at(rank).ok().flatten()).collect()
                 }
             }
         };
@@ -148,5 +130,5 @@ fn bytes_and_bytes(mut call: impl FnMut(*mut u8, usize, *mut usize, *mut u8, usi
     Ok(left.map(|left| (left, right)))
 }
 
-in_order!(BTreeBytesU64 "btree_bytes_u64" bytes_and_number(right: *mut u64));
-in_order!(BTreeBytesBytes "btree_bytes_bytes" bytes_and_bytes(right_buffer: *mut u8, right_size: usize, right_len: *mut usize));
+walked!(BytesU64 "bytes_u64" bytes_and_number(right: *mut u64));
+walked!(BytesBytes "bytes_bytes" bytes_and_bytes(right_buffer: *mut u8, right_size: usize, right_len: *mut usize));

@@ -27,79 +27,68 @@ fn pair(call: impl FnOnce(*mut Pair) -> u32) -> Asked<(u64, u64)> {
     Ok(found(call(&mut it))?.then_some(it.parts()))
 }
 
-macro_rules! numbers {
-    ($name:ident $prefix:literal $longest:expr) => {
-        pub struct $name;
-        const _: () = {
-            external! { $name $prefix:
-                new(); free(); len(it: *mut usize); capacity(it: *mut usize); reserve(more: usize); clear();
-                insert_with(left: u64, right: u64, left_refuses: u8, right_refuses: u8, told: *mut Answer);
-                get_by_left(left: u64, right: *mut u64); get_by_right(right: u64, left: *mut u64);
-                contains_left(left: u64); contains_right(right: u64);
-                remove_by_left(left: u64, it: *mut Pair); remove_by_right(right: u64, it: *mut Pair);
-                fill(start: usize, row: *mut Pair, most: usize, filled: *mut usize);
-            }
-            impl Library for $name {
-                type Left = u64;
-                type Right = u64;
-                plain!();
-                #[inline]
-                fn insert_with(handle: &mut Handle<Self>, left: &u64, right: &u64, policy: Policy) -> Result<Told<Self>, Refusal> {
-                    let mut told = Answer::default();
-                    let [l, r] = policy.flags();
-                    done(unsafe { insert_with(handle, *left, *right, l, r, &mut told) })?;
-                    Ok(overwritten(told.kind, |at| told.pairs[at].parts()))
-                }
-                #[inline]
-                fn get_by_left(handle: &mut Handle<Self>, left: &u64) -> Asked<u64> {
-                    number(|it| unsafe { get_by_left(handle, *left, it) })
-                }
-                #[inline]
-                fn get_by_right(handle: &mut Handle<Self>, right: &u64) -> Asked<u64> {
-                    number(|it| unsafe { get_by_right(handle, *right, it) })
-                }
-                fn contains_left(handle: &mut Handle<Self>, left: &u64) -> Result<bool, Refusal> {
-                    found(unsafe { contains_left(handle, *left) })
-                }
-                fn contains_right(handle: &mut Handle<Self>, right: &u64) -> Result<bool, Refusal> {
-                    found(unsafe { contains_right(handle, *right) })
-                }
-                #[inline]
-                fn remove_by_left(handle: &mut Handle<Self>, left: &u64) -> Asked<(u64, u64)> {
-                    pair(|it| unsafe { remove_by_left(handle, *left, it) })
-                }
-                #[inline]
-                fn remove_by_right(handle: &mut Handle<Self>, right: &u64) -> Asked<(u64, u64)> {
-                    pair(|it| unsafe { remove_by_right(handle, *right, it) })
-                }
-            }
-            impl Walked for $name {
-                const LONGEST: usize = $longest;
-                fn row(handle: &mut Handle<Self>, start: usize, most: usize) -> Vec<(u64, u64)> {
-                    let (mut row, mut filled) = (vec![Pair::default(); most], 0);
-                    sure(unsafe { fill(handle, start, row.as_mut_ptr(), most, &mut filled) });
-                    row.into_iter().take(filled).map(Pair::parts).collect()
-                }
-            }
-        };
-    };
-}
+/// The tables of the kind `K`.
+pub struct U64U64<K>(PhantomData<K>);
 
-numbers!(BTreeU64U64 "btree_u64_u64" 1024);
-numbers!(HashU64U64 "hash_u64_u64" usize::MAX);
-
-external! { BTreeU64U64 "btree_u64_u64":
+external! { "u64_u64":
+    new(kind: u32, seed: u64); free(); len(it: *mut usize); capacity(it: *mut usize); reserve(more: usize); clear();
+    insert_with(left: u64, right: u64, left_refuses: u8, right_refuses: u8, told: *mut Answer);
+    get_by_left(left: u64, right: *mut u64); get_by_right(right: u64, left: *mut u64);
+    contains_left(left: u64); contains_right(right: u64);
+    remove_by_left(left: u64, it: *mut Pair); remove_by_right(right: u64, it: *mut Pair);
     left_rank(left: u64, it: *mut usize); pop_first(it: *mut Pair); pop_last(it: *mut Pair);
+    fill(start: usize, row: *mut Pair, most: usize, filled: *mut usize);
 }
 
-impl InOrder for BTreeU64U64 {
+impl<K: Kind> Library for U64U64<K> {
+    type Left = u64;
+    type Right = u64;
+    plain!();
+    #[inline]
+    fn insert_with(handle: &mut Handle<Self>, left: &u64, right: &u64, policy: Policy) -> Result<Told<Self>, Refusal> {
+        let mut told = Answer::default();
+        let [l, r] = policy.flags();
+        done(unsafe { insert_with(&mut handle.raw, *left, *right, l, r, &mut told) })?;
+        Ok(overwritten(told.kind, |at| told.pairs[at].parts()))
+    }
+    #[inline]
+    fn get_by_left(handle: &mut Handle<Self>, left: &u64) -> Asked<u64> {
+        number(|it| unsafe { get_by_left(&mut handle.raw, *left, it) })
+    }
+    #[inline]
+    fn get_by_right(handle: &mut Handle<Self>, right: &u64) -> Asked<u64> {
+        number(|it| unsafe { get_by_right(&mut handle.raw, *right, it) })
+    }
+    fn contains_left(handle: &mut Handle<Self>, left: &u64) -> Result<bool, Refusal> {
+        found(unsafe { contains_left(&mut handle.raw, *left) })
+    }
+    fn contains_right(handle: &mut Handle<Self>, right: &u64) -> Result<bool, Refusal> {
+        found(unsafe { contains_right(&mut handle.raw, *right) })
+    }
+    #[inline]
+    fn remove_by_left(handle: &mut Handle<Self>, left: &u64) -> Asked<(u64, u64)> {
+        pair(|it| unsafe { remove_by_left(&mut handle.raw, *left, it) })
+    }
+    #[inline]
+    fn remove_by_right(handle: &mut Handle<Self>, right: &u64) -> Asked<(u64, u64)> {
+        pair(|it| unsafe { remove_by_right(&mut handle.raw, *right, it) })
+    }
     fn left_rank(handle: &mut Handle<Self>, left: &u64) -> Result<usize, Refusal> {
-        size(|it| unsafe { left_rank(handle, *left, it) })
+        size(|it| unsafe { left_rank(&mut handle.raw, *left, it) })
     }
     fn pop_first(handle: &mut Handle<Self>) -> Option<(u64, u64)> {
-        pair(|it| unsafe { pop_first(handle, it) }).ok().flatten()
+        pair(|it| unsafe { pop_first(&mut handle.raw, it) }).ok().flatten()
     }
     fn pop_last(handle: &mut Handle<Self>) -> Option<(u64, u64)> {
-        pair(|it| unsafe { pop_last(handle, it) }).ok().flatten()
+        pair(|it| unsafe { pop_last(&mut handle.raw, it) }).ok().flatten()
+    }
+}
+
+impl<K: Kind> Walked for U64U64<K> {
+    const LONGEST: usize = if K::NUMBER == Ordered::NUMBER { 1024 } else { usize::MAX };
+    fn row(handle: &mut Handle<Self>, start: usize, most: usize) -> Vec<(u64, u64)> {
+        let (mut row, mut filled) = (vec![Pair::default(); most], 0);
+        sure(unsafe { fill(&mut handle.raw, start, row.as_mut_ptr(), most, &mut filled) });
+        row.into_iter().take(filled).map(Pair::parts).collect()
     }
 }
