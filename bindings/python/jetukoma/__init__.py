@@ -25,7 +25,7 @@ Threads. Only one thread at a time may use a map.
 from collections.abc import ItemsView, Mapping, MutableMapping
 from weakref import ref
 
-from ._library import MISSING, SIDES, NumberTable, Table, row_of
+from ._library import HASHED, MISSING, ORDERED, SIDES, NumberTable, Table, row_of
 
 # The exceptions of a look-up with a key that no map of these types can contain.
 NEVER_CONTAINED = (TypeError, OverflowError, UnicodeError)
@@ -288,14 +288,14 @@ class BiBTreeMap(_Bimap):
     """
 
     __slots__ = ()
-    _kind = "btree"
+    _kind = ORDERED
 
 
 class BiHashMap(_Bimap):
     """A two-way map whose calls take expected constant time. The time of `popitem` grows with the capacity."""
 
     __slots__ = ()
-    _kind = "hash"
+    _kind = HASHED
 
 
 def _made(type, items, keys, values):

@@ -1,11 +1,12 @@
 """The calls of the library, by ctypes. This module makes each argument, since ctypes would pass a plain int as 32 bits."""
 import os
 from array import array
-from ctypes import PyDLL, Structure, byref, c_bool, c_size_t, c_uint64, c_void_p, create_string_buffer, memmove
+from ctypes import PyDLL, Structure, byref, c_bool, c_size_t, c_uint32, c_uint64, c_void_p, create_string_buffer, memmove
 from itertools import chain
 from operator import index
 
 NO_MEMORY, REFUSED, BUFFER_TOO_SHORT, NOT_FOUND = 1, 3, 4, 5
+ORDERED, HASHED = 0, 1
 MISSING = object()
 
 # PyDLL keeps the interpreter's lock, so two threads never make a call at the same time.
@@ -107,11 +108,13 @@ class Table:
     def __init__(self, kind, types):
         self.kind, self.types = kind, types
         self.sides = tuple(SIDES[it]() for it in types)
-        self._prefix = f"jetukoma_{kind}_{'_'.join(it.name for it in self.sides)}_"
+        self._prefix = f"jetukoma_{'_'.join(it.name for it in self.sides)}_"
         self._handle, self._size = Handle(), c_size_t()
         self._at = byref(self._handle)
         self._len, self._free = self.call("len"), self.call("free")
-        sure(self.call("new")(self._at))
+        # A random seed, since strangers may choose the values.
+        seed = int.from_bytes(os.urandom(8), "little")
+        sure(self.call("new")(self._at, c_uint32(kind), c_uint64(seed)))
 
     def __del__(self):
         if hasattr(self, "_free"):
@@ -186,13 +189,13 @@ class Table:
 
     def rows(self):
         """Returns the lefts and the rights in the order of iteration."""
-        if self.kind != "btree":
+        if self.kind != ORDERED:
             raise TypeError("a hashed map of bytes or texts cannot be iterated")
         pairs = [self.at_rank(rank) for rank in range(len(self))]
         return [left for left, _ in pairs], [right for _, right in pairs]
 
     def at_rank(self, rank):
-        if self.kind != "btree":
+        if self.kind != ORDERED:
             return self.rows()
         left, right = self.sides
         while (status := self.call("pair_at_rank")(self._at, c_size_t(rank), *left.out, *right.out)) == BUFFER_TOO_SHORT:
