@@ -5,6 +5,7 @@
  * - It makes random calls beside a model. The first argument is their number for each kind and pair of sides, by default 100,000.
  * - It writes and reads a JSON object with a pair for every ten of these calls.
  * - It refuses each allocation once.
+ * - It looks up values that collide under one seed.
  *
  *     cc -std=c11 -Wl,--wrap=malloc,--wrap=realloc,--wrap=free bindings/c/test.c out/lib/libjetukoma.a -o test
  */
@@ -116,6 +117,7 @@ static int chance(int below) {
 #include "test_bytes.h"
 #define RIGHT_IS_BYTES 1
 #include "test_bytes.h"
+#include "test_seeds.h"
 
 /* For every call but `free`, a handle with a table of other sides has no table. */
 static void of_other_sides(void) {
@@ -145,6 +147,7 @@ int main(int count, char **words) {
         bytes_u64_tests();
         bytes_bytes_tests();
         test("a table", "of other sides", of_other_sides);
+        if (table_kind != JETUKOMA_ORDERED) test("tables", "seeds", seeds);
     }
     printf("%d passed, %d failed\n", tests_passed, tests_failed);
     return tests_failed != 0;
