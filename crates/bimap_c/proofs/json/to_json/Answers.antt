@@ -1,3 +1,4 @@
+use contract.BorrowLft.{⊑_static}
 use Rattle.std.proofs.Common.{rules, refl}
 use Rattle.std.specs.Str.{IsUtf8}
 use Rattle.std.proofs.lemmas.Iterator.{cases_from_all}
@@ -6,6 +7,10 @@ use borrow.Author.Tests.{tests}
 use Rattle.bimap.specs.BTree.{holding}
 use Rattle.bimap_c.proofs.Texts.{all_texts, some_other}
 use Rattle.bimap_c.proofs.json.to_json.Goals as goal
+
+-- What leads an iterator is `'static`, so it outlives every lifetime.
+pub all-requires-lives-Self-Iterator : goal.all-requires-lives-Self-Iterator
+all-requires-lives-Self-Iterator g c κs within = λ a m. ⊑_static κs.1.1.0 a (c.type_bounds.static-I-Way a m)
 
 pub returns-then-all-clause-told : goal.returns-then-all-clause-told
 returns-then-all-clause-told g c =
