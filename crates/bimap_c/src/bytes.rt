@@ -11,9 +11,7 @@ ghost use Rattle.bimap_c.specs.Kinds.{IsOfKind, map_kinds};
 use crate::byte_string::ByteString;
 use crate::calls::{found, new_map, policy, refused};
 use crate::status::{BUFFER_TOO_SHORT, DONE, NO_MEMORY, NOT_FOUND, REFUSED};
-use bimap::{
-    BiBTreeMap, BiHashMap, BiInsertionOrderMap, Bijection, Overwritten, Policy, Seeded,
-};
+use bimap::{BiBTreeMap, BiHashMap, BiInsertionOrderMap, Bijection, Overwritten, Policy, Seeded};
 use bimap_dynamic::AnyOf;
 use std::alloc::Global;
 use std::hash::Hash;

@@ -41,10 +41,7 @@ pub extern "C" fn jetukoma_bytes_bytes_new_unchecked(
 /// Frees the table and all its bytes. The handle has no table then. The time grows with the capacity. Returns 2 if
 /// the handle has no table.
 #[unsafe(no_mangle)]
-pub extern "C" fn jetukoma_bytes_bytes_free_unchecked(
-    alloc: Global,
-    handle: &mut Handle,
-) -> u32
+pub extern "C" fn jetukoma_bytes_bytes_free_unchecked(alloc: Global, handle: &mut Handle) -> u32
     ensures { Frees handle.old.table.value result handle.new.table.value }
 {
     handle.free(alloc)
@@ -303,10 +300,7 @@ pub extern "C" fn jetukoma_bytes_bytes_overwritten_right_unchecked(
 /// Removes all pairs. The capacity does not change. The time grows with the capacity. The table keeps no overwritten
 /// pair then.
 #[unsafe(no_mangle)]
-pub extern "C" fn jetukoma_bytes_bytes_clear_unchecked(
-    alloc: Global,
-    handle: &mut Handle,
-) -> u32
+pub extern "C" fn jetukoma_bytes_bytes_clear_unchecked(alloc: Global, handle: &mut Handle) -> u32
     ensures { Changes bytes_bytes handle.old.table.value result handle.new.table.value
         (λ old new. ClearsAll old result new) }
 {

@@ -290,10 +290,7 @@ pub extern "C" fn jetukoma_bytes_u64_overwritten_right_unchecked(
 /// Removes all pairs. The capacity does not change. The time grows with the capacity. The table keeps no overwritten
 /// pair then.
 #[unsafe(no_mangle)]
-pub extern "C" fn jetukoma_bytes_u64_clear_unchecked(
-    alloc: Global,
-    handle: &mut Handle,
-) -> u32
+pub extern "C" fn jetukoma_bytes_u64_clear_unchecked(alloc: Global, handle: &mut Handle) -> u32
     ensures { Changes bytes_u64 handle.old.table.value result handle.new.table.value
         (λ old new. ClearsAll old result new) }
 {

@@ -58,10 +58,7 @@ pub extern "C" fn jetukoma_bytes_u64_left_rank_unchecked(
 /// pair. The table keeps it, so that `overwritten_left` and `overwritten_right` copy it. Returns 5 if there are no
 /// pairs, and 6 if the table is hashed.
 #[unsafe(no_mangle)]
-pub extern "C" fn jetukoma_bytes_u64_pop_first_unchecked(
-    alloc: Global,
-    handle: &mut Handle,
-) -> u32
+pub extern "C" fn jetukoma_bytes_u64_pop_first_unchecked(alloc: Global, handle: &mut Handle) -> u32
     ensures { ChangesAtEnd bytes_u64 handle.old.table.value result handle.new.table.value
         (λ old new. PopsFirst old result new) }
 {
@@ -75,10 +72,7 @@ pub extern "C" fn jetukoma_bytes_u64_pop_first_unchecked(
 /// last pair. The table keeps it, so that `overwritten_left` and `overwritten_right` copy it. Returns 5 if there are no
 /// pairs, and 6 if the table is hashed.
 #[unsafe(no_mangle)]
-pub extern "C" fn jetukoma_bytes_u64_pop_last_unchecked(
-    alloc: Global,
-    handle: &mut Handle,
-) -> u32
+pub extern "C" fn jetukoma_bytes_u64_pop_last_unchecked(alloc: Global, handle: &mut Handle) -> u32
     ensures { ChangesAtEnd bytes_u64 handle.old.table.value result handle.new.table.value
         (λ old new. PopsLast old result new) }
 {

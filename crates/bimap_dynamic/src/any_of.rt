@@ -37,10 +37,13 @@ pub enum AnyOf<O, H, I> {
 pub type AnyMap<L, R, LS = BuildHasherDefault<FoldHasher>, RS = BuildHasherDefault<FoldHasher>> =
     AnyOf<BiBTreeMap<L, R>, BiHashMap<L, R, LS, RS>, BiInsertionOrderMap<L, R, LS, RS>>;
 
-impl<L: Eq + Drop, R: Eq + Drop, O: Bijection<L, R>, H: Bijection<L, R>, I: Bijection<L, R>> Bijection<
-    L,
-    R,
-> for AnyOf<O, H, I> {
+impl<
+    L: Eq + Drop,
+    R: Eq + Drop,
+    O: Bijection<L, R>,
+    H: Bijection<L, R>,
+    I: Bijection<L, R>,
+> Bijection<L, R> for AnyOf<O, H, I> {
     ghost holding = { by_kind O.holding H.holding I.holding };
 
     ghost appends = { ⊥ };

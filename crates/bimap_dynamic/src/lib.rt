@@ -2,5 +2,7 @@
 #![tactic(auto)]
 
 mod any_of;
+#[cfg(test)]
+mod tests;
 
 pub use any_of::{AnyMap, AnyOf};

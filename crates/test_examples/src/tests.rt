@@ -2,7 +2,6 @@
 mod any;
 mod changes;
 mod constructors;
-mod dynamic;
 mod inverse;
 mod json;
 mod looks;
