@@ -51,6 +51,9 @@
  *             else jetukoma_u64_u64_remove_by_left(&seats, row[i].left, &row[i]);
  *     }
  *
+ * This works on an ordered table and on one in insertion order. A removal may change the order of a hashed table, so read all of
+ * its pairs before you remove one.
+ *
  * tools/exports makes this file from crates/bimap_c. The functions are inline. If you define JETUKOMA_API as nothing before the
  * include, they are ordinary functions.
  */
