@@ -22,6 +22,15 @@ def load_rt():
     return made
 
 
+def crates_of(rt, top):
+    """Returns the crates of the repository in a folder. Each comes after those that it needs."""
+    if hasattr(rt, "Kept"):
+        return rt.crates_of(top)
+    # An older toolchain's function of this name also empties each out/.
+    rt.rtlib.Crate = rt.Crate
+    return rt.rtlib.crates_below(top)
+
+
 def prove_static(name, built, log):
     """Proves a static library of this repository, makes its archive in out/ of its crate, and returns whether both succeeded.
 
@@ -32,7 +41,7 @@ def prove_static(name, built, log):
     rt = load_rt()
     here = os.getcwd()
     rt.Crate.allowed = rt.handles_of(here)
-    every = rt.crates_of(here)
+    every = crates_of(rt, here)
     crate = next(it for it in every if it.name == name)
     rt.rtlib.stop_on_links(crate.folder)
     rt.rtlib.stop_on_unread(crate.folder, every)
@@ -46,7 +55,7 @@ def prove_static(name, built, log):
         sys.exit(f"run rt fmt in crates/{name}")
     # Its first call sets the handler of a signal, which only the main thread may do.
     rt.rtlib.guarded()
-    there = {it.name: it for it in rt.crates_of(built)}
+    there = {it.name: it for it in crates_of(rt, built)}
     crate.deps = [there[it.name] for it in crate.deps]
     os.makedirs(f"{crate.folder}/out", exist_ok=True)
     words = crate.words(["--jobs", "1"], keeps=False)
