@@ -17,9 +17,9 @@
  * In insertion order, a pair that overwrites the pair of the same left keeps that pair's position. Any other new pair goes to the
  * end.
  *
- * A few calls need an order. `.._fill_from`, `.._pair_at_rank` and `.._left_rank` need an ordered table. `.._pop_first` and
- * `.._pop_last` need an ordered table or one in insertion order. On a table of another kind they return JETUKOMA_NO_ORDER. All
- * other calls work on every kind.
+ * A few calls need an order. `.._fill_from`, `.._pair_at_rank` and `.._left_rank` need an ordered table. `.._fill_back`,
+ * `.._pop_first` and `.._pop_last` need an ordered table or one in insertion order. On a table of another kind they return
+ * JETUKOMA_NO_ORDER. All other calls work on every kind.
  *
  * The last argument of `.._new` is a seed. The hashes of a table depend on it. Do strangers choose the values of a table that is
  * hashed or in insertion order? Then pass a random seed and keep it secret. Whoever knows the seed can choose many values with
@@ -32,15 +32,26 @@
  *
  * Each call on a handle returns one of the statuses below. A call accepts all values, and it tests for null pointers. It writes
  * its out-parameters on JETUKOMA_DONE alone, unless its text says otherwise. The things that you pass to one call must not
- * overlap. A pointer that comes with a number must point to this number of values. Do not make a call from a signal handler.
+ * overlap, but a call with two handles accepts one handle twice. A pointer that comes with a number must point to this number of
+ * values. Do not make a call from a signal handler.
  *
  * Pass bytes as a pointer, which is not null, and their number. A call copies them. Byte strings are compared byte by byte, so
  * texts in UTF-8 are in the order of their code points. A call writes bytes to the front of a buffer, and their number. If the
  * buffer is too short, the call writes the number alone and returns JETUKOMA_BUFFER_TOO_SHORT.
  *
  * A search takes logarithmic time in an ordered table, and expected constant time in a table of another kind. A look-up makes one
- * search. An insertion and a removal make one on each side. `.._new`, `.._reserve`, insertions and the JSON calls allocate. So do
- * look-ups and removals by bytes that are longer than any before. No other call allocates.
+ * search. An insertion and a removal make one on each side. `.._new`, `.._clone`, `.._reserve`, insertions and the JSON calls
+ * allocate. So do look-ups and removals by bytes that are longer than any before. No other call allocates.
+ *
+ * To read all pairs of a table, iterate row by row. A position stays right until the table changes. A row of a table with byte
+ * strings has their lengths, and their bytes are in a buffer:
+ *
+ *     jetukoma_bytes_u64_row row[64];
+ *     uint8_t bytes[4096];
+ *     for (size_t at = 0, len, count; !jetukoma_bytes_u64_fill(&ages, at, bytes, 4096, row, 64, &len, &count) && count; at += count)
+ *         for (size_t i = 0, from = 0; i < count; from += row[i++].left_len) show(bytes + from, row[i].left_len, row[i].right);
+ *
+ * If the next pair has more than 4096 bytes, this call returns JETUKOMA_BUFFER_TOO_SHORT. `len` is then the number of its bytes.
  *
  * To remove all pairs that a test refuses, iterate row by row. Remove the refused pairs of a row before you read the next row:
  *
@@ -91,8 +102,8 @@ enum {
     /* Out of memory. Nothing has changed. A call with many items keeps the items before the one that ran out of
      * memory. */
     JETUKOMA_NO_MEMORY = 1,
-    /* The handle is null or has no table of these sides. `free` returns this if the handle has no table. `new`
-     * returns it if the handle has a table already. Nothing has changed. */
+    /* A handle is null or has no table of these sides. `free` returns this if the handle has no table. `new` and
+     * `clone` return it if the handle for the new table has a table already. Nothing has changed. */
     JETUKOMA_NO_TABLE = 2,
     /* The call was refused, and nothing has changed. A value is contained and must not be overwritten, a flag is
      * above 1, there is no such kind, or a pointer to a value is null. For JSON: the table cannot be written as
@@ -258,6 +269,36 @@ JETUKOMA_API uint32_t jetukoma_u64_u64_clear(jetukoma_u64_u64 *handle) {
     return jetukoma_u64_u64_clear_unchecked(handle);
 }
 
+/* Makes a clone of the table for a handle `copy` that has no table. The clone has the kind, the seed, the capacity
+ * and the pairs of the table, in the same order. The time grows with the capacity. Returns 1 if there is no memory.
+ * Returns 2 also if `copy` has a table. */
+uint32_t jetukoma_u64_u64_clone_unchecked(jetukoma_u64_u64 *handle, jetukoma_u64_u64 *copy);
+JETUKOMA_API uint32_t jetukoma_u64_u64_clone(jetukoma_u64_u64 *handle, jetukoma_u64_u64 *copy) {
+    if (!handle || !copy) return JETUKOMA_NO_TABLE;
+    if (handle == copy) return JETUKOMA_NO_TABLE;
+    return jetukoma_u64_u64_clone_unchecked(handle, copy);
+}
+
+/* Returns 0 if both tables have the same pairs, and 5 if they do not. The tables may be of two kinds, and their
+ * orders do not matter. It takes a look-up by left in the other table for each pair. */
+uint32_t jetukoma_u64_u64_equals_unchecked(jetukoma_u64_u64 *handle, jetukoma_u64_u64 *other);
+JETUKOMA_API uint32_t jetukoma_u64_u64_equals(jetukoma_u64_u64 *handle, jetukoma_u64_u64 *other) {
+    if (!handle || !other) return JETUKOMA_NO_TABLE;
+    size_t len;
+    if (handle == other) return jetukoma_u64_u64_len_unchecked(handle, &len);
+    return jetukoma_u64_u64_equals_unchecked(handle, other);
+}
+
+/* Returns 0 if the other table contains each pair of the table, and 5 if it does not. The tables may be of two
+ * kinds. It takes a look-up by left in the other table for each pair. */
+uint32_t jetukoma_u64_u64_is_subset_unchecked(jetukoma_u64_u64 *handle, jetukoma_u64_u64 *other);
+JETUKOMA_API uint32_t jetukoma_u64_u64_is_subset(jetukoma_u64_u64 *handle, jetukoma_u64_u64 *other) {
+    if (!handle || !other) return JETUKOMA_NO_TABLE;
+    size_t len;
+    if (handle == other) return jetukoma_u64_u64_len_unchecked(handle, &len);
+    return jetukoma_u64_u64_is_subset_unchecked(handle, other);
+}
+
 /* Writes pairs to the front of a row, until the row is full or there are no more. It leaves out the first `start`
  * pairs, and writes to `filled` how many pairs it wrote. An ordered table has its pairs in ascending order of their
  * lefts, and a table in insertion order in that order. The order of a hashed table is not specified, and it stays
@@ -269,6 +310,15 @@ JETUKOMA_API uint32_t jetukoma_u64_u64_fill(jetukoma_u64_u64 *handle, size_t sta
     if (!handle) return JETUKOMA_NO_TABLE;
     if (!row || row_len > PTRDIFF_MAX / sizeof *row || !filled) return JETUKOMA_REFUSED;
     return jetukoma_u64_u64_fill_unchecked(handle, start, row, row_len, filled);
+}
+
+/* Writes pairs as `fill` does, but in the reverse order. It leaves out the last `start` pairs, which it passes over.
+ * Returns 6 if the table is hashed. */
+uint32_t jetukoma_u64_u64_fill_back_unchecked(jetukoma_u64_u64 *handle, size_t start, jetukoma_u64_u64_pair *row, size_t row_len, size_t *filled);
+JETUKOMA_API uint32_t jetukoma_u64_u64_fill_back(jetukoma_u64_u64 *handle, size_t start, jetukoma_u64_u64_pair *row, size_t row_len, size_t *filled) {
+    if (!handle) return JETUKOMA_NO_TABLE;
+    if (!row || row_len > PTRDIFF_MAX / sizeof *row || !filled) return JETUKOMA_REFUSED;
+    return jetukoma_u64_u64_fill_back_unchecked(handle, start, row, row_len, filled);
 }
 
 /* Writes the pairs whose left is at least `from`, as `fill` does. Returns 6 if the table is not ordered. */
@@ -304,6 +354,12 @@ JETUKOMA_API uint32_t jetukoma_u64_u64_pop_last(jetukoma_u64_u64 *handle, jetuko
     if (!pair) return JETUKOMA_REFUSED;
     return jetukoma_u64_u64_pop_last_unchecked(handle, pair);
 }
+
+/* A pair: the number of bytes of its left, and its right. */
+typedef struct {
+    size_t left_len;
+    uint64_t right;
+} jetukoma_bytes_u64_row;
 
 /* A table with byte strings on the left and numbers on the right. */
 typedef struct {
@@ -485,6 +541,61 @@ JETUKOMA_API uint32_t jetukoma_bytes_u64_from_json(jetukoma_bytes_u64 *handle, c
     return jetukoma_bytes_u64_from_json_unchecked(handle, text, text_len);
 }
 
+/* Makes a clone of the table for a handle `copy` that has no table. The clone has the kind, the seed, the capacity
+ * and the pairs of the table, in the same order. It keeps no overwritten pair. The time grows with the capacity and
+ * the bytes. Returns 1 if there is no memory. Returns 2 also if `copy` has a table. */
+uint32_t jetukoma_bytes_u64_clone_unchecked(jetukoma_bytes_u64 *handle, jetukoma_bytes_u64 *copy);
+JETUKOMA_API uint32_t jetukoma_bytes_u64_clone(jetukoma_bytes_u64 *handle, jetukoma_bytes_u64 *copy) {
+    if (!handle || !copy) return JETUKOMA_NO_TABLE;
+    if (handle == copy) return JETUKOMA_NO_TABLE;
+    return jetukoma_bytes_u64_clone_unchecked(handle, copy);
+}
+
+/* Returns 0 if both tables have the same pairs, and 5 if they do not. The tables may be of two kinds, and their
+ * orders do not matter. It takes a look-up by left in the other table for each pair. */
+uint32_t jetukoma_bytes_u64_equals_unchecked(jetukoma_bytes_u64 *handle, jetukoma_bytes_u64 *other);
+JETUKOMA_API uint32_t jetukoma_bytes_u64_equals(jetukoma_bytes_u64 *handle, jetukoma_bytes_u64 *other) {
+    if (!handle || !other) return JETUKOMA_NO_TABLE;
+    size_t len;
+    if (handle == other) return jetukoma_bytes_u64_len_unchecked(handle, &len);
+    return jetukoma_bytes_u64_equals_unchecked(handle, other);
+}
+
+/* Returns 0 if the other table contains each pair of the table, and 5 if it does not. The tables may be of two
+ * kinds. It takes a look-up by left in the other table for each pair. */
+uint32_t jetukoma_bytes_u64_is_subset_unchecked(jetukoma_bytes_u64 *handle, jetukoma_bytes_u64 *other);
+JETUKOMA_API uint32_t jetukoma_bytes_u64_is_subset(jetukoma_bytes_u64 *handle, jetukoma_bytes_u64 *other) {
+    if (!handle || !other) return JETUKOMA_NO_TABLE;
+    size_t len;
+    if (handle == other) return jetukoma_bytes_u64_len_unchecked(handle, &len);
+    return jetukoma_bytes_u64_is_subset_unchecked(handle, other);
+}
+
+/* Writes pairs to the front of `rows`, each as the number of bytes of its left, and its right. The bytes of these
+ * lefts go to the front of a buffer, one left behind another. The call leaves out the first `start` pairs. It writes
+ * as many pairs as there are rows and as fit into the buffer. `filled` gets the number of these pairs, and `len`
+ * that of their bytes. An ordered table has its pairs in ascending order of their lefts, and a table in insertion
+ * order in that order. The order of a hashed table is not specified, and it stays the same until the table changes.
+ * An ordered table takes one search, and at most one descent in the tree for each pair. A table of another kind
+ * passes over the pairs that it leaves out. To read all its pairs, use many rows and a long buffer. Returns 4 if
+ * there is a row, and the buffer is too short for the next pair. On 4 it has written the number of bytes of this
+ * pair to `len` alone. */
+uint32_t jetukoma_bytes_u64_fill_unchecked(jetukoma_bytes_u64 *handle, size_t start, uint8_t *buf, size_t buf_len, jetukoma_bytes_u64_row *rows, size_t rows_len, size_t *len, size_t *filled);
+JETUKOMA_API uint32_t jetukoma_bytes_u64_fill(jetukoma_bytes_u64 *handle, size_t start, uint8_t *buf, size_t buf_len, jetukoma_bytes_u64_row *rows, size_t rows_len, size_t *len, size_t *filled) {
+    if (!handle) return JETUKOMA_NO_TABLE;
+    if (!buf || buf_len > PTRDIFF_MAX / sizeof *buf || !rows || rows_len > PTRDIFF_MAX / sizeof *rows || !len || !filled) return JETUKOMA_REFUSED;
+    return jetukoma_bytes_u64_fill_unchecked(handle, start, buf, buf_len, rows, rows_len, len, filled);
+}
+
+/* Writes pairs as `fill` does, but in the reverse order. It leaves out the last `start` pairs, which it passes over.
+ * Returns 4 as `fill` does, and 6 if the table is hashed. */
+uint32_t jetukoma_bytes_u64_fill_back_unchecked(jetukoma_bytes_u64 *handle, size_t start, uint8_t *buf, size_t buf_len, jetukoma_bytes_u64_row *rows, size_t rows_len, size_t *len, size_t *filled);
+JETUKOMA_API uint32_t jetukoma_bytes_u64_fill_back(jetukoma_bytes_u64 *handle, size_t start, uint8_t *buf, size_t buf_len, jetukoma_bytes_u64_row *rows, size_t rows_len, size_t *len, size_t *filled) {
+    if (!handle) return JETUKOMA_NO_TABLE;
+    if (!buf || buf_len > PTRDIFF_MAX / sizeof *buf || !rows || rows_len > PTRDIFF_MAX / sizeof *rows || !len || !filled) return JETUKOMA_REFUSED;
+    return jetukoma_bytes_u64_fill_back_unchecked(handle, start, buf, buf_len, rows, rows_len, len, filled);
+}
+
 /* Writes the pair whose left has exactly `rank` lefts below it. It writes the left to the front of a buffer, and its
  * length, and the right. It takes one search. Returns 4 if the buffer is too short, 5 if there are no more pairs,
  * and 6 if the table is not ordered. On 4 it has written the length alone. */
@@ -521,6 +632,12 @@ JETUKOMA_API uint32_t jetukoma_bytes_u64_pop_last(jetukoma_bytes_u64 *handle) {
     if (!handle) return JETUKOMA_NO_TABLE;
     return jetukoma_bytes_u64_pop_last_unchecked(handle);
 }
+
+/* A pair: the number of bytes of its left, and that of its right. */
+typedef struct {
+    size_t left_len;
+    size_t right_len;
+} jetukoma_bytes_bytes_row;
 
 /* A table with byte strings on both sides. */
 typedef struct {
@@ -685,6 +802,61 @@ uint32_t jetukoma_bytes_bytes_clear_unchecked(jetukoma_bytes_bytes *handle);
 JETUKOMA_API uint32_t jetukoma_bytes_bytes_clear(jetukoma_bytes_bytes *handle) {
     if (!handle) return JETUKOMA_NO_TABLE;
     return jetukoma_bytes_bytes_clear_unchecked(handle);
+}
+
+/* Makes a clone of the table for a handle `copy` that has no table. The clone has the kind, the seed, the capacity
+ * and the pairs of the table, in the same order. It keeps no overwritten pair. The time grows with the capacity and
+ * the bytes. Returns 1 if there is no memory. Returns 2 also if `copy` has a table. */
+uint32_t jetukoma_bytes_bytes_clone_unchecked(jetukoma_bytes_bytes *handle, jetukoma_bytes_bytes *copy);
+JETUKOMA_API uint32_t jetukoma_bytes_bytes_clone(jetukoma_bytes_bytes *handle, jetukoma_bytes_bytes *copy) {
+    if (!handle || !copy) return JETUKOMA_NO_TABLE;
+    if (handle == copy) return JETUKOMA_NO_TABLE;
+    return jetukoma_bytes_bytes_clone_unchecked(handle, copy);
+}
+
+/* Returns 0 if both tables have the same pairs, and 5 if they do not. The tables may be of two kinds, and their
+ * orders do not matter. It takes a look-up by left in the other table for each pair. */
+uint32_t jetukoma_bytes_bytes_equals_unchecked(jetukoma_bytes_bytes *handle, jetukoma_bytes_bytes *other);
+JETUKOMA_API uint32_t jetukoma_bytes_bytes_equals(jetukoma_bytes_bytes *handle, jetukoma_bytes_bytes *other) {
+    if (!handle || !other) return JETUKOMA_NO_TABLE;
+    size_t len;
+    if (handle == other) return jetukoma_bytes_bytes_len_unchecked(handle, &len);
+    return jetukoma_bytes_bytes_equals_unchecked(handle, other);
+}
+
+/* Returns 0 if the other table contains each pair of the table, and 5 if it does not. The tables may be of two
+ * kinds. It takes a look-up by left in the other table for each pair. */
+uint32_t jetukoma_bytes_bytes_is_subset_unchecked(jetukoma_bytes_bytes *handle, jetukoma_bytes_bytes *other);
+JETUKOMA_API uint32_t jetukoma_bytes_bytes_is_subset(jetukoma_bytes_bytes *handle, jetukoma_bytes_bytes *other) {
+    if (!handle || !other) return JETUKOMA_NO_TABLE;
+    size_t len;
+    if (handle == other) return jetukoma_bytes_bytes_len_unchecked(handle, &len);
+    return jetukoma_bytes_bytes_is_subset_unchecked(handle, other);
+}
+
+/* Writes pairs to the front of `rows`, each as the number of bytes of its left, and that of its right. The bytes go
+ * to the front of a buffer, one pair behind another, and the left of a pair before its right. The call leaves out
+ * the first `start` pairs. It writes as many pairs as there are rows and as fit into the buffer. `filled` gets the
+ * number of these pairs, and `len` that of their bytes. An ordered table has its pairs in ascending order of their
+ * lefts, and a table in insertion order in that order. The order of a hashed table is not specified, and it stays
+ * the same until the table changes. An ordered table takes one search, and at most one descent in the tree for each
+ * pair. A table of another kind passes over the pairs that it leaves out. To read all its pairs, use many rows and a
+ * long buffer. Returns 4 if there is a row, and the buffer is too short for the next pair. On 4 it has written the
+ * number of bytes of this pair to `len` alone. */
+uint32_t jetukoma_bytes_bytes_fill_unchecked(jetukoma_bytes_bytes *handle, size_t start, uint8_t *buf, size_t buf_len, jetukoma_bytes_bytes_row *rows, size_t rows_len, size_t *len, size_t *filled);
+JETUKOMA_API uint32_t jetukoma_bytes_bytes_fill(jetukoma_bytes_bytes *handle, size_t start, uint8_t *buf, size_t buf_len, jetukoma_bytes_bytes_row *rows, size_t rows_len, size_t *len, size_t *filled) {
+    if (!handle) return JETUKOMA_NO_TABLE;
+    if (!buf || buf_len > PTRDIFF_MAX / sizeof *buf || !rows || rows_len > PTRDIFF_MAX / sizeof *rows || !len || !filled) return JETUKOMA_REFUSED;
+    return jetukoma_bytes_bytes_fill_unchecked(handle, start, buf, buf_len, rows, rows_len, len, filled);
+}
+
+/* Writes pairs as `fill` does, but in the reverse order. It leaves out the last `start` pairs, which it passes over.
+ * Returns 4 as `fill` does, and 6 if the table is hashed. */
+uint32_t jetukoma_bytes_bytes_fill_back_unchecked(jetukoma_bytes_bytes *handle, size_t start, uint8_t *buf, size_t buf_len, jetukoma_bytes_bytes_row *rows, size_t rows_len, size_t *len, size_t *filled);
+JETUKOMA_API uint32_t jetukoma_bytes_bytes_fill_back(jetukoma_bytes_bytes *handle, size_t start, uint8_t *buf, size_t buf_len, jetukoma_bytes_bytes_row *rows, size_t rows_len, size_t *len, size_t *filled) {
+    if (!handle) return JETUKOMA_NO_TABLE;
+    if (!buf || buf_len > PTRDIFF_MAX / sizeof *buf || !rows || rows_len > PTRDIFF_MAX / sizeof *rows || !len || !filled) return JETUKOMA_REFUSED;
+    return jetukoma_bytes_bytes_fill_back_unchecked(handle, start, buf, buf_len, rows, rows_len, len, filled);
 }
 
 /* Writes the pair whose left has exactly `rank` lefts below it. It writes each value to the front of its buffer, and

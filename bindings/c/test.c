@@ -133,6 +133,14 @@ static void of_other_sides(void) {
     CHECK(jetukoma_u64_u64_insert_no_overwrite(it, 4, 8) == JETUKOMA_NO_TABLE);
     CHECK(jetukoma_u64_u64_get_by_left(it, 4, &number) == JETUKOMA_NO_TABLE && number == 99);
     CHECK(jetukoma_u64_u64_pop_first(it, &pair) == JETUKOMA_NO_TABLE && jetukoma_bytes_bytes_pop_last(it) == JETUKOMA_NO_TABLE);
+    jetukoma_bytes_bytes_row row;
+    uint8_t buf[9];
+    CHECK(jetukoma_bytes_bytes_fill(it, 0, buf, 9, &row, 1, &n, &n) == JETUKOMA_NO_TABLE && n == 99);
+    jetukoma_bytes_bytes other = {0};
+    CHECK(jetukoma_bytes_bytes_clone(it, &other) == JETUKOMA_NO_TABLE && !other.live && !jetukoma_bytes_bytes_new(&other, table_kind, 1));
+    CHECK(jetukoma_bytes_bytes_equals(&other, it) == JETUKOMA_NO_TABLE && jetukoma_bytes_bytes_equals(it, it) == JETUKOMA_NO_TABLE);
+    CHECK(jetukoma_bytes_bytes_is_subset(&other, it) == JETUKOMA_NO_TABLE && jetukoma_bytes_bytes_is_subset(it, &other) == JETUKOMA_NO_TABLE);
+    CHECK(!jetukoma_bytes_bytes_free(&other));
     CHECK(!jetukoma_bytes_u64_get_by_left(&t, bytes(3), 3, &number) && number == 7 && !jetukoma_bytes_u64_len(&t, &n) && n == 1);
     CHECK(!jetukoma_u64_u64_free(it) && jetukoma_bytes_u64_free(&t) == JETUKOMA_NO_TABLE && blocks == 0);
 }

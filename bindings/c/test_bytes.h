@@ -67,18 +67,66 @@ static uint32_t OUR(pop)(OUR(table) *table, int first, struct pair *pair) {
     uint32_t status = first ? CALL(pop_first)(table) : CALL(pop_last)(table);
     return status ? status : (*pair = OUR(gone)(table, 0), 0);
 }
+/* The pair of a row, whose bytes begin here. */
+static struct pair OUR(unpacked)(NAME(SIDES, row) it, const uint8_t *packed) {
+#if RIGHT_IS_BYTES
+    return (struct pair){of_bytes(packed, it.left_len), of_bytes(packed + it.left_len, it.right_len)};
+#else
+    return (struct pair){of_bytes(packed, it.left_len), of_number(it.right)};
+#endif
+}
+static size_t OUR(size)(struct pair it) { return (size_t)(it.left + (RIGHT_IS_BYTES ? it.right : 0)); }
+static void OUR(is)(const void *it, uint8_t byte, size_t bytes) {
+    for (size_t at = 0; at < bytes; at++) CHECK(((const uint8_t *)it)[at] == byte);
+}
+/* Reads the pairs from a position on, in one direction. The number of rows and the length of the buffer are random. Returns how many
+ * it read. */
+static size_t OUR(few)(OUR(table) *table, int back, size_t start, struct pair *pairs) {
+    enum { ROWS = 4, ROOM = 3 * MANY };
+    NAME(SIDES, row) rows[ROWS];
+    uint8_t buf[ROOM];
+    size_t most = (size_t)chance(ROWS) + 1, room = (size_t)chance(ROOM + 1), len = 99, filled = 99, used = 0, next = 99;
+    memset(rows, 77, sizeof rows), memset(buf, 77, sizeof buf);
+    uint32_t (*fill)(OUR(table) *, size_t, uint8_t *, size_t, NAME(SIDES, row) *, size_t, size_t *, size_t *) = back ? CALL(fill_back) : CALL(fill);
+    uint32_t status = fill(table, start, buf, room, rows, most, &len, &filled);
+    if (status == JETUKOMA_BUFFER_TOO_SHORT) {
+        CHECK(filled == 99 && len > room && len <= ROOM);
+        OUR(is)(rows, 77, sizeof rows), OUR(is)(buf, 77, sizeof buf);
+        size_t exact = len;
+        status = fill(table, start, buf, exact, rows, most, &len, &filled);
+        CHECK(filled && len == exact), room = exact;
+    }
+    CHECK(!status && filled <= most && len <= room);
+    for (size_t at = 0; at < filled; at++) pairs[at] = OUR(unpacked)(rows[at], buf + used), used += OUR(size)(pairs[at]);
+    CHECK(used == len);
+    OUR(is)(rows + filled, 77, (ROWS - filled) * sizeof *rows), OUR(is)(buf + len, 77, ROOM - len);
+    /* The next pair did not fit, or it had no row. */
+    CHECK(!fill(table, start + filled, buf, ROOM, rows, 1, &len, &next) && next <= 1);
+    CHECK(filled == most || !next || used + len > room);
+    return filled;
+}
 static uint32_t OUR(walk)(OUR(table) *table, struct pair *row, size_t *count) {
     OUR(out) left, right;
     uint32_t status;
-    size_t rank = 99;
+    size_t rank = 99, few;
     *count = 0, left.len = 99;
-    while (!(status = CALL(pair_at_rank)(table, *count, left.bytes, sizeof left.bytes, &left.len, RIGHT_OUT(right)))) {
-        struct pair it = {of_bytes(left.bytes, left.len), OF_RIGHT(right)};
-        CHECK(!CALL(left_rank)(table, LEFT(it.left), &rank) && rank == *count);
-        row[(*count)++] = it;
+    while (*count <= MANY && (few = OUR(few)(table, 0, *count, row + *count))) *count += few;
+    struct pair back[MANY + 1];
+    for (size_t at = 0; table_kind != JETUKOMA_HASHED && at <= *count; at += few) {
+        if (!(few = OUR(few)(table, 1, at, back + at))) few = *count + 1 - at, CHECK(at == *count);
+        else for (size_t it = at; it < at + few; it++) CHECK(it < *count && same_pair(back[it], row[*count - 1 - it]));
     }
-    if (status == JETUKOMA_NO_ORDER) CHECK(left.len == 99 && CALL(left_rank)(table, LEFT(1), &rank) == status && rank == 99);
-    return status == JETUKOMA_NOT_FOUND ? 0 : status;
+    for (size_t at = 0; table_kind == JETUKOMA_ORDERED && at <= *count; at++) {
+        status = CALL(pair_at_rank)(table, at, left.bytes, sizeof left.bytes, &left.len, RIGHT_OUT(right));
+        CHECK(status == (at < *count ? 0 : JETUKOMA_NOT_FOUND));
+        if (status) break;
+        CHECK(same_pair(row[at], (struct pair){of_bytes(left.bytes, left.len), OF_RIGHT(right)}));
+        CHECK(!CALL(left_rank)(table, LEFT(row[at].left), &rank) && rank == at);
+    }
+    if (table_kind == JETUKOMA_ORDERED) return 0;
+    CHECK(CALL(pair_at_rank)(table, 0, left.bytes, sizeof left.bytes, &left.len, RIGHT_OUT(right)) == JETUKOMA_NO_ORDER && left.len == 99);
+    CHECK(CALL(left_rank)(table, LEFT(1), &rank) == JETUKOMA_NO_ORDER && rank == 99);
+    return 0;
 }
 
 #if !RIGHT_IS_BYTES
@@ -165,6 +213,14 @@ static void OUR(own)(OUR(table) *table, uint32_t status) {
     CHECK(CALL(pair_at_rank)(table, 0, left.bytes, MANY, &len, RIGHT_OUT(right)) == (unordered ? unordered : missing) && len == 99);
     CHECK(CALL(pair_at_rank)(table, SIZE_MAX, left.bytes, MANY, &len, RIGHT_OUT(right)) == (unordered ? unordered : missing));
     CHECK(CALL(left_rank)(table, LEFT(3), &rank) == (unordered ? unordered : status) && rank == (status || unordered ? 99 : 0));
+    NAME(SIDES, row) row = {99, 99};
+    size_t filled = 99;
+    CHECK(CALL(fill)(table, 0, left.bytes, MANY, &row, 1, &len, &filled) == status && len == (status ? 99 : 0) && filled == len && row.left_len == 99);
+    CHECK(CALL(fill)(table, SIZE_MAX, left.bytes, 0, &row, 0, &len, &filled) == status && len == (status ? 99 : 0) && filled == len);
+    uint32_t endless = !status && table_kind == JETUKOMA_HASHED ? JETUKOMA_NO_ORDER : status;
+    len = filled = 99;
+    CHECK(CALL(fill_back)(table, 0, left.bytes, MANY, &row, 1, &len, &filled) == endless && len == (endless ? 99 : 0) && filled == len);
+    CHECK(CALL(fill_back)(table, SIZE_MAX, left.bytes, 0, &row, 1, &len, &filled) == endless && row.left_len == 99 && filled == (endless ? 99 : 0));
     if (status) return;
     /* An empty byte string is inserted and looked up. A buffer of length 0 is long enough for it. */
     uint8_t byte = 77;
@@ -195,6 +251,13 @@ static void OUR(nulls)(OUR(table) *table, uint32_t null, uint32_t beyond) {
     CHECK(CALL(get_by_left)(table, LEFT(1), NULL) == null && CALL(overwritten_right)(table, 0, NULL) == null);
 #endif
     CHECK(CALL(pair_at_rank)(table, 0, NULL, 0, &len, RIGHT_OUT(right)) == null && CALL(pair_at_rank)(table, 0, &byte, 1, NULL, RIGHT_OUT(right)) == null);
+    NAME(SIDES, row) row;
+    CHECK(CALL(fill)(table, 0, NULL, 0, &row, 1, &len, &len) == null && CALL(fill)(table, 0, &byte, 1, NULL, 0, &len, &len) == null);
+    CHECK(CALL(fill)(table, 0, &byte, 1, &row, 1, NULL, &len) == null && CALL(fill)(table, 0, &byte, 1, &row, 1, &len, NULL) == null);
+    CHECK(CALL(fill)(table, 0, &byte, SIZE_MAX, &row, 1, &len, &len) == beyond && CALL(fill)(table, 0, &byte, 1, &row, SIZE_MAX / 16, &len, &len) == beyond);
+    CHECK(CALL(fill_back)(table, 0, NULL, 0, &row, 1, &len, &len) == null && CALL(fill_back)(table, 0, &byte, 1, NULL, 0, &len, &len) == null);
+    CHECK(CALL(fill_back)(table, 0, &byte, 1, &row, 1, NULL, &len) == null && CALL(fill_back)(table, 0, &byte, 1, &row, 1, &len, NULL) == null);
+    CHECK(CALL(fill_back)(table, 0, &byte, SIZE_MAX, &row, 1, &len, &len) == beyond);
     CHECK(CALL(left_rank)(table, NULL, 0, &len) == null && CALL(left_rank)(table, LEFT(1), NULL) == null && CALL(left_rank)(table, &byte, SIZE_MAX, &len) == beyond);
 }
 

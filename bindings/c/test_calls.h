@@ -58,8 +58,7 @@ static void OUR(same)(OUR(table) *t) {
         CHECK(OUR(get_by_right)(t, value, &left) == (left_of[value] == NONE ? JETUKOMA_NOT_FOUND : 0) && left == left_of[value]);
     }
     struct pair row[MANY + 1];
-    uint32_t status = OUR(walk)(t, row, &len), unordered = BYTES && table_kind != JETUKOMA_ORDERED;
-    CHECK(status == (unordered ? JETUKOMA_NO_ORDER : 0) && len == (unordered ? 0 : (size_t)held));
+    CHECK(!OUR(walk)(t, row, &len) && len == (size_t)held);
     for (size_t at = 0; at < len; at++) {
         CHECK(row[at].left >= 0 && right_of[row[at].left] == row[at].right);
         CHECK(!at || table_kind == JETUKOMA_HASHED || OUR(before)(row[at - 1].left, row[at].left));
@@ -105,6 +104,73 @@ static void OUR(calls)(void) {
         if (call % (calls / 1000) == 0) OUR(same)(&t);
     }
     CHECK(!CALL(free)(&t) && blocks == 0);
+}
+
+/* Clones and compares random tables, each with a table of each kind. */
+static void OUR(pairs_of_tables)(void) {
+    OUR(table) t = {0};
+    struct told told;
+    struct pair row[MANY + 1], copied[MANY + 1];
+    size_t len, count, capacity, other_capacity;
+    CHECK(CALL(clone)(NULL, &t) == JETUKOMA_NO_TABLE && CALL(clone)(&t, NULL) == JETUKOMA_NO_TABLE && CALL(clone)(&t, &t) == JETUKOMA_NO_TABLE && !t.live);
+    CHECK(CALL(equals)(NULL, &t) == JETUKOMA_NO_TABLE && CALL(equals)(&t, NULL) == JETUKOMA_NO_TABLE && CALL(equals)(&t, &t) == JETUKOMA_NO_TABLE);
+    CHECK(CALL(is_subset)(NULL, &t) == JETUKOMA_NO_TABLE && CALL(is_subset)(&t, NULL) == JETUKOMA_NO_TABLE && CALL(is_subset)(&t, &t) == JETUKOMA_NO_TABLE);
+    for (int round = 0; round < 12 && failed < 20; round++) {
+        OUR(table) copy = {0}, none = {0};
+        empty_model();
+        CHECK(!CALL(new)(&t, table_kind, (uint64_t)round));
+        for (int made = round * 3; made; made--) {
+            int left = chance(MANY), right = chance(MANY);
+            CHECK(!OUR(insert)(&t, left, right, &told) && !model_insert(left, right, 0, 0, &told));
+        }
+        if (round > 6) CHECK(!CALL(reserve)(&t, 50));
+        CHECK(CALL(clone)(&none, &copy) == JETUKOMA_NO_TABLE && !copy.live && CALL(clone)(&t, &t) == JETUKOMA_NO_TABLE);
+        CHECK(CALL(equals)(&t, &none) == JETUKOMA_NO_TABLE && CALL(equals)(&none, &t) == JETUKOMA_NO_TABLE && !none.live);
+        CHECK(CALL(is_subset)(&t, &none) == JETUKOMA_NO_TABLE && CALL(is_subset)(&none, &t) == JETUKOMA_NO_TABLE);
+        CHECK(!CALL(equals)(&t, &t) && !CALL(is_subset)(&t, &t));
+        /* Each allocation is refused once. The table stays as it is, and no block is left. */
+        size_t before = blocks, most = 0;
+        for (uint32_t status = 1; status && most < 1000; most++) {
+            granted = most, status = CALL(clone)(&t, &copy), granted = SIZE_MAX;
+            CHECK(!status || (status == JETUKOMA_NO_MEMORY && !copy.live && blocks == before));
+        }
+        CHECK(most < 1000), OUR(same)(&t), OUR(same)(&copy);
+        CHECK(!CALL(capacity)(&t, &capacity) && !CALL(capacity)(&copy, &other_capacity) && capacity == other_capacity);
+        /* The clone has the order of the table, and the same order after the same change. */
+        for (int change = 0; change < 2; change++) {
+            CHECK(!OUR(walk)(&t, row, &len) && !OUR(walk)(&copy, copied, &count) && len == count);
+            for (size_t at = 0; at < len; at++) CHECK(same_pair(row[at], copied[at]));
+            CHECK(!CALL(equals)(&t, &copy) && !CALL(equals)(&copy, &t) && !CALL(is_subset)(&t, &copy) && !CALL(is_subset)(&copy, &t));
+            int left = chance(MANY), right = chance(MANY);
+            CHECK(!OUR(insert)(&t, left, right, &told) && !OUR(insert)(&copy, left, right, &told) && !model_insert(left, right, 0, 0, &told));
+        }
+#if BYTES
+        CHECK(!CALL(clear)(&copy) && !CALL(free)(&copy) && !CALL(clone)(&t, &copy));
+        CHECK(same_pair(OUR(gone)(&copy, 0), no_pair) && same_pair(OUR(gone)(&t, 0), last.first));
+#endif
+        /* A handle with a table gets no clone. */
+        CHECK(!CALL(clear)(&copy) && CALL(clone)(&t, &copy) == JETUKOMA_NO_TABLE && !CALL(len)(&copy, &len) && len == 0);
+        CHECK(CALL(equals)(&t, &copy) == (held ? JETUKOMA_NOT_FOUND : 0) && !CALL(is_subset)(&copy, &t)), OUR(same)(&t);
+        CHECK(!CALL(free)(&copy));
+        for (uint32_t kind = 0; kind < KINDS; kind++) {
+            CHECK(!CALL(new)(&copy, kind, 99) && !OUR(walk)(&t, row, &len));
+            for (size_t at = len; at; at--) {
+                CHECK(CALL(equals)(&t, &copy) == JETUKOMA_NOT_FOUND && CALL(equals)(&copy, &t) == JETUKOMA_NOT_FOUND);
+                CHECK(!CALL(is_subset)(&copy, &t) && CALL(is_subset)(&t, &copy) == JETUKOMA_NOT_FOUND);
+                CHECK(!CALL(insert_no_overwrite)(&copy, LEFT(row[at - 1].left), RIGHT(row[at - 1].right)));
+            }
+            CHECK(!CALL(equals)(&t, &copy) && !CALL(equals)(&copy, &t) && !CALL(is_subset)(&copy, &t) && !CALL(is_subset)(&t, &copy));
+            /* As many pairs, of which one has another right. */
+            int free_right = 0;
+            while (left_of[free_right] != NONE) free_right++;
+            CHECK(!OUR(insert)(&copy, row[0].left, free_right, &told) && told.kind == 1);
+            CHECK(CALL(equals)(&t, &copy) == JETUKOMA_NOT_FOUND && CALL(is_subset)(&copy, &t) == JETUKOMA_NOT_FOUND);
+            CHECK(CALL(is_subset)(&t, &copy) == JETUKOMA_NOT_FOUND && !CALL(free)(&copy));
+        }
+        OUR(same)(&t);
+        CHECK(!CALL(free)(&t));
+    }
+    CHECK(blocks == 0);
 }
 
 /* Makes the calls with each number of granted allocations. A refused call must change nothing. With memory it must succeed. */
@@ -177,6 +243,7 @@ static void OUR(tests)(void) {
     test(TEXT(SIDES), "statuses", OUR(statuses));
     test(TEXT(SIDES), "calls by chance", OUR(calls));
     test(TEXT(SIDES), "memory refused", OUR(memory));
+    test(TEXT(SIDES), "clones and comparisons", OUR(pairs_of_tables));
 #if !BYTES
     test(TEXT(SIDES), "pairs kept by a walk", OUR(retain));
 #elif !RIGHT_IS_BYTES

@@ -51,6 +51,13 @@ static uint32_t OUR(walk)(OUR(table) *table, struct pair *row, size_t *count) {
     size_t start = *count ? (size_t)chance((int)*count) : 3, filled, rank = 99;
     CHECK(!CALL(fill)(table, start, from, MANY + 1, &filled) && filled == (start < *count ? *count - start : 0));
     CHECK(!filled || !memcmp(from, its + start, filled * sizeof *its));
+    /* `fill_back` gives them from the end. */
+    size_t turned = 99, left_out = (size_t)chance(3);
+    uint32_t endless = table_kind == JETUKOMA_HASHED ? JETUKOMA_NO_ORDER : 0;
+    CHECK(CALL(fill_back)(table, left_out, from, MANY, &turned) == endless);
+    CHECK(turned == (endless ? 99 : left_out < *count ? *count - left_out : 0));
+    for (size_t at = 0; !endless && at < turned; at++) CHECK(!memcmp(from + at, its + *count - 1 - left_out - at, sizeof *its));
+    CHECK(!CALL(fill)(table, start, from, MANY + 1, &filled));
     if (table_kind != JETUKOMA_ORDERED) {
         CHECK(CALL(left_rank)(table, 0, &rank) == JETUKOMA_NO_ORDER && rank == 99);
         CHECK(CALL(fill_from)(table, 0, its, 2, &rank) == JETUKOMA_NO_ORDER && rank == 99);
@@ -103,6 +110,9 @@ static void OUR(own)(OUR(table) *table, uint32_t status) {
     CHECK(ordered ? !row[0].left : row[0].left == 7 && row[0].right == 9 && row[1].left == 8 && row[1].right == 8);
     CHECK(CALL(fill_from)(table, 9, row, 3, &n) == ordered && n == (ordered ? 99 : 0));
     CHECK(CALL(left_rank)(table, 8, &rank) == ordered && rank == (ordered ? 99 : 1));
+    uint32_t endless = !status && table_kind == JETUKOMA_HASHED ? JETUKOMA_NO_ORDER : status;
+    n = 99, memset(row, 0, sizeof row);
+    CHECK(CALL(fill_back)(table, 1, row, 3, &n) == endless && n == (endless ? 99 : 1) && row[0].left == (endless ? 0 : 7) && !row[1].left);
 }
 static void OUR(nulls)(OUR(table) *table, uint32_t null, uint32_t beyond) {
     jetukoma_u64_u64_pair row[1];
@@ -114,6 +124,7 @@ static void OUR(nulls)(OUR(table) *table, uint32_t null, uint32_t beyond) {
     CHECK(CALL(fill)(table, 0, NULL, 0, &n) == null && CALL(fill)(table, 0, row, 1, NULL) == null);
     CHECK(CALL(insert_many)(table, row, SIZE_MAX, &n) == beyond && CALL(insert_many)(table, row, SIZE_MAX / 16, &n) == beyond);
     CHECK(CALL(fill)(table, 0, row, SIZE_MAX, &n) == beyond && CALL(fill)(table, 0, row, SIZE_MAX / 16, &n) == beyond);
+    CHECK(CALL(fill_back)(table, 0, NULL, 0, &n) == null && CALL(fill_back)(table, 0, row, 1, NULL) == null && CALL(fill_back)(table, 0, row, SIZE_MAX / 16, &n) == beyond);
     CHECK(CALL(fill_from)(table, 0, NULL, 0, &n) == null && CALL(fill_from)(table, 0, row, 1, NULL) == null);
     CHECK(CALL(fill_from)(table, 0, row, SIZE_MAX / 16, &n) == beyond && CALL(left_rank)(table, 0, NULL) == null);
     CHECK(CALL(pop_first)(table, NULL) == null && CALL(pop_last)(table, NULL) == null);

@@ -13,8 +13,8 @@ Types. By default, keys and values are ints from 0 to 2**64 - 1. `keys=str` or `
 ints. `values=str` or `values=bytes` makes a map from ints to texts or bytes. Both sides may be str or bytes.
 
 Iteration. `BiBTreeMap` iterates in ascending order of its keys. If only the values are texts or bytes, it iterates in ascending
-order of its values. Texts are compared by the bytes of their UTF-8. `BiHashMap` iterates in no particular order. A `BiHashMap` with
-texts or bytes cannot be iterated. An iterator shows the items that the map had when the iteration began.
+order of its values. Texts are compared by the bytes of their UTF-8. `BiHashMap` iterates in no particular order. An iterator shows the
+items that the map had when the iteration began.
 
 Errors. A key of another type, or an int out of range, is not contained. To insert such a key is a TypeError or an OverflowError. To
 insert a text that has no UTF-8 is a UnicodeError. After an exception the map has not changed. There is one exception: after a
@@ -274,10 +274,7 @@ class _Bimap(MutableMapping):
 
     def __repr__(self):
         shown = [f"{name}={it.__name__}" for name, it in zip(("keys", "values"), self._types()) if it is not int]
-        try:
-            items = dict(self.items())
-        except TypeError:
-            return f"<{type(self).__name__} of {len(self)} items, {', '.join(shown)}>"
+        items = dict(self.items())
         return f"{type(self).__name__}({', '.join([repr(items)] * bool(items) + shown)})"
 
 

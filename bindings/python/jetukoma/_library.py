@@ -37,6 +37,10 @@ class Numbers:
     def got(self):
         return self._got.value
 
+    def read(self, packed, at, size):
+        """Returns the value of a row, and where the next value of packed bytes begins. A number stands in place of its size."""
+        return size, at
+
     def grow(self):
         """Does nothing, since a number always fits."""
 
@@ -70,6 +74,9 @@ class Bytes:
         value = value if type(value) is bytes else self.plain(value)
         return value, c_size_t(len(value))
 
+    def read(self, packed, at, size):
+        return packed[at : at + size], at + size
+
     def got(self):
         return self._room[: self._len.value]
 
@@ -82,6 +89,10 @@ class Texts(Bytes):
 
     def give(self, value):
         return super().give(str.encode(sort_of(str, value)))
+
+    def read(self, packed, at, size):
+        value, at = super().read(packed, at, size)
+        return value.decode(), at
 
     def got(self):
         return super().got().decode()
@@ -189,20 +200,30 @@ class Table:
 
     def rows(self):
         """Returns the lefts and the rights in the order of iteration."""
-        if self.kind != ORDERED:
-            raise TypeError("a hashed map of bytes or texts cannot be iterated")
-        pairs = [self.at_rank(rank) for rank in range(len(self))]
-        return [left for left, _ in pairs], [right for _, right in pairs]
+        return self._filled(0, len(self))
 
     def at_rank(self, rank):
-        if self.kind != ORDERED:
-            return self.rows()
-        left, right = self.sides
-        while (status := self.call("pair_at_rank")(self._at, c_size_t(rank), *left.out, *right.out)) == BUFFER_TOO_SHORT:
-            left.grow()
-            right.grow()
-        sure(status)
-        return left.got(), right.got()
+        (left,), (right,) = self._filled(rank, 1)
+        return left, right
+
+    def _filled(self, start, count):
+        """Returns the lefts and the rights of this number of pairs, from the start-th on. The table has them."""
+        lefts, rights, (left, right) = [], [], self.sides
+        row, used, filled, room = (c_uint64 * (2 * count))(), c_size_t(), c_size_t(), 64 * (count + 1)
+        while len(lefts) < count:
+            packed = create_string_buffer(room)
+            given = (c_size_t(start + len(lefts)), packed, c_size_t(room), row, c_size_t(count - len(lefts)))
+            status = self.call("fill")(self._at, *given, byref(used), byref(filled))
+            if status != BUFFER_TOO_SHORT:
+                sure(status)
+                raw, at = packed.raw, 0
+                for first in range(0, 2 * filled.value, 2):
+                    for side, its, size in (left, lefts, row[first]), (right, rights, row[first + 1]):
+                        value, at = side.read(raw, at, size)
+                        its.append(value)
+            # What did not fit goes into a longer buffer.
+            room = max(2 * room, used.value)
+        return lefts, rights
 
 
 class NumberTable(Table):

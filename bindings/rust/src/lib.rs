@@ -15,8 +15,7 @@
 //! # The types of the sides
 //! The pairs of types are `u64` with `u64`, `Vec<u8>` or `String` with `u64`, and `Vec<u8>` with `Vec<u8>`. [`BiBTreeMap`] has
 //! its pairs in ascending order of their lefts. Bytes are compared one by one. [`BiHashMap`] hashes both sides.
-//! [`BiInsertionOrderMap`] hashes them too, and has its pairs in the order in which they were inserted. With bytes, you can
-//! iterate only over a [`BiBTreeMap`].
+//! [`BiInsertionOrderMap`] hashes them too, and has its pairs in the order in which they were inserted.
 //!
 //! # What differs from `bimap`
 //! - The library contains the values. Look-ups and iterators return copies of them, by value.

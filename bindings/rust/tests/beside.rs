@@ -188,6 +188,27 @@ fn many_pairs() {
     assert_eq!(walked, ascending);
 }
 
+#[test]
+fn many_bytes() {
+    // Some names are longer than the buffer that the package begins with.
+    let name = |it: u64| format!("{}{}", "x".repeat((it % 300) as usize), it * 7919 % 100_003);
+    let pairs: Vec<(String, u64)> = (0..20_000).map(|it| (name(it), it)).collect();
+    let both: Vec<(Vec<u8>, Vec<u8>)> = (0..5000).map(|it| (name(it).into_bytes(), name(it + 1).into_bytes())).collect();
+    let (mut ascending, mut both_ascending) = (pairs.clone(), both.clone());
+    ascending.sort();
+    both_ascending.sort();
+    assert_eq!(BiBTreeMap::from_iter(pairs.clone()).into_iter().collect::<Vec<_>>(), ascending);
+    assert_eq!(BiInsertionOrderMap::from_iter(pairs.clone()).into_iter().collect::<Vec<_>>(), pairs);
+    assert_eq!(BiInsertionOrderMap::from_iter(both.clone()).into_iter().collect::<Vec<_>>(), both);
+    let mut hashed: Vec<_> = BiHashMap::from_iter(pairs).into_iter().collect();
+    let mut both_hashed: Vec<_> = BiHashMap::from_iter(both).into_iter().collect();
+    hashed.sort();
+    both_hashed.sort();
+    assert_eq!((hashed, both_hashed), (ascending, both_ascending));
+    let none: BiHashMap<String, u64> = BiHashMap::new();
+    assert_eq!(none.iter().next(), None);
+}
+
 fn chance(state: &mut u64, below: u64) -> u64 {
     *state = state.wrapping_mul(6364136223846793005).wrapping_add(1442695040888963407);
     (*state >> 33) % below

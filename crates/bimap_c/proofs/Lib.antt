@@ -1,5 +1,9 @@
+mod InKind
+mod Packing
+mod Ranks
 mod Rows
 mod Steps
 mod TableAsBox
 mod Texts
+mod Turned
 mod Values

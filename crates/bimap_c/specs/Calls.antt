@@ -26,6 +26,11 @@ module _ {H : Type 0} (find : Option CTable → Option (Kinds H)) (old : Option 
   abbrev pub ReadsOrdered : (H → Type 0) → Type 0
   ReadsOrdered holds = ReadsByKind holds (λ _. status ≡ 6)
 
+  -- What such a call does if it needs a first or last pair, as an ordered table has and one in insertion order. For a hashed
+  -- table the status is 6.
+  abbrev pub ReadsAtEnd : (H → Type 0) → Type 0
+  ReadsAtEnd holds = (new ≡ old) × MatchOption (find old) (status ≡ 2) (MatchKind holds (λ _. status ≡ 6) holds)
+
   -- What is true of a table of each kind before and after. It stays of its kind. If the handle has no table of these sides,
   -- nothing changes.
   abbrev pub ChangesByKind : (H → H → Type 0) → (H → H → Type 0) → (H → H → Type 0) → Type 0

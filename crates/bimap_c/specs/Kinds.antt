@@ -14,6 +14,12 @@ map_kinds o h i (Hashed map) = Hashed (h map)
 map_kinds o h i (InsertionOrder map) = InsertionOrder (i map)
 
 module _ {X : Type 0} where
+  -- What a table contains, of whichever kind it is.
+  abbrev pub in_kind : Kinds X → X
+  in_kind (Ordered x) = x
+  in_kind (Hashed x) = x
+  in_kind (InsertionOrder x) = x
+
   -- The statement of its kind is true.
   abbrev pub MatchKind : (X → Type 0) → (X → Type 0) → (X → Type 0) → Kinds X → Type 0
   MatchKind o h i (Ordered x) = o x

@@ -1,8 +1,10 @@
 pub mod Bytes
 pub mod BytesBytes
 pub mod Calls
+pub mod Compared
 pub mod Json
 pub mod Kinds
+pub mod Packed
 pub mod Pointers
 pub mod Tables
 pub mod U64U64

@@ -3,7 +3,7 @@ ghost use Rattle.std.specs.Prelude.{◌≡◌, IfSome};
 
 use bimap::NoMemory;
 use bimap::value::{JsonKey, ReadFault};
-use std::alloc::Global;
+use std::alloc::{AllocError, Global};
 use std::str;
 
 /// A byte string. Byte strings are compared byte by byte.
@@ -21,6 +21,16 @@ impl ByteString {
             Ok(bytes) => Some(ByteString { bytes }),
             Err(_) => None,
         }
+    }
+}
+
+impl Clone for ByteString {
+    ghost is_clone = { λ b copy. copy.bytes.items ≡ b.bytes.items };
+
+    fn clone(&self) -> Result<ByteString, AllocError> {
+        Ok(ByteString {
+            bytes: self.bytes.clone()?,
+        })
     }
 }
 

@@ -57,8 +57,8 @@ pub(crate) fn new_table<R: Ord + Hash + Drop>(
     }
 }
 
-// Returns a new table with this map.
-fn table_of<R, B>(alloc: Global, map: B, seed: u64) -> BytesTable<R, B>
+/// Returns a new table with this map.
+pub(crate) fn table_of<R, B>(alloc: Global, map: B, seed: u64) -> BytesTable<R, B>
     ensures map { result.map ≡ map }
     ensures struck { result.struck ≡ Overwritten.Neither }
 {

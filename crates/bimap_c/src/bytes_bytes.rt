@@ -1,4 +1,5 @@
-//! The bodies of the calls whose rights are byte strings. They work on any map of two byte strings.
+//! The struct that C sees if the rights are byte strings, and the bodies of the calls. They work on any map of two byte
+//! strings.
 ghost use Rattle.std.specs.Prelude.{◌≤◌, Option, option_map, vec_capacity, Contains};
 ghost use Rattle.std.specs.Borrow.{Bor};
 ghost use Rattle.std.specs.Map.Iter.{deref_pair};
@@ -6,15 +7,44 @@ ghost use Rattle.bimap.specs.Holding.{IsFoundByLeft, IsFoundByRight};
 ghost use Rattle.bimap.specs.Sets.{HasRight};
 ghost use Rattle.bimap_c.specs.Calls.{IsWritten, Tests};
 ghost use Rattle.bimap_c.specs.Bytes.{kept, same_bytes, AreBytesOut, IsLengthWritten, IsRead, IsByKey, RemovesByRight, Inserts, InsertsFlagged, IsKind};
+ghost use Rattle.bimap_c.specs.Packed.{bytes_row};
 ghost use Rattle.bimap_c.specs.declared.byte_string.ByteString.{ByteString};
 ghost use Rattle.bimap_c.specs.BytesBytes.{WithCopy, AreBothOut};
 
 use crate::byte_string::ByteString;
 use crate::bytes::{self, BytesTable, note, strike, tell_bytes};
 use crate::calls::found;
+use crate::fill::RightOfRow;
 use crate::status::{BUFFER_TOO_SHORT, DONE, NO_MEMORY, NOT_FOUND};
 use bimap::{Bijection, Policy};
 use std::alloc::Global;
+
+/// A pair: the number of bytes of its left, and that of its right.
+#[repr(C)]
+#[derive(Clone, Copy, Drop)]
+pub struct Row {
+    pub left_len: usize,
+    pub right_len: usize,
+}
+
+impl RightOfRow for ByteString {
+    type Row = Row;
+
+    ghost row_of = { bytes_row };
+
+    ghost right_bytes = { λ b. b.bytes.items };
+
+    fn to_row(left: &ByteString, right: &ByteString) -> Row {
+        Row {
+            left_len: left.bytes.len(),
+            right_len: right.bytes.len(),
+        }
+    }
+
+    fn as_bytes(&self) -> &[u8] {
+        &self.bytes
+    }
+}
 
 /// Inserts copies of both values, under a policy. If that was done, it writes the number of what was overwritten.
 pub(crate) fn insert_under<B: Bijection<ByteString, ByteString>>(

@@ -1,16 +1,46 @@
-//! The bodies of the calls whose rights are numbers. They work on any map of byte strings and numbers.
-ghost use Rattle.std.specs.Prelude.{ℕ, Option, option_map};
+//! The struct that C sees if the rights are numbers, and the bodies of the calls. They work on any map of byte strings
+//! and numbers.
+ghost use Rattle.std.specs.Prelude.{ℕ, Option, [], option_map};
 ghost use Rattle.std.specs.Borrow.{Bor};
 ghost use Rattle.std.specs.Map.Iter.{deref, deref_pair};
 ghost use Rattle.bimap.specs.Holding.{IsFoundByLeft};
 ghost use Rattle.bimap_c.specs.Calls.{IsWritten, Tells};
 ghost use Rattle.bimap_c.specs.Bytes.{kept, same_bytes, IsRead, IsByKey, IsPairOut, IsLengthWritten};
+ghost use Rattle.bimap_c.specs.Packed.{u64_row};
 
 use crate::byte_string::ByteString;
 use crate::bytes::{BytesTable, copy_out, note};
+use crate::fill::RightOfRow;
 use crate::status::{DONE, NO_MEMORY, NOT_FOUND};
 use crate::u64_u64::tell_value;
 use bimap::Bijection;
+
+/// A pair: the number of bytes of its left, and its right.
+#[repr(C)]
+#[derive(Clone, Copy, Drop)]
+pub struct Row {
+    pub left_len: usize,
+    pub right: u64,
+}
+
+impl RightOfRow for u64 {
+    type Row = Row;
+
+    ghost row_of = { u64_row };
+
+    ghost right_bytes = { λ _. [] };
+
+    fn to_row(left: &ByteString, right: &u64) -> Row {
+        Row {
+            left_len: left.bytes.len(),
+            right: *right,
+        }
+    }
+
+    fn as_bytes(&self) -> &[u8] {
+        &[]
+    }
+}
 
 /// Writes the right of a left, and returns the status.
 pub(crate) fn get_by_left<B: Bijection<ByteString, u64>>(

@@ -1,15 +1,76 @@
-//! The functions for C of a table of two byte strings that use an order: ranks and ends.
-ghost use Rattle.std.specs.Prelude.{slice_get};
+//! The functions for C of a table of two byte strings that use an order: iteration, ranks and ends.
+ghost use Rattle.std.specs.Prelude.{drop, reverse, slice_get};
 ghost use Rattle.bimap_c.specs.Bytes.{IsLengthWritten, IsRead, IsRanked, PopsFirst, PopsLast};
 ghost use Rattle.bimap_c.specs.BytesBytes.{AreBothOut};
-ghost use Rattle.bimap_c.specs.Calls.{IsWritten, ReadsOrdered, ChangesOrdered, ChangesAtEnd};
+ghost use Rattle.bimap_c.specs.Calls.{IsWritten, Reads, ReadsAtEnd, ReadsOrdered, ChangesOrdered, ChangesAtEnd};
+ghost use Rattle.bimap_c.specs.Packed.{Packs, bytes_of, bytes_row};
 ghost use Rattle.bimap_c.specs.Tables.{bytes_bytes};
 
 use crate::bytes::{left_rank, strike};
-use crate::bytes_bytes::tell_pair;
+use crate::bytes_bytes::{Row, tell_pair};
+use crate::fill::{fill_back, fill_by_rank, fill_by_steps};
 use crate::handle::Handle;
 use crate::status::NO_ORDER;
 use std::alloc::Global;
+
+/// Writes pairs to the front of `rows`, each as the number of bytes of its left, and that of its right. The bytes go to
+/// the front of a buffer, one pair behind another, and the left of a pair before its right. The call leaves out the
+/// first `start` pairs. It writes as many pairs as there are rows and as fit into the buffer. `filled` gets the number
+/// of these pairs, and `len` that of their bytes. An ordered table has its pairs in ascending order of their lefts, and
+/// a table in insertion order in that order. The order of a hashed table is not specified, and it stays the same until
+/// the table changes. An ordered table takes one search, and at most one descent in the tree for each pair. A table of
+/// another kind passes over the pairs that it leaves out. To read all its pairs, use many rows and a long buffer.
+/// Returns 4 if there is a row, and the buffer is too short for the next pair. On 4 it has written the number of bytes
+/// of this pair to `len` alone.
+#[unsafe(no_mangle)]
+pub extern "C" fn jetukoma_bytes_bytes_fill_unchecked(
+    alloc: Global,
+    handle: &mut Handle,
+    start: usize,
+    buf: &mut [u8],
+    rows: &mut [Row],
+    len: &mut usize,
+    filled: &mut usize,
+) -> u32
+    ensures answer { Reads bytes_bytes handle.old.table.value result handle.new.table.value
+        (λ kept. Packs (bytes_of (λ right. right.bytes.items)) bytes_row
+        (drop start kept.held.pairs) result rows.old rows.new filled.new buf.old buf.new len.new) }
+    ensures rows { IsWritten result rows.old rows.new }
+    ensures buf { IsWritten result buf.old buf.new }
+    ensures len { IsLengthWritten result len.old len.new }
+    ensures filled { IsWritten result filled.old filled.new }
+{
+    on_table!(handle, alloc, BytesBytes,
+        Ordered(table) => fill_by_rank(&table.map, start, buf, rows, len, filled),
+        Hashed(table) => fill_by_steps(&table.map, start, buf, rows, len, filled),
+        InsertionOrder(table) => fill_by_steps(&table.map, start, buf, rows, len, filled))
+}
+
+/// Writes pairs as `fill` does, but in the reverse order. It leaves out the last `start` pairs, which it passes over.
+/// Returns 4 as `fill` does, and 6 if the table is hashed.
+#[unsafe(no_mangle)]
+pub extern "C" fn jetukoma_bytes_bytes_fill_back_unchecked(
+    alloc: Global,
+    handle: &mut Handle,
+    start: usize,
+    buf: &mut [u8],
+    rows: &mut [Row],
+    len: &mut usize,
+    filled: &mut usize,
+) -> u32
+    ensures answer { ReadsAtEnd bytes_bytes handle.old.table.value result handle.new.table.value
+        (λ kept. Packs (bytes_of (λ right. right.bytes.items)) bytes_row
+        (drop start (reverse kept.held.pairs)) result rows.old rows.new filled.new buf.old buf.new len.new) }
+    ensures rows { IsWritten result rows.old rows.new }
+    ensures buf { IsWritten result buf.old buf.new }
+    ensures len { IsLengthWritten result len.old len.new }
+    ensures filled { IsWritten result filled.old filled.new }
+{
+    on_table!(handle, alloc, BytesBytes,
+        Ordered(table) => fill_back(&table.map, start, buf, rows, len, filled),
+        Hashed(_) => NO_ORDER,
+        InsertionOrder(table) => fill_back(&table.map, start, buf, rows, len, filled))
+}
 
 /// Writes the pair whose left has exactly `rank` lefts below it. It writes each value to the front of its buffer, and
 /// the two lengths. It takes one search. Returns 4 if a buffer is too short, 5 if there are no more pairs, and 6 if the

@@ -1,15 +1,17 @@
 //! The functions for C of a table of two numbers that use an order: iteration, ranks and ends.
-ghost use Rattle.std.specs.Prelude.{◌≡◌, count_by, drop, nat_lt, not};
+ghost use Rattle.std.specs.Prelude.{◌≡◌, count_by, drop, reverse, nat_lt, not};
 ghost use Rattle.std.specs.List.{filter};
 ghost use Rattle.bimap.specs.BTree.{holding};
-ghost use Rattle.bimap_c.specs.Calls.{IsWritten, Reads, ReadsOrdered, ChangesAtEnd};
+ghost use Rattle.bimap_c.specs.Calls.{IsWritten, Reads, ReadsAtEnd, ReadsOrdered, ChangesAtEnd};
 ghost use Rattle.bimap_c.specs.Tables.{u64_u64};
 ghost use Rattle.bimap_c.specs.U64U64.{PopsFirst, PopsLast, Fills};
 
+use crate::fill::from_rank;
 use crate::handle::Handle;
 use crate::status::{DONE, NO_ORDER};
 use crate::u64_u64::{Pair, tell_pair, write_row};
 use bimap::{BiBTreeMap, BijectiveMap, Index, WalkedIndex};
+use bimap_walk::CourseBack;
 use std::alloc::Global;
 
 /// Writes pairs to the front of a row, until the row is full or there are no more. It leaves out the first `start`
@@ -34,6 +36,27 @@ pub extern "C" fn jetukoma_u64_u64_fill_unchecked(
         Ordered(map) => fill_by_rank(map, start, row, filled),
         Hashed(map) => fill_by_steps(map, start, row, filled),
         InsertionOrder(map) => fill_by_steps(map, start, row, filled))
+}
+
+/// Writes pairs as `fill` does, but in the reverse order. It leaves out the last `start` pairs, which it passes over.
+/// Returns 6 if the table is hashed.
+#[unsafe(no_mangle)]
+pub extern "C" fn jetukoma_u64_u64_fill_back_unchecked(
+    alloc: Global,
+    handle: &mut Handle,
+    start: usize,
+    row: &mut [Pair],
+    filled: &mut usize,
+) -> u32
+    ensures answer { ReadsAtEnd u64_u64 handle.old.table.value result handle.new.table.value
+        (λ held. Fills (drop start (reverse held.pairs)) result row.old filled.new row.new) }
+    ensures out { IsWritten result filled.old filled.new }
+    ensures row { IsWritten result row.old row.new }
+{
+    on_table!(handle, alloc, U64U64,
+        Ordered(map) => fill_back(map, start, row, filled),
+        Hashed(_) => NO_ORDER,
+        InsertionOrder(map) => fill_back(map, start, row, filled))
 }
 
 /// Writes the pairs whose left is at least `from`, as `fill` does. Returns 6 if the table is not ordered.
@@ -127,13 +150,11 @@ fn fill_by_rank(
 ) -> u32
     ensures { Fills (drop start (holding map.now).pairs) result row.old filled.new row.new }
 {
-    match map.pair_at_left_rank(start) {
-        Some((from, _)) => fill_from(map, *from, row, filled),
-        None => {
-            *filled = 0;
-            DONE
-        }
-    }
+    *filled = match from_rank(map, start) {
+        Some(walk) => write_row(walk, row),
+        None => 0,
+    };
+    DONE
 }
 
 fn fill_by_steps<I: WalkedIndex<u64>, J: Index<u64>>(
@@ -145,6 +166,21 @@ fn fill_by_steps<I: WalkedIndex<u64>, J: Index<u64>>(
     ensures { Fills (drop start (holding map.now).pairs) result row.old filled.new row.new }
 {
     *filled = write_row(map.iter().skip(start), row);
+    DONE
+}
+
+fn fill_back<I: WalkedIndex<u64>, J: Index<u64>>(
+    map: &BijectiveMap<u64, u64, I, J>,
+    start: usize,
+    row: &mut [Pair],
+    filled: &mut usize,
+) -> u32
+where
+    I::Way: CourseBack,
+    ensures { Fills (drop start (reverse (holding map.now).pairs)) result row.old filled.new
+        row.new }
+{
+    *filled = write_row(map.iter().rev().skip(start), row);
     DONE
 }
 

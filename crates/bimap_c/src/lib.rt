@@ -31,18 +31,70 @@ macro_rules! on_table {
     }};
 }
 
+// Makes a call that reads the tables of two handles, and returns the status. The status is `NO_TABLE` if a handle has
+// no table of these sides.
+macro_rules! on_both {
+    ($handle:ident, $other:ident, $alloc:ident, $sides:ident, $table:ident, $others:ident => $call:expr) => {{
+        let Some(held) = $handle.take($alloc) else {
+            return crate::status::NO_TABLE;
+        };
+        let Some(other_held) = $other.take($alloc) else {
+            $handle.put(held);
+            return crate::status::NO_TABLE;
+        };
+        let status = match (&*held, &*other_held) {
+            (crate::c_table::CTable::$sides($table), crate::c_table::CTable::$sides($others)) => {
+                $call
+            }
+            _ => crate::status::NO_TABLE,
+        };
+        $handle.put(held);
+        $other.put(other_held);
+        status
+    }};
+}
+
+// Puts a clone of the table of a handle into another handle, and returns the status. The status is `NO_TABLE` if the
+// first handle has no table of these sides, or if the second one has a table.
+macro_rules! clone_into {
+    ($handle:ident, $copy:ident, $alloc:ident, $sides:ident, $table:ident => $clone:expr) => {{
+        if let Some(held) = $copy.take($alloc) {
+            $copy.put(held);
+            return crate::status::NO_TABLE;
+        }
+        let Some(held) = $handle.take($alloc) else {
+            return crate::status::NO_TABLE;
+        };
+        let status = match &*held {
+            crate::c_table::CTable::$sides($table) => match $clone {
+                Some(made) => $copy.make($alloc, crate::c_table::CTable::$sides(made)),
+                None => crate::status::NO_MEMORY,
+            },
+            _ => crate::status::NO_TABLE,
+        };
+        $handle.put(held);
+        status
+    }};
+}
+
 pub mod byte_string;
 pub mod bytes;
 pub mod bytes_bytes;
 pub mod bytes_u64;
 pub mod c_table;
 mod calls;
+mod compare;
+mod copy;
 pub mod exports_bytes_bytes;
+pub mod exports_bytes_bytes_both;
 pub mod exports_bytes_bytes_order;
 pub mod exports_bytes_u64;
+pub mod exports_bytes_u64_both;
 pub mod exports_bytes_u64_order;
 pub mod exports_u64_u64;
+pub mod exports_u64_u64_both;
 pub mod exports_u64_u64_order;
+mod fill;
 pub mod handle;
 mod json;
 pub mod kind;

@@ -7,8 +7,8 @@ pub const DONE: u32 = 0;
 /// Out of memory. Nothing has changed. A call with many items keeps the items before the one that ran out of memory.
 pub const NO_MEMORY: u32 = 1;
 
-/// The handle is null or has no table of these sides. `free` returns this if the handle has no table. `new` returns it
-/// if the handle has a table already. Nothing has changed.
+/// A handle is null or has no table of these sides. `free` returns this if the handle has no table. `new` and `clone`
+/// return it if the handle for the new table has a table already. Nothing has changed.
 pub const NO_TABLE: u32 = 2;
 
 /// The call was refused, and nothing has changed. A value is contained and must not be overwritten, a flag is above 1,

@@ -89,46 +89,66 @@ impl<K: Kind> Json for BytesU64<K> {
     }
 }
 
-/// The iteration of the tables with one type of right. Only an ordered table has it.
+/// A pair beside its bytes. The right is a number, or the number of its bytes.
+#[repr(C)]
+#[derive(Clone, Copy, Default)]
+struct Row {
+    left_len: usize,
+    right: u64,
+}
+
+/// The iteration of the tables with one type of right. The argument says how a right is read from a row and the bytes.
 macro_rules! walked {
-    ($name:ident $sides:literal $read:ident($($out:ident: $of:ty),*)) => {
+    ($name:ident $sides:literal $read:ident) => {
         const _: () = {
-            external! { $sides: pair_at_rank(rank: usize, buffer: *mut u8, size: usize, len: *mut usize, $($out: $of),*); }
-            impl Walked for $name<Ordered> {
-                const LONGEST: usize = 64;
+            external! { $sides: fill(start: usize, buffer: *mut u8, size: usize, rows: *mut Row, most: usize, len: *mut usize, filled: *mut usize); }
+            impl<K: Kind> Walked for $name<K> {
+                const LONGEST: usize = if K::NUMBER == Ordered::NUMBER { 64 } else { usize::MAX };
                 fn row(handle: &mut Handle<Self>, start: usize, most: usize) -> Vec<Found<Self>> {
-                    let mut at = |rank| $read(|buffer, size, len, $($out),*| unsafe { pair_at_rank(&mut handle.raw, rank, buffer, size, len, $($out),*) });
-                    (start..start.saturating_add(most)).map_while(|rank| at(rank).ok().flatten()).collect()
+                    let (mut pairs, mut rows) = (Vec::with_capacity(most), vec![Row::default(); most]);
+                    let mut buffer = vec![0; most.saturating_mul(32)];
+                    while pairs.len() < most {
+                        let (mut len, mut filled, wanted) = (0, 0, most - pairs.len());
+                        let status = unsafe {
+                            fill(&mut handle.raw, start + pairs.len(), buffer.as_mut_ptr(), buffer.len(), rows.as_mut_ptr(), wanted, &mut len, &mut filled)
+                        };
+                        if status == BUFFER_TOO_SHORT {
+                            buffer = vec![0; len.max(buffer.len() * 2)];
+                            continue;
+                        }
+                        sure(status);
+                        if filled == 0 {
+                            break;
+                        }
+                        let mut packed = &buffer[..len];
+                        pairs.extend(rows[..filled].iter().map(|row| {
+                            let left = taken(&mut packed, row.left_len);
+                            (left, $read(&mut packed, row.right))
+                        }));
+                        // What did not fit goes into a buffer of twice the length.
+                        buffer.resize(buffer.len() * 2, 0);
+                    }
+                    pairs
                 }
             }
         };
     };
 }
 
-fn bytes_and_number(mut call: impl FnMut(*mut u8, usize, *mut usize, *mut u64) -> u32) -> Asked<(Vec<u8>, u64)> {
-    let mut right = 0;
-    let left = bytes(|buffer, size, len| call(buffer, size, len, &mut right))?;
-    Ok(left.map(|left| (left, right)))
+/// Takes this number of bytes from the front.
+fn taken(packed: &mut &[u8], len: usize) -> Vec<u8> {
+    let (first, others) = packed.split_at(len);
+    *packed = others;
+    first.to_vec()
 }
 
-fn bytes_and_bytes(mut call: impl FnMut(*mut u8, usize, *mut usize, *mut u8, usize, *mut usize) -> u32) -> Asked<(Vec<u8>, Vec<u8>)> {
-    let mut right = vec![0; 32];
-    let left = bytes(|buffer, size, len| {
-        let mut right_len = 0;
-        let status = call(buffer, size, len, right.as_mut_ptr(), right.len(), &mut right_len);
-        // The buffer becomes longer if it was too short.
-        right.resize(
-            if status == BUFFER_TOO_SHORT {
-                right.len().max(right_len)
-            } else {
-                right_len
-            },
-            0,
-        );
-        status
-    })?;
-    Ok(left.map(|left| (left, right)))
+fn right_number(_: &mut &[u8], right: u64) -> u64 {
+    right
 }
 
-walked!(BytesU64 "bytes_u64" bytes_and_number(right: *mut u64));
-walked!(BytesBytes "bytes_bytes" bytes_and_bytes(right_buffer: *mut u8, right_size: usize, right_len: *mut usize));
+fn right_bytes(packed: &mut &[u8], right: u64) -> Vec<u8> {
+    taken(packed, right as usize)
+}
+
+walked!(BytesU64 "bytes_u64" right_number);
+walked!(BytesBytes "bytes_bytes" right_bytes);
