@@ -1,0 +1,10 @@
+pub mod Breaks
+pub mod Changed
+pub mod Found
+pub mod Groups
+pub mod Kept
+pub mod Moments
+pub mod Opened
+pub mod Parsed
+pub mod Steps
+pub mod Values

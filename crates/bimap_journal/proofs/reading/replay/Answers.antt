@@ -1,0 +1,68 @@
+use Rattle.std.proofs.Common.{arith, ◌≡◌, ◌∙◌, ◌++◌, ◌∷◌, [], ap, sym, subst, refl, length, take, drop, ◌-◌}
+use Rattle.std.specs.Prelude.{Contains}
+use Rattle.std.proofs.lemmas.Bool.Decides.{Decides-eqb}
+use Rattle.std.proofs.lemmas.List.{length-append, length-drop}
+use Rattle.std.proofs.lemmas.List.Elements.{All-push}
+use Rattle.std.proofs.lemmas.Slice.Eq.{starts_is}
+use Rattle.bimap_base.proofs.Members.{none_in}
+use Rattle.bimap_journal.specs.Lines.{header, lines}
+use Rattle.bimap_journal.proofs.Kept.{kept_none}
+use Rattle.bimap_journal.proofs.Parsed.{take_all, others, long_line, one_more, file_fault}
+use Rattle.bimap_journal.proofs.reading.replay.Goals as goal
+
+pub loop-text-init : goal.loop-text-init
+loop-text-init g c =
+    let bytes = c.args.bytes.now in
+    let begins : bytes ≡ header ++ drop 19 bytes = (starts_is Decides-eqb bytes header _ c.if-not-starts_with.ensures.value).0 refl in
+    let all : take (length bytes - 19) (drop 19 bytes) ≡ drop 19 bytes = take_all (drop 19 bytes) (length bytes - 19) (length-drop 19 bytes) in
+    record {
+      texts = [];
+      is = begins ∙ ap (λ xs. header ++ xs) (sym all);
+      unbroken = λ k d inside. absurd (omega (arith, inside));
+      kept = kept_none g.L.Stored.reads g.R.Stored.reads g.L.PartialEq.eq g.R.PartialEq.eq g.met.L.Eq.laws g.met.R.Eq.laws _
+          (λ p there. none_in p (subst (λ l. Contains l p) c.requires.empty there));
+    }
+
+pub overflow_sub-at : goal.overflow_sub-at
+overflow_sub-at g c =
+    let k = c.loop-text.invariant in
+    let long = ap length k.is ∙ length-append (header ++ lines k.texts) c.loop-text.rest.now in
+    omega (arith, long)
+
+pub loop-text-smaller : goal.loop-text-smaller
+loop-text-smaller g c = long_line c.loop-text.rest.now c.in-Line.text.now c.in-Line.behind.now c.in-Line.ensures.0
+
+pub loop-text-preserved : goal.loop-text-preserved
+loop-text-preserved g c =
+    let k = c.loop-text.invariant in
+    let text = c.in-Line.text.now in
+    let behind = c.in-Line.behind.now in
+    record {
+      texts = k.texts ++ text ∷ [];
+      is = k.is ∙ ap (λ xs. header ++ lines k.texts ++ xs) c.in-Line.ensures.0 ∙ one_more k.texts text behind;
+      unbroken = All-push (λ t. ¬ Contains t 10) k.texts text k.unbroken c.in-Line.ensures.1;
+      kept = c.in-Ok.ensures.made k.texts k.kept;
+    }
+
+pub returns-in-End-clause-read : goal.returns-in-End-clause-read
+returns-in-End-clause-read g c =
+    let k = c.loop-text.invariant in
+    let long = ap length k.is ∙ length-append (header ++ lines k.texts) c.loop-text.rest.now in
+    record {
+      texts = k.texts;
+      has = record { rest = c.in-End.ensures.0; is = k.is ∙ ap (λ xs. header ++ lines k.texts ++ xs) c.in-End.ensures.1; unbroken = k.unbroken };
+      at_end = omega (arith, long);
+      kept = k.kept;
+    }
+
+pub returns-in-Damaged-clause-fault : goal.returns-in-Damaged-clause-fault
+returns-in-Damaged-clause-fault g c = λ texts changes has are.
+    let k = c.loop-text.invariant in
+    let s = others c.args.bytes.now k.texts c.loop-text.rest.now texts k.is k.unbroken has in
+    c.in-Damaged.ensures s.0 has.rest s.2 s.3
+
+pub returns-in-Err-clause-fault : goal.returns-in-Err-clause-fault
+returns-in-Err-clause-fault g c =
+    let k = c.loop-text.invariant in
+    file_fault g.L.Stored.reads g.R.Stored.reads c.args.bytes.now k.texts c.loop-text.rest.now c.in-Line.text.now c.in-Line.behind.now _ c.in-Err.fault
+    k.is k.unbroken c.in-Line.ensures.0 c.in-Line.ensures.1 c.in-Err.ensures.fault

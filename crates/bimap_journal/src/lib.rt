@@ -1,0 +1,25 @@
+//! A map that outlives a crash: each change is in a file before it is acknowledged.
+#![tactic(auto)]
+
+mod change;
+mod disk;
+mod fault;
+mod file;
+mod group;
+mod journal;
+mod journaled;
+mod reading;
+mod storage;
+mod stored;
+#[cfg(test)]
+mod tests;
+mod text;
+
+pub use change::Change;
+pub use disk::{Disk, Operation};
+pub use fault::{NotOpened, NotStored};
+pub use file::{File, FileError};
+pub use journal::Journal;
+pub use journaled::Journaled;
+pub use storage::Storage;
+pub use stored::Stored;

@@ -1,0 +1,4 @@
+//! Tests of what no clause says.
+mod file;
+mod memory;
+mod opening;

@@ -1,0 +1,33 @@
+//! The example of docs/JOURNAL.md: seats in a file.
+#![tactic(auto)]
+
+use anyhow::Result;
+use bimap::BiBTreeMap;
+use bimap_journal::{File, Journaled};
+use std::fs;
+
+type StoredSeats = Journaled<BiBTreeMap<String, u32>, String, u32, File>;
+
+fn open_seats(rt: &HostRuntime) -> Result<StoredSeats> {
+    let file = File::open(rt, "seats.journal")?;
+    match Journaled::open(rt.alloc(), BiBTreeMap::new(rt.alloc()), file) {
+        Ok(seats) => Ok(seats),
+        Err((why, _)) => Err(why.into()),
+    }
+}
+
+fn main(rt: HostRuntime) -> Result<()> {
+    let mut seats = open_seats(&rt)?;
+    let (ann, bob) = (
+        String::from_str(rt.alloc(), "ann")?,
+        String::from_str(rt.alloc(), "bob")?,
+    );
+    println!(rt; "{:?}", seats.insert(ann, 12)?)?; // Ok(Neither)
+    println!(rt; "{:?}", seats.insert(bob, 12)?)?; // Ok(Right("ann", 12))
+    drop(seats);
+    let seats = open_seats(&rt)?;
+    println!(rt; "{:?}", seats.map())?; // {"bob" <> 12}
+    // The next run begins anew.
+    fs::remove_file(&rt, "seats.journal")?;
+    Ok(())
+}

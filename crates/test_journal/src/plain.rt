@@ -1,0 +1,63 @@
+//! A list of pairs that says what a map must contain. It does not use the library.
+use crate::step::Step;
+use std::alloc::{AllocError, Global};
+
+/// The pairs after some steps.
+#[derive(Drop)]
+pub struct Plain {
+    pairs: Vec<(&'static str, u64)>,
+}
+
+impl Plain {
+    /// Returns the pairs after these steps.
+    pub fn after(alloc: Global, steps: &[Step]) -> Result<Plain, AllocError> {
+        let mut plain = Plain {
+            pairs: Vec::new(alloc),
+        };
+        for step in steps {
+            plain.make(step)?;
+        }
+        Ok(plain)
+    }
+
+    /// Returns the pairs.
+    pub fn pairs(&self) -> &[(&'static str, u64)] {
+        &self.pairs
+    }
+
+    fn has_left(&self, left: &'static str) -> bool {
+        self.pairs.iter().any(|pair| pair.0 == left)
+    }
+
+    fn has_right(&self, right: u64) -> bool {
+        self.pairs.iter().any(|pair| pair.1 == right)
+    }
+
+    /// Makes one step.
+    pub fn make(&mut self, step: &Step) -> Result<(), AllocError> {
+        match *step {
+            Step::Insert(left, right) => self.insert(left, right)?,
+            Step::InsertNew(left, right) => {
+                if !self.has_left(left) && !self.has_right(right) {
+                    self.insert(left, right)?;
+                }
+            }
+            Step::Move(left, right) => {
+                if !self.has_right(right) {
+                    self.insert(left, right)?;
+                }
+            }
+            Step::RemoveByLeft(left) => self.pairs.retain(|pair| pair.0 != left),
+            Step::RemoveByRight(right) => self.pairs.retain(|pair| pair.1 != right),
+            Step::Clear => self.pairs.clear(),
+        }
+        Ok(())
+    }
+
+    // A forced insertion: no pair that shares a value with the new one stays.
+    fn insert(&mut self, left: &'static str, right: u64) -> Result<(), AllocError> {
+        self.pairs.retain(|pair| pair.0 != left && pair.1 != right);
+        self.pairs.push((left, right))?;
+        Ok(())
+    }
+}
