@@ -5,8 +5,8 @@ ghost use Rattle.bimap.specs.JsonReading.{ReadsBack};
 ghost use Rattle.serde_json.specs.View.{view, items_view};
 ghost use Rattle.bimap_journal.specs.Changes.{Reads, IsReading, insert_of, remove_by_left_of, remove_by_right_of, clear_of};
 
-use bimap::NoMemory;
 use crate::stored::Stored;
+use bimap::NoMemory;
 use bimap::value::ReadFault;
 use serde_json::Value;
 use std::alloc::Global;
