@@ -1,39 +1,18 @@
 //! The calls of the C library, made safe. A `Handle` has a table from the time that it is made.
-use std::collections::hash_map::RandomState;
+use std::cell::UnsafeCell;
 use std::ffi::c_void;
-use std::hash::BuildHasher;
+use std::fmt::Debug;
 use std::marker::PhantomData;
-use std::ptr::null_mut;
+use std::panic::RefUnwindSafe;
+use std::ptr::{self, null_mut};
 
-use crate::{Hashed, InsertionOrder, Ordered, Overwritten, Policy};
+use crate::{Overwritten, Policy};
 
 /// The reasons for which a call is refused.
 pub enum Refusal {
     Memory,
     Held,
 }
-
-/// A kind of table, with its number in the library.
-pub trait Kind {
-    const NUMBER: u32;
-}
-
-impl Kind for Ordered {
-    const NUMBER: u32 = 0;
-}
-
-impl Kind for Hashed {
-    const NUMBER: u32 = 1;
-}
-
-impl Kind for InsertionOrder {
-    const NUMBER: u32 = 2;
-}
-
-/// The kinds that do not order their rights.
-pub trait Unsorted: Kind {}
-impl Unsorted for Hashed {}
-impl Unsorted for InsertionOrder {}
 
 /// A handle as the library reads it.
 #[repr(C)]
@@ -44,22 +23,26 @@ pub struct Raw {
 
 /// The handle of a table. Its type says which calls it is for.
 pub struct Handle<B: Library> {
-    raw: Raw,
-    calls: PhantomData<B>,
+    // A look-up takes the table out of its handle and puts it back, so it writes to a shared map too. Two calls never
+    // run at the same time: the cell keeps the map on one thread, and of the program the library calls only the
+    // allocator.
+    raw: UnsafeCell<Raw>,
+    calls: PhantomData<fn() -> B>,
 }
 
 // SAFETY: the library allows a handle to go to another thread. It has no memory that belongs to one thread.
 unsafe impl<B: Library> Send for Handle<B> {}
 
+// A call of the library ends before anything else of the program runs, so a panic leaves each table whole.
+impl<B: Library> RefUnwindSafe for Handle<B> {}
+
 impl<B: Library> Handle<B> {
-    pub fn new() -> Result<Handle<B>, Refusal> {
-        let raw = Raw {
-            at: null_mut(),
-            live: false,
-        };
-        let mut handle = Handle { raw, calls: PhantomData };
-        B::make(&mut handle)?;
-        Ok(handle)
+    /// Makes a handle whose table this call makes.
+    fn made(make: impl FnOnce(*mut Raw) -> u32) -> Result<Handle<B>, Refusal> {
+        let (at, live) = (null_mut(), false);
+        let raw = UnsafeCell::new(Raw { at, live });
+        let handle = Handle { raw, calls: PhantomData };
+        done(make(handle.raw.get())).map(|()| handle)
     }
 }
 
@@ -69,48 +52,40 @@ impl<B: Library> Drop for Handle<B> {
     }
 }
 
-/// A value as the library knows it, which is `u64` or bytes.
-type Owned<V> = <V as ToOwned>::Owned;
-type Found<B> = (Owned<<B as Library>::Left>, Owned<<B as Library>::Right>);
+/// A value as a table has it, which is `u64` or bytes.
+pub type Owned<V> = <V as ToOwned>::Owned;
+pub type Found<B> = (Owned<<B as Library>::Left>, Owned<<B as Library>::Right>);
 type Told<B> = Overwritten<Owned<<B as Library>::Left>, Owned<<B as Library>::Right>>;
 type Asked<T> = Result<Option<T>, Refusal>;
 
-/// The calls on tables of one kind and one pair of sides. The last three need an order. The map has them only for kinds with this
-/// order.
+/// The calls on tables with one pair of sides. Three of them need an order: `left_rank`, `pop_first` and `pop_last`.
+/// The map has them only for kinds with this order.
 pub trait Library: Sized {
-    type Left: ?Sized + ToOwned;
-    type Right: ?Sized + ToOwned;
-
-    fn make(handle: &mut Handle<Self>) -> Result<(), Refusal>;
-    fn free(handle: &mut Handle<Self>);
-    fn len(handle: &mut Handle<Self>) -> usize;
-    fn capacity(handle: &mut Handle<Self>) -> usize;
-    fn reserve(handle: &mut Handle<Self>, more: usize) -> Result<(), Refusal>;
-    fn clear(handle: &mut Handle<Self>);
-    fn insert_with(handle: &mut Handle<Self>, left: &Self::Left, right: &Self::Right, policy: Policy) -> Result<Told<Self>, Refusal>;
-    fn get_by_left(handle: &mut Handle<Self>, left: &Self::Left) -> Asked<Owned<Self::Right>>;
-    fn get_by_right(handle: &mut Handle<Self>, right: &Self::Right) -> Asked<Owned<Self::Left>>;
-    fn contains_left(handle: &mut Handle<Self>, left: &Self::Left) -> Result<bool, Refusal>;
-    fn contains_right(handle: &mut Handle<Self>, right: &Self::Right) -> Result<bool, Refusal>;
-    fn remove_by_left(handle: &mut Handle<Self>, left: &Self::Left) -> Asked<Found<Self>>;
-    fn remove_by_right(handle: &mut Handle<Self>, right: &Self::Right) -> Asked<Found<Self>>;
-    fn left_rank(handle: &mut Handle<Self>, left: &Self::Left) -> Result<usize, Refusal>;
-    fn pop_first(handle: &mut Handle<Self>) -> Option<Found<Self>>;
-    fn pop_last(handle: &mut Handle<Self>) -> Option<Found<Self>>;
-}
-
-/// The calls of a table that can be iterated.
-pub trait Walked: Library {
-    /// The longest row to ask for. A table that is not ordered goes from its first pair to the start of each row.
+    type Left: ?Sized + Ord + ToOwned<Owned: Ord + Clone + Debug>;
+    type Right: ?Sized + Ord + ToOwned<Owned: Ord + Clone + Debug>;
+    /// The longest row to read from an ordered table. The others go from their first pair to the start of each row.
     const LONGEST: usize;
-    /// Returns at most this many pairs, from the start-th pair on.
-    fn row(handle: &mut Handle<Self>, start: usize, most: usize) -> Vec<Found<Self>>;
-}
 
-/// The calls of a table of bytes and numbers.
-pub trait Json: Library {
-    fn to_json(handle: &mut Handle<Self>) -> Result<Vec<u8>, Refusal>;
-    fn from_json(handle: &mut Handle<Self>, text: &[u8]) -> Result<(), Refusal>;
+    fn make(kind: u32, seed: u64) -> Result<Handle<Self>, Refusal>;
+    fn clone(handle: &Handle<Self>) -> Result<Handle<Self>, Refusal>;
+    fn equals(handle: &Handle<Self>, other: &Handle<Self>) -> bool;
+    fn free(handle: &Handle<Self>);
+    fn len(handle: &Handle<Self>) -> usize;
+    fn capacity(handle: &Handle<Self>) -> usize;
+    fn reserve(handle: &Handle<Self>, more: usize) -> Result<(), Refusal>;
+    fn clear(handle: &Handle<Self>);
+    fn insert_with(handle: &Handle<Self>, left: &Self::Left, right: &Self::Right, policy: Policy) -> Result<Told<Self>, Refusal>;
+    fn get_by_left(handle: &Handle<Self>, left: &Self::Left) -> Asked<Owned<Self::Right>>;
+    fn get_by_right(handle: &Handle<Self>, right: &Self::Right) -> Asked<Owned<Self::Left>>;
+    fn contains_left(handle: &Handle<Self>, left: &Self::Left) -> Result<bool, Refusal>;
+    fn contains_right(handle: &Handle<Self>, right: &Self::Right) -> Result<bool, Refusal>;
+    fn remove_by_left(handle: &Handle<Self>, left: &Self::Left) -> Asked<Found<Self>>;
+    fn remove_by_right(handle: &Handle<Self>, right: &Self::Right) -> Asked<Found<Self>>;
+    fn left_rank(handle: &Handle<Self>, left: &Self::Left) -> Result<usize, Refusal>;
+    fn pop_first(handle: &Handle<Self>) -> Option<Found<Self>>;
+    fn pop_last(handle: &Handle<Self>) -> Option<Found<Self>>;
+    /// Returns at most this many pairs, from the start-th pair on.
+    fn row(handle: &Handle<Self>, start: usize, most: usize) -> Vec<Found<Self>>;
 }
 
 // The statuses.
@@ -194,36 +169,42 @@ macro_rules! external {
     };
 }
 
-// SAFETY of each call below: the handle has this type and is behind a `&mut`. References and slices are passed as
-// pointers with their lengths, and the library keeps none of them. Of the program it calls only malloc, realloc and
-// free.
+// SAFETY of each call below: the handle has this type, and no other call uses it at this time. References and slices
+// are passed as pointers with their lengths, and the library keeps none of them. Of the program it calls only malloc,
+// realloc and free.
 
-/// The calls that take no value, for a table of the kind `K`.
+/// The calls that take no value.
 macro_rules! plain {
     () => {
-        fn make(handle: &mut Handle<Self>) -> Result<(), Refusal> {
-            // `RandomState` has random keys, so its hash of nothing is a random seed.
-            done(unsafe { new(&mut handle.raw, K::NUMBER, RandomState::new().hash_one(())) })
+        fn make(kind: u32, seed: u64) -> Result<Handle<Self>, Refusal> {
+            Handle::made(|raw| unsafe { new(raw, kind, seed) })
         }
-        fn free(handle: &mut Handle<Self>) {
+        fn clone(handle: &Handle<Self>) -> Result<Handle<Self>, Refusal> {
+            Handle::made(|raw| unsafe { clone(handle.raw.get(), raw) })
+        }
+        fn equals(handle: &Handle<Self>, other: &Handle<Self>) -> bool {
+            // The library does not take one handle twice.
+            ptr::eq(handle, other) || matches!(found(unsafe { equals(handle.raw.get(), other.raw.get()) }), Ok(true))
+        }
+        fn free(handle: &Handle<Self>) {
             // A handle whose table could not be made has no table.
-            unsafe { free(&mut handle.raw) };
+            unsafe { free(handle.raw.get()) };
         }
-        fn len(handle: &mut Handle<Self>) -> usize {
+        fn len(handle: &Handle<Self>) -> usize {
             let mut it = 0;
-            sure(unsafe { len(&mut handle.raw, &mut it) });
+            sure(unsafe { len(handle.raw.get(), &mut it) });
             it
         }
-        fn capacity(handle: &mut Handle<Self>) -> usize {
+        fn capacity(handle: &Handle<Self>) -> usize {
             let mut it = 0;
-            sure(unsafe { capacity(&mut handle.raw, &mut it) });
+            sure(unsafe { capacity(handle.raw.get(), &mut it) });
             it
         }
-        fn reserve(handle: &mut Handle<Self>, more: usize) -> Result<(), Refusal> {
-            done(unsafe { reserve(&mut handle.raw, more) })
+        fn reserve(handle: &Handle<Self>, more: usize) -> Result<(), Refusal> {
+            done(unsafe { reserve(handle.raw.get(), more) })
         }
-        fn clear(handle: &mut Handle<Self>) {
-            sure(unsafe { clear(&mut handle.raw) });
+        fn clear(handle: &Handle<Self>) {
+            sure(unsafe { clear(handle.raw.get()) });
         }
     };
 }

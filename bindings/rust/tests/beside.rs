@@ -1,66 +1,19 @@
-//! Tests what the crate `bimap` does not have: policies, refusals of memory, and threads. It also makes random calls
-//! beside two maps of std.
-use jetukoma::{BiBTreeMap, BiHashMap, BiInsertionOrderMap, NoMemory, NotInserted, OnHeld, Overwritten, Policy};
-use std::collections::BTreeMap;
+//! Tests what the crate `bimap` does not have: policies, refusals of memory, ranks, ends and JSON. It also tests maps
+//! with many pairs.
+use jetukoma::{BiBTreeMap, BiHashMap, BiInsertionOrderMap, BiMap, NoMemory, NotInserted, OnHeld, Overwritten, Policy};
 use std::process::Command;
 
 #[test]
 fn policies() {
     let [overwrite, refuse] = [OnHeld::Overwrite, OnHeld::Refuse];
+    let policy = |left, right| Policy { left, right };
     let mut bimap = BiBTreeMap::from_iter([(10, 1), (20, 2)]);
+    assert_eq!(bimap.insert_with(10, 3, policy(refuse, overwrite)), Err((10, 3)));
+    assert_eq!(bimap.insert_with(30, 1, policy(overwrite, refuse)), Err((30, 1)));
+    assert_eq!(bimap.insert_with(10, 3, policy(overwrite, refuse)), Ok(Overwritten::Left(10, 1)));
+    assert_eq!(bimap.insert_with(30, 3, policy(refuse, overwrite)), Ok(Overwritten::Right(10, 3)));
     assert_eq!(
-        bimap.insert_with(
-            10,
-            3,
-            Policy {
-                left: refuse,
-                right: overwrite
-            }
-        ),
-        Err((10, 3))
-    );
-    assert_eq!(
-        bimap.insert_with(
-            30,
-            1,
-            Policy {
-                left: overwrite,
-                right: refuse
-            }
-        ),
-        Err((30, 1))
-    );
-    assert_eq!(
-        bimap.insert_with(
-            10,
-            3,
-            Policy {
-                left: overwrite,
-                right: refuse
-            }
-        ),
-        Ok(Overwritten::Left(10, 1))
-    );
-    assert_eq!(
-        bimap.insert_with(
-            30,
-            3,
-            Policy {
-                left: refuse,
-                right: overwrite
-            }
-        ),
-        Ok(Overwritten::Right(10, 3))
-    );
-    assert_eq!(
-        bimap.try_insert_with(
-            30,
-            3,
-            Policy {
-                left: refuse,
-                right: refuse
-            }
-        ),
+        bimap.try_insert_with(30, 3, policy(refuse, refuse)),
         Err(NotInserted::Occupied(30, 3))
     );
     assert_eq!(bimap.try_insert_no_overwrite(40, 2), Err(NotInserted::Occupied(40, 2)));
@@ -70,7 +23,7 @@ fn policies() {
 
 #[test]
 fn no_memory() {
-    let mut bimap = BiHashMap::from_iter([(10, 1)]);
+    let mut bimap = BiMap::from_iter([(10, 1)]);
     let capacity = bimap.capacity();
     assert_eq!(bimap.try_reserve(usize::MAX), Err(NoMemory));
     assert_eq!(bimap.try_reserve(usize::MAX / 64), Err(NoMemory));
@@ -183,7 +136,7 @@ fn many_pairs() {
     let mut ascending = pairs.clone();
     ascending.sort();
     assert_eq!(BiBTreeMap::from_iter(pairs.clone()).into_iter().collect::<Vec<_>>(), ascending);
-    let mut walked: Vec<_> = BiHashMap::from_iter(pairs).into_iter().collect();
+    let mut walked: Vec<_> = BiMap::from_iter(pairs).into_iter().collect();
     walked.sort();
     assert_eq!(walked, ascending);
 }
@@ -200,89 +153,11 @@ fn many_bytes() {
     assert_eq!(BiBTreeMap::from_iter(pairs.clone()).into_iter().collect::<Vec<_>>(), ascending);
     assert_eq!(BiInsertionOrderMap::from_iter(pairs.clone()).into_iter().collect::<Vec<_>>(), pairs);
     assert_eq!(BiInsertionOrderMap::from_iter(both.clone()).into_iter().collect::<Vec<_>>(), both);
-    let mut hashed: Vec<_> = BiHashMap::from_iter(pairs).into_iter().collect();
-    let mut both_hashed: Vec<_> = BiHashMap::from_iter(both).into_iter().collect();
+    let mut hashed: Vec<_> = BiMap::from_iter(pairs).into_iter().collect();
+    let mut both_hashed: Vec<_> = BiMap::from_iter(both).into_iter().collect();
     hashed.sort();
     both_hashed.sort();
     assert_eq!((hashed, both_hashed), (ascending, both_ascending));
     let none: BiHashMap<String, u64> = BiHashMap::new();
     assert_eq!(none.iter().next(), None);
-}
-
-fn chance(state: &mut u64, below: u64) -> u64 {
-    *state = state.wrapping_mul(6364136223846793005).wrapping_add(1442695040888963407);
-    (*state >> 33) % below
-}
-
-/// Makes random calls with values that are made from numbers.
-macro_rules! beside_a_model {
-    ($($test:ident $map:ident $left:expr, $right:expr;)*) => { $(
-        #[test]
-        fn $test() {
-            let (mut map, mut by_left, mut by_right) = ($map::new(), BTreeMap::new(), BTreeMap::new());
-            let state = &mut 7;
-            for _ in 0..50_000 {
-                let (left, right) = ($left(chance(state, 50)), $right(chance(state, 50)));
-                match chance(state, 6) {
-                    0 | 1 => {
-                        let refuses = [chance(state, 2) == 0, chance(state, 2) == 0];
-                        let [l, r] = refuses.map(|it| if it { OnHeld::Refuse } else { OnHeld::Overwrite });
-                        let (old_right, old_left) = (by_left.get(&left).cloned(), by_right.get(&right).cloned());
-                        let wanted = if refuses[0] && old_right.is_some() || refuses[1] && old_left.is_some() {
-                            Err((left.clone(), right.clone()))
-                        } else {
-                            by_left.retain(|l, r| *l != left && *r != right);
-                            by_right.retain(|r, l| *l != left && *r != right);
-                            by_left.insert(left.clone(), right.clone());
-                            by_right.insert(right.clone(), left.clone());
-                            Ok(match (old_right, old_left) {
-                                (None, None) => Overwritten::Neither,
-                                (Some(old), None) => Overwritten::Left(left.clone(), old),
-                                (None, Some(old)) => Overwritten::Right(old, right.clone()),
-                                (Some(old), Some(_)) if old == right => Overwritten::Pair(left.clone(), old),
-                                (Some(old), Some(other)) => Overwritten::Both((left.clone(), old), (other, right.clone())),
-                            })
-                        };
-                        assert_eq!(map.insert_with(left, right, Policy { left: l, right: r }), wanted);
-                    }
-                    2 => {
-                        let wanted = by_left.remove_entry(&left);
-                        by_right.retain(|_, l| *l != left);
-                        assert_eq!(map.remove_by_left(&left), wanted);
-                    }
-                    3 => {
-                        let wanted = by_right.remove_entry(&right).map(|(right, left)| (left, right));
-                        by_left.retain(|_, r| *r != right);
-                        assert_eq!(map.remove_by_right(&right), wanted);
-                    }
-                    4 => assert_eq!((map.get_by_left(&left), map.contains_left(&left)), (by_left.get(&left).cloned(), by_left.contains_key(&left))),
-                    _ => assert_eq!((map.get_by_right(&right), map.contains_right(&right)), (by_right.get(&right).cloned(), by_right.contains_key(&right))),
-                }
-                assert_eq!(map.len(), by_left.len());
-            }
-        }
-    )* };
-}
-
-fn number(it: u64) -> u64 {
-    it
-}
-
-fn bytes(it: u64) -> Vec<u8> {
-    vec![it as u8 % 3; it as usize]
-}
-
-fn text(it: u64) -> String {
-    format!("{it:x$}", x = it as usize)
-}
-
-beside_a_model! {
-    ordered_numbers BiBTreeMap number, number;
-    hashed_numbers BiHashMap number, number;
-    numbers_in_insertion_order BiInsertionOrderMap number, number;
-    ordered_texts BiBTreeMap text, number;
-    hashed_texts BiHashMap text, number;
-    ordered_bytes_and_numbers BiBTreeMap bytes, number;
-    ordered_bytes BiBTreeMap bytes, bytes;
-    hashed_bytes BiHashMap bytes, bytes;
 }

@@ -95,7 +95,7 @@ of_each_kind! {
         assert_eq!(bimap.remove_by_right(&2), Some((s("b"), 2)));
         assert_eq!(bimap.remove_by_right(&2), None);
         bimap.clear();
-        assert!(bimap.is_empty() && bimap.len() == 0);
+        assert_eq!((bimap.is_empty(), bimap.len()), (true, 0));
     }
 
     #[test]
@@ -207,7 +207,7 @@ fn ordered_walks_ascend() {
         bimap.left_range(b.clone()..=d.clone()).map(|it| it.1).collect::<Vec<_>>(),
         [3, 2, 1]
     );
-    assert_eq!(bimap.left_range(..).len(), 4);
+    assert_eq!(bimap.left_range::<str, _>(..).len(), 4);
     assert_eq!(bimap.left_range(b.clone()..b.clone()).len(), 0);
     assert_eq!(bimap.left_range(d..b).next(), None);
 }

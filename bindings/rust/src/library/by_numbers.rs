@@ -27,11 +27,11 @@ fn pair(call: impl FnOnce(*mut Pair) -> u32) -> Asked<(u64, u64)> {
     Ok(found(call(&mut it))?.then_some(it.parts()))
 }
 
-/// The tables of the kind `K`.
-pub struct U64U64<K>(PhantomData<K>);
+pub struct U64U64;
 
 external! { "u64_u64":
-    new(kind: u32, seed: u64); free(); len(it: *mut usize); capacity(it: *mut usize); reserve(more: usize); clear();
+    new(kind: u32, seed: u64); clone(copy: *mut Raw); equals(other: *mut Raw); free();
+    len(it: *mut usize); capacity(it: *mut usize); reserve(more: usize); clear();
     insert_with(left: u64, right: u64, left_refuses: u8, right_refuses: u8, told: *mut Answer);
     get_by_left(left: u64, right: *mut u64); get_by_right(right: u64, left: *mut u64);
     contains_left(left: u64); contains_right(right: u64);
@@ -40,55 +40,56 @@ external! { "u64_u64":
     fill(start: usize, row: *mut Pair, most: usize, filled: *mut usize);
 }
 
-impl<K: Kind> Library for U64U64<K> {
+impl Library for U64U64 {
     type Left = u64;
     type Right = u64;
+    const LONGEST: usize = 1024;
     plain!();
     #[inline]
-    fn insert_with(handle: &mut Handle<Self>, left: &u64, right: &u64, policy: Policy) -> Result<Told<Self>, Refusal> {
+    fn insert_with(handle: &Handle<Self>, left: &u64, right: &u64, policy: Policy) -> Result<Told<Self>, Refusal> {
         let mut told = Answer::default();
         let [l, r] = policy.flags();
-        done(unsafe { insert_with(&mut handle.raw, *left, *right, l, r, &mut told) })?;
+        done(unsafe { insert_with(handle.raw.get(), *left, *right, l, r, &mut told) })?;
         Ok(overwritten(told.kind, |at| told.pairs[at].parts()))
     }
     #[inline]
-    fn get_by_left(handle: &mut Handle<Self>, left: &u64) -> Asked<u64> {
-        number(|it| unsafe { get_by_left(&mut handle.raw, *left, it) })
+    fn get_by_left(handle: &Handle<Self>, left: &u64) -> Asked<u64> {
+        number(|it| unsafe { get_by_left(handle.raw.get(), *left, it) })
     }
     #[inline]
-    fn get_by_right(handle: &mut Handle<Self>, right: &u64) -> Asked<u64> {
-        number(|it| unsafe { get_by_right(&mut handle.raw, *right, it) })
-    }
-    fn contains_left(handle: &mut Handle<Self>, left: &u64) -> Result<bool, Refusal> {
-        found(unsafe { contains_left(&mut handle.raw, *left) })
-    }
-    fn contains_right(handle: &mut Handle<Self>, right: &u64) -> Result<bool, Refusal> {
-        found(unsafe { contains_right(&mut handle.raw, *right) })
+    fn get_by_right(handle: &Handle<Self>, right: &u64) -> Asked<u64> {
+        number(|it| unsafe { get_by_right(handle.raw.get(), *right, it) })
     }
     #[inline]
-    fn remove_by_left(handle: &mut Handle<Self>, left: &u64) -> Asked<(u64, u64)> {
-        pair(|it| unsafe { remove_by_left(&mut handle.raw, *left, it) })
+    fn contains_left(handle: &Handle<Self>, left: &u64) -> Result<bool, Refusal> {
+        found(unsafe { contains_left(handle.raw.get(), *left) })
     }
     #[inline]
-    fn remove_by_right(handle: &mut Handle<Self>, right: &u64) -> Asked<(u64, u64)> {
-        pair(|it| unsafe { remove_by_right(&mut handle.raw, *right, it) })
+    fn contains_right(handle: &Handle<Self>, right: &u64) -> Result<bool, Refusal> {
+        found(unsafe { contains_right(handle.raw.get(), *right) })
     }
-    fn left_rank(handle: &mut Handle<Self>, left: &u64) -> Result<usize, Refusal> {
-        size(|it| unsafe { left_rank(&mut handle.raw, *left, it) })
+    #[inline]
+    fn remove_by_left(handle: &Handle<Self>, left: &u64) -> Asked<(u64, u64)> {
+        pair(|it| unsafe { remove_by_left(handle.raw.get(), *left, it) })
     }
-    fn pop_first(handle: &mut Handle<Self>) -> Option<(u64, u64)> {
-        pair(|it| unsafe { pop_first(&mut handle.raw, it) }).ok().flatten()
+    #[inline]
+    fn remove_by_right(handle: &Handle<Self>, right: &u64) -> Asked<(u64, u64)> {
+        pair(|it| unsafe { remove_by_right(handle.raw.get(), *right, it) })
     }
-    fn pop_last(handle: &mut Handle<Self>) -> Option<(u64, u64)> {
-        pair(|it| unsafe { pop_last(&mut handle.raw, it) }).ok().flatten()
+    fn left_rank(handle: &Handle<Self>, left: &u64) -> Result<usize, Refusal> {
+        size(|it| unsafe { left_rank(handle.raw.get(), *left, it) })
     }
-}
-
-impl<K: Kind> Walked for U64U64<K> {
-    const LONGEST: usize = if K::NUMBER == Ordered::NUMBER { 1024 } else { usize::MAX };
-    fn row(handle: &mut Handle<Self>, start: usize, most: usize) -> Vec<(u64, u64)> {
-        let (mut row, mut filled) = (vec![Pair::default(); most], 0);
-        sure(unsafe { fill(&mut handle.raw, start, row.as_mut_ptr(), most, &mut filled) });
-        row.into_iter().take(filled).map(Pair::parts).collect()
+    fn pop_first(handle: &Handle<Self>) -> Option<(u64, u64)> {
+        pair(|it| unsafe { pop_first(handle.raw.get(), it) }).ok().flatten()
+    }
+    fn pop_last(handle: &Handle<Self>) -> Option<(u64, u64)> {
+        pair(|it| unsafe { pop_last(handle.raw.get(), it) }).ok().flatten()
+    }
+    fn row(handle: &Handle<Self>, start: usize, most: usize) -> Vec<(u64, u64)> {
+        let (mut row, mut filled) = (Vec::<Pair>::with_capacity(most), 0);
+        sure(unsafe { fill(handle.raw.get(), start, row.as_mut_ptr(), most, &mut filled) });
+        // SAFETY: the library has written this many pairs, and there is room for `most`.
+        unsafe { row.set_len(filled) };
+        row.into_iter().map(Pair::parts).collect()
     }
 }
