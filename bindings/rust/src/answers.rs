@@ -38,6 +38,17 @@ impl<L, R> Overwritten<L, R> {
         !matches!(self, Overwritten::Neither)
     }
 
+    /// Returns the overwritten pairs, that of the left first.
+    pub(crate) fn pairs(self) -> impl Iterator<Item = (L, R)> {
+        use Overwritten::*;
+        let (first, second) = match self {
+            Neither => (None, None),
+            Left(left, right) | Right(left, right) | Pair(left, right) => (Some((left, right)), None),
+            Both(first, second) => (Some(first), Some(second)),
+        };
+        first.into_iter().chain(second)
+    }
+
     #[inline]
     pub(crate) fn map<M, S>(self, to: impl Fn((L, R)) -> (M, S)) -> Overwritten<M, S> {
         use Overwritten::*;

@@ -37,12 +37,18 @@
 //! ```
 #![deny(missing_docs)]
 
+// Runs the examples of docs/RUST.md.
+#[cfg(doctest)]
+#[doc = include_str!("../README.md")]
+mod readme {}
+
 mod answers;
 pub mod iter;
 pub mod kind;
 mod library;
 mod map;
 pub mod side;
+mod undo;
 
 use std::hash::RandomState;
 
@@ -51,6 +57,7 @@ pub use btree::BiBTreeMap;
 pub use hash::BiHashMap;
 pub use map::BijectiveMap;
 pub use side::Side;
+pub use undo::{Entry, Undoable};
 
 pub mod btree {
     //! The ordered map, and its iterators.

@@ -1,6 +1,6 @@
-//! Tests what the crate `bimap` does not have: policies, refusals of memory, ranks, ends and JSON. It also tests maps
-//! with many pairs.
-use jetukoma::{BiBTreeMap, BiHashMap, BiInsertionOrderMap, BiMap, NoMemory, NotInserted, OnHeld, Overwritten, Policy};
+//! Tests what the crate `bimap` does not have: policies, refusals of memory, undo, ranks, ends and JSON. It also tests
+//! maps with many pairs.
+use jetukoma::{BiBTreeMap, BiHashMap, BiInsertionOrderMap, BiMap, Entry, NoMemory, NotInserted, OnHeld, Overwritten, Policy, Undoable};
 use std::process::Command;
 
 #[test]
@@ -109,6 +109,56 @@ fn json() {
         assert_eq!(BiHashMap::<String, u64>::from_json(faulty).map(|it| it.len()), None, "{faulty}");
     }
     assert_eq!(BiBTreeMap::from_iter([(vec![255], 1)]).to_json(), None);
+}
+
+#[test]
+fn marks() {
+    let (mut state, mut map, mut saved) = (7_u64, Undoable::new(BiBTreeMap::new()), vec![BiBTreeMap::new()]);
+    for step in 0..2000 {
+        state = state.wrapping_mul(6364136223846793005).wrapping_add(1442695040888963407);
+        let [left, right] = [state >> 40, state >> 50].map(|it| (it % 12) as u8);
+        let changed = match state >> 60 {
+            0 => map.remove_by_left(&left).is_some(),
+            1 => map.remove_by_right(&right).is_some(),
+            2 => {
+                let refuse = Policy {
+                    left: OnHeld::Refuse,
+                    right: OnHeld::Overwrite,
+                };
+                map.insert_with(left, right, refuse).is_ok()
+            }
+            _ => {
+                map.insert(left, right);
+                true
+            }
+        };
+        if changed {
+            saved.push(map.clone());
+        }
+        assert_eq!(map.mark(), saved.len() - 1);
+        if step % 10 == 0 {
+            saved.truncate((state >> 30) as usize % saved.len() + 1);
+            map.back_to(saved.len() - 1);
+            assert_eq!(Some(&*map), saved.last());
+        }
+    }
+    assert_eq!(map.changes_since(map.mark()), []);
+    map.insert_with(
+        77,
+        77,
+        Policy {
+            left: OnHeld::Refuse,
+            right: OnHeld::Refuse,
+        },
+    )
+    .unwrap();
+    assert_eq!(map.changes_since(map.mark() - 1), [Entry::Inserted(77, Overwritten::Neither)]);
+}
+
+#[test]
+#[should_panic = "the mark 1 is above the number of changes, 0"]
+fn a_mark_that_is_not_reached() {
+    Undoable::new(BiMap::<u8, u8>::new()).back_to(1);
 }
 
 #[test]
