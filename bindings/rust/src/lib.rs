@@ -1,6 +1,6 @@
-//! Two-way maps. A left has one right, and a right has one left. The calls are those of the crate `bimap`. **Look-ups
-//! and iterators return copies of the values**: an `Option<R>` where `bimap` returns an `Option<&R>`. The library that
-//! does the work is proved, function by function.
+//! Two-way maps with the calls of the crate `bimap`, which **return copies of the values**: an `Option<R>` where `bimap`
+//! returns an `Option<&R>`. A left has one right, and a right has one left. The library that does the work is proved,
+//! function by function.
 //!
 //! ```
 //! use jetukoma::{BiBTreeMap, Overwritten};
@@ -13,11 +13,14 @@
 //! assert_eq!(format!("{seats:?}"), r#"{"ann" <> 7}"#);
 //! ```
 //!
-//! # The kinds of map [`BiBTreeMap`] has its pairs in ascending order of their lefts. [`BiHashMap`] hashes both sides.
-//! [`BiInsertionOrderMap`] hashes them too, and has its pairs in the order in which they were inserted.
+//! # The kinds of map
+//! [`BiBTreeMap`] has its pairs in ascending order of their lefts. [`BiHashMap`] hashes both sides.
+//! [`BiInsertionOrderMap`] hashes them too, and has its pairs in the order in which they were inserted. [`Undoable`] wraps
+//! one of them, and goes back to an earlier state.
 //!
-//! # The types of the sides A side may be of any type that implements [`Side`]: an integer, `bool`, `char`, `()`,
-//! `String`, `Vec<u8>`, `[u8; N]`, a pair of them, or a type of yours. `&str` does not implement it, so take `String`.
+//! # The types of the sides
+//! A side may be of any type that implements [`Side`]: an integer, `bool`, `char`, `()`, `String`, `Vec<u8>`, `[u8; N]`, a
+//! pair of them, or a type of yours. `&str` does not implement it, so take `String`.
 //!
 //! # What differs from `bimap`
 //! - The library contains the values in a form of its own. So calls return copies, and a side needs [`Side`] in place
@@ -28,7 +31,7 @@
 //! - An insertion that overwrites numbers never allocates. A look-up or a removal by bytes allocates if these bytes are
 //!   longer than any before.
 //! - A range whose bounds run backwards is empty. In `bimap` it panics.
-//! - There is no feature `serde`, because this crate uses no other one.
+//! - There is no feature `serde`, because this crate uses no other crate.
 //! - A map can be sent to another thread. Two threads cannot share it: it is `Send` and not `Sync`.
 //!
 //! ```compile_fail,E0277

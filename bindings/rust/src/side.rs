@@ -52,7 +52,7 @@ pub(crate) use form::{Holds, Table, left_of, lend, pair_of, right_of};
 ///
 /// [`check_ordered_side`] tests these laws on values that you pass, and [`check_side`] tests the first two. If a type
 /// breaks a law, a map of this type may find wrong pairs or panic, but it stays memory-safe. If one of the two
-/// functions panics, the map loses no pair by that.
+/// functions panics, the map is still whole: each left has one right. The call has changed the map by then, or not.
 pub trait Side: Sized {
     /// What the library has in place of a value: [`Number`] or [`Bytes`].
     type Form: Form;

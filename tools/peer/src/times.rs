@@ -1,5 +1,5 @@
 //! Makes the calls of `crates/tool_bench` on a crate that is named `bimap`. This is the Rust crate, or the bindings
-//! for Rust, whose iterators cannot go backwards.
+//! for Rust, which are not timed backwards.
 use bimap::{BiBTreeMap, BiHashMap, Overwritten};
 use std::time::Instant;
 

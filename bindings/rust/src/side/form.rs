@@ -54,7 +54,7 @@ impl Form for Number {
         bytes.extend(form.to_be_bytes());
     }
     fn take_first(bytes: &mut &[u8]) -> u64 {
-        u64::from_be_bytes(*bytes.split_off(..8).expect(OTHER).as_array().expect(OTHER))
+        u64::from_be_bytes(bytes.split_off(..8).expect(OTHER).try_into().expect(OTHER))
     }
     fn put_last(form: u64, bytes: &mut Vec<u8>) {
         Self::put_first(form, bytes);
