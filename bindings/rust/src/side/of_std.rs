@@ -22,14 +22,14 @@ macro_rules! sides {
 }
 
 macro_rules! integers {
-    ($lowest:expr; $($type:ty as $wide:ty),*) => {
+    ($lowest:expr, $wide:ty: $($type:ty)*) => {
         sides! { Number u64, u64: $( $type [], |it| (*it as $wide as u64) ^ $lowest, |form| (form ^ $lowest) as $type; )* }
     };
 }
 
-integers! { 0; u8 as u64, u16 as u64, u32 as u64, u64 as u64, usize as u64 }
+integers! { 0, u64: u8 u16 u32 u64 usize }
 // The least number becomes 0.
-integers! { 1 << 63; i8 as i64, i16 as i64, i32 as i64, i64 as i64, isize as i64 }
+integers! { 1 << 63, i64: i8 i16 i32 i64 isize }
 
 sides! { Number u64, u64:
     bool [], |it| *it as u64, |form| form != 0;
