@@ -1,7 +1,11 @@
 """Tests what the documentation of bidict says about its calls, at the types that this package has."""
 import doctest
+import os
+import shutil
+import subprocess
+import tempfile
 import unittest
-from collections.abc import MutableMapping
+from collections.abc import ItemsView, KeysView, MutableMapping, ValuesView
 
 import jetukoma
 from jetukoma import (
@@ -10,12 +14,18 @@ from jetukoma import (
     DuplicationError,
     KeyAndValueDuplicationError,
     KeyDuplicationError,
+    OrderedBidict,
     ValueDuplicationError,
+    bidict,
 )
+
+# The public methods, which need an example.
+CLASSES = [bidict, OrderedBidict, BiHashMap, BiBTreeMap, jetukoma.frozenbidict]
 
 
 def load_tests(loader, tests, pattern):
-    tests.addTests(doctest.DocTestSuite(jetukoma))
+    for module in (jetukoma, jetukoma._core, jetukoma._maps, jetukoma._names, jetukoma._named, jetukoma._views):
+        tests.addTests(doctest.DocTestSuite(module, globs=dict(vars(jetukoma))))
     return tests
 
 
@@ -25,6 +35,14 @@ class Ordered:
 
 class Hashed:
     Map = BiHashMap
+
+
+class Bidict:
+    Map = bidict
+
+
+class Linked:
+    Map = OrderedBidict
 
 
 class Numbers:
@@ -61,6 +79,7 @@ class Numbers:
         with self.assertRaises(KeyDuplicationError):
             self.one_two.putall([(Number(3), 30), (Number(3), 40)])
         self.one_two.put(1, Number(10))
+        self.assertTrue(Number(1) in self.one_two and self.one_two[Number(1)] == 10)
         self.assertEqual(self.one_two, {1: 10, 2: 20})
 
     def test_values_are_unique(self):
@@ -147,8 +166,9 @@ class Numbers:
         with self.assertRaises(KeyError):
             del self.one_two[1]
         self.assertEqual(self.one_two.popitem(), (2, 20))
-        with self.assertRaises(KeyError):
+        with self.assertRaises(KeyError) as it:
             self.one_two.popitem()
+        self.assertRegex(it.exception.args[0], "is empty$")
         self.assertEqual(self.one_two, {})
 
     def test_as_a_mapping(self):
@@ -195,25 +215,87 @@ class HashedNumbers(Hashed, Numbers, unittest.TestCase):
         self.assertEqual(repr(BiHashMap({1: 10})), "BiHashMap({1: 10})")
 
 
-class OrderedTexts(unittest.TestCase):
+class BidictNumbers(Bidict, Numbers, unittest.TestCase):
+    def test_order(self):
+        it = bidict({3: 1, 1: 3})
+        it[3] = 5
+        it.forceput(7, 3)
+        self.assertEqual((list(it.items()), repr(it), repr(it.inverse)), ([(3, 5), (7, 3)], "bidict({3: 5, 7: 3})", "bidict({5: 3, 3: 7})"))
+
+
+class LinkedNumbers(Linked, Numbers, unittest.TestCase):
+    def test_order(self):
+        it = OrderedBidict({3: 1, 1: 3, 2: 2})
+        it.forceput(7, 1)
+        it.move_to_end(1)
+        it.move_to_end(2, last=False)
+        self.assertEqual((list(it.items()), repr(it)), ([(2, 2), (7, 1), (1, 3)], "OrderedBidict([(2, 2), (7, 1), (1, 3)])"))
+
+
+class Texts(unittest.TestCase):
     def test_elements(self):
-        symbols = BiBTreeMap({"hydrogen": 1, "carbon": 6}, keys=str)
+        symbols = BiBTreeMap({"hydrogen": 1, "carbon": 6})
         self.assertEqual((symbols["carbon"], symbols.inverse[1]), (6, "hydrogen"))
         with self.assertRaises(ValueDuplicationError):
             symbols["coal"] = 6
         symbols.inverse[6] = "coal"
         self.assertEqual(list(symbols.items()), [("coal", 6), ("hydrogen", 1)])
         symbols.update(oxygen=8)
-        self.assertEqual(repr(symbols), "BiBTreeMap({'coal': 6, 'hydrogen': 1, 'oxygen': 8}, keys=str)")
-        self.assertEqual(repr(symbols.inverse), "BiBTreeMap({6: 'coal', 1: 'hydrogen', 8: 'oxygen'}, values=str)")
+        self.assertEqual(repr(symbols), "BiBTreeMap({'coal': 6, 'hydrogen': 1, 'oxygen': 8})")
+        self.assertEqual(repr(symbols.inverse), "BiBTreeMap({6: 'coal', 1: 'hydrogen', 8: 'oxygen'})")
         with self.assertRaises(KeyDuplicationError):
             symbols.putall([("boron", 5), ("oxygen", 9)])
         self.assertEqual((len(symbols), symbols.popitem()), (3, ("oxygen", 8)))
 
-    def test_a_walk_is_by_the_texts(self):
-        names = BiBTreeMap({1: "hydrogen", 6: "carbon"}, values=str)
-        self.assertEqual(list(names.items()), [(6, "carbon"), (1, "hydrogen")])
-        self.assertEqual((list(names.inverse), names.popitem(last=False)), (["carbon", "hydrogen"], (6, "carbon")))
+    def test_an_iteration_is_by_the_keys(self):
+        names = BiBTreeMap({6: "carbon", 1: "hydrogen"})
+        self.assertEqual(list(names.items()), [(1, "hydrogen"), (6, "carbon")])
+        self.assertEqual((list(names.inverse), names.popitem(last=False)), (["hydrogen", "carbon"], (1, "hydrogen")))
+
+
+class Package(unittest.TestCase):
+    def test_each_public_method_has_an_example(self):
+        for cls in CLASSES:
+            for name in dir(cls):
+                if not name.startswith("_") and name not in ("on_dup", "inv"):
+                    self.assertIn(">>>", getattr(cls, name).__doc__ or "", name)
+        for name in jetukoma.__all__:
+            it = getattr(jetukoma, name)
+            self.assertTrue(callable(it) or isinstance(it, (jetukoma.OD, jetukoma.OnDup)), name)
+
+    def test_views_and_classes(self):
+        it = bidict({1: 2})
+        for view, kinds in [(it.keys(), (KeysView,)), (it.values(), (KeysView, ValuesView)), (it.items(), (ItemsView,))]:
+            self.assertTrue(all(isinstance(view, kind) for kind in kinds))
+        self.assertEqual((repr(it.keys()), repr(it.values()), repr(it.items())), ("dict_keys([1])", "dict_keys([2])", "dict_items([(1, 2)])"))
+        self.assertIsNotNone(bidict[int, int])
+
+    @unittest.skipUnless(shutil.which("mypy"), "mypy is not installed")
+    def test_the_types(self):
+        program = """
+from typing import Iterator
+from jetukoma import ON_DUP_DROP_OLD, BiBTreeMap, OrderedBidict, bidict, frozenbidict, inverted
+seats: bidict[str, int] = bidict({"ann": 12}, keys=str)
+guest: str = seats.inverse[12]
+seats.put("bob", 7, on_dup=ON_DUP_DROP_OLD)
+old: tuple[tuple[str, int], ...] = seats.insert("eve", 7)
+seats.undo("eve", old)
+both: bidict[str, int] = seats | {"dan": 1}
+ages = BiBTreeMap([(1, "x")])
+keys: Iterator[int] = ages.irange(1, 2)
+named: OrderedBidict[str, int] = OrderedBidict(a=1)
+named.move_to_end("a")
+frozenbidict({1: 2})[1] + 1
+pairs: Iterator[tuple[int, str]] = inverted(seats)
+"""
+        wrong = {"seats.put(1, 2)": "arg-type", "frozenbidict({1: 2})[1] = 2": "index", "text: str = seats['ann']": "assignment"}
+        with tempfile.TemporaryDirectory() as room:
+            shutil.copytree(os.path.dirname(jetukoma.__file__), f"{room}/jetukoma")
+            for name, text, said in [("right", program, "Success"), *((code, program + line, code) for line, code in wrong.items())]:
+                with open(f"{room}/{name}.py", "w", encoding="ascii") as file:
+                    file.write(text)
+                ran = subprocess.run(["mypy", "--strict", "--python-version", "3.9", f"{name}.py"], cwd=room, capture_output=True, text=True)
+                self.assertIn(said, ran.stdout, ran.stdout + ran.stderr)
 
 
 if __name__ == "__main__":
