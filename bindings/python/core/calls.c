@@ -6,11 +6,8 @@
 #define OUT_u64(it) &(it)->word
 #define OUT_bytes(it) (it)->bytes, (it)->room, &(it)->word
 
-/* Where a call writes what it overwrote or removed. A table with bytes writes the kind alone, and nothing of a removal. */
-typedef union {
-    uint32_t kind;
-    jetukoma_u64_u64_overwritten overwritten;
-} Told;
+/* Where an insertion writes what it overwrote. A table with bytes writes the kind alone. */
+typedef union { uint32_t kind; jetukoma_u64_u64_overwritten overwritten; } Told;
 #define TOLD_u64_u64 &told.overwritten
 #define TOLD_bytes_u64 &told.kind
 #define TOLD_bytes_bytes &told.kind
@@ -27,42 +24,35 @@ typedef union {
 
 #define CALL(name, ...) static uint32_t name(Handle *it __VA_OPT__(,) __VA_ARGS__)
 #define FILL size_t start, Rows *rows, size_t count, size_t *filled, size_t *used
-#define CALLS(T, L, R, MANY)                                                                                                \
-    CALL(T##_make, uint32_t kind, uint64_t seed) { return jetukoma_##T##_new(&it->T, kind, seed); }                         \
-    CALL(T##_free) { return jetukoma_##T##_free(&it->T); }                                                                  \
-    CALL(T##_len, size_t *len) { return jetukoma_##T##_len(&it->T, len); }                                                  \
-    CALL(T##_clear) { return jetukoma_##T##_clear(&it->T); }                                                                \
-    CALL(T##_clone, Handle *copy) { return jetukoma_##T##_clone(&it->T, &copy->T); }                                        \
-    CALL(T##_equals, Handle *other) { return jetukoma_##T##_equals(&it->T, &other->T); }                                    \
-    CALL(T##_has_l, const Value *l) { return jetukoma_##T##_contains_left(&it->T, IN_##L(l)); }                             \
-    CALL(T##_has_r, const Value *r) { return jetukoma_##T##_contains_right(&it->T, IN_##R(r)); }                            \
-    CALL(T##_get_l, const Value *l, Found *r) { return jetukoma_##T##_get_by_left(&it->T, IN_##L(l), OUT_##R(r)); }         \
-    CALL(T##_get_r, const Value *r, Found *l) { return jetukoma_##T##_get_by_right(&it->T, IN_##R(r), OUT_##L(l)); }        \
-    CALL(T##_remove_l, const Value *l) { return jetukoma_##T##_remove_by_left(&it->T, IN_##L(l) GONE_##T); }                \
-    CALL(T##_remove_r, const Value *r) { return jetukoma_##T##_remove_by_right(&it->T, IN_##R(r) GONE_##T); }               \
-    CALL(T##_insert, const Value pair[2], bool l, bool r, uint32_t *kind)                                                   \
-    {                                                                                                                       \
-        Told told = {0};                                                                                                    \
-        uint32_t status = jetukoma_##T##_insert_with(&it->T, IN_##L(pair), IN_##R(pair + 1), l, r, TOLD_##T);               \
-        *kind = told.kind;                                                                                                  \
-        return status;                                                                                                      \
-    }                                                                                                                       \
-    CALL(T##_fill, FILL) { return jetukoma_##T##_fill(&it->T, start, FREE_##T); }                                           \
-    CALL(T##_fill_back, FILL) { return jetukoma_##T##_fill_back(&it->T, start, FREE_##T); }                                 \
-    CALL(T##_rank, const Value *l, size_t *rank) { return jetukoma_##T##_left_rank(&it->T, IN_##L(l), rank); }              \
-    const Calls calls_##T = {                                                                                               \
-        T##_make, T##_free, T##_len, T##_clear, T##_clone, T##_equals, {T##_has_l, T##_has_r}, {T##_get_l, T##_get_r},      \
-        {T##_remove_l, T##_remove_r}, T##_insert, {T##_fill, T##_fill_back}, T##_rank, MANY,                                \
+#define CALLS(T, L, R)                                                                                                  \
+    CALL(T##_make, uint32_t kind, uint64_t seed) { return jetukoma_##T##_new(&it->T, kind, seed); }                     \
+    CALL(T##_free) { return jetukoma_##T##_free(&it->T); }                                                              \
+    CALL(T##_len, size_t *len) { return jetukoma_##T##_len(&it->T, len); }                                              \
+    CALL(T##_reserve, size_t more) { return jetukoma_##T##_reserve(&it->T, more); }                                     \
+    CALL(T##_clear) { return jetukoma_##T##_clear(&it->T); }                                                            \
+    CALL(T##_clone, Handle *copy) { return jetukoma_##T##_clone(&it->T, &copy->T); }                                    \
+    CALL(T##_equals, Handle *other) { return jetukoma_##T##_equals(&it->T, &other->T); }                                \
+    CALL(T##_has_l, const Value *l) { return jetukoma_##T##_contains_left(&it->T, IN_##L(l)); }                         \
+    CALL(T##_has_r, const Value *r) { return jetukoma_##T##_contains_right(&it->T, IN_##R(r)); }                        \
+    CALL(T##_get_l, const Value *l, Found *r) { return jetukoma_##T##_get_by_left(&it->T, IN_##L(l), OUT_##R(r)); }     \
+    CALL(T##_get_r, const Value *r, Found *l) { return jetukoma_##T##_get_by_right(&it->T, IN_##R(r), OUT_##L(l)); }    \
+    CALL(T##_remove_l, const Value *l) { return jetukoma_##T##_remove_by_left(&it->T, IN_##L(l) GONE_##T); }            \
+    CALL(T##_remove_r, const Value *r) { return jetukoma_##T##_remove_by_right(&it->T, IN_##R(r) GONE_##T); }           \
+    CALL(T##_insert, const Value pair[2], bool l, bool r, uint32_t *kind)                                               \
+    {                                                                                                                   \
+        Told told = {0};                                                                                                \
+        uint32_t status = jetukoma_##T##_insert_with(&it->T, IN_##L(pair), IN_##R(pair + 1), l, r, TOLD_##T);           \
+        *kind = told.kind;                                                                                              \
+        return status;                                                                                                  \
+    }                                                                                                                   \
+    CALL(T##_fill, FILL) { return jetukoma_##T##_fill(&it->T, start, FREE_##T); }                                       \
+    CALL(T##_fill_back, FILL) { return jetukoma_##T##_fill_back(&it->T, start, FREE_##T); }                             \
+    CALL(T##_rank, const Value *l, size_t *rank) { return jetukoma_##T##_left_rank(&it->T, IN_##L(l), rank); }          \
+    const Calls calls_##T = {                                                                                           \
+        T##_make, T##_free, T##_len, T##_reserve, T##_clear, T##_clone, T##_equals, {T##_has_l, T##_has_r},             \
+        {T##_get_l, T##_get_r}, {T##_remove_l, T##_remove_r}, T##_insert, {T##_fill, T##_fill_back}, T##_rank,          \
     };
 
-/* Inserts the pairs into an empty table of numbers. A pair may overwrite another one. */
-static uint32_t insert_numbers(Handle *it, const Rows *rows)
-{
-    size_t taken;
-    uint32_t status = jetukoma_u64_u64_reserve(&it->u64_u64, rows->count);
-    return status ? status : jetukoma_u64_u64_insert_many(&it->u64_u64, (jetukoma_u64_u64_pair *)rows->words, rows->count, &taken);
-}
-
-CALLS(u64_u64, u64, u64, insert_numbers)
-CALLS(bytes_u64, bytes, u64, NULL)
-CALLS(bytes_bytes, bytes, bytes, NULL)
+CALLS(u64_u64, u64, u64)
+CALLS(bytes_u64, bytes, u64)
+CALLS(bytes_bytes, bytes, bytes)

@@ -1,12 +1,9 @@
-/* What the files of this module share.
+/* What the files of this module share. It is the fast half of the Python package: maps over the tables of libjetukoma.
+ * The other half is in ../jetukoma. With the limited API of Python 3.9, one build works for all later versions.
  *
- * The module is the fast half of the Python package: maps over the tables of libjetukoma. The other half is in ../jetukoma. It uses the
- * limited API of Python 3.9, so one build works for all later versions.
- *
- * A method first turns its arguments into values of the table. Only this can run Python code of the user. What follows runs under the
- * interpreter's lock from beginning to end, so another thread never sees half of it. The garbage collector can run code of the user
- * when a tuple is made, so no tuple is made between a look-up and the change that relies on it.
- */
+ * A method first turns its arguments into values of the table. Only this can run Python code of the user. What follows
+ * runs under the interpreter's lock, so another thread never sees half of it. To make a tuple may run code of the user
+ * too, by the garbage collector. So no tuple is made between a look-up and the change that relies on it. */
 #ifndef CORE_H
 #define CORE_H
 #define PY_SSIZE_T_CLEAN
@@ -20,34 +17,22 @@ PyAPI_FUNC(const char *) PyUnicode_AsUTF8AndSize(PyObject *text, Py_ssize_t *siz
 /* The type of the keys or of the values. It is UNKNOWN until the first item comes, unless the user names it. */
 enum { UNKNOWN, INT, U64, STR, BYTES };
 
-/* The kinds of table, and one more. LINKED is a table in insertion order with the rules of OrderedBidict: a new pair takes the
- * position of the pair of the same key, or else that of the pair of the same value. */
+/* The kinds of table, and one more. LINKED is a table in insertion order with the rules of OrderedBidict: a new pair
+ * takes the position of the pair of the same key, or else that of the pair of the same value. */
 enum { ORDERED = JETUKOMA_ORDERED, HASHED = JETUKOMA_HASHED, INSERTION_ORDER = JETUKOMA_INSERTION_ORDER, LINKED };
 
-/* What a table has of a new pair, and what to do then. A policy has two bits for each of the last three cases, from THE_KEY on. */
+/* What a table has of a new pair, and what to do then. A policy has two bits for each case from THE_KEY on. */
 enum { THE_PAIR, THE_KEY, THE_VALUE, BOTH };
 enum { RAISE, DROP_NEW, DROP_OLD, ALL_DROP_OLD = DROP_OLD | DROP_OLD << 2 | DROP_OLD << 4 };
 
 /* A side of a table. If `packed` is true, the table has its numbers as 8 bytes, whose order is that of the numbers. */
-typedef struct {
-    uint8_t type;
-    bool packed;
-} Side;
+typedef struct { uint8_t type; bool packed; } Side;
 
 /* A value as a table takes it: a number, or the number of its bytes with the bytes. */
-typedef struct {
-    uint64_t word;
-    const uint8_t *bytes;
-    uint8_t own[8];
-} Value;
+typedef struct { uint64_t word; const uint8_t *bytes; uint8_t own[8]; } Value;
 
 /* Where a table writes a value. Long bytes are not in `few`, and `found_free` frees them. */
-typedef struct {
-    uint64_t word;
-    uint8_t *bytes;
-    size_t room;
-    uint8_t few[256];
-} Found;
+typedef struct { uint64_t word; uint8_t *bytes; size_t room; uint8_t few[256]; } Found;
 
 /* Pairs as a table writes them: two words for each pair, and the bytes of all pairs, one behind another. */
 typedef struct {
@@ -57,21 +42,16 @@ typedef struct {
     size_t used, space;
 } Rows;
 
-typedef union {
-    jetukoma_u64_u64 u64_u64;
-    jetukoma_bytes_u64 bytes_u64;
-    jetukoma_bytes_bytes bytes_bytes;
-} Handle;
+typedef union { jetukoma_u64_u64 u64_u64; jetukoma_bytes_u64 bytes_u64; jetukoma_bytes_bytes bytes_bytes; } Handle;
 
-/* The calls of a table. Where there are two, the first is for lefts or forwards, and the second for rights or backwards. */
+/* The calls of a table. Of two calls, the first is for lefts or forwards, the second for rights or backwards. */
 typedef struct {
-    uint32_t (*make)(Handle *, uint32_t kind, uint64_t seed), (*free)(Handle *), (*len)(Handle *, size_t *), (*clear)(Handle *);
-    uint32_t (*clone)(Handle *, Handle *copy), (*equals)(Handle *, Handle *other);
+    uint32_t (*make)(Handle *, uint32_t kind, uint64_t seed), (*free)(Handle *), (*len)(Handle *, size_t *);
+    uint32_t (*reserve)(Handle *, size_t), (*clear)(Handle *), (*clone)(Handle *, Handle *copy), (*equals)(Handle *, Handle *other);
     uint32_t (*has[2])(Handle *, const Value *), (*get[2])(Handle *, const Value *, Found *), (*remove[2])(Handle *, const Value *);
     uint32_t (*insert)(Handle *, const Value pair[2], bool left_refuses, bool right_refuses, uint32_t *kind);
     uint32_t (*fill[2])(Handle *, size_t start, Rows *, size_t count, size_t *filled, size_t *used);
     uint32_t (*rank)(Handle *, const Value *, size_t *);
-    uint32_t (*insert_many)(Handle *, const Rows *); /* null if the library has no such call */
 } Calls;
 extern const Calls calls_u64_u64, calls_bytes_u64, calls_bytes_bytes;
 
@@ -106,6 +86,7 @@ Shape shape_of(int kind, int keys, int values);
 bool has_bytes(Side side);
 int value_of(Side side, PyObject *object, Value *value);
 PyObject *object_of(Side side, const Value *value);
+PyObject *item_of(const Shape *shape, const Value pair[2], int key_side);
 size_t bytes_of(const Shape *shape, const uint64_t *words);
 void pair_of(const Shape *shape, const uint64_t *words, const uint8_t *bytes, Value pair[2]);
 bool same_value(Side side, const Value *one, const Value *other);
@@ -130,14 +111,16 @@ int table_read(Table *table, bool back, size_t start, size_t count, Rows *rows);
 int table_remove(Table *table, int side, const Value *value);
 void raise_duplicate(const Shape *shape, const Value pair[2], int key_side, int there);
 uint32_t overwrite(Table *table, const Value pair[2], int key_side, int there);
+uint32_t table_insert(Table *table, const Value pair[2], bool left_refuses, bool right_refuses);
 int what_is_there(Table *table, const Value pair[2], int key_side);
 int table_put(Table *table, const Value pair[2], int key_side, int policy);
 uint32_t put_back(Table *table, const Value pair[2], void **kept);
 uint32_t move_pair(Table *table, const Value pair[2], bool last);
 
 /* many.c */
+bool alike(const Map *map, const Map *other);
 int put_many(Map *map, PyObject *items, PyObject *more, int policy);
-PyObject *insert_reported(Map *map, PyObject *key, PyObject *value);
+PyObject *map_insert(Map *map, PyObject *args);
 
 /* walk.c and map.c */
 extern PyTypeObject *walk_type, *map_type;

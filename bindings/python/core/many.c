@@ -1,9 +1,6 @@
 /* Many pairs in one call: all of them are inserted, or none. And an insertion that can be taken back. */
 #include "core.h"
 
-/* How many items are read before a signal such as Ctrl-C is looked for. */
-enum { BETWEEN_SIGNALS = 10000 };
-
 /* Pairs that were read, and how they are stored. The types are those of the keys and the values of the map. */
 typedef struct {
     Map *map;
@@ -39,7 +36,6 @@ static int add(Batch *batch, PyObject *key, PyObject *value)
 /* Appends an item, which is a pair. */
 static int add_item(Batch *batch, PyObject *item)
 {
-    if (PyTuple_CheckExact(item) && PyTuple_Size(item) == 2) return add(batch, PyTuple_GetItem(item, 0), PyTuple_GetItem(item, 1));
     PyObject *pair = PySequence_Tuple(item);
     if (!pair) return -1;
     Py_ssize_t size = PyTuple_Size(pair);
@@ -50,7 +46,7 @@ static int add_item(Batch *batch, PyObject *item)
     return wrong;
 }
 
-/* Appends all items of an iterable. */
+/* Appends all items of an iterable. After each 10,000 it looks for a signal such as Ctrl-C. */
 static int add_items(Batch *batch, PyObject *items)
 {
     PyObject *walk = PyObject_GetIter(items), *item;
@@ -58,29 +54,28 @@ static int add_items(Batch *batch, PyObject *items)
     for (size_t i = 1; walk && !wrong && (item = PyIter_Next(walk)); i++) {
         wrong = add_item(batch, item);
         Py_DECREF(item);
-        if (!wrong && i % BETWEEN_SIGNALS == 0) wrong = PyErr_CheckSignals();
+        if (!wrong && i % 10000 == 0) wrong = PyErr_CheckSignals();
     }
     Py_XDECREF(walk);
     return PyErr_Occurred() ? -1 : 0;
 }
 
-/* Returns whether the table of another map stores the same pairs in the same way. */
-static bool alike(const Batch *batch, Map *from)
+/* Returns whether the table of another map stores pairs as the table of this map does, or will do. */
+bool alike(const Map *map, const Map *other)
 {
-    const Table *mine = batch->map->table;
-    const Shape *theirs = &from->table->shape;
-    if (!theirs->calls || from->inverse != batch->map->inverse) return false;
-    int types[2];
-    for (int i = 0; i < 2; i++) types[i] = mine->types[i] ? mine->types[i] : theirs->sides[i ^ theirs->turned].type;
-    Shape wanted = mine->shape.calls ? mine->shape : shape_of(mine->kind, types[0], types[1]);
-    bool same = wanted.sides[0].type == theirs->sides[0].type && wanted.sides[1].type == theirs->sides[1].type;
-    return same && wanted.calls == theirs->calls && wanted.turned == theirs->turned;
+    const Shape *theirs = &other->table->shape;
+    Shape mine = map->table->shape;
+    uint8_t types[2], *named = map->table->types;
+    for (int i = 0; i < 2; i++) types[i] = named[i] ? named[i] : theirs->sides[i ^ theirs->turned].type;
+    if (!mine.calls) mine = shape_of(map->table->kind, types[0], types[1]);
+    bool same = mine.sides[0].type == theirs->sides[0].type && mine.sides[1].type == theirs->sides[1].type;
+    return same && theirs->calls && mine.calls == theirs->calls && mine.turned == theirs->turned && map->inverse == other->inverse;
 }
 
 /* Reads the items of a mapping, or of an iterable of pairs. */
 static int read_items(Batch *batch, PyObject *items)
 {
-    if (PyObject_TypeCheck(items, map_type) && alike(batch, (Map *)items)) {
+    if (PyObject_TypeCheck(items, map_type) && alike(batch->map, (Map *)items)) {
         Table *from = ((Map *)items)->table;
         batch->shape = from->shape;
         return table_read(from, false, 0, table_len(from), &batch->rows);
@@ -91,7 +86,7 @@ static int read_items(Batch *batch, PyObject *items)
     return wrong;
 }
 
-/* What insertions did, so that they can be taken back. `old` has the overwritten pairs, and `kept` is memory to put them back. */
+/* What insertions did. `old` has the overwritten pairs, and `kept` is memory that is freed to put them back. */
 enum { NOTHING, INSERTED, OVERWROTE, OVERWROTE_TWO };
 typedef struct {
     Rows old;
@@ -99,11 +94,7 @@ typedef struct {
     size_t keeps;
 } Log;
 
-static void log_free(Log *log)
-{
-    rows_free(&log->old);
-    free(log->kept);
-}
+static void log_free(Log *log) { rows_free(&log->old), free(log->kept); }
 
 /* Notes the pair that has one of the values of a new pair. */
 static int note(Log *log, Table *table, const Value pair[2], int side)
@@ -124,8 +115,8 @@ static int note(Log *log, Table *table, const Value pair[2], int side)
 /* Inserts a pair under a policy, and writes what it did. Returns -1 with an error, or what refuses the pair, or 0. */
 static int put_noted(Log *log, uint8_t *what, Table *table, const Value pair[2], int side, int policy)
 {
-    uint32_t kind, status = table->shape.calls->insert(&table->handle, pair, true, true, &kind);
-    if (!status) *what = INSERTED, table->moves++;
+    uint32_t status = table_insert(table, pair, true, true);
+    if (!status) *what = INSERTED;
     if (status != JETUKOMA_REFUSED) return done(status);
     int there = what_is_there(table, pair, side), action = there > 0 ? policy >> 2 * (there - 1) & 3 : DROP_NEW;
     if (action != DROP_OLD) return there < 0 || action == RAISE ? there : 0;
@@ -155,7 +146,7 @@ static void take_back(Log *log, Table *table, const Value pair[2], int what)
     }
 }
 
-/* Inserts the pairs under a policy. If one is refused or the memory ends, it takes back those before, and returns -1 with an error. */
+/* Inserts the pairs under a policy, or none of them: if one fails, it takes back those before. */
 static int put_rows(Table *table, const Rows *rows, int side, int policy)
 {
     Log log = {0};
@@ -184,74 +175,60 @@ static int put_rows(Table *table, const Rows *rows, int side, int policy)
     return refused ? -1 : 0;
 }
 
-/* Inserts the pairs. The fast ways are those for a single pair, and for many numbers that come into an empty table. */
+/* Inserts the pairs. A single one needs no log. With the rules of OrderedBidict, an overwritten pair may not get its
+ * position back, so the table is copied first. */
 static int put_batch(Table *table, const Rows *rows, int side, int policy)
 {
-    const Calls *calls = table->shape.calls;
     Value pair[2];
     pair_of(&table->shape, rows->words, rows->bytes, pair);
     if (rows->count == 1) return table_put(table, pair, side, policy);
-    if (!table_len(table) && calls->insert_many) {
-        int wrong = done(calls->insert_many(&table->handle, rows));
-        table->moves++;
-        if (!wrong && table_len(table) == rows->count) return 0;
-        calls->clear(&table->handle);
-        if (wrong) return -1;
-    }
-    /* With the rules of OrderedBidict a value that is put back may have had another position. */
+    if (!table_len(table) && done(table->shape.calls->reserve(&table->handle, rows->count))) return -1;
     bool copies = table->kind == LINKED && policy & (ALL_DROP_OLD ^ DROP_OLD);
     Table *saved = copies ? table_copy(table) : NULL;
-    if (copies && !saved) return -1;
-    int wrong = put_rows(table, rows, side, policy);
+    int wrong = copies && !saved ? -1 : put_rows(table, rows, side, policy);
     Handle handle = table->handle;
     if (saved && wrong) table->handle = saved->handle, saved->handle = handle;
     table_release(saved);
     return wrong;
 }
 
-/* Makes the table for the first pair, and does the rest. If it fails, the types are as unknown as before. */
-static int put_read(Batch *batch, int policy)
-{
-    Table *table = batch->map->table;
-    bool fresh = !table->shape.calls;
-    if (!batch->rows.count) return 0;
-    int wrong = table_make(table, &batch->shape) || put_batch(table, &batch->rows, key_side(batch->map), policy);
-    if (wrong && fresh && !table_len(table)) table_unmake(table);
-    return wrong;
-}
-
-/* Inserts the items of a mapping or of an iterable of pairs, and then those of a dict. Either may be null. */
+/* Inserts the items of a mapping or of an iterable of pairs, and then those of a dict. Either may be null. If it fails,
+ * the types are as unknown as before. */
 int put_many(Map *map, PyObject *items, PyObject *more, int policy)
 {
     Batch batch = batch_of(map);
-    int wrong = (items && read_items(&batch, items)) || (more && read_items(&batch, more)) || put_read(&batch, policy);
+    Table *table = map->table;
+    bool fresh = !table->shape.calls;
+    int wrong = (items && read_items(&batch, items)) || (more && read_items(&batch, more));
+    if (!wrong && batch.rows.count) {
+        wrong = table_make(table, &batch.shape) || put_batch(table, &batch.rows, key_side(map), policy);
+        if (wrong && fresh && !table_len(table)) table_unmake(table);
+    }
     rows_free(&batch.rows);
     return wrong ? -1 : 0;
 }
 
 /* Inserts a pair, and returns the items that it overwrote. */
-PyObject *insert_reported(Map *map, PyObject *key, PyObject *value)
+PyObject *map_insert(Map *map, PyObject *args)
 {
     Batch batch = batch_of(map);
     Table *table = map->table;
     Log log = {0};
-    Value pair[2];
+    Value pair[2], old[2][2];
     uint8_t what = NOTHING;
-    PyObject *items = NULL;
-    if (!add(&batch, key, value) && !table_make(table, &batch.shape)) {
+    PyObject *key, *value, *items = NULL;
+    bool fresh = !table->shape.calls, parsed = PyArg_UnpackTuple(args, "insert", 2, 2, &key, &value);
+    if (parsed && !add(&batch, key, value) && !table_make(table, &batch.shape)) {
         pair_of(&table->shape, batch.rows.words, batch.rows.bytes, pair);
         int side = key_side(map), wrong = put_noted(&log, &what, table, pair, side, ALL_DROP_OLD);
-        if (!wrong && what == NOTHING) wrong = rows_add(&log.old, &table->shape, pair);
         Rows noted = log.old;
-        for (items = wrong ? NULL : PyTuple_New(log.old.count); items && log.old.count;) {
-            size_t i = noted.count - log.old.count;
-            Value old[2];
-            last_noted(&log, &table->shape, old);
-            PyObject *item = Py_BuildValue("NN", object_of(table->shape.sides[side], old + side), object_of(table->shape.sides[!side], old + !side));
-            if (!item || PyTuple_SetItem(items, i, item)) Py_CLEAR(items);
-        }
+        for (int i = 0; i < what - INSERTED; i++) last_noted(&log, &table->shape, old[i]);
         log.old = noted;
-        if (!items && what) take_back(&log, table, pair, what);
+        if (what == OVERWROTE_TWO) items = Py_BuildValue("NN", item_of(&table->shape, old[0], side), item_of(&table->shape, old[1], side));
+        else if (what == INSERTED) items = PyTuple_New(0);
+        else if (!wrong) items = Py_BuildValue("(N)", item_of(&table->shape, what ? old[0] : pair, side));
+        if (!items) take_back(&log, table, pair, what);
+        if (!items && fresh && !table_len(table)) table_unmake(table);
     }
     rows_free(&batch.rows);
     log_free(&log);

@@ -1,8 +1,10 @@
-/* The types Map and MutableMap, and the module. The methods whose names begin with `_` are for the other half of the package. */
+/* The types Map and MutableMap, and the module. A method whose name begins with `_` is for the other half. */
 #include <sys/random.h>
 #include "core.h"
 
 PyTypeObject *map_type;
+
+static PyObject *none_unless(int wrong) { return wrong ? NULL : Py_BuildValue(""); }
 
 /* Returns a new map over a table. The table becomes the map's. */
 static Map *map_of(PyTypeObject *type, Table *table, int policy)
@@ -53,15 +55,21 @@ static PyObject *map_inverse(Map *map, void *unused)
 
 static Py_ssize_t map_len(Map *map) { return table_len(map->table); }
 
-/* Writes a key as a value to look up. Returns 1, or 0 if no key of the map can be equal to this one, or -1 with an error. */
-int find(Map *map, PyObject *key, Value *value)
+/* Writes a key as a value of the table, which is made. */
+static int value_from(Map *map, PyObject *key, Value *value)
 {
     PyObject *it = settled(key);
-    const Shape *shape = &map->table->shape;
-    int found = it && shape->calls ? !value_of(shape->sides[key_side(map)], it, value) : 0;
+    int wrong = it ? value_of(map->table->shape.sides[key_side(map)], it, value) : -1;
     Py_XDECREF(it);
-    if (found) return 1;
-    if (!it || (PyErr_Occurred() && PyErr_ExceptionMatches(PyExc_MemoryError))) return -1;
+    return wrong;
+}
+
+/* Writes a key as a value to look up. Returns 1, or 0 if the map cannot contain it, or -1 with an error. */
+int find(Map *map, PyObject *key, Value *value)
+{
+    if (map->table->shape.calls && !value_from(map, key, value)) return 1;
+    PyObject *error = PyErr_Occurred();
+    if (error && error != PyExc_TypeError && error != PyExc_OverflowError && error != PyExc_UnicodeEncodeError) return -1;
     PyErr_Clear();
     /* A key that has no hash is an error in a dict too. */
     return PyObject_Hash(key) == -1 && PyErr_Occurred() ? -1 : 0;
@@ -121,12 +129,10 @@ static PyObject *map_copy(Map *map, PyObject *none)
 /* Returns whether both maps have the same items, or None if their tables store them in different ways. */
 static PyObject *map_same(Map *map, PyObject *object)
 {
-    Map *other = PyObject_TypeCheck(object, map_type) ? (Map *)object : map;
-    const Shape *mine = &map->table->shape, *theirs = &other->table->shape;
-    bool alike = (PyObject *)other == object && mine->calls && mine->calls == theirs->calls && key_side(map) == key_side(other);
-    if (!alike || mine->sides[0].type != theirs->sides[0].type || mine->sides[1].type != theirs->sides[1].type) Py_RETURN_NONE;
-    uint32_t status = map->table == other->table ? JETUKOMA_DONE : mine->calls->equals(&map->table->handle, &other->table->handle);
-    return status == JETUKOMA_NOT_FOUND ? PyBool_FromLong(0) : done(status) ? NULL : PyBool_FromLong(1);
+    Table *mine = map->table, *theirs = PyObject_TypeCheck(object, map_type) ? ((Map *)object)->table : NULL;
+    if (!theirs || !mine->shape.calls || !alike(map, (Map *)object)) return none_unless(0);
+    uint32_t status = mine == theirs ? JETUKOMA_DONE : mine->shape.calls->equals(&mine->handle, &theirs->handle);
+    return status != JETUKOMA_NOT_FOUND && done(status) ? NULL : PyBool_FromLong(!status);
 }
 
 /* Returns how many keys are less than this one. */
@@ -134,14 +140,13 @@ static PyObject *map_rank(Map *map, PyObject *key)
 {
     Value left;
     size_t rank = 0;
-    const Shape *shape = &map->table->shape;
-    PyObject *it = settled(key);
-    int wrong = !it || (shape->calls && (value_of(shape->sides[0], it, &left) || done(shape->calls->rank(&map->table->handle, &left, &rank))));
-    Py_XDECREF(it);
-    return wrong ? NULL : PyLong_FromSize_t(rank);
+    Table *table = map->table;
+    bool known = table->shape.calls;
+    if (known && (value_from(map, key, &left) || done(table->shape.calls->rank(&table->handle, &left, &rank)))) return NULL;
+    return PyLong_FromSize_t(rank);
 }
 
-/* Returns whether this is an inverse, and the types of its sides. With two arguments it sets the types that are not zero. */
+/* Returns whether this is an inverse, and its types. With two arguments it sets the types that are not zero. */
 static PyObject *map_about(Map *map, PyObject *args)
 {
     unsigned char given[2] = {0, 0}, *types = map->table->types;
@@ -154,12 +159,6 @@ static PyObject *map_about(Map *map, PyObject *args)
     return Py_BuildValue("Oii", map->inverse ? Py_True : Py_False, keys, values);
 }
 
-static PyObject *none_unless(int wrong)
-{
-    if (wrong) return NULL;
-    Py_RETURN_NONE;
-}
-
 static PyObject *map_put_many(Map *map, PyObject *args)
 {
     PyObject *items, *more = NULL;
@@ -168,7 +167,7 @@ static PyObject *map_put_many(Map *map, PyObject *args)
     return none_unless(put_many(map, items, more && PyObject_IsTrue(more) ? more : NULL, policy));
 }
 
-/* Inserts a pair under a policy. A pair is a batch of one, but if the types are known, it goes into the table without one. */
+/* Inserts a pair under a policy. If a type is unknown, the pair is a batch of one. */
 static int put(Map *map, PyObject *key, PyObject *value, int policy)
 {
     PyObject *objects[2] = {settled(key), settled(value)};
@@ -203,12 +202,6 @@ static PyObject *map_put(Map *map, PyObject *args)
     PyObject *key, *value;
     int policy;
     return PyArg_ParseTuple(args, "OOi", &key, &value, &policy) ? none_unless(put(map, key, value, policy)) : NULL;
-}
-
-static PyObject *map_insert(Map *map, PyObject *args)
-{
-    PyObject *key, *value;
-    return PyArg_UnpackTuple(args, "insert", 2, 2, &key, &value) ? insert_reported(map, key, value) : NULL;
 }
 
 static PyObject *map_pop(Map *map, PyObject *args)
@@ -284,19 +277,17 @@ static PyType_Slot slots[] = {
     {Py_tp_iter, map_iter}, {Py_tp_methods, methods}, {Py_tp_getset, properties}, {0, NULL},
 };
 static PyType_Spec map_spec = {"jetukoma._core.Map", sizeof(Map), 0, Py_TPFLAGS_DEFAULT | Py_TPFLAGS_BASETYPE, slots};
-static PyType_Slot change_slots[] = {{Py_mp_ass_subscript, map_setitem}, {Py_tp_methods, changes}, {0, NULL}};
+static PyType_Slot change_slots[] = {{Py_tp_base, NULL}, {Py_mp_ass_subscript, map_setitem}, {Py_tp_methods, changes}, {0, NULL}};
 static PyType_Spec mutable_spec = {"jetukoma._core.MutableMap", sizeof(Map), 0, Py_TPFLAGS_DEFAULT | Py_TPFLAGS_BASETYPE, change_slots};
 static struct PyModuleDef module = {PyModuleDef_HEAD_INIT, "_core", NULL, -1, NULL, NULL, NULL, NULL, NULL};
 
 PyMODINIT_FUNC PyInit__core(void)
 {
-    PyObject *it = PyModule_Create(&module), *bases = NULL, *mutable_type = NULL;
+    PyObject *it = PyModule_Create(&module), *mutable_type = NULL;
     if (getrandom(&next_seed, sizeof next_seed, 0) != sizeof next_seed) return PyErr_SetFromErrno(PyExc_OSError);
     walk_type = (PyTypeObject *)PyType_FromSpec(&walk_spec);
-    map_type = (PyTypeObject *)PyType_FromSpec(&map_spec);
-    if (map_type) bases = PyTuple_Pack(1, (PyObject *)map_type);
-    if (bases) mutable_type = PyType_FromSpecWithBases(&mutable_spec, bases);
-    Py_XDECREF(bases);
+    change_slots[0].pfunc = map_type = (PyTypeObject *)PyType_FromSpec(&map_spec);
+    if (map_type) mutable_type = PyType_FromSpec(&mutable_spec);
     if (!it || !walk_type || !mutable_type || PyModule_AddObject(it, "Map", (PyObject *)map_type)) return NULL;
     if (PyModule_AddObject(it, "MutableMap", mutable_type) || PyModule_AddStringConstant(it, "__version__", jetukoma_version())) return NULL;
     return it;

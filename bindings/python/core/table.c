@@ -29,8 +29,7 @@ int table_make(Table *table, const Shape *shape)
         return -1;
     }
     uint32_t kind = table->kind == LINKED ? INSERTION_ORDER : table->kind;
-    next_seed += 0x9e3779b97f4a7c15;
-    if (done(shape->calls->make(&table->handle, kind, next_seed))) return -1;
+    if (done(shape->calls->make(&table->handle, kind, next_seed += 0x9e3779b97f4a7c15))) return -1;
     table->shape = *shape;
     return 0;
 }
@@ -81,10 +80,7 @@ uint32_t partner_of(Table *table, int side, const Value *value, Found *found, Va
     return status;
 }
 
-void found_free(Found *found)
-{
-    if (found->bytes != found->few) free(found->bytes);
-}
+void found_free(Found *found) { free(found->bytes == found->few ? NULL : found->bytes); }
 
 /* Returns the partner of a value. If the value is not contained, it returns null without an error. */
 PyObject *partner_object(Table *table, int side, const Value *value)
@@ -143,9 +139,8 @@ int what_is_there(Table *table, const Value pair[2], int key_side)
 /* Raises the error of bidict for a pair of which the table has this. */
 void raise_duplicate(const Shape *shape, const Value pair[2], int key_side, int there)
 {
-    PyObject *key = object_of(shape->sides[key_side], pair + key_side), *value = object_of(shape->sides[!key_side], pair + !key_side);
     PyObject *package = PyImport_ImportModule("jetukoma._names");
-    PyObject *error = package ? PyObject_CallMethod(package, "duplicate", "iNN", there, key, value) : NULL;
+    PyObject *error = package ? PyObject_CallMethod(package, "duplicate", "iN", there, item_of(shape, pair, key_side)) : NULL;
     if (error) PyErr_SetObject((PyObject *)Py_TYPE(error), error);
     Py_XDECREF(error);
     Py_XDECREF(package);
@@ -176,7 +171,7 @@ static uint32_t rebuild(Table *table, const Value pair[2], bool first)
 }
 
 /* Inserts a pair and counts what changed. */
-static uint32_t insert(Table *table, const Value pair[2], bool left_refuses, bool right_refuses)
+uint32_t table_insert(Table *table, const Value pair[2], bool left_refuses, bool right_refuses)
 {
     uint32_t kind, status = table->shape.calls->insert(&table->handle, pair, left_refuses, right_refuses, &kind);
     if (!status) *(kind == 3 || kind == (table->shape.turned ? 2 : 1) ? &table->writes : &table->moves) += 1;
@@ -187,14 +182,14 @@ static uint32_t insert(Table *table, const Value pair[2], bool left_refuses, boo
 uint32_t overwrite(Table *table, const Value pair[2], int key_side, int there)
 {
     bool at_right = there == BOTH ? key_side : there == (key_side ? THE_KEY : THE_VALUE);
-    return table->kind == LINKED && at_right ? rebuild(table, pair, false) : insert(table, pair, false, false);
+    return table->kind == LINKED && at_right ? rebuild(table, pair, false) : table_insert(table, pair, false, false);
 }
 
 /* Inserts a pair under a policy. Returns -1 with an error if the policy refuses it. */
 int table_put(Table *table, const Value pair[2], int key_side, int policy)
 {
     bool linked = table->kind == LINKED, refuses[2] = {linked || (policy & 3) != DROP_OLD, linked || policy >> 2 != ALL_DROP_OLD >> 2};
-    uint32_t status = insert(table, pair, refuses[key_side], refuses[!key_side]);
+    uint32_t status = table_insert(table, pair, refuses[key_side], refuses[!key_side]);
     if (status != JETUKOMA_REFUSED) return done(status);
     int there = what_is_there(table, pair, key_side);
     if (there <= THE_PAIR) return there;
@@ -204,15 +199,14 @@ int table_put(Table *table, const Value pair[2], int key_side, int policy)
     return action == RAISE ? -1 : 0;
 }
 
-/* Inserts a pair that was in the table before. If there is no memory, it frees what was kept for this, and tries again. */
+/* Inserts a pair that was there before. If there is no memory, it frees what was kept for this and tries again. */
 uint32_t put_back(Table *table, const Value pair[2], void **kept)
 {
-    uint32_t kind, status = table->shape.calls->insert(&table->handle, pair, false, false, &kind);
-    table->moves++;
+    uint32_t status = table_insert(table, pair, false, false);
     if (status != JETUKOMA_NO_MEMORY) return status;
     free(*kept);
     *kept = NULL;
-    return table->shape.calls->insert(&table->handle, pair, false, false, &kind);
+    return table_insert(table, pair, false, false);
 }
 
 /* Moves a pair of the table to the end, or to the front. */
@@ -231,11 +225,8 @@ uint32_t move_pair(Table *table, const Value pair[2], bool last)
 Table *table_copy(Table *table)
 {
     Table *copy = table_new(table->kind, table->types[0], table->types[1]);
-    if (!copy || !table->shape.calls) return copy;
-    if (!done(table->shape.calls->clone(&table->handle, &copy->handle))) {
-        copy->shape = table->shape;
-        return copy;
-    }
-    table_release(copy);
-    return NULL;
+    bool clones = copy && table->shape.calls, wrong = clones && done(table->shape.calls->clone(&table->handle, &copy->handle));
+    if (clones && !wrong) copy->shape = table->shape;
+    if (wrong) table_release(copy);
+    return wrong ? NULL : copy;
 }

@@ -11,7 +11,7 @@ int type_of(PyObject *object)
     return PyLong_Check(object) ? INT : PyUnicode_Check(object) ? STR : PyBytes_Check(object) ? BYTES : UNKNOWN;
 }
 
-/* Returns a new reference to the object, or to the int that its __index__ returns. No other function of this module calls __index__. */
+/* Returns the object, or the int that its __index__ returns, as a new reference. Nothing else calls __index__. */
 PyObject *settled(PyObject *object)
 {
     if (!PyLong_CheckExact(object) && !PyUnicode_CheckExact(object) && PyIndex_Check(object) && !PyLong_Check(object))
@@ -22,8 +22,8 @@ PyObject *settled(PyObject *object)
 
 bool has_bytes(Side side) { return side.packed || side.type >= STR; }
 
-/* Returns how a table of this kind stores keys and values of these types. An order is that of the keys, so only a hashed table can
- * have numbers as keys on its right. */
+/* Returns how a table of this kind stores keys and values of these types. An order is that of the lefts, so only in a
+ * hashed table the keys may be the rights. */
 Shape shape_of(int kind, int keys, int values)
 {
     bool texts = keys >= STR, turned = !texts && values >= STR && kind == HASHED, packed = !texts && values >= STR && !turned;
@@ -85,6 +85,13 @@ PyObject *object_of(Side side, const Value *value)
     return side.type == INT ? PyLong_FromLongLong((int64_t)(word ^ TOP)) : PyLong_FromUnsignedLongLong(word);
 }
 
+/* Returns a pair as an item, which is a tuple. */
+PyObject *item_of(const Shape *shape, const Value pair[2], int key_side)
+{
+    const Side *sides = shape->sides;
+    return Py_BuildValue("NN", object_of(sides[key_side], pair + key_side), object_of(sides[!key_side], pair + !key_side));
+}
+
 /* Returns how many bytes a pair of rows has. */
 size_t bytes_of(const Shape *shape, const uint64_t *words)
 {
@@ -138,8 +145,4 @@ int rows_add(Rows *rows, const Shape *shape, const Value pair[2])
     return 0;
 }
 
-void rows_free(Rows *rows)
-{
-    free(rows->words);
-    free(rows->bytes);
-}
+void rows_free(Rows *rows) { free(rows->words), free(rows->bytes); }

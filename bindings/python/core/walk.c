@@ -1,20 +1,19 @@
-/* The iterators. A walk reads some pairs at a time. The pairs that it reads get more, since some tables pass over all that is left out. */
+/* The iterators. A walk reads ever more pairs at a time, since some tables pass over all that they leave out. */
 #include "core.h"
 
 typedef struct {
     PyObject_HEAD
     Table *table;
     int side, what;        /* the side of the keys, and what to return: keys, values or items */
-    bool back;             /* from the end of the table */
-    bool from_end;         /* from the end of the rows */
+    bool back, from_end;   /* whether it goes from the end of the table, and from the end of the rows */
     size_t from, to, more; /* the positions that were not read, and how many to read next */
     Rows rows;
-    size_t at, offset;     /* the next pair of the rows, and where its bytes begin or end */
+    size_t at, offset; /* the next pair of the rows, and where its bytes begin or end */
     uint64_t moves, writes;
 } Walk;
 PyTypeObject *walk_type;
 
-/* Returns an iterator over the positions from `from` to `to`. It returns keys if `what` is 0, values if it is 1, and items if it is 2. */
+/* Returns an iterator over positions. It returns keys if `what` is 0, values if it is 1, and items if it is 2. */
 PyObject *walk_new(Table *table, int key_side, int what, bool back, size_t from, size_t to)
 {
     Walk *walk = (Walk *)PyType_GenericAlloc(walk_type, 0);

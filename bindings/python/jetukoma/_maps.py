@@ -261,7 +261,7 @@ class MutableBidict(BidictBase, MutableMap):
         while self:
             at = len(self) - 1 if last and self._kind != HASHED else 0
             try:
-                key = next(self._walk(0, False, at, at + 1))
+                key = next(self._walk(0, last, at, at + 1))
             except (StopIteration, RuntimeError):
                 continue  # another thread changed the map
             value = self.pop(key, MISSING)

@@ -87,11 +87,11 @@ class KeyAndValueDuplicationError(KeyDuplicationError, ValueDuplicationError):
     """One item has the key, and another item has the value."""
 
 
-def duplicate(which, key, value):
-    """Returns the exception for a duplicate. _core calls this."""
-    if which == 1:
-        return KeyDuplicationError(key)
-    return ValueDuplicationError(value) if which == 2 else KeyAndValueDuplicationError(key, value)
+def duplicate(which, item):
+    """Returns the exception for an item of which the key, the value or both are duplicates. _core calls this."""
+    if which == 3:
+        return KeyAndValueDuplicationError(*item)
+    return KeyDuplicationError(item[0]) if which == 1 else ValueDuplicationError(item[1])
 
 
 class BidirectionalMapping(Mapping):
