@@ -17,8 +17,9 @@ def memory():
 
 
 def main(pairs, keys, kind):
-    name = "jetukoma" if kind.startswith("Bi") else "bidict"
-    bimap = getattr(__import__(name), kind)()
+    package = __import__("jetukoma" if kind.startswith("Bi") else "bidict")
+    types = {"keys": package.u64, "values": package.u64} if kind.startswith("Bi") else {}
+    bimap = getattr(package, kind)(**types)
     lefts, rights, step = (1, 1, 1) if keys == "rising" else (0x9E3779B97F4A7C15, 0xD1B54A32D192ED03, 7907 if pairs % 7919 == 0 else 7919)
     left, right = ([at * factor % WORD for at in range(2 * pairs)] for factor in (lefts, rights))
     order = [at * step % pairs for at in range(pairs)]

@@ -11,8 +11,9 @@
 #include <Python.h>
 #include "jetukoma.h"
 
-/* The stable ABI has this function since 3.10. Python 3.9 has it too, but not in the header of its limited API. */
+/* The stable ABI has these two since 3.10. Python 3.9 has them too, but its header hides them from the limited API. */
 PyAPI_FUNC(const char *) PyUnicode_AsUTF8AndSize(PyObject *text, Py_ssize_t *size);
+#define METH_FASTCALL 0x0080
 
 /* The type of the keys or of the values. It is UNKNOWN until the first item comes, unless the user names it. */
 enum { UNKNOWN, INT, U64, STR, BYTES };

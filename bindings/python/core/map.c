@@ -89,13 +89,12 @@ static PyObject *map_getitem(Map *map, PyObject *key)
     return found;
 }
 
-static PyObject *map_get(Map *map, PyObject *args)
+static PyObject *map_get(Map *map, PyObject *const *args, Py_ssize_t count)
 {
     Value value;
-    PyObject *key, *otherwise = Py_None;
-    if (!PyArg_UnpackTuple(args, "get", 1, 2, &key, &otherwise)) return NULL;
-    PyObject *found = value_at(map, key, &value);
-    if (!found && !PyErr_Occurred()) Py_INCREF(found = otherwise);
+    if (count < 1 || count > 2) return PyErr_Format(PyExc_TypeError, "get expected 1 or 2 arguments, got %zd", count);
+    PyObject *found = value_at(map, args[0], &value);
+    if (!found && !PyErr_Occurred()) Py_INCREF(found = count > 1 ? args[1] : Py_None);
     return found;
 }
 
@@ -197,24 +196,22 @@ static int map_setitem(Map *map, PyObject *key, PyObject *new)
     return found > 0 ? 0 : -1;
 }
 
-static PyObject *map_put(Map *map, PyObject *args)
+static PyObject *map_put(Map *map, PyObject *const *args, Py_ssize_t count)
 {
-    PyObject *key, *value;
-    int policy;
-    return PyArg_ParseTuple(args, "OOi", &key, &value, &policy) ? none_unless(put(map, key, value, policy)) : NULL;
+    if (count != 3) return PyErr_Format(PyExc_TypeError, "_put expected 3 arguments, got %zd", count);
+    return none_unless(put(map, args[0], args[1], PyLong_AsLong(args[2])));
 }
 
-static PyObject *map_pop(Map *map, PyObject *args)
+static PyObject *map_pop(Map *map, PyObject *const *args, Py_ssize_t count)
 {
-    PyObject *key, *otherwise = NULL;
     Value value;
-    if (!PyArg_UnpackTuple(args, "pop", 1, 2, &key, &otherwise)) return NULL;
-    PyObject *found = value_at(map, key, &value);
+    if (count < 1 || count > 2) return PyErr_Format(PyExc_TypeError, "pop expected 1 or 2 arguments, got %zd", count);
+    PyObject *found = value_at(map, args[0], &value);
     if (found && table_remove(map->table, key_side(map), &value) < 0) Py_CLEAR(found);
     if (found || PyErr_Occurred()) return found;
-    if (!otherwise) PyErr_SetObject(PyExc_KeyError, key);
-    Py_XINCREF(otherwise);
-    return otherwise;
+    if (count == 1) return PyErr_SetObject(PyExc_KeyError, args[0]), NULL;
+    Py_INCREF(args[1]);
+    return args[1];
 }
 
 static PyObject *map_clear(Map *map, PyObject *none)
@@ -242,10 +239,10 @@ static PyObject *map_move(Map *map, PyObject *args)
     return none_unless(done(status));
 }
 
-#define METHOD(name, call, how, doc) {name, (PyCFunction)call, how, doc}
+#define METHOD(name, call, how, doc) {name, (PyCFunction)(void (*)(void))call, how, doc}
 #define DOC(head, text, code) head "\n--\n\n" text "\n\n    >>> m = bidict({1: 'one', 2: 'two'})\n    >>> " code
 static PyMethodDef methods[] = {
-    METHOD("get", map_get, METH_VARARGS, DOC("get(key, default=None)", "Returns the value of a key, or the default.", "m.get(3, 'none')\n    'none'")),
+    METHOD("get", map_get, METH_FASTCALL, DOC("get(key, default=None)", "Returns the value of a key, or the default.", "m.get(3, 'none')\n    'none'")),
     METHOD("copy", map_copy, METH_NOARGS, DOC("copy()", "Returns a new map with the same items.", "m.copy()\n    bidict({1: 'one', 2: 'two'})")),
     METHOD("__copy__", map_copy, METH_NOARGS, NULL),
     METHOD("_walk", map_walk, METH_VARARGS, NULL),
@@ -256,13 +253,13 @@ static PyMethodDef methods[] = {
     {0},
 };
 static PyMethodDef changes[] = {
-    METHOD("_put", map_put, METH_VARARGS, NULL),
+    METHOD("_put", map_put, METH_FASTCALL, NULL),
     METHOD("_move", map_move, METH_VARARGS, NULL),
     METHOD("clear", map_clear, METH_NOARGS, DOC("clear()", "Removes all items.", "m.clear()\n    >>> m\n    bidict()")),
     METHOD("insert", map_insert, METH_VARARGS,
            DOC("insert(key, value, /)", "Inserts an item as `forceput` does, and returns the items that it overwrote, that of the key first.",
                "m.insert(1, 'two')\n    ((1, 'one'), (2, 'two'))\n    >>> m.insert(3, 'three')\n    ()")),
-    METHOD("pop", map_pop, METH_VARARGS,
+    METHOD("pop", map_pop, METH_FASTCALL,
            DOC("pop(key[, default])", "Removes the item of a key and returns its value. If there is none, it returns the default or raises a KeyError.",
                "m.pop(1), m.pop(1, 'none')\n    ('one', 'none')")),
     {0},

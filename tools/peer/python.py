@@ -1,0 +1,83 @@
+"""python.py [PAIRS ..]: times the calls of the package jetukoma beside bidict, and prints a table. Both must be installed.
+
+A figure is nanoseconds a pair, and in brackets its ratio to bidict. It is the median of several runs, in which both take
+turns. `bytes` is how much the memory of a process grows, without the objects that the caller has.
+"""
+import platform
+import statistics
+import subprocess
+import sys
+import time
+
+RUNS = {1_000: 41, 100_000: 7, 1_000_000: 5}
+GOALS = {"m[k] = new": 0.4, "m[k]": 0.7, "m.inverse[v]": 0.7, "k in m": 0.9, "items()": 1.0, "copy": 0.1, "m[k] = over": 0.4}
+GOALS.update({"del m[k]": 0.6, "putall": 0.12, "bytes": 0.7})
+
+
+def values_of(text, start, pairs, factor):
+    """Returns different numbers, or texts with them, in no order."""
+    numbers = [at * 0x9E3779B97F4A7C15 * factor % 2**62 for at in range(start, start + pairs)]
+    return [f"key {number}" for number in numbers] if text else numbers
+
+
+def timed(package, kind, text, pairs):
+    """Returns the nanoseconds a pair of each call."""
+    m, keys = getattr(__import__(package), kind)(), values_of(text, 0, pairs, 1)
+    values, more = values_of(False, 0, pairs, 3), values_of(False, pairs, pairs, 3)
+    items = list(zip(keys, values))
+
+    def put(its):
+        for key, value in its:
+            m[key] = value
+
+    def delete():
+        for key in keys:
+            del m[key]
+
+    calls = {
+        "m[k] = new": lambda: put(items),
+        "m[k]": lambda: [m[key] for key in keys],
+        "m.inverse[v]": lambda: [m.inverse[value] for value in values],
+        "k in m": lambda: [key in m for key in keys],
+        "items()": lambda: [None for key, value in m.items()],
+        "copy": m.copy,
+        "m[k] = over": lambda: put(zip(keys, more)),
+        "del m[k]": delete,
+        "putall": lambda: m.putall(items),
+    }
+    found = {}
+    for name, call in calls.items():
+        start = time.perf_counter_ns()
+        call()
+        found[name] = (time.perf_counter_ns() - start) / pairs
+    return found
+
+
+def bytes_of(package, kind, text, pairs):
+    """Returns by how many bytes a pair the memory grows. It asks a process of its own."""
+    grown = f"""import sys; sys.path[:0] = {sys.path!r}
+from python import values_of
+import {package}
+made, items = {package}.{kind}(), list(zip(values_of({text}, 0, {pairs}, 1), values_of(False, 0, {pairs}, 3)))
+size = lambda: int(open("/proc/self/statm").read().split()[1]) * 4096
+before = size()
+made.putall(items)
+print((size() - before) / {pairs})"""
+    return float(subprocess.run([sys.executable, "-c", grown], capture_output=True, check=True, text=True).stdout)
+
+
+def main(sizes):
+    print(f"Python {platform.python_version()}")
+    for pairs, text, kind in [(pairs, text, kind) for pairs in sizes for text in (False, True) for kind in ("bidict", "BiHashMap")]:
+        both = [("jetukoma", kind, text, pairs), ("bidict", "bidict", text, pairs)]
+        runs = [[timed(*each) for each in both] for _ in range(RUNS.get(pairs, 5))]
+        figures = {name: [statistics.median(run[i][name] for run in runs) for i in (0, 1)] for name in runs[0][0]}
+        figures["bytes"] = [bytes_of(*each) for each in both]
+        print(f"{pairs:,} pairs of {'str' if text else 'int'} and int, {kind}")
+        for name, (ours, theirs) in figures.items():
+            ratio = ours / theirs if theirs else 0
+            print(f"    {name:<14}{ours:>9.1f} ({ratio:.2f})" + f", above {GOALS[name]}" * (ratio > GOALS[name]))
+
+
+if __name__ == "__main__":
+    main([int(it) for it in sys.argv[1:]] or list(RUNS))
