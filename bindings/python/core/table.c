@@ -160,9 +160,9 @@ static uint32_t rebuild(Table *table, const Value pair[2], bool first)
         Value it[2];
         pair_of(&table->shape, rows.words + 2 * i, bytes, it);
         bytes += bytes_of(&table->shape, rows.words + 2 * i);
-        bool left = same_value(table->shape.sides[0], it, pair), right = same_value(table->shape.sides[1], it + 1, pair + 1);
+        bool right = same_value(table->shape.sides[1], it + 1, pair + 1);
         if (right && !first) status = calls->insert(&copy, pair, false, false, &kind);
-        else if (!left && !right) status = calls->insert(&copy, it, false, false, &kind);
+        else if (!same_value(table->shape.sides[0], it, pair)) status = calls->insert(&copy, it, false, false, &kind);
     }
     rows_free(&rows);
     calls->free(status ? &copy : &table->handle);

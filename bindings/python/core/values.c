@@ -7,7 +7,6 @@ static const uint64_t TOP = (uint64_t)1 << 63;
 /* Returns the type of a side whose first value is this object. */
 int type_of(PyObject *object)
 {
-    if (PyBool_Check(object)) return UNKNOWN;
     return PyLong_Check(object) ? INT : PyUnicode_Check(object) ? STR : PyBytes_Check(object) ? BYTES : UNKNOWN;
 }
 

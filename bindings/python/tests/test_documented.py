@@ -263,6 +263,11 @@ class Package(unittest.TestCase):
             it = getattr(jetukoma, name)
             self.assertTrue(callable(it) or isinstance(it, (jetukoma.OD, jetukoma.OnDup)), name)
 
+    def test_policies(self):
+        policies = [jetukoma.OnDup(), jetukoma.OnDup(val=jetukoma.DROP_OLD), jetukoma.OnDup(jetukoma.RAISE, kv=jetukoma.DROP_NEW)]
+        self.assertEqual([[it.name for it in each] for each in policies], [["DROP_OLD", "RAISE", "RAISE"], ["DROP_OLD"] * 3, ["RAISE", "RAISE", "DROP_NEW"]])
+        self.assertRaises(TypeError, bidict().put, 1, 2, "RAISE")
+
     def test_views_and_classes(self):
         it = bidict({1: 2})
         for view, kinds in [(it.keys(), (KeysView,)), (it.values(), (KeysView, ValuesView)), (it.items(), (ItemsView,))]:

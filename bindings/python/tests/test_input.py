@@ -1,6 +1,7 @@
 """Bad input, the types of sides, iteration while a map changes, undo, retain and JSON."""
 import json
 import random
+import signal
 import unittest
 
 from jetukoma import BiBTreeMap, BiHashMap, DuplicationError, OrderedBidict, bidict, frozenbidict, u64
@@ -132,13 +133,13 @@ class Iteration(unittest.TestCase):
                 for key in it:
                     it[key] = make(key + 1000)
                 self.assertEqual(it, {number: make(number + 1000) for number in range(1000)})
-                seen = {}
+                it, seen = kind((number, make(number)) for number in range(3)), {}
                 for key, value in it.items():
                     seen[key] = value
-                    for other in range(10):
-                        it[other] = make(5000 + 1000 * other + len(seen))
-                self.assertEqual({key: value for key, value in seen.items() if key > 9}, {number: make(number + 1000) for number in range(10, 1000)})
-                self.assertTrue(all(seen[key] == make(number + 1000) or int(seen[key]) >= 5000 for number, key in enumerate(range(10))))
+                    for other in {0, 1, 2} - set(seen):
+                        it[other] = make(10 + 3 * len(seen) + other)
+                self.assertEqual(seen, dict(it))
+                self.assertNotIn(make(1), seen.values())
 
     def test_views_follow(self):
         for kind in KINDS:
@@ -172,9 +173,27 @@ class Undo(unittest.TestCase):
                         it[d] = overwritten[-1][1]
                         self.assertRaises(ValueError, it.undo, key, overwritten)
                         del it[d]
+                        for other, _ in overwritten[-1:] if overwritten[-1][0] != key else ():
+                            it[other] = 8
+                            self.assertRaises(ValueError, it.undo, key, overwritten)
+                            del it[other]
                     it.undo(key, overwritten)
                     self.assertEqual(it, {a: 1, b: 2})
                     self.assertRaises(KeyError, it.undo, d, ())
+
+
+class Signals(unittest.TestCase):
+    def test_a_signal_ends_a_long_call(self):
+        def interrupt(*_):
+            raise KeyboardInterrupt
+
+        before = signal.signal(signal.SIGALRM, interrupt)
+        for kind in KINDS:
+            it = kind({-1: -1})
+            signal.setitimer(signal.ITIMER_REAL, 0.01)
+            self.assertRaises(KeyboardInterrupt, it.putall, zip(range(1500000), range(1500000)))
+            self.assertEqual(it, {-1: -1})
+        signal.signal(signal.SIGALRM, before)
 
 
 class Retain(unittest.TestCase):
