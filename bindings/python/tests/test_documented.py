@@ -293,14 +293,15 @@ named.move_to_end("a")
 frozenbidict({1: 2})[1] + 1
 pairs: Iterator[tuple[int, str]] = inverted(seats)
 """
-        wrong = {"seats.put(1, 2)": "arg-type", "frozenbidict({1: 2})[1] = 2": "index", "text: str = seats['ann']": "assignment"}
+        wrong = "seats.put(1, 2)\nfrozenbidict({1: 2})[1] = 2\ntext: str = seats['ann']\nbidict({1: 2}).move_to_end(1)\n"
         with tempfile.TemporaryDirectory() as room:
             shutil.copytree(os.path.dirname(jetukoma.__file__), f"{room}/jetukoma")
-            for name, text, said in [("right", program, "Success"), *((code, program + line, code) for line, code in wrong.items())]:
+            for name, text, said in [("right", program, ["Success"]), ("wrong", program + wrong, ["arg-type", "index", "assignment", "attr-defined"])]:
                 with open(f"{room}/{name}.py", "w", encoding="ascii") as file:
                     file.write(text)
                 ran = subprocess.run(["mypy", "--strict", "--python-version", "3.9", f"{name}.py"], cwd=room, capture_output=True, text=True)
-                self.assertIn(said, ran.stdout, ran.stdout + ran.stderr)
+                for each in said:
+                    self.assertIn(each, ran.stdout, ran.stdout + ran.stderr)
 
 
 if __name__ == "__main__":

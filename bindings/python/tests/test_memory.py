@@ -201,7 +201,7 @@ class Threads(unittest.TestCase):
 
             def write(first):
                 chance = random.Random(first)
-                for _ in range(3000):
+                for _ in range(1500):
                     key = chance.randrange(first, 200, 2)
                     it.forceput(key, str(chance.randrange(200)))
                     it.putall([(key + 1000, str(key + 1000)), (key + 3000, str(key + 3000))])
