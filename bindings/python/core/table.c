@@ -188,7 +188,8 @@ uint32_t overwrite(Table *table, const Value pair[2], int key_side, int there)
 /* Inserts a pair under a policy. Returns -1 with an error if the policy refuses it. */
 int table_put(Table *table, const Value pair[2], int key_side, int policy)
 {
-    bool linked = table->kind == LINKED, refuses[2] = {linked || (policy & 3) != DROP_OLD, linked || policy >> 2 != ALL_DROP_OLD >> 2};
+    bool linked = table->kind == LINKED && (key_side || policy >> 2);
+    bool refuses[2] = {linked || (policy & 3) != DROP_OLD, linked || policy >> 2 != ALL_DROP_OLD >> 2};
     uint32_t status = table_insert(table, pair, refuses[key_side], refuses[!key_side]);
     if (status != JETUKOMA_REFUSED) return done(status);
     int there = what_is_there(table, pair, key_side);
