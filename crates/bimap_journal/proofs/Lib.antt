@@ -3,6 +3,7 @@ pub mod Changed
 pub mod Found
 pub mod Groups
 pub mod Kept
+pub mod Listed
 pub mod Moments
 pub mod Opened
 pub mod Parsed

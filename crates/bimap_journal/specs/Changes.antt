@@ -1,5 +1,5 @@
 -- What the lines of a journal say about a map.
-use Rattle.std.specs.Prelude.{◌≡◌, ◌↔◌, ◌⊎◌, ℕ, Bool, true, List, [], ◌∷◌, codes, Result, Ok, Err}
+use Rattle.std.specs.Prelude.{◌≡◌, ◌↔◌, ◌⊎◌, ℕ, Bool, true, List, [], ◌∷◌, ◌++◌, codes, Result, Ok, Err}
 use Rattle.std.specs.List.{AllZip}
 use Rattle.serde_json.specs.Data.{Data, array, item, no_items, string}
 use Rattle.bimap.specs.Sets.{shares}
@@ -8,7 +8,7 @@ use Rattle.bimap.specs.Same.{HasEqual}
 use Rattle.bimap.specs.JsonReading.{ReadsNothing}
 use Rattle.bimap.specs.declared.value.sides.ReadFault.{ReadFault}
 use Rattle.bimap.specs.declared.value.sides.ReadFault.TheVariants.{Bad, Memory}
-use Rattle.bimap_journal.specs.Lines.{HasLines, IsGroup}
+use Rattle.bimap_journal.specs.Lines.{header, closed, lines, AreUnbroken, HasLines, IsGroup}
 use Rattle.bimap_journal.specs.Texts.{Says}
 use Rattle.bimap_journal.specs.declared.change.Change.{Change}
 use Rattle.bimap_journal.specs.declared.change.Change.TheVariants.{Insert, RemoveByLeft, RemoveByRight, Clear}
@@ -103,3 +103,10 @@ module _ {L R : Type 0} (same_left : L → L → Bool) (same_right : R → R →
       pub texts : List (List ℕ)
       pub has : HasLines file texts ⊎ ((file ≡ []) × (texts ≡ []))
       pub kept : AreKept texts S
+
+    -- The file has a line for each pair, in their order, which inserts this pair. It has nothing else.
+    pub record IsListOf (pairs : List (L × R)) (file : List ℕ) : Type 0 where
+      pub texts : List (List ℕ)
+      pub is : file ≡ header ++ lines texts ++ closed ∷ []
+      pub unbroken : AreUnbroken texts
+      pub each : AllZip (λ text p. IsLineOf (Insert p.0 p.1) text) texts pairs

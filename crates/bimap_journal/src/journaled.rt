@@ -1,4 +1,6 @@
 //! A map with a file that has each of its changes. It does not know which map it is, nor where the file is.
+mod compaction;
+
 use crate::disk::Disk;
 use crate::fault::{NotOpened, NotStored};
 use crate::group::{clear_group, insertion_group, left_group, right_group};

@@ -21,7 +21,8 @@ use std::io;
 
 const NAME: &[u8] = b"jetukoma journal ";
 
-const HEADER: &[u8] = b"jetukoma journal 1\n";
+/// The first line of a file.
+pub const HEADER: &[u8] = b"jetukoma journal 1\n";
 
 // What stands at the front of some bytes.
 #[derive(Clone, Copy)]

@@ -1,4 +1,5 @@
 //! Tests of what no clause says.
+mod compaction;
 mod file;
 mod memory;
 mod opening;

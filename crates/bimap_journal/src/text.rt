@@ -1,5 +1,5 @@
 //! The text of a line: a JSON value with a checksum. It does not know what the value means.
-ghost use Rattle.std.specs.Prelude.{◌≡◌, ◌<◌, ◌≤◌, ◌++◌, ◌∷◌, [], ℕ, List, drop, OnOk, IfOk, IfErr, IfSome, IfNone, Contains};
+ghost use Rattle.std.specs.Prelude.{◌≡◌, ◌≢◌, ◌<◌, ◌≤◌, ◌++◌, ◌∷◌, [], ℕ, List, drop, OnOk, IfOk, IfErr, IfSome, IfNone, Contains};
 ghost use Rattle.serde_json.specs.Data.{Data, depth};
 ghost use Rattle.serde_json.specs.View.{view};
 ghost use Rattle.serde_json.specs.Read.{max_depth};
@@ -92,12 +92,15 @@ fn text_of(alloc: Global, value: &Value) -> Result<Vec<u8>, NotWritten>
     Ok(text)
 }
 
-/// Appends the line of a value to a group of lines. The first line of a group lacks its first byte.
+/// Appends the line of a value to a group of lines, or to other bytes. The first line of a group lacks its first byte.
 pub fn push_line(alloc: Global, group: &mut Vec<u8>, value: &Value) -> Result<(), NotWritten>
     requires { depth (view value.now) ≤ max_depth }
     ensures pushed { (texts : List (List ℕ)) → group.old.items ≡ drop 1 (lines texts)
         → OnOk result ((text : List ℕ) × Says text (view value.now) × (¬ Contains text 10)
         × (group.new.items ≡ drop 1 (lines (texts ++ text ∷ [])))) }
+    ensures behind { group.old.items ≢ [] → OnOk result ((text : List ℕ)
+        × Says text (view value.now) × (¬ Contains text 10)
+        × (group.new.items ≡ group.old.items ++ lines (text ∷ []))) }
     ensures fault { IfErr result (IsFault (view value.now)) }
 {
     let text = text_of(alloc, value)?;

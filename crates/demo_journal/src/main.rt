@@ -25,8 +25,10 @@ fn main(rt: HostRuntime) -> Result<()> {
     println!(rt; "{:?}", seats.insert(ann, 12)?)?; // Ok(Neither)
     println!(rt; "{:?}", seats.insert(bob, 12)?)?; // Ok(Right("ann", 12))
     drop(seats);
-    let seats = open_seats(&rt)?;
+    let mut seats = open_seats(&rt)?;
     println!(rt; "{:?}", seats.map())?; // {"bob" <> 12}
+    seats.compact()?;
+    println!(rt; "{}", fs::read_to_string(&rt, "seats.journal")?)?;
     // The next run begins anew.
     fs::remove_file(&rt, "seats.journal")?;
     Ok(())

@@ -50,6 +50,7 @@ impl Plain {
             Step::RemoveByLeft(left) => self.pairs.retain(|pair| pair.0 != left),
             Step::RemoveByRight(right) => self.pairs.retain(|pair| pair.1 != right),
             Step::Clear => self.pairs.clear(),
+            Step::Compact => {}
         }
         Ok(())
     }

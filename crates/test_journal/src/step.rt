@@ -13,7 +13,9 @@ pub enum Step {
     RemoveByLeft(&'static str),
     RemoveByRight(u64),
     Clear,
-    // A group of calls and a compaction have their place here.
+    /// Writes the file anew.
+    Compact,
+    // A group of calls has its place here.
 }
 
 // Names with characters that a journal or a JSON text could take for its own.
@@ -47,7 +49,7 @@ fn step_of(drawn: u64) -> Step {
     }
 }
 
-/// Returns a scenario of so many steps. In its midst all pairs are removed.
+/// Returns a scenario of so many steps. In its midst all pairs are removed. Before and behind, the file is written anew.
 pub fn scenario(alloc: Global, count: usize) -> Result<Vec<Step>, AllocError> {
     let mut steps = Vec::new(alloc);
     let mut drawn = 1;
@@ -55,6 +57,8 @@ pub fn scenario(alloc: Global, count: usize) -> Result<Vec<Step>, AllocError> {
         drawn = next(drawn);
         let step = if at == count / 2 {
             Step::Clear
+        } else if at == count / 4 || at == count / 4 * 3 {
+            Step::Compact
         } else {
             step_of(drawn)
         };

@@ -74,6 +74,7 @@ fn perform(alloc: Global, names: &mut Names<'_>, step: &Step) -> Result<bool, Al
         }
         Step::RemoveByRight(right) => is_stored(names.remove_by_right(&right)),
         Step::Clear => is_stored(names.clear()),
+        Step::Compact => is_stored(names.compact()),
     }
 }
 

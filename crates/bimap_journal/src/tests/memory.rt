@@ -14,8 +14,12 @@ impl<'a> Storage for Memory<'a> {
     }
 
     fn write_at(&mut self, at: usize, bytes: &[u8]) -> io::Result<()> {
-        self.bytes.truncate(at);
-        self.bytes.extend_from_slice(bytes)?;
+        for (behind, byte) in bytes.iter().enumerate() {
+            match self.bytes.get_mut(at.saturating_add(behind)) {
+                Some(old) => *old = *byte,
+                None => self.bytes.push(*byte)?,
+            }
+        }
         Ok(())
     }
 
