@@ -15,11 +15,9 @@ mod stored;
 mod tests;
 mod text;
 
-pub use change::Change;
-pub use disk::{Disk, Operation};
+pub use disk::Disk;
 pub use fault::{NotOpened, NotStored};
 pub use file::{File, FileError};
-pub use journal::Journal;
 pub use journaled::Journaled;
 pub use storage::Storage;
 pub use stored::Stored;
