@@ -9,6 +9,7 @@ use Rattle.bimap_journal.proofs.Groups.{lines-append}
 use Rattle.serde_json.specs.Data.{Data}
 use Rattle.bimap_journal.specs.Changes.{IsTextOf}
 use Rattle.bimap_journal.specs.Reading.{IsLineFault, IsFileFault}
+use Rattle.bimap_journal.specs.declared.change.Change.{Change}
 use Rattle.bimap_journal.specs.declared.fault.NotOpened.{NotOpened}
 use Rattle.bimap_journal.specs.declared.fault.NotOpened.TheVariants.{NotAJournal, OtherVersion, Damaged, Memory, Failed}
 use Rattle.memchr.specs.Find.{Nowhere, NoneBefore, Passes, is_byte}
@@ -24,38 +25,11 @@ split_unique (c ∷ x) y (d ∷ u) v a b e =
     let rest = split_unique x y u v (λ m. a (more_in c x 10 m)) (λ m. b (more_in d u 10 m)) (cc) in
     (cc (rest.0), rest.1)
 
-head_of : (text : List ℕ) (texts : List (List ℕ)) → AreUnbroken (text ∷ texts) → ¬ Contains text 10
-head_of text texts unbroken = unbroken 0 text (omega arith)
-
-tail_of : (text : List ℕ) (texts : List (List ℕ)) → AreUnbroken (text ∷ texts) → AreUnbroken texts
-tail_of text texts unbroken k d inside = unbroken (suc k) d (omega arith)
-
--- A line at the front is the first of the lines.
-pub first_line : (text rest : List ℕ) (texts : List (List ℕ)) (last : List ℕ) → ¬ Contains text 10 → AreUnbroken texts → opened ∷ text ++ 10 ∷ rest ≡ lines texts ++ closed ∷ last
-    → (more : List (List ℕ)) × (texts ≡ text ∷ more) × AreUnbroken more × (rest ≡ lines more ++ closed ∷ last)
-first_line text rest [] last none unbroken e = let bad : opened ≡ closed = cc in absurd (omega (arith, bad))
-first_line text rest (t ∷ texts) last none unbroken e =
-    let f : opened ∷ text ++ 10 ∷ rest ≡ opened ∷ (t ++ 10 ∷ (lines texts ++ closed ∷ last)) = e ∙ ap (λ xs. opened ∷ xs) (append_assoc t (10 ∷ lines texts) (closed ∷ last)) in
-    let parts = split_unique text rest t (lines texts ++ closed ∷ last) none (head_of t texts unbroken) (cc) in
-    (texts, ap (λ x. x ∷ texts) (sym parts.0), tail_of t texts unbroken, parts.1)
-
--- A first line ends in a line break.
-pub has_break : (rest : List ℕ) (texts : List (List ℕ)) (last : List ℕ) → opened ∷ rest ≡ lines texts ++ closed ∷ last → Contains rest 10
-has_break rest [] last e = let bad : opened ≡ closed = cc in absurd (omega (arith, bad))
-has_break rest (text ∷ texts) last e =
-    let f : opened ∷ rest ≡ opened ∷ (text ++ 10 ∷ (lines texts ++ closed ∷ last)) = e ∙ ap (λ xs. opened ∷ xs) (append_assoc text (10 ∷ lines texts) (closed ∷ last)) in
-    let is : rest ≡ text ++ 10 ∷ (lines texts ++ closed ∷ last) = cc in
-    subst (λ xs. Contains xs 10) (sym is) (Contains-append_right text (10 ∷ (lines texts ++ closed ∷ last)) 10 (head_in 10 (lines texts ++ closed ∷ last)))
-
--- Lines that were read are the first of the lines of a file.
-pub read_so_far : (done : List (List ℕ)) (rest : List ℕ) (texts : List (List ℕ)) (last : List ℕ) → AreUnbroken done → AreUnbroken texts → lines done ++ rest ≡ lines texts ++ closed ∷ last
-    → (more : List (List ℕ)) × (texts ≡ done ++ more) × AreUnbroken more × (rest ≡ lines more ++ closed ∷ last)
-read_so_far [] rest texts last a b e = (texts, refl, b, e)
-read_so_far (text ∷ done) rest texts last a b e =
-    let f : opened ∷ text ++ 10 ∷ (lines done ++ rest) ≡ lines texts ++ closed ∷ last = sym (ap (λ xs. opened ∷ xs) (append_assoc text (10 ∷ lines done) rest)) ∙ e in
-    let first = first_line text (lines done ++ rest) texts last (head_of text done a) b f in
-    let others = read_so_far done rest first.0 last (tail_of text done a) first.2 first.3 in
-    (others.0, first.1 ∙ ap (λ xs. text ∷ xs) others.1, others.2, others.3)
+-- A line ends in a line break.
+pub has_break : (rest text behind : List ℕ) → opened ∷ rest ≡ opened ∷ text ++ 10 ∷ behind → Contains rest 10
+has_break rest text behind e =
+    let is : rest ≡ text ++ 10 ∷ behind = cc in
+    subst (λ xs. Contains xs 10) (sym is) (Contains-append_right text (10 ∷ behind) 10 (head_in 10 behind))
 
 pub take_all : (xs : List ℕ) (n : ℕ) → length xs ≡ n → take n xs ≡ xs
 take_all xs n e = ap (take n) (sym (append-nil xs)) ∙ take_at xs [] n e
@@ -91,25 +65,6 @@ nowhere_none rest nowhere there =
     let byte : get_or rest there.0 0 ≡ 10 = get_or_default rest there.0 0 10 inside ∙ there.2 in
     nowhere there.0 (omega arith) inside ((Decides-eqb (get_or rest there.0 0) 10).1 byte)
 
-pub append_cancel : (front x y : List ℕ) → front ++ x ≡ front ++ y → x ≡ y
-append_cancel [] x y e = e
-append_cancel (b ∷ front) x y e = append_cancel front x y (cc)
-
--- The file is its first line, lines that were read, and these bytes. Then they begin with the other lines of the file.
-pub others : (file : List ℕ) (done : List (List ℕ)) (rest : List ℕ) (texts : List (List ℕ)) → file ≡ header ++ lines done ++ rest → AreUnbroken done → (has : HasLines file texts)
-    → (more : List (List ℕ)) × (texts ≡ done ++ more) × AreUnbroken more × (rest ≡ lines more ++ closed ∷ has.rest)
-others file done rest texts is unbroken has =
-    let e : header ++ (lines done ++ rest) ≡ header ++ (lines texts ++ closed ∷ has.rest) =
-    sym (append_assoc header (lines done) rest) ∙ sym is ∙ has.is ∙ append_assoc header (lines texts) (closed ∷ has.rest) in
-    read_so_far done rest texts has.rest unbroken has.unbroken (append_cancel header (lines done ++ rest) (lines texts ++ closed ∷ has.rest) e)
-
--- The item in the midst of a list that is zipped.
-pub zipped_at : {A B : Type 0} (P : A → B → Type 0) (xs : List A) (x : A) (more : List A) (ys : List B) → AllZip P (xs ++ x ∷ more) ys → (y : B) × P x y
-zipped_at P [] x more [] h = absurd h
-zipped_at P [] x more (y ∷ ys) h = (y, h.0)
-zipped_at P (a ∷ xs) x more [] h = absurd h
-zipped_at P (a ∷ xs) x more (y ∷ ys) h = zipped_at P xs x more ys h.1
-
 pub long_line : (rest text behind : List ℕ) → rest ≡ opened ∷ text ++ 10 ∷ behind → length behind < length rest
 long_line rest text behind is =
     let e : length rest ≡ suc (length text + suc (length behind)) = ap length is ∙ ap suc (length-append text (10 ∷ behind)) in
@@ -123,16 +78,26 @@ one_more texts text behind =
     ∙ ap (λ xs. lines texts ++ opened ∷ xs) (append_assoc text (10 ∷ []) behind) in
     append_assoc header (lines texts) (opened ∷ text ++ 10 ∷ behind) ∙ ap (λ xs. header ++ xs) (sym whole) ∙ sym (append_assoc header (lines (texts ++ text ∷ [])) behind)
 
--- A line that reads as no change is in no file whose lines read as changes.
-pub file_fault : {L R : Type 0} (reads_left : Data → L → Type 0) (reads_right : Data → R → Type 0) (file : List ℕ) (done : List (List ℕ)) (rest text behind : List ℕ) (at : ℕ) (fault : NotOpened)
-    → file ≡ header ++ lines done ++ rest → AreUnbroken done → rest ≡ opened ∷ text ++ 10 ∷ behind → ¬ Contains text 10 → IsLineFault reads_left reads_right text at fault → IsFileFault reads_left reads_right file fault
-file_fault a b file done rest text behind at (Damaged place) is unbroken here none bad = λ texts changes has are.
-    let s = others file done rest texts is unbroken has in
-    let first = first_line text behind s.0 has.rest none s.2 (sym here ∙ s.3) in
-    let whole : texts ≡ done ++ text ∷ first.0 = s.1 ∙ ap (λ xs. done ++ xs) first.1 in
-    let found = zipped_at (IsTextOf a b) done text first.0 changes (subst (λ ts. AllZip (IsTextOf a b) ts changes) whole are) in
-    bad.1 found.0 found.1
-file_fault a b file done rest text behind at Memory is unbroken here none bad = tt
-file_fault a b file done rest text behind at NotAJournal is unbroken here none bad = absurd bad
-file_fault a b file done rest text behind at OtherVersion is unbroken here none bad = absurd bad
-file_fault a b file done rest text behind at (Failed error) is unbroken here none bad = absurd bad
+-- A file is damaged at the first line that reads as no change.
+pub line_fault : {L R : Type 0} (reads_left : Data → L → Type 0) (reads_right : Data → R → Type 0) (file : List ℕ) (done : List (List ℕ)) (changes : List (Change L R)) (rest text behind : List ℕ) (at : ℕ) (fault : NotOpened)
+    → file ≡ header ++ lines done ++ rest → at ≡ length (header ++ lines done) → AreUnbroken done → AllZip (IsTextOf reads_left reads_right) done changes
+    → rest ≡ opened ∷ text ++ 10 ∷ behind → ¬ Contains text 10 → IsLineFault reads_left reads_right text at fault → IsFileFault reads_left reads_right file fault
+line_fault a b file done changes rest text behind at (Damaged found) is place unbroken read here none bad =
+    record {
+      texts = done;
+      changes = changes;
+      rest = rest;
+      is = is;
+      place = bad.0 ∙ place;
+      unbroken = unbroken;
+      read = read;
+      no_end = λ end. let e : opened ∷ (text ++ 10 ∷ behind) ≡ closed ∷ end.0 = sym here ∙ end.1 in let same : opened ≡ closed = cc in absurd (omega (arith, same));
+      no_line = λ other more change split unbroken_too reads.
+          let e : opened ∷ (text ++ 10 ∷ behind) ≡ opened ∷ (other ++ 10 ∷ more) = sym here ∙ split in
+          let parts = split_unique text behind other more none unbroken_too (cc) in
+          bad.1 change (subst (λ t. IsTextOf a b t change) (sym parts.0) reads);
+    }
+line_fault a b file done changes rest text behind at Memory is place unbroken read here none bad = tt
+line_fault a b file done changes rest text behind at NotAJournal is place unbroken read here none bad = absurd bad
+line_fault a b file done changes rest text behind at OtherVersion is place unbroken read here none bad = absurd bad
+line_fault a b file done changes rest text behind at (Failed error) is place unbroken read here none bad = absurd bad

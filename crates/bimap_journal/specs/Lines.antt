@@ -2,9 +2,17 @@
 use Rattle.std.specs.Prelude.{◌≡◌, ◌≢◌, ℕ, List, [], ◌∷◌, ◌++◌, length, drop, codes, All, Contains}
 use Rattle.bimap_journal.specs.Calls.{Event, seen, Only}
 
+-- How the first line begins. It names the format.
+abbrev pub name : List ℕ
+name = codes "jetukoma journal "
+
 -- The first line. It names the format and its version.
 abbrev pub header : List ℕ
 header = codes "jetukoma journal 1" ++ 10 ∷ []
+
+-- The bytes begin with these.
+abbrev pub BeginsWith : List ℕ → List ℕ → Type 0
+BeginsWith front bytes = (rest : List ℕ) × (bytes ≡ front ++ rest)
 
 -- The first byte of each line, a plus.
 abbrev pub opened : ℕ

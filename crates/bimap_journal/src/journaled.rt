@@ -76,7 +76,7 @@ impl<B: Bijection<L, R> + Drop, L: Stored + Drop, R: Stored + Drop, S: Storage +
     R,
     S,
 > {
-    ghost use Rattle.std.specs.Prelude.{◌≡◌, ◌⊎◌, ◌∷◌, [], Ok, Some, false, Contains, OnOk, IfOk, IfErr, IfSome};
+    ghost use Rattle.std.specs.Prelude.{◌≡◌, ◌∷◌, [], Ok, Some, false, Contains, OnOk, IfOk, IfErr, IfSome};
     ghost use Rattle.bimap.specs.Holding.{IsInsertion, IsInsertionUnder, IsRemovalByLeft, IsRemovalByRight};
     ghost use Rattle.bimap_journal.specs.Reading.{IsOpened, IsNotOpened};
     ghost use Rattle.bimap_journal.specs.State.{KeepsOneOf, Acknowledges, IsNotStored};
@@ -305,8 +305,8 @@ impl<B: Bijection<L, R> + Drop, L: Stored + Drop, R: Stored + Drop, S: Storage +
         ensures running { IfOk result (λ journaled. journaled.is_stopped ≡ false) }
         ensures opened { IfOk result (λ journaled. IsOpened L.eq R.eq L.reads R.reads []
             journaled.calls journaled.end (Contains journaled.held.pairs)) }
-        ensures refused { IfErr result (λ fault. (fault.1 ≡ [])
-            ⊎ IsNotOpened L.reads R.reads [] fault.1 fault.0) }
+        ensures refused { IfErr result (λ fault. IsNotOpened L.reads R.reads []
+            fault.1 fault.0) }
     {
         let mut map = empty;
         let mut disk = Disk::new(alloc, storage);

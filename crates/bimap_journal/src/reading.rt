@@ -1,11 +1,11 @@
 //! How the lines of a file become the changes of a map.
-ghost use Rattle.std.specs.Prelude.{◌≡◌, ◌⊎◌, ◌+◌, ◌<◌, ◌++◌, ◌∷◌, [], ℕ, List, length, Contains, OnOk, OnErr, IfOk, IfErr, Vec};
+ghost use Rattle.std.specs.Prelude.{◌≡◌, ◌≢◌, ◌+◌, ◌<◌, ◌++◌, ◌∷◌, [], ℕ, List, length, Contains, OnOk, OnErr, IfOk, IfErr, Vec};
 ghost use Rattle.std.specs.declared.alloc.Global.{Global};
 ghost use Rattle.bimap_journal.specs.declared.disk.Operation.TheVariants.{Found};
 ghost use Rattle.bimap_journal.specs.Calls.{Event, LeavesOnly, HasFailed};
 ghost use Rattle.bimap_journal.specs.Lines.{HasLines, IsAtRest};
 ghost use Rattle.bimap_journal.specs.Changes.{IsAfter, AreKept};
-ghost use Rattle.bimap_journal.specs.Reading.{IsNext, IsLineFault, IsFileFault, IsReadTo, HasLinesOrNone, IsOpened, IsNotOpened};
+ghost use Rattle.bimap_journal.specs.Reading.{IsNext, IsLineFault, IsFileFault, IsReadTo, HasLinesOrNone, IsOpened, IsNotOpened, IsBeginFault};
 
 use crate::change::{Change, change_of};
 use crate::disk::Disk;
@@ -119,6 +119,7 @@ fn replay<L: Stored + Drop, R: Stored + Drop, B: Bijection<L, R>>(
     bytes: &[u8],
 ) -> Result<usize, NotOpened>
     requires empty { (B.holding map.old).pairs ≡ [] }
+    requires some { bytes.now ≢ [] }
     ensures read { IfOk result (λ end. IsReadTo L.eq R.eq L.reads R.reads bytes.now end
         (Contains (B.holding map.new).pairs)) }
     ensures inside { IfOk result (λ end. end < length bytes.now) }
@@ -167,7 +168,7 @@ fn begin<S: Storage + Drop>(alloc: Global, disk: &mut Disk<S>) -> Result<usize, 
     ensures any_moment { (calls : List Event) (found : Vec ℕ Global)
         → disk.old ≡ (Found, found) ∷ calls → found.items ≡ []
         → LeavesOnly disk.old disk.new (HasLinesOrNone []) }
-    ensures cause { IfErr result (λ fault. (fault ≡ NotOpened.Memory) ⊎ HasFailed disk.new) }
+    ensures cause { IfErr result (IsBeginFault disk.old disk.new) }
 {
     let mut first = Vec::new(alloc);
     let (Ok(()), Ok(())) = (first.extend_from_slice(HEADER), first.push(b'-')) else {
@@ -188,8 +189,7 @@ pub fn read_into<L: Stored + Drop, R: Stored + Drop, B: Bijection<L, R>, S: Stor
     requires empty { (B.holding map.old).pairs ≡ [] }
     ensures opened { IfOk result (λ end. IsOpened L.eq R.eq L.reads R.reads disk.old disk.new end
         (Contains (B.holding map.new).pairs)) }
-    ensures refused { IfErr result (λ fault. (disk.new ≡ disk.old)
-        ⊎ IsNotOpened L.reads R.reads disk.old disk.new fault) }
+    ensures refused { IfErr result (IsNotOpened L.reads R.reads disk.old disk.new) }
 {
     let bytes = match disk.read(alloc) {
         Ok(bytes) => bytes,

@@ -8,7 +8,7 @@ use Rattle.bimap_journal.specs.Lines.{HasLines}
 use Rattle.bimap_journal.specs.Reading.{HasLinesOrNone, IsFileFault}
 use Rattle.bimap_journal.proofs.Kept.{kept_none}
 use Rattle.bimap_journal.proofs.Opened.{HasNone, of_found, ok_then, err_then}
-use Rattle.bimap_journal.proofs.Found.{none_texts, one_list, only_found, found_rests, found_leaves}
+use Rattle.bimap_journal.proofs.Found.{found_rests, found_leaves, not_read, not_begun}
 use Rattle.bimap_journal.proofs.reading.read_into.Goals as goal
 
 pub returns-then-is_empty-clause-opened : goal.returns-then-is_empty-clause-opened
@@ -29,15 +29,8 @@ pub returns-then-is_empty-clause-refused : goal.returns-then-is_empty-clause-ref
 returns-then-is_empty-clause-refused g c =
     let bytes = c.in-Ok.bytes in
     let empty : bytes.items ≡ [] = grind (arith, common_steps) in
-    err_then c.begin.result (λ fault cause. inr (record {
-      found = bytes;
-      any_moment = λ texts has. subst (λ ts. LeavesOnly ((Found, bytes) ∷ c.args.disk.now) c.begin.new.disk (HasLinesOrNone ts)) (sym (none_texts bytes.items texts empty has))
-          (of_found HasNone c.args.disk.now c.read.new.self c.begin.new.disk bytes c.in-Ok.ensures.found (c.begin.ensures.any_moment c.args.disk.now bytes c.in-Ok.ensures.found empty));
-      cause = elim cause [
-        | inl memory ↦ inl (subst (IsFileFault g.L.Stored.reads g.R.Stored.reads bytes.items) (sym memory) tt)
-        | inr failed ↦ inr failed
-      ];
-    })) c.begin.ensures.cause
+    not_begun g.L.Stored.reads g.R.Stored.reads c.args.disk.now c.read.new.self bytes c.in-Ok.ensures.found c.begin.new.disk c.begin.result empty
+    (c.begin.ensures.any_moment c.args.disk.now bytes c.in-Ok.ensures.found empty) c.begin.ensures.cause
 
 pub returns-in-Ok-repair-clause-opened : goal.returns-in-Ok-repair-clause-opened
 returns-in-Ok-repair-clause-opened g c =
@@ -62,16 +55,13 @@ returns-in-Ok-replay-clause-refused g c =
     let rests = found_rests c.args.disk.now c.read.new.self bytes c.in-Ok-replay.end read.texts c.in-Ok.ensures.found has read.at_end in
     inr (record {
       found = bytes;
-      any_moment = λ texts other. subst (λ ts. LeavesOnly ((Found, bytes) ∷ c.args.disk.now) c.repair.new.disk (HasLinesOrNone ts)) (sym (one_list bytes.items read.texts texts has other))
-          (found_leaves c.args.disk.now c.read.new.self c.repair.new.disk bytes read.texts c.in-Ok.ensures.found (c.in-Err-repair.ensures.any_moment read.texts rests));
-      cause = inr c.in-Err-repair.ensures.cause;
+      texts = read.texts;
+      has = inl has;
+      any_moment = found_leaves c.args.disk.now c.read.new.self c.repair.new.disk bytes read.texts c.in-Ok.ensures.found (c.in-Err-repair.ensures.any_moment read.texts rests);
+      failed = c.in-Err-repair.ensures.cause;
     })
 
 pub returns-clause-refused : goal.returns-clause-refused
 returns-clause-refused g c =
-    let bytes = c.in-Ok.bytes in
-    inr (record {
-      found = bytes;
-      any_moment = λ texts has. only_found c.args.disk.now c.read.new.self bytes texts c.in-Ok.ensures.found has;
-      cause = inl (subst (λ file. IsFileFault g.L.Stored.reads g.R.Stored.reads file c.in-Err-replay.fault) c.deref.ensures.value c.in-Err-replay.ensures.fault);
-    })
+    not_read g.L.Stored.reads g.R.Stored.reads c.args.disk.now c.read.new.self c.in-Ok.bytes c.in-Ok.ensures.found c.in-Err-replay.fault
+    (subst (λ file. IsFileFault g.L.Stored.reads g.R.Stored.reads file c.in-Err-replay.fault) c.deref.ensures.value c.in-Err-replay.ensures.fault)

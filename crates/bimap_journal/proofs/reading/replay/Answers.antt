@@ -1,14 +1,21 @@
-use Rattle.std.proofs.Common.{arith, ◌≡◌, ◌∙◌, ◌++◌, ◌∷◌, [], ap, sym, subst, refl, length, take, drop, ◌-◌}
+use Rattle.std.proofs.Common.{arith, true≢false, ◌≡◌, ◌∙◌, ◌++◌, ◌∷◌, [], ap, sym, subst, refl, length, take, drop, ◌-◌}
 use Rattle.std.specs.Prelude.{Contains}
 use Rattle.std.proofs.lemmas.Bool.Decides.{Decides-eqb}
 use Rattle.std.proofs.lemmas.List.{length-append, length-drop}
 use Rattle.std.proofs.lemmas.List.Elements.{All-push}
 use Rattle.std.proofs.lemmas.Slice.Eq.{starts_is}
 use Rattle.bimap_base.proofs.Members.{none_in}
-use Rattle.bimap_journal.specs.Lines.{header, lines}
+use Rattle.bimap_journal.specs.Lines.{name, header, lines}
 use Rattle.bimap_journal.proofs.Kept.{kept_none}
-use Rattle.bimap_journal.proofs.Parsed.{take_all, others, long_line, one_more, file_fault}
+use Rattle.bimap_journal.proofs.Parsed.{take_all, long_line, one_more, line_fault}
 use Rattle.bimap_journal.proofs.reading.replay.Goals as goal
+
+pub returns-then-starts_with-clause-fault : goal.returns-then-starts_with-clause-fault
+returns-then-starts_with-clause-fault g c =
+    let bytes = c.args.bytes.now in (
+      (drop 17 bytes, (starts_is Decides-eqb bytes name _ c.if-starts_with.ensures.value).0 refl),
+      λ begins. true≢false (sym ((starts_is Decides-eqb bytes header _ c.if-not-starts_with.ensures.value).1 begins.0 begins.1)),
+    )
 
 pub loop-text-init : goal.loop-text-init
 loop-text-init g c =
@@ -56,13 +63,24 @@ returns-in-End-clause-read g c =
     }
 
 pub returns-in-Damaged-clause-fault : goal.returns-in-Damaged-clause-fault
-returns-in-Damaged-clause-fault g c = λ texts changes has are.
+returns-in-Damaged-clause-fault g c =
     let k = c.loop-text.invariant in
-    let s = others c.args.bytes.now k.texts c.loop-text.rest.now texts k.is k.unbroken has in
-    c.in-Damaged.ensures s.0 has.rest s.2 s.3
+    let long = ap length k.is ∙ length-append (header ++ lines k.texts) c.loop-text.rest.now in
+    record {
+      texts = k.texts;
+      changes = k.kept.is_read.0;
+      rest = c.loop-text.rest.now;
+      is = k.is;
+      place = omega (arith, long);
+      unbroken = k.unbroken;
+      read = k.kept.is_read.1;
+      no_end = c.in-Damaged.ensures.0;
+      no_line = λ text behind change is none reads. c.in-Damaged.ensures.1 text behind is;
+    }
 
 pub returns-in-Err-clause-fault : goal.returns-in-Err-clause-fault
 returns-in-Err-clause-fault g c =
     let k = c.loop-text.invariant in
-    file_fault g.L.Stored.reads g.R.Stored.reads c.args.bytes.now k.texts c.loop-text.rest.now c.in-Line.text.now c.in-Line.behind.now _ c.in-Err.fault
-    k.is k.unbroken c.in-Line.ensures.0 c.in-Line.ensures.1 c.in-Err.ensures.fault
+    let long = ap length k.is ∙ length-append (header ++ lines k.texts) c.loop-text.rest.now in
+    line_fault g.L.Stored.reads g.R.Stored.reads c.args.bytes.now k.texts k.kept.is_read.0 c.loop-text.rest.now c.in-Line.text.now c.in-Line.behind.now _ c.in-Err.fault
+    k.is (omega (arith, long)) k.unbroken k.kept.is_read.1 c.in-Line.ensures.0 c.in-Line.ensures.1 c.in-Err.ensures.fault
