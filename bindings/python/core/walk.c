@@ -10,6 +10,7 @@ typedef struct {
     Rows rows;
     size_t at, offset; /* the next pair of the rows, and where its bytes begin or end */
     uint64_t moves, writes;
+    PyObject *item; /* the last item */
 } Walk;
 PyTypeObject *walk_type;
 
@@ -23,8 +24,7 @@ PyObject *walk_new(Table *table, int key_side, int what, bool back, size_t from,
     walk->from_end = back && table->kind < INSERTION_ORDER;
     walk->to = to < len ? to : len, walk->from = from < walk->to ? from : walk->to;
     walk->more = table->kind == HASHED ? len : 32;
-    walk->moves = table->moves;
-    table->users++;
+    walk->moves = table->moves, table->users++;
     return (PyObject *)walk;
 }
 
@@ -32,6 +32,7 @@ static void walk_free(Walk *walk)
 {
     PyTypeObject *type = Py_TYPE(walk);
     rows_free(&walk->rows);
+    Py_XDECREF(walk->item);
     table_release(walk->table);
     ((freefunc)PyType_GetSlot(type, Py_tp_free))(walk);
     Py_DECREF(type);
@@ -75,10 +76,9 @@ static int next_pair(Walk *walk, Value pair[2])
 static PyObject *walk_next(Walk *walk)
 {
     Value pair[2];
-    int found = next_pair(walk, pair);
-    if (found <= 0) return NULL;
     const Shape *shape = &walk->table->shape;
-    PyObject *objects[2] = {NULL, NULL};
+    PyObject *objects[2] = {NULL, NULL}, *item = walk->item;
+    if (next_pair(walk, pair) <= 0) return NULL;
     for (int i = 0; i < 2; i++) {
         int side = walk->side ^ i;
         if (walk->what == !i) continue;
@@ -87,10 +87,14 @@ static PyObject *walk_next(Walk *walk)
         objects[i] = stays ? object_of(shape->sides[side], pair + side) : partner_object(walk->table, !side, pair + !side);
         if (walk->what != 2) return objects[i];
     }
-    PyObject *item = objects[0] && objects[1] ? PyTuple_Pack(2, objects[0], objects[1]) : NULL;
-    Py_XDECREF(objects[0]);
-    Py_XDECREF(objects[1]);
-    return item;
+    /* An item that nobody else has any more is used again. */
+    if (!item || Py_REFCNT(item) > 1) item = PyTuple_New(2);
+    bool made = item && objects[0] && objects[1];
+    if (item != walk->item) Py_XDECREF(walk->item);
+    walk->item = item;
+    if (made) PyTuple_SetItem(item, 0, objects[0]), PyTuple_SetItem(item, 1, objects[1]), Py_INCREF(item);
+    else Py_XDECREF(objects[0]), Py_XDECREF(objects[1]);
+    return made ? item : NULL;
 }
 
 static PyType_Slot slots[] = {
