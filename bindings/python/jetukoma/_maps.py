@@ -344,7 +344,9 @@ class frozenbidict(BidictBase):
     """
 
     def __hash__(self):
-        return ItemsView(self)._hash()
+        if not hasattr(self, "_hash"):
+            self._hash = ItemsView(self)._hash()
+        return self._hash
 
 
 class FrozenOrderedBidict(frozenbidict):
@@ -379,14 +381,17 @@ class BiBTreeMap(MutableBidict):
 
     _kind = ORDERED
 
+    def _check(self):
+        if self._about()[0]:
+            raise TypeError("the keys of an inverse are not sorted")
+
     def bisect_left(self, key):
         """Returns how many keys are less than this one, which need not be contained.
 
         >>> BiBTreeMap({10: "ten", 20: "twenty"}).bisect_left(20)
         1
         """
-        if self._about()[0]:
-            raise TypeError("the keys of an inverse are not sorted")
+        self._check()
         return self._rank(key)
 
     def bisect_right(self, key):
@@ -406,6 +411,7 @@ class BiBTreeMap(MutableBidict):
         >>> list(m.irange(15)), list(m.irange(maximum=20, inclusive=(True, False)))
         ([20, 30], [10])
         """
+        self._check()
         low = 0 if minimum is None else self.bisect_left(minimum) if inclusive[0] else self.bisect_right(minimum)
         high = len(self) if maximum is None else self.bisect_right(maximum) if inclusive[1] else self.bisect_left(maximum)
         return self._walk(0, reverse, low, max(low, high))

@@ -238,7 +238,9 @@ class Others(unittest.TestCase):
         self.assertRaises(TypeError, hash, bidict())
 
     def test_the_order_of_an_inverse(self):
-        self.assertRaises(TypeError, BiBTreeMap({1: 2}).inverse.irange, 1)
+        inverse = BiBTreeMap({1: 2}).inverse
+        for call, given in [(inverse.irange, ()), (inverse.irange, (1,)), (inverse.bisect_left, (1,)), (inverse.bisect_right, (1,)), (inverse.bisect, (1,))]:
+            self.assertRaises(TypeError, call, *given)
         self.assertEqual(list(BiBTreeMap({1: 9, 2: 8}).inverse.copy()), [8, 9])
         chance = random.Random(3)
         it = OrderedBidict({number: str(number) for number in chance.sample(range(100), 100)})
