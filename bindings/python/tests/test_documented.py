@@ -1,4 +1,5 @@
 """Tests what the documentation of bidict says about its calls, at the types that this package has."""
+import ast
 import doctest
 import os
 import shutil
@@ -262,6 +263,17 @@ class Package(unittest.TestCase):
         for name in jetukoma.__all__:
             it = getattr(jetukoma, name)
             self.assertTrue(callable(it) or isinstance(it, (jetukoma.OD, jetukoma.OnDup)), name)
+
+    def test_the_stub_has_all_names(self):
+        with open(jetukoma.__file__ + "i", encoding="ascii") as file:
+            stub = ast.parse(file.read()).body
+        classes = {it.name: {each.name for each in it.body if isinstance(each, ast.FunctionDef)} for it in stub if isinstance(it, ast.ClassDef)}
+        names = {it.name for it in stub if isinstance(it, ast.FunctionDef)} | {it.target.id for it in stub if isinstance(it, ast.AnnAssign)}
+        self.assertEqual(set(jetukoma.__all__), (set(classes) | names | {"OnDupAction"}) - {"_OnDup", "__version__"})
+        for cls in [bidict, OrderedBidict, BiHashMap, BiBTreeMap, jetukoma.frozenbidict]:
+            stubbed = set().union(*(classes.get(it.__name__, ()) for it in cls.__mro__))
+            inherited = {"get", "pop", "clear", "setdefault", "on_dup"}
+            self.assertEqual({it for it in dir(cls) if not it.startswith("_")} - inherited, {it for it in stubbed if not it.startswith("_")})
 
     def test_policies(self):
         policies = [jetukoma.OnDup(), jetukoma.OnDup(val=jetukoma.DROP_OLD), jetukoma.OnDup(jetukoma.RAISE, kv=jetukoma.DROP_NEW)]
