@@ -1,5 +1,5 @@
 -- The lines of a file are those of one list of texts.
-use Rattle.std.proofs.Common.{◌-◌, take, drop, slice_index, get_or, min, ◌≡◌, ◌∙◌, ◌⊎◌, inl, inr, ℕ, suc, ◌+◌, ◌<◌, List, [], ◌∷◌, ◌++◌, length, refl, sym, ap, subst, append_assoc, arith}
+use Rattle.std.proofs.Common.{◌-◌, take, drop, slice_index, get_or, min, ◌≡◌, ◌∙◌, ℕ, suc, ◌+◌, ◌<◌, List, [], ◌∷◌, ◌++◌, length, refl, sym, ap, subst, append_assoc, arith}
 use Rattle.std.specs.List.{Contains}
 use Rattle.std.specs.List.{AllZip}
 use Rattle.std.proofs.lemmas.List.Elements.{Contains-append_right}
@@ -14,7 +14,7 @@ use Rattle.bimap_journal.specs.declared.fault.NotOpened.{NotOpened}
 use Rattle.bimap_journal.specs.declared.fault.NotOpened.TheVariants.{NotAJournal, OtherVersion, Damaged, Memory, Failed}
 use Rattle.memchr.specs.Find.{Nowhere, NoneBefore, Passes, is_byte}
 use Rattle.bimap_base.proofs.Members.{head_in, more_in}
-use Rattle.bimap_journal.specs.Lines.{header, opened, closed, lines, AreUnbroken, HasLines}
+use Rattle.bimap_journal.specs.Lines.{header, opened, closed, lines, AreUnbroken}
 
 -- What stands before the first line break is one list.
 pub split_unique : (x y u v : List ℕ) → ¬ Contains x 10 → ¬ Contains u 10 → x ++ 10 ∷ y ≡ u ++ 10 ∷ v → (x ≡ u) × (y ≡ v)

@@ -1,13 +1,11 @@
-use Rattle.std.proofs.Common.{arith, ◌≡◌, inl, inr, [], ◌∷◌, subst, sym, refl}
+use Rattle.std.proofs.Common.{arith, ◌≡◌, inl, inr, [], subst, refl}
 use Rattle.std.specs.Prelude.{Contains}
 use Rattle.std.proofs.lemmas.Grind.{common_steps}
 use Rattle.bimap_base.proofs.Members.{none_in}
-use Rattle.bimap_journal.specs.declared.disk.Operation.TheVariants.{Found}
-use Rattle.bimap_journal.specs.Calls.{LeavesOnly}
 use Rattle.bimap_journal.specs.Lines.{HasLines}
-use Rattle.bimap_journal.specs.Reading.{HasLinesOrNone, IsFileFault}
+use Rattle.bimap_journal.specs.Reading.{IsFileFault}
 use Rattle.bimap_journal.proofs.Kept.{kept_none}
-use Rattle.bimap_journal.proofs.Opened.{HasNone, of_found, ok_then, err_then}
+use Rattle.bimap_journal.proofs.Opened.{HasNone, of_found, ok_then}
 use Rattle.bimap_journal.proofs.Found.{found_rests, found_leaves, not_read, not_begun}
 use Rattle.bimap_journal.proofs.reading.read_into.Goals as goal
 
