@@ -5,6 +5,7 @@ use crate::disk::Disk;
 use crate::fault::{NotOpened, NotStored};
 use crate::group::{clear_group, insertion_group, left_group, right_group};
 use crate::journal::Journal;
+use crate::progress::{Progress, Silent};
 use crate::reading::read_into;
 use crate::storage::Storage;
 use crate::stored::Stored;
@@ -308,9 +309,30 @@ impl<B: Bijection<L, R> + Drop, L: Stored + Drop, R: Stored + Drop, S: Storage +
         ensures refused { IfErr result (λ fault. IsNotOpened L.reads R.reads []
             fault.1 fault.0) }
     {
+        Journaled::open_with(alloc, empty, storage, &mut Silent)
+    }
+
+    /// Opens a journal as [`open`](Journaled::open) does, and shows how far the reading is.
+    ///
+    /// It calls [`Progress::at`] before the first line, and again after each 10,000 lines.
+    ///
+    /// Condition, time, memory and `Err`: Those of `open`.
+    pub fn open_with<P: Progress>(
+        alloc: Global,
+        empty: B,
+        storage: S,
+        progress: &mut P,
+    ) -> Result<Self, (NotOpened, Disk<S>)>
+        requires empty { (B.holding empty).pairs ≡ [] }
+        ensures running { IfOk result (λ journaled. journaled.is_stopped ≡ false) }
+        ensures opened { IfOk result (λ journaled. IsOpened L.eq R.eq L.reads R.reads []
+            journaled.calls journaled.end (Contains journaled.held.pairs)) }
+        ensures refused { IfErr result (λ fault. IsNotOpened L.reads R.reads []
+            fault.1 fault.0) }
+    {
         let mut map = empty;
         let mut disk = Disk::new(alloc, storage);
-        match read_into(alloc, &mut map, &mut disk) {
+        match read_into(alloc, &mut map, &mut disk, progress) {
             Ok(end) => Ok(Journaled {
                 alloc,
                 map,

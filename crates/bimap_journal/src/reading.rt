@@ -10,6 +10,7 @@ ghost use Rattle.bimap_journal.specs.Reading.{IsNext, IsLineFault, IsFileFault, 
 use crate::change::{Change, change_of};
 use crate::disk::Disk;
 use crate::fault::NotOpened;
+use crate::progress::Progress;
 use crate::storage::Storage;
 use crate::stored::Stored;
 use crate::text::value_of;
@@ -23,6 +24,9 @@ const NAME: &[u8] = b"jetukoma journal ";
 
 /// The first line of a file.
 pub const HEADER: &[u8] = b"jetukoma journal 1\n";
+
+// After so many lines a program is told how far the reading is.
+const STRIDE: usize = 10_000;
 
 // What stands at the front of some bytes.
 #[derive(Clone, Copy)]
@@ -113,10 +117,11 @@ fn make_line<L: Stored + Drop, R: Stored + Drop, B: Bijection<L, R>>(
 }
 
 // Makes the changes of a file on an empty map, and returns the place of the byte that closes the lines.
-fn replay<L: Stored + Drop, R: Stored + Drop, B: Bijection<L, R>>(
+fn replay<L: Stored + Drop, R: Stored + Drop, B: Bijection<L, R>, P: Progress>(
     alloc: Global,
     map: &mut B,
     bytes: &[u8],
+    progress: &mut P,
 ) -> Result<usize, NotOpened>
     requires empty { (B.holding map.old).pairs ≡ [] }
     requires some { bytes.now ≢ [] }
@@ -133,8 +138,12 @@ fn replay<L: Stored + Drop, R: Stored + Drop, B: Bijection<L, R>>(
         };
     }
     let mut rest = &bytes[HEADER.len()..];
+    let mut lines = 0usize;
     loop {
         let at = bytes.len() - rest.len();
+        if lines % STRIDE == 0 {
+            progress.at(at, bytes.len());
+        }
         match next_line(rest) {
             Next::Line(text, behind) => match make_line(alloc, map, text, at) {
                 Ok(()) => rest = behind,
@@ -143,6 +152,7 @@ fn replay<L: Stored + Drop, R: Stored + Drop, B: Bijection<L, R>>(
             Next::End => return Ok(at),
             Next::Damaged => return Err(NotOpened::Damaged(at)),
         }
+        lines = lines.wrapping_add(1);
     }
 }
 
@@ -181,11 +191,13 @@ fn begin<S: Storage + Drop>(alloc: Global, disk: &mut Disk<S>) -> Result<usize, 
 }
 
 /// Reads a file into an empty map, and repairs its end. Returns the place of the byte that closes the lines.
-pub fn read_into<L: Stored + Drop, R: Stored + Drop, B: Bijection<L, R>, S: Storage + Drop>(
-    alloc: Global,
-    map: &mut B,
-    disk: &mut Disk<S>,
-) -> Result<usize, NotOpened>
+pub fn read_into<
+    L: Stored + Drop,
+    R: Stored + Drop,
+    B: Bijection<L, R>,
+    S: Storage + Drop,
+    P: Progress,
+>(alloc: Global, map: &mut B, disk: &mut Disk<S>, progress: &mut P) -> Result<usize, NotOpened>
     requires empty { (B.holding map.old).pairs ≡ [] }
     ensures opened { IfOk result (λ end. IsOpened L.eq R.eq L.reads R.reads disk.old disk.new end
         (Contains (B.holding map.new).pairs)) }
@@ -198,7 +210,7 @@ pub fn read_into<L: Stored + Drop, R: Stored + Drop, B: Bijection<L, R>, S: Stor
     if bytes.is_empty() {
         return begin(alloc, disk);
     }
-    match replay(alloc, map, &bytes) {
+    match replay(alloc, map, &bytes, progress) {
         Ok(end) => match repair(disk, end, bytes.len()) {
             Ok(()) => Ok(end),
             Err(error) => Err(NotOpened::Failed(error)),

@@ -1,6 +1,6 @@
 //! What `open` returns, where memory does not run out. The checksums come from another program.
 use super::memory::Memory;
-use crate::{Journaled, NotOpened};
+use crate::{Journaled, NotOpened, Progress};
 use bimap::{BiBTreeMap, Bijection};
 use std::alloc::Global;
 use std::test::Fail;
@@ -83,5 +83,36 @@ fn opens_and_cuts_off_the_rest(rt: HostRuntime) -> Result<(), Fail> {
         assert_eq!(rt; opened(alloc, &mut bytes), wanted);
         assert!(rt; bytes.as_slice() == left);
     }
+    Ok(())
+}
+
+// What a program was shown of an opening.
+#[derive(Drop)]
+struct Shown {
+    calls: Vec<(usize, usize)>,
+}
+
+impl Progress for Shown {
+    fn at(&mut self, done: usize, of: usize) {
+        let _ = self.calls.push((done, of));
+    }
+}
+
+#[test]
+fn shows_how_far_it_is(rt: HostRuntime) -> Result<(), Fail> {
+    let alloc = rt.alloc();
+    let mut bytes = b"jetukoma journal 1\n".to_vec(alloc)?;
+    for _ in 0..20_001 {
+        bytes.extend_from_slice(b"+[\"clear\"] 05682658\n")?;
+    }
+    bytes.push(b'-')?;
+    let mut shown = Shown {
+        calls: Vec::new(alloc),
+    };
+    let empty: BiBTreeMap<u64, u64> = BiBTreeMap::new(alloc);
+    let file = Memory { bytes: &mut bytes };
+    assert!(rt; Journaled::open_with(alloc, empty, file, &mut shown).is_ok());
+    let wanted = [(19, 400_040), (200_019, 400_040), (400_019, 400_040)];
+    assert!(rt; shown.calls.as_slice() == wanted.as_slice());
     Ok(())
 }

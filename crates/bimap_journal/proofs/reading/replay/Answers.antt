@@ -17,8 +17,8 @@ returns-then-starts_with-clause-fault g c =
       λ begins. true≢false (sym ((starts_is Decides-eqb bytes header _ c.if-not-starts_with.ensures.value).1 begins.0 begins.1)),
     )
 
-pub loop-text-init : goal.loop-text-init
-loop-text-init g c =
+pub loop-lines-init : goal.loop-lines-init
+loop-lines-init g c =
     let bytes = c.args.bytes.now in
     let begins : bytes ≡ header ++ drop 19 bytes = (starts_is Decides-eqb bytes header _ c.if-not-starts_with.ensures.value).0 refl in
     let all : take (length bytes - 19) (drop 19 bytes) ≡ drop 19 bytes = take_all (drop 19 bytes) (length bytes - 19) (length-drop 19 bytes) in
@@ -32,16 +32,16 @@ loop-text-init g c =
 
 pub overflow_sub-at : goal.overflow_sub-at
 overflow_sub-at g c =
-    let k = c.loop-text.invariant in
-    let long = ap length k.is ∙ length-append (header ++ lines k.texts) c.loop-text.rest.now in
+    let k = c.loop-lines.invariant in
+    let long = ap length k.is ∙ length-append (header ++ lines k.texts) c.loop-lines.rest.now in
     omega (arith, long)
 
-pub loop-text-smaller : goal.loop-text-smaller
-loop-text-smaller g c = long_line c.loop-text.rest.now c.in-Line.text.now c.in-Line.behind.now c.in-Line.ensures.0
+pub loop-lines-smaller : goal.loop-lines-smaller
+loop-lines-smaller g c = long_line c.loop-lines.rest.now c.in-Line.text.now c.in-Line.behind.now c.in-Line.ensures.0
 
-pub loop-text-preserved : goal.loop-text-preserved
-loop-text-preserved g c =
-    let k = c.loop-text.invariant in
+pub loop-lines-preserved : goal.loop-lines-preserved
+loop-lines-preserved g c =
+    let k = c.loop-lines.invariant in
     let text = c.in-Line.text.now in
     let behind = c.in-Line.behind.now in
     record {
@@ -53,8 +53,8 @@ loop-text-preserved g c =
 
 pub returns-in-End-clause-read : goal.returns-in-End-clause-read
 returns-in-End-clause-read g c =
-    let k = c.loop-text.invariant in
-    let long = ap length k.is ∙ length-append (header ++ lines k.texts) c.loop-text.rest.now in
+    let k = c.loop-lines.invariant in
+    let long = ap length k.is ∙ length-append (header ++ lines k.texts) c.loop-lines.rest.now in
     record {
       texts = k.texts;
       has = record { rest = c.in-End.ensures.0; is = k.is ∙ ap (λ xs. header ++ lines k.texts ++ xs) c.in-End.ensures.1; unbroken = k.unbroken };
@@ -64,12 +64,12 @@ returns-in-End-clause-read g c =
 
 pub returns-in-Damaged-clause-fault : goal.returns-in-Damaged-clause-fault
 returns-in-Damaged-clause-fault g c =
-    let k = c.loop-text.invariant in
-    let long = ap length k.is ∙ length-append (header ++ lines k.texts) c.loop-text.rest.now in
+    let k = c.loop-lines.invariant in
+    let long = ap length k.is ∙ length-append (header ++ lines k.texts) c.loop-lines.rest.now in
     record {
       texts = k.texts;
       changes = k.kept.is_read.0;
-      rest = c.loop-text.rest.now;
+      rest = c.loop-lines.rest.now;
       is = k.is;
       place = omega (arith, long);
       unbroken = k.unbroken;
@@ -80,7 +80,7 @@ returns-in-Damaged-clause-fault g c =
 
 pub returns-in-Err-clause-fault : goal.returns-in-Err-clause-fault
 returns-in-Err-clause-fault g c =
-    let k = c.loop-text.invariant in
-    let long = ap length k.is ∙ length-append (header ++ lines k.texts) c.loop-text.rest.now in
-    line_fault g.L.Stored.reads g.R.Stored.reads c.args.bytes.now k.texts k.kept.is_read.0 c.loop-text.rest.now c.in-Line.text.now c.in-Line.behind.now _ c.in-Err.fault
+    let k = c.loop-lines.invariant in
+    let long = ap length k.is ∙ length-append (header ++ lines k.texts) c.loop-lines.rest.now in
+    line_fault g.L.Stored.reads g.R.Stored.reads c.args.bytes.now k.texts k.kept.is_read.0 c.loop-lines.rest.now c.in-Line.text.now c.in-Line.behind.now _ c.in-Err.fault
     k.is (omega (arith, long)) k.unbroken k.kept.is_read.1 c.in-Line.ensures.0 c.in-Line.ensures.1 c.in-Err.ensures.fault
