@@ -11,8 +11,8 @@ undo_insert-requires g c =
           (record { pair = (c.args.guest, c.args.seat); by_left = nat_eq_equiv.refl c.args.guest; is_answer = r.answer; put = r.put });
     }
 
-pub returns-in-Ok : goal.returns-in-Ok
-returns-in-Ok g c was_undone =
+pub returns : goal.returns
+returns g c =
     let r = c.in_ok-answer.ensures.answer in
     let before = (g.B.Bijection.holding c.args.ledger.now).pairs in
     let after = (g.B.Bijection.holding c.insert.new.self).pairs in
