@@ -17,9 +17,10 @@
  * In insertion order, a pair that overwrites the pair of the same left keeps that pair's position. Any other new pair goes to the
  * end.
  *
- * A few calls need an order. `.._fill_from`, `.._pair_at_rank` and `.._left_rank` need an ordered table. `.._fill_back`,
- * `.._pop_first` and `.._pop_last` need an ordered table or one in insertion order. On a table of another kind they return
- * JETUKOMA_NO_ORDER. All other calls work on every kind.
+ * A few calls need an order. `.._fill_from`, `.._fill_by_right`, `.._pair_at_rank`, `.._left_rank` and `.._right_rank` need an
+ * ordered table. `.._fill_back`, `.._pop_first` and `.._pop_last` need an ordered table or one in insertion order. `.._to_front`
+ * and `.._to_back` need a table in insertion order. On a table of another kind they return JETUKOMA_NO_ORDER. All other calls work
+ * on every kind.
  *
  * The last argument of `.._new` is a seed. The hashes of a table depend on it. Do strangers choose the values of a table that is
  * hashed or in insertion order? Then pass a random seed and keep it secret. Whoever knows the seed can choose many values with
@@ -40,8 +41,8 @@
  * buffer is too short, the call writes the number alone and returns JETUKOMA_BUFFER_TOO_SHORT.
  *
  * A search takes logarithmic time in an ordered table, and expected constant time in a table of another kind. A look-up makes one
- * search. An insertion and a removal make one on each side. `.._new`, `.._clone`, `.._reserve`, insertions and the JSON calls
- * allocate. So do look-ups and removals by bytes that are longer than any before. No other call allocates.
+ * search. An insertion and a removal make one on each side. `.._new`, `.._clone`, `.._reserve`, `.._shrink_to`, insertions and the
+ * JSON calls allocate. So do look-ups, ranks, moves and removals by bytes that are longer than any before. No other call allocates.
  *
  * To read all pairs of a table, iterate row by row. A position stays right until the table changes. A row of a table with byte
  * strings has their lengths, and their bytes are in a buffer:
@@ -52,6 +53,9 @@
  *         for (size_t i = 0, from = 0; i < count; from += row[i++].left_len) show(bytes + from, row[i].left_len, row[i].right);
  *
  * If the next pair has more than 4096 bytes, this call returns JETUKOMA_BUFFER_TOO_SHORT. `len` is then the number of its bytes.
+ *
+ * In an ordered table, the lefts from a to below b have the positions from the `.._left_rank` of a to below that of b. Read these
+ * rows by `.._fill`, from the first row on or from the last row back. `.._right_rank` and `.._fill_by_right` do the same for rights.
  *
  * To remove all pairs that a test refuses, iterate row by row. Remove the refused pairs of a row before you read the next row:
  *
@@ -173,12 +177,19 @@ JETUKOMA_API uint32_t jetukoma_u64_u64_capacity(jetukoma_u64_u64 *handle, size_t
 }
 
 /* Makes the capacity at least the number of pairs plus `more`. It makes it no greater than needed. None of the next
- * `more` insertions can then run out of memory. Only this call, insertions and `new` allocate. Returns 1 if there is
- * no memory. */
+ * `more` insertions can then run out of memory. Returns 1 if there is no memory. */
 uint32_t jetukoma_u64_u64_reserve_unchecked(jetukoma_u64_u64 *handle, size_t more);
 JETUKOMA_API uint32_t jetukoma_u64_u64_reserve(jetukoma_u64_u64 *handle, size_t more) {
     if (!handle) return JETUKOMA_NO_TABLE;
     return jetukoma_u64_u64_reserve_unchecked(handle, more);
+}
+
+/* Lowers a capacity above `least` to `least`, or to the number of pairs if that is more. It frees the memory that
+ * this spares. The time grows with the capacity. Returns 1 if there is no memory for the smaller table. */
+uint32_t jetukoma_u64_u64_shrink_to_unchecked(jetukoma_u64_u64 *handle, size_t least);
+JETUKOMA_API uint32_t jetukoma_u64_u64_shrink_to(jetukoma_u64_u64 *handle, size_t least) {
+    if (!handle) return JETUKOMA_NO_TABLE;
+    return jetukoma_u64_u64_shrink_to_unchecked(handle, least);
 }
 
 /* Inserts a pair, and writes the pairs that it overwrote. It allocates only if it overwrites none and there is no
@@ -337,6 +348,23 @@ JETUKOMA_API uint32_t jetukoma_u64_u64_left_rank(jetukoma_u64_u64 *handle, uint6
     return jetukoma_u64_u64_left_rank_unchecked(handle, left, rank);
 }
 
+/* Writes how many rights are less than this one, which need not be contained. Returns 6 if the table is not ordered. */
+uint32_t jetukoma_u64_u64_right_rank_unchecked(jetukoma_u64_u64 *handle, uint64_t right, size_t *rank);
+JETUKOMA_API uint32_t jetukoma_u64_u64_right_rank(jetukoma_u64_u64 *handle, uint64_t right, size_t *rank) {
+    if (!handle) return JETUKOMA_NO_TABLE;
+    if (!rank) return JETUKOMA_REFUSED;
+    return jetukoma_u64_u64_right_rank_unchecked(handle, right, rank);
+}
+
+/* Writes pairs as `fill` does, but in ascending order of their rights. It takes one search, and at most one descent
+ * in the tree for each pair. Returns 6 if the table is not ordered. */
+uint32_t jetukoma_u64_u64_fill_by_right_unchecked(jetukoma_u64_u64 *handle, size_t start, jetukoma_u64_u64_pair *row, size_t row_len, size_t *filled);
+JETUKOMA_API uint32_t jetukoma_u64_u64_fill_by_right(jetukoma_u64_u64 *handle, size_t start, jetukoma_u64_u64_pair *row, size_t row_len, size_t *filled) {
+    if (!handle) return JETUKOMA_NO_TABLE;
+    if (!row || row_len > PTRDIFF_MAX / sizeof *row || !filled) return JETUKOMA_REFUSED;
+    return jetukoma_u64_u64_fill_by_right_unchecked(handle, start, row, row_len, filled);
+}
+
 /* Removes a pair, and writes it. In an ordered table it is the pair of the least left. In a table in insertion order
  * it is the first pair. Returns 5 if there are no pairs, and 6 if the table is hashed. */
 uint32_t jetukoma_u64_u64_pop_first_unchecked(jetukoma_u64_u64 *handle, jetukoma_u64_u64_pair *pair);
@@ -353,6 +381,22 @@ JETUKOMA_API uint32_t jetukoma_u64_u64_pop_last(jetukoma_u64_u64 *handle, jetuko
     if (!handle) return JETUKOMA_NO_TABLE;
     if (!pair) return JETUKOMA_REFUSED;
     return jetukoma_u64_u64_pop_last_unchecked(handle, pair);
+}
+
+/* Moves the pair of a left to the front of the insertion order. The other pairs keep their order. Returns 5 if the
+ * left is not contained, and 6 if the table is not in insertion order. */
+uint32_t jetukoma_u64_u64_to_front_unchecked(jetukoma_u64_u64 *handle, uint64_t left);
+JETUKOMA_API uint32_t jetukoma_u64_u64_to_front(jetukoma_u64_u64 *handle, uint64_t left) {
+    if (!handle) return JETUKOMA_NO_TABLE;
+    return jetukoma_u64_u64_to_front_unchecked(handle, left);
+}
+
+/* Moves the pair of a left to the end of the insertion order. The other pairs keep their order. Returns 5 if the
+ * left is not contained, and 6 if the table is not in insertion order. */
+uint32_t jetukoma_u64_u64_to_back_unchecked(jetukoma_u64_u64 *handle, uint64_t left);
+JETUKOMA_API uint32_t jetukoma_u64_u64_to_back(jetukoma_u64_u64 *handle, uint64_t left) {
+    if (!handle) return JETUKOMA_NO_TABLE;
+    return jetukoma_u64_u64_to_back_unchecked(handle, left);
 }
 
 /* A pair: the number of bytes of its left, and its right. */
@@ -408,6 +452,14 @@ JETUKOMA_API uint32_t jetukoma_bytes_u64_reserve(jetukoma_bytes_u64 *handle, siz
     return jetukoma_bytes_u64_reserve_unchecked(handle, more);
 }
 
+/* Lowers a capacity above `least` to `least`, or to the number of pairs if that is more. It frees the memory that
+ * this spares. The time grows with the capacity. Returns 1 if there is no memory for the smaller table. */
+uint32_t jetukoma_bytes_u64_shrink_to_unchecked(jetukoma_bytes_u64 *handle, size_t least);
+JETUKOMA_API uint32_t jetukoma_bytes_u64_shrink_to(jetukoma_bytes_u64 *handle, size_t least) {
+    if (!handle) return JETUKOMA_NO_TABLE;
+    return jetukoma_bytes_u64_shrink_to_unchecked(handle, least);
+}
+
 /* Inserts a copy of the left with the right. They overwrite the pairs with which they share a value. `kind` says
  * which pairs those are: 0 for none, 1 for the pair of the left alone, 2 for the pair of the right alone, 3 for one
  * pair with both values, and 4 for the pair of the left and the pair of the right. The table keeps the overwritten
@@ -438,6 +490,17 @@ JETUKOMA_API uint32_t jetukoma_bytes_u64_insert_with(jetukoma_bytes_u64 *handle,
     if (!handle) return JETUKOMA_NO_TABLE;
     if (!left || left_len > PTRDIFF_MAX / sizeof *left || !kind) return JETUKOMA_REFUSED;
     return jetukoma_bytes_u64_insert_with_unchecked(handle, left, left_len, right, left_refuses, right_refuses, kind);
+}
+
+/* Inserts pairs in order, each as `insert` does. The rows and the bytes are as `fill` writes them: `bytes` has the
+ * bytes of the pairs, one pair behind another. `taken` gets the number of inserted pairs. Returns 1 if there is no
+ * memory for the next pair. The pairs before it stay, and `taken` is written then too. Returns 3 if the rows name
+ * more bytes than there are, and nothing has changed then. */
+uint32_t jetukoma_bytes_u64_insert_many_unchecked(jetukoma_bytes_u64 *handle, const uint8_t *bytes, size_t bytes_len, const jetukoma_bytes_u64_row *rows, size_t rows_len, size_t *taken);
+JETUKOMA_API uint32_t jetukoma_bytes_u64_insert_many(jetukoma_bytes_u64 *handle, const uint8_t *bytes, size_t bytes_len, const jetukoma_bytes_u64_row *rows, size_t rows_len, size_t *taken) {
+    if (!handle) return JETUKOMA_NO_TABLE;
+    if (!bytes || bytes_len > PTRDIFF_MAX / sizeof *bytes || !rows || rows_len > PTRDIFF_MAX / sizeof *rows || !taken) return JETUKOMA_REFUSED;
+    return jetukoma_bytes_u64_insert_many_unchecked(handle, bytes, bytes_len, rows, rows_len, taken);
 }
 
 /* Writes the right of a left. It allocates if the left is longer than every left that was looked up or removed
@@ -615,6 +678,23 @@ JETUKOMA_API uint32_t jetukoma_bytes_u64_left_rank(jetukoma_bytes_u64 *handle, c
     return jetukoma_bytes_u64_left_rank_unchecked(handle, left, left_len, rank);
 }
 
+/* Writes how many rights are less than this one, which need not be contained. Returns 6 if the table is not ordered. */
+uint32_t jetukoma_bytes_u64_right_rank_unchecked(jetukoma_bytes_u64 *handle, uint64_t right, size_t *rank);
+JETUKOMA_API uint32_t jetukoma_bytes_u64_right_rank(jetukoma_bytes_u64 *handle, uint64_t right, size_t *rank) {
+    if (!handle) return JETUKOMA_NO_TABLE;
+    if (!rank) return JETUKOMA_REFUSED;
+    return jetukoma_bytes_u64_right_rank_unchecked(handle, right, rank);
+}
+
+/* Writes pairs as `fill` does, but in ascending order of their rights. It takes one search, and at most one descent
+ * in the tree for each pair. Returns 4 as `fill` does, and 6 if the table is not ordered. */
+uint32_t jetukoma_bytes_u64_fill_by_right_unchecked(jetukoma_bytes_u64 *handle, size_t start, uint8_t *buf, size_t buf_len, jetukoma_bytes_u64_row *rows, size_t rows_len, size_t *len, size_t *filled);
+JETUKOMA_API uint32_t jetukoma_bytes_u64_fill_by_right(jetukoma_bytes_u64 *handle, size_t start, uint8_t *buf, size_t buf_len, jetukoma_bytes_u64_row *rows, size_t rows_len, size_t *len, size_t *filled) {
+    if (!handle) return JETUKOMA_NO_TABLE;
+    if (!buf || buf_len > PTRDIFF_MAX / sizeof *buf || !rows || rows_len > PTRDIFF_MAX / sizeof *rows || !len || !filled) return JETUKOMA_REFUSED;
+    return jetukoma_bytes_u64_fill_by_right_unchecked(handle, start, buf, buf_len, rows, rows_len, len, filled);
+}
+
 /* Removes a pair. In an ordered table it is the pair of the least left. In a table in insertion order it is the
  * first pair. The table keeps it, so that `overwritten_left` and `overwritten_right` copy it. Returns 5 if there are
  * no pairs, and 6 if the table is hashed. */
@@ -631,6 +711,26 @@ uint32_t jetukoma_bytes_u64_pop_last_unchecked(jetukoma_bytes_u64 *handle);
 JETUKOMA_API uint32_t jetukoma_bytes_u64_pop_last(jetukoma_bytes_u64 *handle) {
     if (!handle) return JETUKOMA_NO_TABLE;
     return jetukoma_bytes_u64_pop_last_unchecked(handle);
+}
+
+/* Moves the pair of a left to the front of the insertion order. The other pairs keep their order. It allocates as
+ * `get_by_left` does. Returns 1 if there is no memory for that, 5 if the left is not contained, and 6 if the table
+ * is not in insertion order. */
+uint32_t jetukoma_bytes_u64_to_front_unchecked(jetukoma_bytes_u64 *handle, const uint8_t *left, size_t left_len);
+JETUKOMA_API uint32_t jetukoma_bytes_u64_to_front(jetukoma_bytes_u64 *handle, const uint8_t *left, size_t left_len) {
+    if (!handle) return JETUKOMA_NO_TABLE;
+    if (!left || left_len > PTRDIFF_MAX / sizeof *left) return JETUKOMA_REFUSED;
+    return jetukoma_bytes_u64_to_front_unchecked(handle, left, left_len);
+}
+
+/* Moves the pair of a left to the end of the insertion order. The other pairs keep their order. It allocates as
+ * `get_by_left` does. Returns 1 if there is no memory for that, 5 if the left is not contained, and 6 if the table
+ * is not in insertion order. */
+uint32_t jetukoma_bytes_u64_to_back_unchecked(jetukoma_bytes_u64 *handle, const uint8_t *left, size_t left_len);
+JETUKOMA_API uint32_t jetukoma_bytes_u64_to_back(jetukoma_bytes_u64 *handle, const uint8_t *left, size_t left_len) {
+    if (!handle) return JETUKOMA_NO_TABLE;
+    if (!left || left_len > PTRDIFF_MAX / sizeof *left) return JETUKOMA_REFUSED;
+    return jetukoma_bytes_u64_to_back_unchecked(handle, left, left_len);
 }
 
 /* A pair: the number of bytes of its left, and that of its right. */
@@ -686,6 +786,14 @@ JETUKOMA_API uint32_t jetukoma_bytes_bytes_reserve(jetukoma_bytes_bytes *handle,
     return jetukoma_bytes_bytes_reserve_unchecked(handle, more);
 }
 
+/* Lowers a capacity above `least` to `least`, or to the number of pairs if that is more. It frees the memory that
+ * this spares. The time grows with the capacity. Returns 1 if there is no memory for the smaller table. */
+uint32_t jetukoma_bytes_bytes_shrink_to_unchecked(jetukoma_bytes_bytes *handle, size_t least);
+JETUKOMA_API uint32_t jetukoma_bytes_bytes_shrink_to(jetukoma_bytes_bytes *handle, size_t least) {
+    if (!handle) return JETUKOMA_NO_TABLE;
+    return jetukoma_bytes_bytes_shrink_to_unchecked(handle, least);
+}
+
 /* Inserts copies of the left and the right. They overwrite the pairs with which they share a value. `kind` says
  * which pairs those are: 0 for none, 1 for the pair of the left alone, 2 for the pair of the right alone, 3 for one
  * pair with both values, and 4 for the pair of the left and the pair of the right. The table keeps the overwritten
@@ -716,6 +824,17 @@ JETUKOMA_API uint32_t jetukoma_bytes_bytes_insert_with(jetukoma_bytes_bytes *han
     if (!handle) return JETUKOMA_NO_TABLE;
     if (!left || left_len > PTRDIFF_MAX / sizeof *left || !right || right_len > PTRDIFF_MAX / sizeof *right || !kind) return JETUKOMA_REFUSED;
     return jetukoma_bytes_bytes_insert_with_unchecked(handle, left, left_len, right, right_len, left_refuses, right_refuses, kind);
+}
+
+/* Inserts pairs in order, each as `insert` does. The rows and the bytes are as `fill` writes them: `bytes` has the
+ * bytes of the pairs, one pair behind another. `taken` gets the number of inserted pairs. Returns 1 if there is no
+ * memory for the next pair. The pairs before it stay, and `taken` is written then too. Returns 3 if the rows name
+ * more bytes than there are, and nothing has changed then. */
+uint32_t jetukoma_bytes_bytes_insert_many_unchecked(jetukoma_bytes_bytes *handle, const uint8_t *bytes, size_t bytes_len, const jetukoma_bytes_bytes_row *rows, size_t rows_len, size_t *taken);
+JETUKOMA_API uint32_t jetukoma_bytes_bytes_insert_many(jetukoma_bytes_bytes *handle, const uint8_t *bytes, size_t bytes_len, const jetukoma_bytes_bytes_row *rows, size_t rows_len, size_t *taken) {
+    if (!handle) return JETUKOMA_NO_TABLE;
+    if (!bytes || bytes_len > PTRDIFF_MAX / sizeof *bytes || !rows || rows_len > PTRDIFF_MAX / sizeof *rows || !taken) return JETUKOMA_REFUSED;
+    return jetukoma_bytes_bytes_insert_many_unchecked(handle, bytes, bytes_len, rows, rows_len, taken);
 }
 
 /* Writes the right of a left to the front of a buffer, and its length. It allocates if the left is longer than every
@@ -878,6 +997,24 @@ JETUKOMA_API uint32_t jetukoma_bytes_bytes_left_rank(jetukoma_bytes_bytes *handl
     return jetukoma_bytes_bytes_left_rank_unchecked(handle, left, left_len, rank);
 }
 
+/* Writes how many rights are less than this one, compared byte by byte. This one need not be contained. It allocates
+ * as `get_by_left` does. Returns 1 if there is no memory for that, and 6 if the table is not ordered. */
+uint32_t jetukoma_bytes_bytes_right_rank_unchecked(jetukoma_bytes_bytes *handle, const uint8_t *right, size_t right_len, size_t *rank);
+JETUKOMA_API uint32_t jetukoma_bytes_bytes_right_rank(jetukoma_bytes_bytes *handle, const uint8_t *right, size_t right_len, size_t *rank) {
+    if (!handle) return JETUKOMA_NO_TABLE;
+    if (!right || right_len > PTRDIFF_MAX / sizeof *right || !rank) return JETUKOMA_REFUSED;
+    return jetukoma_bytes_bytes_right_rank_unchecked(handle, right, right_len, rank);
+}
+
+/* Writes pairs as `fill` does, but in ascending order of their rights. It takes one search, and at most one descent
+ * in the tree for each pair. Returns 4 as `fill` does, and 6 if the table is not ordered. */
+uint32_t jetukoma_bytes_bytes_fill_by_right_unchecked(jetukoma_bytes_bytes *handle, size_t start, uint8_t *buf, size_t buf_len, jetukoma_bytes_bytes_row *rows, size_t rows_len, size_t *len, size_t *filled);
+JETUKOMA_API uint32_t jetukoma_bytes_bytes_fill_by_right(jetukoma_bytes_bytes *handle, size_t start, uint8_t *buf, size_t buf_len, jetukoma_bytes_bytes_row *rows, size_t rows_len, size_t *len, size_t *filled) {
+    if (!handle) return JETUKOMA_NO_TABLE;
+    if (!buf || buf_len > PTRDIFF_MAX / sizeof *buf || !rows || rows_len > PTRDIFF_MAX / sizeof *rows || !len || !filled) return JETUKOMA_REFUSED;
+    return jetukoma_bytes_bytes_fill_by_right_unchecked(handle, start, buf, buf_len, rows, rows_len, len, filled);
+}
+
 /* Removes a pair. In an ordered table it is the pair of the least left. In a table in insertion order it is the
  * first pair. The table keeps it, so that `overwritten_left` and `overwritten_right` copy it. Returns 5 if there are
  * no pairs, and 6 if the table is hashed. */
@@ -894,6 +1031,26 @@ uint32_t jetukoma_bytes_bytes_pop_last_unchecked(jetukoma_bytes_bytes *handle);
 JETUKOMA_API uint32_t jetukoma_bytes_bytes_pop_last(jetukoma_bytes_bytes *handle) {
     if (!handle) return JETUKOMA_NO_TABLE;
     return jetukoma_bytes_bytes_pop_last_unchecked(handle);
+}
+
+/* Moves the pair of a left to the front of the insertion order. The other pairs keep their order. It allocates as
+ * `get_by_left` does. Returns 1 if there is no memory for that, 5 if the left is not contained, and 6 if the table
+ * is not in insertion order. */
+uint32_t jetukoma_bytes_bytes_to_front_unchecked(jetukoma_bytes_bytes *handle, const uint8_t *left, size_t left_len);
+JETUKOMA_API uint32_t jetukoma_bytes_bytes_to_front(jetukoma_bytes_bytes *handle, const uint8_t *left, size_t left_len) {
+    if (!handle) return JETUKOMA_NO_TABLE;
+    if (!left || left_len > PTRDIFF_MAX / sizeof *left) return JETUKOMA_REFUSED;
+    return jetukoma_bytes_bytes_to_front_unchecked(handle, left, left_len);
+}
+
+/* Moves the pair of a left to the end of the insertion order. The other pairs keep their order. It allocates as
+ * `get_by_left` does. Returns 1 if there is no memory for that, 5 if the left is not contained, and 6 if the table
+ * is not in insertion order. */
+uint32_t jetukoma_bytes_bytes_to_back_unchecked(jetukoma_bytes_bytes *handle, const uint8_t *left, size_t left_len);
+JETUKOMA_API uint32_t jetukoma_bytes_bytes_to_back(jetukoma_bytes_bytes *handle, const uint8_t *left, size_t left_len) {
+    if (!handle) return JETUKOMA_NO_TABLE;
+    if (!left || left_len > PTRDIFF_MAX / sizeof *left) return JETUKOMA_REFUSED;
+    return jetukoma_bytes_bytes_to_back_unchecked(handle, left, left_len);
 }
 
 #ifdef __cplusplus

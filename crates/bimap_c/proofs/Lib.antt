@@ -6,4 +6,5 @@ mod Steps
 mod TableAsBox
 mod Texts
 mod Turned
+mod Unpacking
 mod Values

@@ -1,4 +1,4 @@
--- In ascending order, the pairs from a left on are the pairs from its rank on.
+-- In ascending order, the pairs from a key on are the pairs from its rank on.
 use Rattle.std.proofs.Common.{◌≡◌, ◌<◌, ◌≤◌, ◌∙◌, ℕ, zero, suc, Bool, true, false, ◌&&◌, Some, List, [], ◌∷◌, length, drop, slice_get, get_or, refl, ap, subst, inl, inr, arith}
 use Rattle.std.proofs.Math.Nat.{eq-or-lt_of_le}
 use Rattle.std.proofs.lemmas.Cmp.{tied_itself}
@@ -20,15 +20,15 @@ from_place test (q ∷ pairs) (suc k) below above =
     let t : test q ≡ false = below 0 q (omega arith) (omega arith) in
     rw t (from_place test pairs k (λ i d l m. below (suc i) d (omega (arith, l)) (omega (arith, m))) (λ i d l m. above (suc i) d (omega (arith, l)) (omega (arith, m))))
 
-module _ {K X : Type 0} (order : K → K → Ordering) (total : IsTotalOrder order) where
-  -- The pairs whose left is at least that of a pair are the pairs from its rank on.
-  pub from_rank : (pairs : List (K × X)) (rank : ℕ) (p : K × X) → AllPairs (λ q r. order q.0 r.0 ≡ Less) pairs → slice_get pairs rank ≡ Some p → filter (λ q. is_ge (order q.0 p.0) && true) pairs ≡ drop rank pairs
+module _ {P K : Type 0} (key : P → K) (order : K → K → Ordering) (total : IsTotalOrder order) where
+  -- The pairs whose key is at least that of a pair are the pairs from its rank on.
+  pub from_rank : (pairs : List P) (rank : ℕ) (p : P) → AllPairs (λ q r. order (key q) (key r) ≡ Less) pairs → slice_get pairs rank ≡ Some p → filter (λ q. is_ge (order (key q) (key p)) && true) pairs ≡ drop rank pairs
   from_rank pairs rank p ascending at =
       let lt = slice_get_within pairs rank p at in
-      let is : (d : K × X) → get_or pairs rank d ≡ p = λ d. get_or_from_slice_get pairs rank p d at in
-      from_place (λ q. is_ge (order q.0 p.0) && true) pairs rank
-      (λ i d l m. ap (λ o. is_ge o && true) (subst (λ z. order (get_or pairs i d).0 z.0 ≡ Less) (is d) (ascending i rank d l lt)))
+      let is : (d : P) → get_or pairs rank d ≡ p = λ d. get_or_from_slice_get pairs rank p d at in
+      from_place (λ q. is_ge (order (key q) (key p)) && true) pairs rank
+      (λ i d l m. ap (λ o. is_ge o && true) (subst (λ z. order (key (get_or pairs i d)) (key z) ≡ Less) (is d) (ascending i rank d l lt)))
       (λ i d l m. elim (eq-or-lt_of_le l) [
-        | inl e ↦ ap (λ o. is_ge o && true) (subst (λ k. order (get_or pairs k d).0 p.0 ≡ order p.0 p.0) e (ap (λ z. order z.0 p.0) (is d)) ∙ tied_itself total p.0)
-        | inr k ↦ ap (λ o. is_ge o && true) (total.antisymm (get_or pairs i d).0 p.0 ∙ ap ordering_reverse (subst (λ z. order z.0 (get_or pairs i d).0 ≡ Less) (is d) (ascending rank i d k m)))
+        | inl e ↦ ap (λ o. is_ge o && true) (subst (λ k. order (key (get_or pairs k d)) (key p) ≡ order (key p) (key p)) e (ap (λ z. order (key z) (key p)) (is d)) ∙ tied_itself total (key p))
+        | inr k ↦ ap (λ o. is_ge o && true) (total.antisymm (key (get_or pairs i d)) (key p) ∙ ap ordering_reverse (subst (λ z. order (key z) (key (get_or pairs i d)) ≡ Less) (is d) (ascending rank i d k m)))
       ])

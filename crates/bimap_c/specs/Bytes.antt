@@ -3,17 +3,22 @@
 -- out-parameters are those of this result.
 use Rattle.std.specs.Prelude.{◌≡◌, ℕ, ◌<◌, ◌≤◌, ◌++◌, ◌⊎◌, Bool, Option, None, Some, Result, List, [], ◌∷◌, length, drop, nat_eq, vec_capacity, IfOk, OnErr, count_by}
 use Rattle.std.specs.Cmp.Lexicographic.{pointwise, slice_cmp}
+use Rattle.std.specs.declared.cmp.Ordering.{Ordering}
 use Rattle.std.specs.Ordering.{is_lt, nat_cmp}
 use Rattle.std.specs.Map.Iter.{TakesFirst, TakesLast}
 use Rattle.bimap.specs.Holding.{Holding, IsInsertionUnder, IsRemovalByLeft, IsRemovalByRight}
 use Rattle.bimap.specs.Types.{Overwritten, Neither, Left, Right, Pair, Both, Policy, NotInsertedWith}
-use Rattle.bimap_c.specs.Calls.{inserted_with, on_held, AreFlags, Clears}
+use Rattle.bimap_c.specs.Calls.{inserted_with, on_held, AreFlags, Clears, Moves}
 use Rattle.bimap_c.specs.declared.byte_string.ByteString.{ByteString}
 use Rattle.bimap_c.specs.declared.bytes.BytesTable.{BytesTable}
 
 -- The two byte strings have the same bytes.
 abbrev pub same_bytes : ByteString → ByteString → Bool
 same_bytes v w = pointwise nat_eq v.bytes.items w.bytes.items
+
+-- How two byte strings compare, byte by byte.
+abbrev pub byte_order : ByteString → ByteString → Ordering
+byte_order v w = slice_cmp nat_cmp v.bytes.items w.bytes.items
 
 -- What the map contains, the pairs that the last change overwrote or removed, and the last key. A next key that fits in the
 -- capacity of the last key needs no memory.
@@ -122,7 +127,12 @@ module _ {R : Type 0} where
   -- What `left_rank` does: it writes how many lefts are less than a copy of the bytes.
   abbrev pub IsRanked : Kept R → List ℕ → ℕ → ℕ → Kept R → Type 0
   IsRanked old left status rank new = IsByKey old left status new (λ key. (status ≡ 0)
-      × (rank ≡ count_by (λ p. is_lt (slice_cmp nat_cmp p.0.bytes.items key.bytes.items)) old.held.pairs))
+      × (rank ≡ count_by (λ p. is_lt (byte_order p.0 key)) old.held.pairs))
+
+  -- What `to_front` and `to_back` do: they move the pair of a copy of the bytes as `Comes` says.
+  abbrev pub MovesByKey : (List (ByteString × R) → ByteString × R → List (ByteString × R) → Type 0) → Kept R → List ℕ → ℕ → Kept R → Type 0
+  MovesByKey Comes old left status new = IsByKey old left status new (λ key.
+      Moves (λ p. same_bytes p.0 key) Comes old.held status new.held × (new.struck ≡ old.struck))
 
   -- What the removal of the first or the last pair leaves, and what the table keeps of the pair.
   pub record IsTaken (old : Kept R) (taken : Option (ByteString × R)) (status : ℕ) (new : Kept R) : Type 0 where

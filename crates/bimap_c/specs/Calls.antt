@@ -1,7 +1,10 @@
 -- What a call for C returns, writes and leaves, for all types of the sides.
-use Rattle.std.specs.Prelude.{◌≡◌, ◌⊎◌, ◌↔◌, ◌≤◌, ℕ, Bool, [], IsTrue, Option, None, Some, Result, Ok, Err, MatchOption, nat_eq, if◌then◌else◌}
+use Rattle.std.specs.Prelude.{◌≡◌, ◌⊎◌, ◌↔◌, ◌≤◌, ℕ, Bool, List, [], IsTrue, Option, None, Some, Result, Ok, Err, MatchOption, nat_eq, if◌then◌else◌}
+use Rattle.std.specs.declared.cmp.Ordering.{Ordering}
+use Rattle.bimap.specs.BTree.{IsByRight}
 use Rattle.bimap.specs.Holding.{Holding}
-use Rattle.bimap.specs.Capacity.{IsReservation}
+use Rattle.bimap.specs.Capacity.{IsReservation, IsShrink}
+use Rattle.bimap.specs.Moves.{IsMove}
 use Rattle.bimap.specs.Types.{NoMemory, NotInserted, NotInsertedWith, OnHeld, Overwrite, Refuse}
 use Rattle.bimap_base.specs.declared.refusal.NotInserted.TheVariants.{Occupied, Memory}
 use Rattle.bimap_base.specs.declared.refusal.NotInsertedWith.TheVariants.{LeftHeld, RightHeld, Memory as MemoryWith}
@@ -53,6 +56,10 @@ module _ {H : Type 0} (find : Option CTable → Option (Kinds H)) (old : Option 
   abbrev pub ChangesAtEnd : (H → H → Type 0) → Type 0
   ChangesAtEnd holds = ChangesByKind holds HasNoOrder holds
 
+  -- What such a call does if it needs a table in insertion order.
+  abbrev pub ChangesInOrder : (H → H → Type 0) → Type 0
+  ChangesInOrder holds = ChangesByKind HasNoOrder HasNoOrder holds
+
   -- What `new` does, by the number of the kind. If the handle had no table, it has one of this kind then, or there was no
   -- memory. If it had a table, or there is no such kind, nothing changes.
   pub record Makes (kind : ℕ) (holds : H → Type 0) : Type 0 where
@@ -99,6 +106,23 @@ pub record Reserves {L R : Type 0} (old : Holding L R) (more status : ℕ) (new 
   pub answer : Result (Unit {0}) NoMemory
   pub reserved : IsReservation old more answer new
   pub told : status ≡ made answer
+
+-- What `shrink_to` does. A capacity above `least` becomes `least`, or the number of pairs if that is more. Or there was no memory.
+pub record Shrinks {L R : Type 0} (old : Holding L R) (least status : ℕ) (new : Holding L R) : Type 0 where
+  pub answer : Result (Unit {0}) NoMemory
+  pub shrunk : IsShrink old least answer new
+  pub told : status ≡ made answer
+
+-- What `to_front` and `to_back` do. The pair that passes the test is moved as `Comes` says, or the status says that there is none.
+pub record Moves {L R : Type 0} (passes : L × R → Bool) (Comes : List (L × R) → L × R → List (L × R) → Type 0) (old : Holding L R) (status : ℕ) (new : Holding L R) : Type 0 where
+  pub answer : Bool
+  pub moved : IsMove passes Comes old.pairs answer new.pairs
+  pub room : new.room ≡ old.room
+  pub told : status ≡ (if answer then 0 else 5)
+
+-- `P` is true of the pairs in ascending order of their rights.
+abbrev pub ByRight : {L R : Type 0} → (R → R → Ordering) → List (L × R) → (List (L × R) → Type 0) → Type 0
+ByRight {L} {R} order pairs P = (sorted : List (L × R)) × IsByRight order pairs sorted × P sorted
 
 -- What `clear` does. No pair is left, and the capacity stays.
 abbrev pub Clears : {L R : Type 0} → Holding L R → ℕ → Holding L R → Type 0

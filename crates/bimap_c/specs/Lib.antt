@@ -8,3 +8,4 @@ pub mod Packed
 pub mod Pointers
 pub mod Tables
 pub mod U64U64
+pub mod Unpacked

@@ -2,10 +2,12 @@
 ghost use Rattle.std.specs.Prelude.{◌≡◌, Option, ◌<◌, ◌≤◌, [], length, true, false, vec_capacity, option_map, slice_get, Contains, IfSome, IfNone};
 ghost use Rattle.std.specs.Map.Iter.{deref, deref_pair};
 ghost use Rattle.bimap.specs.BTree.{holding};
+ghost use Rattle.bimap.specs.Moves.{ComesFirst};
+ghost use Rattle.bimap.specs.Positions.{ComesLast};
 ghost use Rattle.bimap.specs.Sets.{HasLeft};
 ghost use Rattle.bimap_c.specs.Calls.{IsWritten, Tests};
 ghost use Rattle.bimap_c.specs.declared.byte_string.ByteString.{ByteString};
-ghost use Rattle.bimap_c.specs.Bytes.{kept, same_bytes, named_pairs, kind_of, IsRead, IsByKey, IsCopiedOut, AreBytesOut, IsLengthWritten, IsStruck, IsRanked, RemovesByLeft, ClearsAll, Inserts, InsertsFlagged, IsKind};
+ghost use Rattle.bimap_c.specs.Bytes.{kept, same_bytes, named_pairs, kind_of, IsRead, IsByKey, IsCopiedOut, AreBytesOut, IsLengthWritten, IsStruck, IsRanked, MovesByKey, RemovesByLeft, ClearsAll, Inserts, InsertsFlagged, IsKind};
 ghost use Rattle.bimap_c.specs.Kinds.{IsOfKind, map_kinds};
 
 use crate::byte_string::ByteString;
@@ -272,6 +274,36 @@ pub(crate) fn left_rank<R: Ord + Drop>(
     }
     *rank = table.map.left_rank(&table.key);
     DONE
+}
+
+/// Moves the pair of a left to the front of the insertion order, and returns the status.
+pub(crate) fn to_front<R: Eq + Hash + Drop>(
+    table: &mut BytesTable<R, BiInsertionOrderMap<ByteString, R, Seeded, Seeded>>,
+    left: &[u8],
+) -> u32
+    ensures moved { MovesByKey ComesFirst (kept holding table.old) left.now result
+        (kept holding table.new) }
+    ensures room { vec_capacity table.old.key.bytes ≤ vec_capacity table.new.key.bytes }
+{
+    if !note(&mut table.key, left) {
+        return NO_MEMORY;
+    }
+    found(table.map.to_front(&table.key))
+}
+
+/// Moves the pair of a left to the end of the insertion order, and returns the status.
+pub(crate) fn to_back<R: Eq + Hash + Drop>(
+    table: &mut BytesTable<R, BiInsertionOrderMap<ByteString, R, Seeded, Seeded>>,
+    left: &[u8],
+) -> u32
+    ensures moved { MovesByKey (λ was p. ComesLast was p p) (kept holding table.old) left.now result
+        (kept holding table.new) }
+    ensures room { vec_capacity table.old.key.bytes ≤ vec_capacity table.new.key.bytes }
+{
+    if !note(&mut table.key, left) {
+        return NO_MEMORY;
+    }
+    found(table.map.to_back(&table.key))
 }
 
 /// Removes all pairs, and forgets which pairs the last change overwrote or removed.

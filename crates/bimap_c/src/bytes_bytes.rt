@@ -1,22 +1,24 @@
 //! The struct that C sees if the rights are byte strings, and the bodies of the calls. They work on any map of two byte
 //! strings.
-ghost use Rattle.std.specs.Prelude.{◌≤◌, Option, option_map, vec_capacity, Contains};
+ghost use Rattle.std.specs.Prelude.{◌+◌, ◌≤◌, Option, option_map, vec_capacity, Contains};
 ghost use Rattle.std.specs.Borrow.{Bor};
 ghost use Rattle.std.specs.Map.Iter.{deref_pair};
+ghost use Rattle.bimap.specs.BTree.{holding};
 ghost use Rattle.bimap.specs.Holding.{IsFoundByLeft, IsFoundByRight};
 ghost use Rattle.bimap.specs.Sets.{HasRight};
 ghost use Rattle.bimap_c.specs.Calls.{IsWritten, Tests};
 ghost use Rattle.bimap_c.specs.Bytes.{kept, same_bytes, AreBytesOut, IsLengthWritten, IsRead, IsByKey, RemovesByRight, Inserts, InsertsFlagged, IsKind};
 ghost use Rattle.bimap_c.specs.Packed.{bytes_row};
 ghost use Rattle.bimap_c.specs.declared.byte_string.ByteString.{ByteString};
-ghost use Rattle.bimap_c.specs.BytesBytes.{WithCopy, AreBothOut};
+ghost use Rattle.bimap_c.specs.BytesBytes.{WithCopy, AreBothOut, IsRightRanked};
 
+use crate::by_right;
 use crate::byte_string::ByteString;
 use crate::bytes::{self, BytesTable, note, strike, tell_bytes};
 use crate::calls::found;
 use crate::fill::RightOfRow;
 use crate::status::{BUFFER_TOO_SHORT, DONE, NO_MEMORY, NOT_FOUND};
-use bimap::{Bijection, Policy};
+use bimap::{Bijection, BijectiveMap, Index, Ordered, Policy};
 use std::alloc::Global;
 
 /// A pair: the number of bytes of its left, and that of its right.
@@ -41,8 +43,20 @@ impl RightOfRow for ByteString {
         }
     }
 
+    ghost left_len = { λ row. row.left_len };
+
+    ghost row_len = { λ row. row.left_len + row.right_len };
+
     fn as_bytes(&self) -> &[u8] {
         &self.bytes
+    }
+
+    fn lens(row: &Row) -> (usize, usize) {
+        (row.left_len, row.right_len)
+    }
+
+    fn from_row(alloc: Global, _row: &Row, bytes: &[u8]) -> Option<ByteString> {
+        ByteString::copy_of(alloc, bytes)
     }
 }
 
@@ -161,6 +175,23 @@ pub(crate) fn remove_by_right<B: Bijection<ByteString, ByteString>>(
         return NO_MEMORY;
     }
     strike(&mut table.struck, table.map.remove_by_right(&table.key))
+}
+
+/// Writes how many rights are less than this one, and returns the status.
+pub(crate) fn right_rank<I: Index<ByteString>>(
+    table: &mut BytesTable<ByteString, BijectiveMap<ByteString, ByteString, I, Ordered>>,
+    right: &[u8],
+    rank: &mut usize,
+) -> u32
+    ensures ranked { IsRightRanked (kept holding table.old) right.now result rank.new
+        (kept holding table.new) }
+    ensures out { IsWritten result rank.old rank.new }
+    ensures read { IsRead (kept holding table.old) (kept holding table.new) }
+{
+    if !note(&mut table.key, right) {
+        return NO_MEMORY;
+    }
+    by_right::right_rank(&table.map, &table.key, rank)
 }
 
 /// Writes a pair if there is one, and returns the status.

@@ -14,6 +14,7 @@ use crate::fill::RightOfRow;
 use crate::status::{DONE, NO_MEMORY, NOT_FOUND};
 use crate::u64_u64::tell_value;
 use bimap::Bijection;
+use std::alloc::Global;
 
 /// A pair: the number of bytes of its left, and its right.
 #[repr(C)]
@@ -37,8 +38,20 @@ impl RightOfRow for u64 {
         }
     }
 
+    ghost left_len = { λ row. row.left_len };
+
+    ghost row_len = { λ row. row.left_len };
+
     fn as_bytes(&self) -> &[u8] {
         &[]
+    }
+
+    fn lens(row: &Row) -> (usize, usize) {
+        (row.left_len, 0)
+    }
+
+    fn from_row(_alloc: Global, row: &Row, _bytes: &[u8]) -> Option<u64> {
+        Some(row.right)
     }
 }
 

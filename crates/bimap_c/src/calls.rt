@@ -1,15 +1,17 @@
 //! The bodies of the calls that do not depend on the types of the sides. They work on any map.
 ghost use Rattle.std.specs.Prelude.{◌≡◌, ◌≤◌, [], length, if◌then◌else◌, IfSome, IfNone};
 ghost use Rattle.bimap.specs.BTree.{holding};
-ghost use Rattle.bimap_c.specs.Calls.{refused, Reserves, Clears, AreFlags, on_held};
+ghost use Rattle.bimap_c.specs.Calls.{made, refused, Reserves, Shrinks, Clears, AreFlags, on_held};
 ghost use Rattle.bimap_c.specs.Kinds.{IsOfKind, map_kinds};
 
 use crate::kind::{HASHED, INSERTION_ORDER, ORDERED};
 use crate::status::{DONE, NO_MEMORY, NOT_FOUND, REFUSED};
 use bimap::{
-    BiBTreeMap, BiHashMap, BiInsertionOrderMap, Bijection, NotInsertedWith, OnHeld, Policy, Seeded,
+    BiBTreeMap, BiHashMap, BiInsertionOrderMap, Bijection, BijectiveMap, NoMemory, NotInsertedWith,
+    OnHeld, Policy, Seeded,
 };
 use bimap_dynamic::{AnyMap, AnyOf};
+use bimap_index::CompactedIndex;
 use std::alloc::Global;
 use std::hash::Hash;
 
@@ -69,7 +71,23 @@ pub(crate) fn reserve<L: Eq + Drop, R: Eq + Drop, B: Bijection<L, R>>(
 ) -> u32
     ensures { Reserves (B.holding map.old) more result (B.holding map.new) }
 {
-    match map.reserve(more) {
+    made(map.reserve(more))
+}
+
+pub(crate) fn shrink_to<L: Eq + Drop, R: Eq + Drop, I: CompactedIndex<L>, J: CompactedIndex<R>>(
+    map: &mut BijectiveMap<L, R, I, J>,
+    least: usize,
+) -> u32
+    ensures { Shrinks (holding map.old) least result (holding map.new) }
+{
+    made(map.shrink_to(least))
+}
+
+// Returns the status of a call that was done or ran out of memory.
+fn made(answer: Result<(), NoMemory>) -> u32
+    ensures { result ≡ made answer }
+{
+    match answer {
         Ok(()) => DONE,
         Err(_) => NO_MEMORY,
     }

@@ -1,19 +1,23 @@
 //! The functions for C of a table of two byte strings.
-ghost use Rattle.std.specs.Prelude.{◌≡◌, ◌≤◌, Option, [], length, option_map, slice_get, vec_capacity, Contains};
+ghost use Rattle.std.specs.Prelude.{◌≡◌, ◌+◌, ◌≤◌, Option, [], length, option_map, slice_get, vec_capacity, Contains};
 ghost use Rattle.std.specs.Borrow.{Bor};
 ghost use Rattle.bimap.specs.Holding.{IsFoundByLeft, IsFoundByRight};
 ghost use Rattle.bimap.specs.Sets.{HasLeft, HasRight};
 ghost use Rattle.bimap_c.specs.Bytes.{same_bytes, named_pairs, AreBytesOut, IsLengthWritten, IsRead, IsByKey, RemovesByLeft, RemovesByRight, ClearsAll, Inserts, InsertsFlagged, IsKind};
 ghost use Rattle.bimap_c.specs.BytesBytes.{WithCopy};
-ghost use Rattle.bimap_c.specs.Calls.{IsWritten, Reads, Changes, Makes, Frees, Tests, Reserves};
+ghost use Rattle.bimap_c.specs.Calls.{IsWritten, Reads, Changes, Makes, Frees, Tests, Reserves, Shrinks};
 ghost use Rattle.bimap_c.specs.declared.byte_string.ByteString.{ByteString};
+ghost use Rattle.bimap_c.specs.Packed.{bytes_of, bytes_row};
 ghost use Rattle.bimap_c.specs.Tables.{bytes_bytes};
+ghost use Rattle.bimap_c.specs.Unpacked.{InsertsMany};
 
 use crate::bytes::{left_at, right_at, tell_bytes};
+use crate::bytes_bytes::Row;
 use crate::c_table::CTable;
 use crate::calls::{self, OVERWRITE_BOTH, REFUSE_BOTH};
 use crate::handle::Handle;
 use crate::status::REFUSED;
+use crate::unpack::insert_many;
 use crate::{bytes, bytes_bytes};
 use bimap::{OnHeld, Overwritten};
 use std::alloc::Global;
@@ -90,6 +94,21 @@ pub extern "C" fn jetukoma_bytes_bytes_reserve_unchecked(
     on_table!(handle, alloc, BytesBytes, table => calls::reserve(&mut table.map, more))
 }
 
+/// Lowers a capacity above `least` to `least`, or to the number of pairs if that is more. It frees the memory that this
+/// spares. The time grows with the capacity. Returns 1 if there is no memory for the smaller table.
+#[unsafe(no_mangle)]
+pub extern "C" fn jetukoma_bytes_bytes_shrink_to_unchecked(
+    alloc: Global,
+    handle: &mut Handle,
+    least: usize,
+) -> u32
+    ensures { Changes bytes_bytes handle.old.table.value result handle.new.table.value
+        (λ old new. Shrinks old.held least result new.held
+        × (new.struck ≡ old.struck) × (new.key ≡ old.key)) }
+{
+    on_table!(handle, alloc, BytesBytes, table => calls::shrink_to(&mut table.map, least))
+}
+
 /// Inserts copies of the left and the right. They overwrite the pairs with which they share a value. `kind` says
 /// which pairs those are: 0 for none, 1 for the pair of the left alone, 2 for the pair of the right alone, 3 for one
 /// pair with both values, and 4 for the pair of the left and the pair of the right. The table keeps the overwritten
@@ -148,6 +167,26 @@ pub extern "C" fn jetukoma_bytes_bytes_insert_with_unchecked(
     ensures out { IsWritten result kind.old kind.new }
 {
     on_table!(handle, alloc, BytesBytes, table => bytes_bytes::insert_with(alloc, table, left, right, left_refuses, right_refuses, kind))
+}
+
+/// Inserts pairs in order, each as `insert` does. The rows and the bytes are as `fill` writes them: `bytes` has the bytes
+/// of the pairs, one pair behind another. `taken` gets the number of inserted pairs. Returns 1 if there is no memory
+/// for the next pair. The pairs before it stay, and `taken` is written then too. Returns 3 if the rows name more bytes
+/// than there are, and nothing has changed then.
+#[unsafe(no_mangle)]
+pub extern "C" fn jetukoma_bytes_bytes_insert_many_unchecked(
+    alloc: Global,
+    handle: &mut Handle,
+    bytes: &[u8],
+    rows: &[Row],
+    taken: &mut usize,
+) -> u32
+    ensures change { Changes bytes_bytes handle.old.table.value result handle.new.table.value
+        (λ old new. InsertsMany same_bytes bytes_row (bytes_of (λ right. right.bytes.items)) (λ row. row.left_len + row.right_len) old rows.now bytes.now
+        result new taken.new) }
+    ensures out { (result ≡ 0 → ⊥) → (result ≡ 1 → ⊥) → taken.new ≡ taken.old }
+{
+    on_table!(handle, alloc, BytesBytes, table => insert_many(alloc, table, bytes, rows, taken))
 }
 
 /// Writes the right of a left to the front of a buffer, and its length. It allocates if the left is longer than every

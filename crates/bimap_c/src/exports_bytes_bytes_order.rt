@@ -1,13 +1,16 @@
-//! The functions for C of a table of two byte strings that use an order: iteration, ranks and ends.
-ghost use Rattle.std.specs.Prelude.{drop, reverse, slice_get};
-ghost use Rattle.bimap_c.specs.Bytes.{IsLengthWritten, IsRead, IsRanked, PopsFirst, PopsLast};
-ghost use Rattle.bimap_c.specs.BytesBytes.{AreBothOut};
-ghost use Rattle.bimap_c.specs.Calls.{IsWritten, Reads, ReadsAtEnd, ReadsOrdered, ChangesOrdered, ChangesAtEnd};
+//! The functions for C of a table of two byte strings that use an order: iteration, ranks, ends and moves.
+ghost use Rattle.std.specs.Prelude.{◌≤◌, drop, reverse, slice_get, vec_capacity};
+ghost use Rattle.bimap.specs.Moves.{ComesFirst};
+ghost use Rattle.bimap.specs.Positions.{ComesLast};
+ghost use Rattle.bimap_c.specs.Bytes.{IsLengthWritten, IsRead, IsRanked, MovesByKey, PopsFirst, PopsLast, byte_order};
+ghost use Rattle.bimap_c.specs.BytesBytes.{AreBothOut, IsRightRanked};
+ghost use Rattle.bimap_c.specs.Calls.{IsWritten, Reads, ReadsAtEnd, ReadsOrdered, ChangesOrdered, ChangesAtEnd, ChangesInOrder, ByRight};
 ghost use Rattle.bimap_c.specs.Packed.{Packs, bytes_of, bytes_row};
 ghost use Rattle.bimap_c.specs.Tables.{bytes_bytes};
 
-use crate::bytes::{left_rank, strike};
-use crate::bytes_bytes::{Row, tell_pair};
+use crate::by_right::fill_rows;
+use crate::bytes::{left_rank, strike, to_back, to_front};
+use crate::bytes_bytes::{Row, right_rank, tell_pair};
 use crate::fill::{fill_back, fill_by_rank, fill_by_steps};
 use crate::handle::Handle;
 use crate::status::NO_ORDER;
@@ -118,6 +121,51 @@ pub extern "C" fn jetukoma_bytes_bytes_left_rank_unchecked(
         InsertionOrder(_) => NO_ORDER)
 }
 
+/// Writes how many rights are less than this one, compared byte by byte. This one need not be contained. It allocates
+/// as `get_by_left` does. Returns 1 if there is no memory for that, and 6 if the table is not ordered.
+#[unsafe(no_mangle)]
+pub extern "C" fn jetukoma_bytes_bytes_right_rank_unchecked(
+    alloc: Global,
+    handle: &mut Handle,
+    right: &[u8],
+    rank: &mut usize,
+) -> u32
+    ensures answer { ChangesOrdered bytes_bytes handle.old.table.value result handle.new.table.value
+        (λ old new. IsRightRanked old right.now result rank.new new × IsRead old new) }
+    ensures out { IsWritten result rank.old rank.new }
+{
+    on_table!(handle, alloc, BytesBytes,
+        Ordered(table) => right_rank(table, right, rank),
+        Hashed(_) => NO_ORDER,
+        InsertionOrder(_) => NO_ORDER)
+}
+
+/// Writes pairs as `fill` does, but in ascending order of their rights. It takes one search, and at most one descent in
+/// the tree for each pair. Returns 4 as `fill` does, and 6 if the table is not ordered.
+#[unsafe(no_mangle)]
+pub extern "C" fn jetukoma_bytes_bytes_fill_by_right_unchecked(
+    alloc: Global,
+    handle: &mut Handle,
+    start: usize,
+    buf: &mut [u8],
+    rows: &mut [Row],
+    len: &mut usize,
+    filled: &mut usize,
+) -> u32
+    ensures answer { ReadsOrdered bytes_bytes handle.old.table.value result handle.new.table.value
+        (λ kept. ByRight byte_order kept.held.pairs (λ sorted. Packs (bytes_of (λ right. right.bytes.items)) bytes_row
+        (drop start sorted) result rows.old rows.new filled.new buf.old buf.new len.new)) }
+    ensures rows { IsWritten result rows.old rows.new }
+    ensures buf { IsWritten result buf.old buf.new }
+    ensures len { IsLengthWritten result len.old len.new }
+    ensures filled { IsWritten result filled.old filled.new }
+{
+    on_table!(handle, alloc, BytesBytes,
+        Ordered(table) => fill_rows(&table.map, start, buf, rows, len, filled),
+        Hashed(_) => NO_ORDER,
+        InsertionOrder(_) => NO_ORDER)
+}
+
 /// Removes a pair. In an ordered table it is the pair of the least left. In a table in insertion order it is the first
 /// pair. The table keeps it, so that `overwritten_left` and `overwritten_right` copy it. Returns 5 if there are no
 /// pairs, and 6 if the table is hashed.
@@ -147,4 +195,42 @@ pub extern "C" fn jetukoma_bytes_bytes_pop_last_unchecked(alloc: Global, handle:
         Ordered(table) => strike(&mut table.struck, table.map.pop_last_by_left()),
         Hashed(_) => NO_ORDER,
         InsertionOrder(table) => strike(&mut table.struck, table.map.pop_last()))
+}
+
+/// Moves the pair of a left to the front of the insertion order. The other pairs keep their order. It allocates as
+/// `get_by_left` does. Returns 1 if there is no memory for that, 5 if the left is not contained, and 6 if the table is
+/// not in insertion order.
+#[unsafe(no_mangle)]
+pub extern "C" fn jetukoma_bytes_bytes_to_front_unchecked(
+    alloc: Global,
+    handle: &mut Handle,
+    left: &[u8],
+) -> u32
+    ensures { ChangesInOrder bytes_bytes handle.old.table.value result handle.new.table.value
+        (λ old new. MovesByKey ComesFirst old left.now result new
+        × (vec_capacity old.key.bytes ≤ vec_capacity new.key.bytes)) }
+{
+    on_table!(handle, alloc, BytesBytes,
+        Ordered(_) => NO_ORDER,
+        Hashed(_) => NO_ORDER,
+        InsertionOrder(table) => to_front(table, left))
+}
+
+/// Moves the pair of a left to the end of the insertion order. The other pairs keep their order. It allocates as
+/// `get_by_left` does. Returns 1 if there is no memory for that, 5 if the left is not contained, and 6 if the table is
+/// not in insertion order.
+#[unsafe(no_mangle)]
+pub extern "C" fn jetukoma_bytes_bytes_to_back_unchecked(
+    alloc: Global,
+    handle: &mut Handle,
+    left: &[u8],
+) -> u32
+    ensures { ChangesInOrder bytes_bytes handle.old.table.value result handle.new.table.value
+        (λ old new. MovesByKey (λ was p. ComesLast was p p) old left.now result new
+        × (vec_capacity old.key.bytes ≤ vec_capacity new.key.bytes)) }
+{
+    on_table!(handle, alloc, BytesBytes,
+        Ordered(_) => NO_ORDER,
+        Hashed(_) => NO_ORDER,
+        InsertionOrder(table) => to_back(table, left))
 }

@@ -5,17 +5,21 @@ ghost use Rattle.std.specs.Map.Iter.{deref};
 ghost use Rattle.bimap.specs.Holding.{IsFoundByLeft, IsFoundByRight};
 ghost use Rattle.bimap.specs.Sets.{HasLeft, HasRight};
 ghost use Rattle.bimap_c.specs.Bytes.{same_bytes, named_pairs, AreBytesOut, IsLengthWritten, IsRead, IsByKey, RemovesByLeft, RemovesByRight, ClearsAll, Inserts, InsertsFlagged, IsKind};
-ghost use Rattle.bimap_c.specs.Calls.{IsWritten, Reads, Changes, Makes, Frees, Tells, Tests, Reserves};
+ghost use Rattle.bimap_c.specs.Calls.{IsWritten, Reads, Changes, Makes, Frees, Tells, Tests, Reserves, Shrinks};
 ghost use Rattle.bimap_c.specs.declared.byte_string.ByteString.{ByteString};
 ghost use Rattle.bimap_c.specs.Json.{WritesTexts, ReadsJson};
+ghost use Rattle.bimap_c.specs.Packed.{bytes_of, u64_row};
 ghost use Rattle.bimap_c.specs.Tables.{bytes_u64};
+ghost use Rattle.bimap_c.specs.Unpacked.{InsertsMany};
 
 use crate::bytes::{left_at, right_at, strike, tell_bytes};
+use crate::bytes_u64::Row;
 use crate::c_table::CTable;
 use crate::calls::{self, OVERWRITE_BOTH, REFUSE_BOTH};
 use crate::handle::Handle;
 use crate::status::REFUSED;
 use crate::u64_u64::tell_value;
+use crate::unpack::insert_many;
 use crate::{bytes, bytes_u64, json};
 use bimap::{BiBTreeMap, BiHashMap, BiInsertionOrderMap, OnHeld, Overwritten, Seeded};
 use std::alloc::Global;
@@ -92,6 +96,21 @@ pub extern "C" fn jetukoma_bytes_u64_reserve_unchecked(
     on_table!(handle, alloc, BytesU64, table => calls::reserve(&mut table.map, more))
 }
 
+/// Lowers a capacity above `least` to `least`, or to the number of pairs if that is more. It frees the memory that this
+/// spares. The time grows with the capacity. Returns 1 if there is no memory for the smaller table.
+#[unsafe(no_mangle)]
+pub extern "C" fn jetukoma_bytes_u64_shrink_to_unchecked(
+    alloc: Global,
+    handle: &mut Handle,
+    least: usize,
+) -> u32
+    ensures { Changes bytes_u64 handle.old.table.value result handle.new.table.value
+        (λ old new. Shrinks old.held least result new.held
+        × (new.struck ≡ old.struck) × (new.key ≡ old.key)) }
+{
+    on_table!(handle, alloc, BytesU64, table => calls::shrink_to(&mut table.map, least))
+}
+
 /// Inserts a copy of the left with the right. They overwrite the pairs with which they share a value. `kind` says
 /// which pairs those are: 0 for none, 1 for the pair of the left alone, 2 for the pair of the right alone, 3 for one
 /// pair with both values, and 4 for the pair of the left and the pair of the right. The table keeps the overwritten
@@ -150,6 +169,26 @@ pub extern "C" fn jetukoma_bytes_u64_insert_with_unchecked(
     ensures out { IsWritten result kind.old kind.new }
 {
     on_table!(handle, alloc, BytesU64, table => bytes::insert_with(alloc, table, left, right, left_refuses, right_refuses, kind))
+}
+
+/// Inserts pairs in order, each as `insert` does. The rows and the bytes are as `fill` writes them: `bytes` has the bytes
+/// of the pairs, one pair behind another. `taken` gets the number of inserted pairs. Returns 1 if there is no memory
+/// for the next pair. The pairs before it stay, and `taken` is written then too. Returns 3 if the rows name more bytes
+/// than there are, and nothing has changed then.
+#[unsafe(no_mangle)]
+pub extern "C" fn jetukoma_bytes_u64_insert_many_unchecked(
+    alloc: Global,
+    handle: &mut Handle,
+    bytes: &[u8],
+    rows: &[Row],
+    taken: &mut usize,
+) -> u32
+    ensures change { Changes bytes_u64 handle.old.table.value result handle.new.table.value
+        (λ old new. InsertsMany nat_eq u64_row (bytes_of (λ _. [])) (λ row. row.left_len) old rows.now bytes.now
+        result new taken.new) }
+    ensures out { (result ≡ 0 → ⊥) → (result ≡ 1 → ⊥) → taken.new ≡ taken.old }
+{
+    on_table!(handle, alloc, BytesU64, table => insert_many(alloc, table, bytes, rows, taken))
 }
 
 /// Writes the right of a left. It allocates if the left is longer than every left that was looked up or removed

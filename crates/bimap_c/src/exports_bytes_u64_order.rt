@@ -1,11 +1,15 @@
-//! The functions for C of a table of byte strings and numbers that use an order: iteration, ranks and ends.
-ghost use Rattle.std.specs.Prelude.{drop, reverse, [], slice_get};
-ghost use Rattle.bimap_c.specs.Bytes.{IsPairOut, IsLengthWritten, IsRead, IsRanked, PopsFirst, PopsLast};
-ghost use Rattle.bimap_c.specs.Calls.{IsWritten, Reads, ReadsAtEnd, ReadsOrdered, ChangesOrdered, ChangesAtEnd};
+//! The functions for C of a table of byte strings and numbers that use an order: iteration, ranks, ends and moves.
+ghost use Rattle.std.specs.Prelude.{◌≡◌, ◌≤◌, count_by, drop, reverse, [], slice_get, vec_capacity};
+ghost use Rattle.std.specs.Ordering.{is_lt, nat_cmp};
+ghost use Rattle.bimap.specs.Moves.{ComesFirst};
+ghost use Rattle.bimap.specs.Positions.{ComesLast};
+ghost use Rattle.bimap_c.specs.Bytes.{IsPairOut, IsLengthWritten, IsRead, IsRanked, MovesByKey, PopsFirst, PopsLast};
+ghost use Rattle.bimap_c.specs.Calls.{IsWritten, Reads, ReadsAtEnd, ReadsOrdered, ChangesOrdered, ChangesAtEnd, ChangesInOrder, ByRight};
 ghost use Rattle.bimap_c.specs.Packed.{Packs, bytes_of, u64_row};
 ghost use Rattle.bimap_c.specs.Tables.{bytes_u64};
 
-use crate::bytes::{left_rank, strike};
+use crate::by_right::{fill_rows, right_rank};
+use crate::bytes::{left_rank, strike, to_back, to_front};
 use crate::bytes_u64::{Row, tell_pair};
 use crate::fill::{fill_back, fill_by_rank, fill_by_steps};
 use crate::handle::Handle;
@@ -114,6 +118,51 @@ pub extern "C" fn jetukoma_bytes_u64_left_rank_unchecked(
         InsertionOrder(_) => NO_ORDER)
 }
 
+/// Writes how many rights are less than this one, which need not be contained. Returns 6 if the table is not ordered.
+#[unsafe(no_mangle)]
+pub extern "C" fn jetukoma_bytes_u64_right_rank_unchecked(
+    alloc: Global,
+    handle: &mut Handle,
+    right: u64,
+    rank: &mut usize,
+) -> u32
+    ensures answer { ReadsOrdered bytes_u64 handle.old.table.value result handle.new.table.value
+        (λ kept. (result ≡ 0) × ByRight nat_cmp kept.held.pairs
+        (λ sorted. rank.new ≡ count_by (λ p. is_lt (nat_cmp p.1 right)) sorted)) }
+    ensures out { IsWritten result rank.old rank.new }
+{
+    on_table!(handle, alloc, BytesU64,
+        Ordered(table) => right_rank(&table.map, &right, rank),
+        Hashed(_) => NO_ORDER,
+        InsertionOrder(_) => NO_ORDER)
+}
+
+/// Writes pairs as `fill` does, but in ascending order of their rights. It takes one search, and at most one descent in
+/// the tree for each pair. Returns 4 as `fill` does, and 6 if the table is not ordered.
+#[unsafe(no_mangle)]
+pub extern "C" fn jetukoma_bytes_u64_fill_by_right_unchecked(
+    alloc: Global,
+    handle: &mut Handle,
+    start: usize,
+    buf: &mut [u8],
+    rows: &mut [Row],
+    len: &mut usize,
+    filled: &mut usize,
+) -> u32
+    ensures answer { ReadsOrdered bytes_u64 handle.old.table.value result handle.new.table.value
+        (λ kept. ByRight nat_cmp kept.held.pairs (λ sorted. Packs (bytes_of (λ _. [])) u64_row
+        (drop start sorted) result rows.old rows.new filled.new buf.old buf.new len.new)) }
+    ensures rows { IsWritten result rows.old rows.new }
+    ensures buf { IsWritten result buf.old buf.new }
+    ensures len { IsLengthWritten result len.old len.new }
+    ensures filled { IsWritten result filled.old filled.new }
+{
+    on_table!(handle, alloc, BytesU64,
+        Ordered(table) => fill_rows(&table.map, start, buf, rows, len, filled),
+        Hashed(_) => NO_ORDER,
+        InsertionOrder(_) => NO_ORDER)
+}
+
 /// Removes a pair. In an ordered table it is the pair of the least left. In a table in insertion order it is the first
 /// pair. The table keeps it, so that `overwritten_left` and `overwritten_right` copy it. Returns 5 if there are no
 /// pairs, and 6 if the table is hashed.
@@ -140,4 +189,42 @@ pub extern "C" fn jetukoma_bytes_u64_pop_last_unchecked(alloc: Global, handle: &
         Ordered(table) => strike(&mut table.struck, table.map.pop_last_by_left()),
         Hashed(_) => NO_ORDER,
         InsertionOrder(table) => strike(&mut table.struck, table.map.pop_last()))
+}
+
+/// Moves the pair of a left to the front of the insertion order. The other pairs keep their order. It allocates as
+/// `get_by_left` does. Returns 1 if there is no memory for that, 5 if the left is not contained, and 6 if the table is
+/// not in insertion order.
+#[unsafe(no_mangle)]
+pub extern "C" fn jetukoma_bytes_u64_to_front_unchecked(
+    alloc: Global,
+    handle: &mut Handle,
+    left: &[u8],
+) -> u32
+    ensures { ChangesInOrder bytes_u64 handle.old.table.value result handle.new.table.value
+        (λ old new. MovesByKey ComesFirst old left.now result new
+        × (vec_capacity old.key.bytes ≤ vec_capacity new.key.bytes)) }
+{
+    on_table!(handle, alloc, BytesU64,
+        Ordered(_) => NO_ORDER,
+        Hashed(_) => NO_ORDER,
+        InsertionOrder(table) => to_front(table, left))
+}
+
+/// Moves the pair of a left to the end of the insertion order. The other pairs keep their order. It allocates as
+/// `get_by_left` does. Returns 1 if there is no memory for that, 5 if the left is not contained, and 6 if the table is
+/// not in insertion order.
+#[unsafe(no_mangle)]
+pub extern "C" fn jetukoma_bytes_u64_to_back_unchecked(
+    alloc: Global,
+    handle: &mut Handle,
+    left: &[u8],
+) -> u32
+    ensures { ChangesInOrder bytes_u64 handle.old.table.value result handle.new.table.value
+        (λ old new. MovesByKey (λ was p. ComesLast was p p) old left.now result new
+        × (vec_capacity old.key.bytes ≤ vec_capacity new.key.bytes)) }
+{
+    on_table!(handle, alloc, BytesU64,
+        Ordered(_) => NO_ORDER,
+        Hashed(_) => NO_ORDER,
+        InsertionOrder(table) => to_back(table, left))
 }

@@ -1,7 +1,7 @@
 //! The functions for C of a table of two numbers.
 ghost use Rattle.std.specs.Prelude.{◌≡◌, [], length, nat_eq, Contains};
 ghost use Rattle.bimap.specs.Sets.{HasLeft, HasRight};
-ghost use Rattle.bimap_c.specs.Calls.{IsWritten, Reads, Changes, Makes, Frees, Tests, Reserves, Clears};
+ghost use Rattle.bimap_c.specs.Calls.{IsWritten, Reads, Changes, Makes, Frees, Tests, Reserves, Shrinks, Clears};
 ghost use Rattle.bimap_c.specs.Tables.{u64_u64};
 ghost use Rattle.bimap_c.specs.U64U64.{GetsByLeft, GetsByRight, Inserts, InsertsNew, InsertsFlagged, InsertsMany, RemovesByLeft, RemovesByRight};
 
@@ -69,8 +69,7 @@ pub extern "C" fn jetukoma_u64_u64_capacity_unchecked(
 }
 
 /// Makes the capacity at least the number of pairs plus `more`. It makes it no greater than needed. None of the next
-/// `more` insertions can then run out of memory. Only this call, insertions and `new` allocate. Returns 1 if there is
-/// no memory.
+/// `more` insertions can then run out of memory. Returns 1 if there is no memory.
 #[unsafe(no_mangle)]
 pub extern "C" fn jetukoma_u64_u64_reserve_unchecked(
     alloc: Global,
@@ -81,6 +80,20 @@ pub extern "C" fn jetukoma_u64_u64_reserve_unchecked(
         (λ old new. Reserves old more result new) }
 {
     on_table!(handle, alloc, U64U64, map => calls::reserve(map, more))
+}
+
+/// Lowers a capacity above `least` to `least`, or to the number of pairs if that is more. It frees the memory that this
+/// spares. The time grows with the capacity. Returns 1 if there is no memory for the smaller table.
+#[unsafe(no_mangle)]
+pub extern "C" fn jetukoma_u64_u64_shrink_to_unchecked(
+    alloc: Global,
+    handle: &mut Handle,
+    least: usize,
+) -> u32
+    ensures { Changes u64_u64 handle.old.table.value result handle.new.table.value
+        (λ old new. Shrinks old least result new) }
+{
+    on_table!(handle, alloc, U64U64, map => calls::shrink_to(map, least))
 }
 
 /// Inserts a pair, and writes the pairs that it overwrote. It allocates only if it overwrites none and there is no

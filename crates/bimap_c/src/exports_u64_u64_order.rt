@@ -1,11 +1,16 @@
-//! The functions for C of a table of two numbers that use an order: iteration, ranks and ends.
-ghost use Rattle.std.specs.Prelude.{◌≡◌, count_by, drop, reverse, nat_lt, not};
+//! The functions for C of a table of two numbers that use an order: iteration, ranks, ends and moves.
+ghost use Rattle.std.specs.Prelude.{◌≡◌, count_by, drop, reverse, nat_eq, nat_lt, not};
 ghost use Rattle.std.specs.List.{filter};
+ghost use Rattle.std.specs.Ordering.{is_lt, nat_cmp};
 ghost use Rattle.bimap.specs.BTree.{holding};
-ghost use Rattle.bimap_c.specs.Calls.{IsWritten, Reads, ReadsAtEnd, ReadsOrdered, ChangesAtEnd};
+ghost use Rattle.bimap.specs.Moves.{ComesFirst};
+ghost use Rattle.bimap.specs.Positions.{ComesLast};
+ghost use Rattle.bimap_c.specs.Calls.{IsWritten, Reads, ReadsAtEnd, ReadsOrdered, ChangesAtEnd, ChangesInOrder, Moves, ByRight};
 ghost use Rattle.bimap_c.specs.Tables.{u64_u64};
 ghost use Rattle.bimap_c.specs.U64U64.{PopsFirst, PopsLast, Fills};
 
+use crate::by_right::{fill_row, right_rank};
+use crate::calls::found;
 use crate::fill::from_rank;
 use crate::handle::Handle;
 use crate::status::{DONE, NO_ORDER};
@@ -98,6 +103,47 @@ pub extern "C" fn jetukoma_u64_u64_left_rank_unchecked(
         InsertionOrder(_) => NO_ORDER)
 }
 
+/// Writes how many rights are less than this one, which need not be contained. Returns 6 if the table is not ordered.
+#[unsafe(no_mangle)]
+pub extern "C" fn jetukoma_u64_u64_right_rank_unchecked(
+    alloc: Global,
+    handle: &mut Handle,
+    right: u64,
+    rank: &mut usize,
+) -> u32
+    ensures answer { ReadsOrdered u64_u64 handle.old.table.value result handle.new.table.value
+        (λ held. (result ≡ 0) × ByRight nat_cmp held.pairs
+        (λ sorted. rank.new ≡ count_by (λ p. is_lt (nat_cmp p.1 right)) sorted)) }
+    ensures out { IsWritten result rank.old rank.new }
+{
+    on_table!(handle, alloc, U64U64,
+        Ordered(map) => right_rank(map, &right, rank),
+        Hashed(_) => NO_ORDER,
+        InsertionOrder(_) => NO_ORDER)
+}
+
+/// Writes pairs as `fill` does, but in ascending order of their rights. It takes one search, and at most one descent in
+/// the tree for each pair. Returns 6 if the table is not ordered.
+#[unsafe(no_mangle)]
+pub extern "C" fn jetukoma_u64_u64_fill_by_right_unchecked(
+    alloc: Global,
+    handle: &mut Handle,
+    start: usize,
+    row: &mut [Pair],
+    filled: &mut usize,
+) -> u32
+    ensures answer { ReadsOrdered u64_u64 handle.old.table.value result handle.new.table.value
+        (λ held. ByRight nat_cmp held.pairs (λ sorted. Fills (drop start sorted) result row.old
+        filled.new row.new)) }
+    ensures out { IsWritten result filled.old filled.new }
+    ensures row { IsWritten result row.old row.new }
+{
+    on_table!(handle, alloc, U64U64,
+        Ordered(map) => fill_row(map, start, row, filled),
+        Hashed(_) => NO_ORDER,
+        InsertionOrder(_) => NO_ORDER)
+}
+
 /// Removes a pair, and writes it. In an ordered table it is the pair of the least left. In a table in insertion order
 /// it is the first pair. Returns 5 if there are no pairs, and 6 if the table is hashed.
 #[unsafe(no_mangle)]
@@ -132,6 +178,40 @@ pub extern "C" fn jetukoma_u64_u64_pop_last_unchecked(
         Ordered(map) => tell_pair(map.pop_last_by_left(), pair),
         Hashed(_) => NO_ORDER,
         InsertionOrder(map) => tell_pair(map.pop_last(), pair))
+}
+
+/// Moves the pair of a left to the front of the insertion order. The other pairs keep their order. Returns 5 if the left
+/// is not contained, and 6 if the table is not in insertion order.
+#[unsafe(no_mangle)]
+pub extern "C" fn jetukoma_u64_u64_to_front_unchecked(
+    alloc: Global,
+    handle: &mut Handle,
+    left: u64,
+) -> u32
+    ensures { ChangesInOrder u64_u64 handle.old.table.value result handle.new.table.value
+        (λ old new. Moves (λ p. nat_eq p.0 left) ComesFirst old result new) }
+{
+    on_table!(handle, alloc, U64U64,
+        Ordered(_) => NO_ORDER,
+        Hashed(_) => NO_ORDER,
+        InsertionOrder(map) => found(map.to_front(&left)))
+}
+
+/// Moves the pair of a left to the end of the insertion order. The other pairs keep their order. Returns 5 if the left
+/// is not contained, and 6 if the table is not in insertion order.
+#[unsafe(no_mangle)]
+pub extern "C" fn jetukoma_u64_u64_to_back_unchecked(
+    alloc: Global,
+    handle: &mut Handle,
+    left: u64,
+) -> u32
+    ensures { ChangesInOrder u64_u64 handle.old.table.value result handle.new.table.value
+        (λ old new. Moves (λ p. nat_eq p.0 left) (λ was p. ComesLast was p p) old result new) }
+{
+    on_table!(handle, alloc, U64U64,
+        Ordered(_) => NO_ORDER,
+        Hashed(_) => NO_ORDER,
+        InsertionOrder(map) => found(map.to_back(&left)))
 }
 
 fn fill_from(map: &BiBTreeMap<u64, u64>, from: u64, row: &mut [Pair], filled: &mut usize) -> u32

@@ -1,6 +1,6 @@
 //! Pairs with byte strings as C reads them: a row for each pair, and its bytes in one buffer. The bytes of the pairs
 //! stand behind one another.
-ghost use Rattle.std.specs.Prelude.{◌≡◌, ◌≤◌, ◌+◌, ◌++◌, ℕ, List, [], length, take, drop, reverse, MatchOption};
+ghost use Rattle.std.specs.Prelude.{◌≡◌, ◌≤◌, ◌+◌, ◌++◌, ℕ, List, [], length, take, drop, reverse, IfSome, MatchOption};
 ghost use Rattle.std.specs.Iterator.{AlwaysYields, IsFinite};
 ghost use Rattle.std.specs.Map.Iter.{deref_pair};
 ghost use Rattle.bimap.specs.BTree.{holding};
@@ -14,9 +14,10 @@ use crate::status::{BUFFER_TOO_SHORT, DONE};
 use bimap::btree::LeftRange;
 use bimap::{BijectiveMap, Index, Ordered, WalkedIndex};
 use bimap_walk::CourseBack;
+use std::alloc::Global;
 use std::ops::Bound;
 
-/// What C reads of a pair of a byte string and a right of this type.
+/// What C reads and gives of a pair of a byte string and a right of this type.
 pub(crate) trait RightOfRow {
     type Row: Copy + Drop;
 
@@ -29,8 +30,26 @@ pub(crate) trait RightOfRow {
     fn to_row(left: &ByteString, right: &Self) -> Self::Row
         ensures { result ≡ row_of (left.now, right.now) };
 
+    /// The number of bytes of the left of a row.
+    ghost left_len: { Self.Row → ℕ };
+
+    /// The number of bytes of a row: those of its left and those of its right.
+    ghost row_len: { Self.Row → ℕ };
+
     fn as_bytes(&self) -> &[u8]
         ensures { result.now ≡ right_bytes self.now };
+
+    /// Returns the number of bytes of the left of a row, and of its right.
+    fn lens(row: &Self::Row) -> (usize, usize)
+        ensures left { result.0 ≡ left_len row.now }
+        ensures both { result.0 + result.1 ≡ row_len row.now };
+
+    /// Returns the right of a row that has these bytes, or `None` if there is no memory for a copy of them.
+    fn from_row(alloc: Global, row: &Self::Row, bytes: &[u8]) -> Option<Self>
+        requires { left_len row.now + length bytes.now ≡ row_len row.now }
+        ensures { IfSome result (λ right. (right_bytes right ≡ bytes.now)
+            × ((left : ByteString) → length left.bytes.items ≡ left_len row.now →
+            row_of (left, right) ≡ row.now)) };
 }
 
 /// Writes the pairs of an iterator, as many as there are rows and as fit into the buffer. Returns the status.

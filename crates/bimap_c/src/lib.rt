@@ -77,6 +77,7 @@ macro_rules! clone_into {
     }};
 }
 
+mod by_right;
 pub mod byte_string;
 pub mod bytes;
 pub mod bytes_bytes;
@@ -102,3 +103,4 @@ mod raw_box;
 pub mod status;
 pub mod table_pointer;
 pub mod u64_u64;
+mod unpack;
