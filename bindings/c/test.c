@@ -67,8 +67,8 @@ struct pair { int left, right; };
 struct told { uint32_t kind; struct pair first, second; };
 static const struct pair no_pair = {NONE, NONE};
 static int right_of[MANY], left_of[MANY], held;
-/* The position of each left in insertion order. */
-static long position_of[MANY], next_position;
+/* The position of each left in insertion order, the position of the next pair, and that of the pair that was moved to the front. */
+static long position_of[MANY], next_position, front_position;
 static struct told last;
 
 static void empty_model(void) {
@@ -91,6 +91,12 @@ static uint32_t model_insert(int left, int right, int left_refuses, int right_re
     /* An insertion that overwrites the pair of its left keeps the position of that pair. */
     if (!has_left) position_of[left] = next_position++;
     right_of[left] = right, left_of[right] = left, held++, last = *told;
+    return JETUKOMA_DONE;
+}
+static uint32_t model_move(int left, int to_front) {
+    if (table_kind != JETUKOMA_INSERTION_ORDER) return JETUKOMA_NO_ORDER;
+    if (right_of[left] == NONE) return JETUKOMA_NOT_FOUND;
+    position_of[left] = to_front ? --front_position : next_position++;
     return JETUKOMA_DONE;
 }
 static int same_pair(struct pair a, struct pair b) { return a.left == b.left && a.right == b.right; }
@@ -136,6 +142,9 @@ static void of_other_sides(void) {
     jetukoma_bytes_bytes_row row;
     uint8_t buf[9];
     CHECK(jetukoma_bytes_bytes_fill(it, 0, buf, 9, &row, 1, &n, &n) == JETUKOMA_NO_TABLE && n == 99);
+    CHECK(jetukoma_bytes_bytes_insert_many(it, buf, 9, &row, 0, &n) == JETUKOMA_NO_TABLE && n == 99);
+    CHECK(jetukoma_u64_u64_to_front(it, 4) == JETUKOMA_NO_TABLE && jetukoma_u64_u64_shrink_to(it, 0) == JETUKOMA_NO_TABLE);
+    CHECK(jetukoma_u64_u64_right_rank(it, 4, &n) == JETUKOMA_NO_TABLE && n == 99);
     jetukoma_bytes_bytes other = {0};
     CHECK(jetukoma_bytes_bytes_clone(it, &other) == JETUKOMA_NO_TABLE && !other.live && !jetukoma_bytes_bytes_new(&other, table_kind, 1));
     CHECK(jetukoma_bytes_bytes_equals(&other, it) == JETUKOMA_NO_TABLE && jetukoma_bytes_bytes_equals(it, it) == JETUKOMA_NO_TABLE);

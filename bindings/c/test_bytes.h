@@ -79,15 +79,15 @@ static size_t OUR(size)(struct pair it) { return (size_t)(it.left + (RIGHT_IS_BY
 static void OUR(is)(const void *it, uint8_t byte, size_t bytes) {
     for (size_t at = 0; at < bytes; at++) CHECK(((const uint8_t *)it)[at] == byte);
 }
-/* Reads the pairs from a position on, in one direction. The number of rows and the length of the buffer are random. Returns how many
- * it read. */
-static size_t OUR(few)(OUR(table) *table, int back, size_t start, struct pair *pairs) {
+typedef uint32_t OUR(filler)(OUR(table) *, size_t, uint8_t *, size_t, NAME(SIDES, row) *, size_t, size_t *, size_t *);
+/* Reads the pairs from a position on, by one of the calls that fill rows. The number of rows and the length of the buffer are
+ * random. Returns how many it read. */
+static size_t OUR(few)(OUR(table) *table, OUR(filler) *fill, size_t start, struct pair *pairs) {
     enum { ROWS = 4, ROOM = 3 * MANY };
     NAME(SIDES, row) rows[ROWS];
     uint8_t buf[ROOM];
     size_t most = (size_t)chance(ROWS) + 1, room = (size_t)chance(ROOM + 1), len = 99, filled = 99, used = 0, next = 99;
     memset(rows, 77, sizeof rows), memset(buf, 77, sizeof buf);
-    uint32_t (*fill)(OUR(table) *, size_t, uint8_t *, size_t, NAME(SIDES, row) *, size_t, size_t *, size_t *) = back ? CALL(fill_back) : CALL(fill);
     uint32_t status = fill(table, start, buf, room, rows, most, &len, &filled);
     if (status == JETUKOMA_BUFFER_TOO_SHORT) {
         CHECK(filled == 99 && len > room && len <= ROOM);
@@ -105,15 +105,34 @@ static size_t OUR(few)(OUR(table) *table, int back, size_t start, struct pair *p
     CHECK(filled == most || !next || used + len > room);
     return filled;
 }
+static size_t OUR(few_by_right)(OUR(table) *table, size_t start, struct pair *pairs) { return OUR(few)(table, CALL(fill_by_right), start, pairs); }
+static int OUR(below_right)(int a, int b) { return RIGHT_IS_BYTES ? below_bytes(a, b) : number(a) < number(b); }
+static uint32_t OUR(insert_many)(OUR(table) *table, const struct pair *pairs, size_t count, size_t *taken) {
+    NAME(SIDES, row) rows[MANY];
+    uint8_t buf[2 * MANY * MANY];
+    size_t used = 0;
+    for (size_t at = 0; at < count; at++) {
+        rows[at].left_len = (size_t)pairs[at].left;
+        memcpy(buf + used, bytes(pairs[at].left), rows[at].left_len), used += rows[at].left_len;
+#if RIGHT_IS_BYTES
+        rows[at].right_len = (size_t)pairs[at].right;
+        memcpy(buf + used, bytes(pairs[at].right), rows[at].right_len), used += rows[at].right_len;
+#else
+        rows[at].right = number(pairs[at].right);
+#endif
+    }
+    if (used) CHECK(CALL(insert_many)(table, buf, used - 1, rows, count, taken) == JETUKOMA_REFUSED);
+    return CALL(insert_many)(table, buf, used, rows, count, taken);
+}
 static uint32_t OUR(walk)(OUR(table) *table, struct pair *row, size_t *count) {
     OUR(out) left, right;
     uint32_t status;
     size_t rank = 99, few;
     *count = 0, left.len = 99;
-    while (*count <= MANY && (few = OUR(few)(table, 0, *count, row + *count))) *count += few;
+    while (*count <= MANY && (few = OUR(few)(table, CALL(fill), *count, row + *count))) *count += few;
     struct pair back[MANY + 1];
     for (size_t at = 0; table_kind != JETUKOMA_HASHED && at <= *count; at += few) {
-        if (!(few = OUR(few)(table, 1, at, back + at))) few = *count + 1 - at, CHECK(at == *count);
+        if (!(few = OUR(few)(table, CALL(fill_back), at, back + at))) few = *count + 1 - at, CHECK(at == *count);
         else for (size_t it = at; it < at + few; it++) CHECK(it < *count && same_pair(back[it], row[*count - 1 - it]));
     }
     for (size_t at = 0; table_kind == JETUKOMA_ORDERED && at <= *count; at++) {
@@ -221,7 +240,24 @@ static void OUR(own)(OUR(table) *table, uint32_t status) {
     len = filled = 99;
     CHECK(CALL(fill_back)(table, 0, left.bytes, MANY, &row, 1, &len, &filled) == endless && len == (endless ? 99 : 0) && filled == len);
     CHECK(CALL(fill_back)(table, SIZE_MAX, left.bytes, 0, &row, 1, &len, &filled) == endless && row.left_len == 99 && filled == (endless ? 99 : 0));
+    len = filled = rank = 99;
+    CHECK(CALL(right_rank)(table, RIGHT(3), &rank) == (unordered ? unordered : status) && rank == (status || unordered ? 99 : 0));
+    CHECK(CALL(fill_by_right)(table, 0, left.bytes, MANY, &row, 1, &len, &filled) == (unordered ? unordered : status));
+    CHECK(len == (status || unordered ? 99 : 0) && filled == len && row.left_len == 99);
+    /* Rows with more bytes than there are, also beyond SIZE_MAX. */
+    NAME(SIDES, row) many[2] = {{2, 5}, {1, 6}}, huge[2] = {{SIZE_MAX, 5}, {RIGHT_IS_BYTES ? 0 : 6, 6}};
+    uint32_t refused = status ? status : JETUKOMA_REFUSED;
+    size_t all = RIGHT_IS_BYTES ? 14 : 3;
+    CHECK(CALL(insert_many)(table, left.bytes, all - 1, many, 2, &filled) == refused && CALL(insert_many)(table, left.bytes, 0, many, 1, &filled) == refused);
+    CHECK(CALL(insert_many)(table, left.bytes, MANY, huge, 1, &filled) == refused && CALL(insert_many)(table, left.bytes, MANY, huge, 2, &filled) == refused);
+    huge[0].left_len = 1, huge[1].left_len = SIZE_MAX;
+    CHECK(CALL(insert_many)(table, left.bytes, MANY, huge, 2, &filled) == refused && filled == (status || unordered ? 99 : 0));
+    CHECK(status || (!CALL(len)(table, &len) && len == 0));
+    CHECK(CALL(insert_many)(table, (const uint8_t *)"abcdefghijklmnopqrst", 20, many, 0, &filled) == status && filled == (status ? 99 : 0));
+    CHECK(CALL(insert_many)(table, (const uint8_t *)"abcdefghijklmnopqrst", all, many, 2, &filled) == status && filled == (status ? 99 : 2));
     if (status) return;
+    CHECK(!CALL(contains_left)(table, (const uint8_t *)"ab", 2) && !CALL(contains_left)(table, (const uint8_t *)(RIGHT_IS_BYTES ? "h" : "c"), 1));
+    CHECK(!CALL(clear)(table));
     /* An empty byte string is inserted and looked up. A buffer of length 0 is long enough for it. */
     uint8_t byte = 77;
     CHECK(!CALL(insert_no_overwrite)(table, &byte, 0, RIGHT(4)) && !CALL(get_by_right)(table, RIGHT(4), &byte, 0, &len) && len == 0 && byte == 77);
@@ -246,6 +282,7 @@ static void OUR(nulls)(OUR(table) *table, uint32_t null, uint32_t beyond) {
     CHECK(CALL(insert)(table, LEFT(1), NULL, 0, &kind) == null && CALL(insert_no_overwrite)(table, LEFT(1), &byte, SIZE_MAX) == beyond);
     CHECK(CALL(get_by_left)(table, LEFT(1), NULL, 0, &len) == null && CALL(get_by_left)(table, LEFT(1), &byte, 1, NULL) == null);
     CHECK(CALL(get_by_right)(table, NULL, 0, &byte, 1, &len) == null && CALL(contains_right)(table, NULL, 0) == null);
+    CHECK(CALL(right_rank)(table, NULL, 0, &len) == null && CALL(right_rank)(table, &byte, SIZE_MAX, &len) == beyond);
     CHECK(CALL(remove_by_right)(table, NULL, 0) == null && CALL(overwritten_right)(table, 0, &byte, 1, NULL) == null);
 #else
     CHECK(CALL(get_by_left)(table, LEFT(1), NULL) == null && CALL(overwritten_right)(table, 0, NULL) == null);
@@ -258,6 +295,14 @@ static void OUR(nulls)(OUR(table) *table, uint32_t null, uint32_t beyond) {
     CHECK(CALL(fill_back)(table, 0, NULL, 0, &row, 1, &len, &len) == null && CALL(fill_back)(table, 0, &byte, 1, NULL, 0, &len, &len) == null);
     CHECK(CALL(fill_back)(table, 0, &byte, 1, &row, 1, NULL, &len) == null && CALL(fill_back)(table, 0, &byte, 1, &row, 1, &len, NULL) == null);
     CHECK(CALL(fill_back)(table, 0, &byte, SIZE_MAX, &row, 1, &len, &len) == beyond);
+    CHECK(CALL(fill_by_right)(table, 0, NULL, 0, &row, 1, &len, &len) == null && CALL(fill_by_right)(table, 0, &byte, 1, NULL, 0, &len, &len) == null);
+    CHECK(CALL(fill_by_right)(table, 0, &byte, 1, &row, 1, NULL, &len) == null && CALL(fill_by_right)(table, 0, &byte, 1, &row, 1, &len, NULL) == null);
+    CHECK(CALL(fill_by_right)(table, 0, &byte, SIZE_MAX, &row, 1, &len, &len) == beyond && CALL(right_rank)(table, RIGHT(1), NULL) == null);
+    CHECK(CALL(insert_many)(table, NULL, 0, &row, 1, &len) == null && CALL(insert_many)(table, &byte, 1, NULL, 0, &len) == null);
+    CHECK(CALL(insert_many)(table, &byte, 1, &row, 1, NULL) == null && CALL(insert_many)(table, &byte, SIZE_MAX, &row, 1, &len) == beyond);
+    CHECK(CALL(insert_many)(table, &byte, 1, &row, SIZE_MAX / 16, &len) == beyond);
+    CHECK(CALL(to_front)(table, NULL, 0) == null && CALL(to_front)(table, &byte, SIZE_MAX) == beyond);
+    CHECK(CALL(to_back)(table, NULL, 0) == null && CALL(to_back)(table, &byte, SIZE_MAX) == beyond);
     CHECK(CALL(left_rank)(table, NULL, 0, &len) == null && CALL(left_rank)(table, LEFT(1), NULL) == null && CALL(left_rank)(table, &byte, SIZE_MAX, &len) == beyond);
 }
 

@@ -9,10 +9,12 @@ static void OUR(statuses)(void) {
     OUR(nulls)(NULL, JETUKOMA_NO_TABLE, JETUKOMA_NO_TABLE);
     CHECK(CALL(new)(NULL, table_kind, 0) == JETUKOMA_NO_TABLE && CALL(free)(NULL) == JETUKOMA_NO_TABLE && CALL(clear)(NULL) == JETUKOMA_NO_TABLE);
     CHECK(CALL(len)(NULL, &n) == JETUKOMA_NO_TABLE && CALL(capacity)(NULL, &n) == JETUKOMA_NO_TABLE && n == 99);
-    CHECK(CALL(reserve)(NULL, 1) == JETUKOMA_NO_TABLE && CALL(free)(&t) == JETUKOMA_NO_TABLE);
+    CHECK(CALL(reserve)(NULL, 1) == JETUKOMA_NO_TABLE && CALL(shrink_to)(NULL, 1) == JETUKOMA_NO_TABLE && CALL(free)(&t) == JETUKOMA_NO_TABLE);
+    CHECK(CALL(to_front)(NULL, LEFT(1)) == JETUKOMA_NO_TABLE && CALL(to_back)(NULL, LEFT(1)) == JETUKOMA_NO_TABLE);
     /* The handle has no table, then it has one, and then the table was freed twice. */
     for (int round = 0; round < 3; round++) {
         uint32_t status = round == 1 ? 0 : JETUKOMA_NO_TABLE, missing = status ? status : JETUKOMA_NOT_FOUND;
+        uint32_t unmoved = status || table_kind == JETUKOMA_INSERTION_ORDER ? missing : JETUKOMA_NO_ORDER;
         uint32_t refused = status ? status : JETUKOMA_REFUSED, endless = status || table_kind != JETUKOMA_HASHED ? missing : JETUKOMA_NO_ORDER;
         if (round == 1) CHECK(!CALL(new)(&t, table_kind, 7) && CALL(new)(&t, table_kind, 7) == JETUKOMA_NO_TABLE);
         CHECK(CALL(new)(&t, KINDS, 7) == JETUKOMA_REFUSED && CALL(new)(&t, UINT32_MAX, 7) == JETUKOMA_REFUSED && t.live == (round == 1));
@@ -24,13 +26,17 @@ static void OUR(statuses)(void) {
         CHECK(CALL(contains_left)(&t, LEFT(1)) == missing && CALL(contains_right)(&t, RIGHT(0)) == missing);
         CHECK(OUR(remove_by_left)(&t, 1, &pair) == missing && OUR(remove_by_right)(&t, 0, &pair) == missing && pair.left == NONE);
         CHECK(OUR(pop)(&t, 1, &pair) == endless && OUR(pop)(&t, 0, &pair) == endless && pair.left == NONE);
+        CHECK(CALL(to_front)(&t, LEFT(1)) == unmoved && CALL(to_back)(&t, LEFT(1)) == unmoved);
         OUR(own)(&t, status);
         CHECK(CALL(clear)(&t) == status && CALL(reserve)(&t, 0) == status && CALL(reserve)(&t, 6) == status);
         CHECK(CALL(capacity)(&t, &n) == status && (status || n >= 6));
         size_t was = n;
         CHECK(CALL(reserve)(&t, SIZE_MAX) == (status ? status : JETUKOMA_NO_MEMORY));
         CHECK(CALL(reserve)(&t, SIZE_MAX / 64) == (status ? status : JETUKOMA_NO_MEMORY));
-        CHECK(CALL(capacity)(&t, &n) == status && n == was);
+        CHECK(CALL(capacity)(&t, &n) == status && n == was && CALL(shrink_to)(&t, SIZE_MAX) == status && CALL(shrink_to)(&t, was) == status);
+        CHECK(CALL(capacity)(&t, &n) == status && n == was && CALL(shrink_to)(&t, 3) == status);
+        CHECK(CALL(capacity)(&t, &n) == status && n == (status ? was : 3) && CALL(shrink_to)(&t, 0) == status);
+        CHECK(CALL(capacity)(&t, &n) == status && n == (status ? was : 0));
         CHECK(OUR(insert_with)(&t, 1, 2, 2, 0, &told) == refused && OUR(insert_with)(&t, 1, 2, 0, 255, &told) == refused);
         CHECK(told.kind == 99 && CALL(insert_no_overwrite)(&t, LEFT(1), RIGHT(2)) == status);
         CHECK(CALL(insert_no_overwrite)(&t, LEFT(1), RIGHT(2)) == refused && CALL(insert_no_overwrite)(&t, LEFT(0), RIGHT(2)) == refused);
@@ -48,6 +54,26 @@ static void OUR(statuses)(void) {
 /* Returns whether the pair of left a comes before the pair of left b. */
 static int OUR(before)(int a, int b) { return table_kind == JETUKOMA_ORDERED ? OUR(below)(a, b) : position_of[a] < position_of[b]; }
 
+/* Tests that an ordered table has exactly the pairs of the model in the order of their rights. */
+static void OUR(same_by_right)(OUR(table) *t) {
+    struct pair row[MANY + 8];
+    size_t len = 0, rank = 99;
+    if (table_kind != JETUKOMA_ORDERED) {
+        CHECK(CALL(right_rank)(t, RIGHT(1), &rank) == JETUKOMA_NO_ORDER && rank == 99);
+        return;
+    }
+    for (size_t few = 1; few && len <= MANY; len += few) few = OUR(few_by_right)(t, len, row + len);
+    CHECK(len == (size_t)held);
+    for (size_t at = 0; at < len; at++) {
+        CHECK(row[at].left >= 0 && right_of[row[at].left] == row[at].right && (!at || OUR(below_right)(row[at - 1].right, row[at].right)));
+        CHECK(!CALL(right_rank)(t, RIGHT(row[at].right), &rank) && rank == at);
+    }
+    int other = chance(MANY);
+    size_t below = 0;
+    for (int right = 0; right < MANY; right++) below += left_of[right] != NONE && OUR(below_right)(right, other);
+    CHECK(!CALL(right_rank)(t, RIGHT(other), &rank) && rank == below);
+}
+
 /* Tests that the table has exactly the pairs of the model, in their order. */
 static void OUR(same)(OUR(table) *t) {
     size_t len, capacity;
@@ -64,6 +90,7 @@ static void OUR(same)(OUR(table) *t) {
         CHECK(!at || table_kind == JETUKOMA_HASHED || OUR(before)(row[at - 1].left, row[at].left));
         for (size_t other = 0; other < at; other++) CHECK(row[other].left != row[at].left);
     }
+    OUR(same_by_right)(t);
 }
 
 /* Makes one random call on the table and on the model. */
@@ -73,7 +100,9 @@ static void OUR(one)(OUR(table) *t) {
     struct pair pair = no_pair;
     uint32_t missing_left = right_of[left] == NONE ? JETUKOMA_NOT_FOUND : 0;
     uint32_t missing_right = left_of[right] == NONE ? JETUKOMA_NOT_FOUND : 0;
-    switch (chance(11)) {
+    struct pair many[4];
+    size_t count = (size_t)chance(5), taken = 99, was = 0, now = 0, least = (size_t)chance(MANY);
+    switch (chance(15)) {
     case 0: CHECK(OUR(insert)(t, left, right, &told) == model_insert(left, right, 0, 0, &wanted) && same_told(told, wanted)); break;
     case 1: CHECK(OUR(insert_with)(t, left, right, l, r, &told) == model_insert(left, right, l, r, &wanted) && same_told(told, wanted)); break;
     case 2: CHECK(CALL(insert_no_overwrite)(t, LEFT(left), RIGHT(right)) == model_insert(left, right, 1, 1, &wanted)); break;
@@ -90,6 +119,19 @@ static void OUR(one)(OUR(table) *t) {
         for (int value = 0; pair.left >= 0 && value < MANY; value++)
             if (right_of[value] != NONE && value != pair.left) CHECK(OUR(before)(l ? pair.left : value, l ? value : pair.left));
         CHECK(same_pair(pair, model_remove(pair.left)));
+        break;
+    case 11: CHECK(CALL(to_front)(t, LEFT(left)) == model_move(left, 1)); break;
+    case 12: CHECK(CALL(to_back)(t, LEFT(left)) == model_move(left, 0)); break;
+    case 13:
+        if (chance(100)) break;
+        CHECK(!CALL(capacity)(t, &was) && !CALL(shrink_to)(t, least) && !CALL(capacity)(t, &now));
+        if (least < (size_t)held) least = (size_t)held;
+        CHECK(now == (least < was ? least : was));
+        break;
+    case 14:
+        for (size_t at = 0; at < count; at++) many[at].left = chance(MANY), many[at].right = chance(MANY);
+        CHECK(!OUR(insert_many)(t, many, count, &taken) && taken == count);
+        for (size_t at = 0; at < count; at++) CHECK(!model_insert(many[at].left, many[at].right, 0, 0, &wanted));
     }
 #if BYTES
     CHECK(same_pair(OUR(gone)(t, 0), last.first) && same_pair(OUR(gone)(t, 1), last.second));
@@ -222,19 +264,24 @@ static void OUR(memory)(void) {
 #endif
         granted = SIZE_MAX;
         OUR(same)(&t);
-#if !BYTES
+        /* The capacity shrinks, or it stays. */
+        size_t wide, now;
+        CHECK(!CALL(reserve)(&t, 50) && !CALL(capacity)(&t, &wide));
+        for (uint32_t status = 1, some = 0; status && some < 100; some++) {
+            granted = some, status = CALL(shrink_to)(&t, 25), granted = SIZE_MAX;
+            CHECK((!status || status == JETUKOMA_NO_MEMORY) && !CALL(capacity)(&t, &now) && now == (status ? wide : 25));
+            OUR(same)(&t);
+        }
         /* The table has the pairs before the refused one. */
-        jetukoma_u64_u64_pair row[64];
-        size_t taken = 99, len, filled;
-        for (uint64_t at = 0; at < 64; at++) row[at].left = row[at].right = at * 2 + 1;
-        CHECK(!CALL(clear)(&t));
-        granted = most / 2;
-        CHECK(CALL(insert_many)(&t, row, 64, &taken) == (taken < 64 ? JETUKOMA_NO_MEMORY : 0) && taken >= 20);
-        granted = SIZE_MAX;
-        refused |= taken < 64;
-        CHECK(!CALL(len)(&t, &len) && len == taken && !CALL(fill)(&t, 0, row, 64, &filled) && filled == taken);
-        for (size_t at = 0; at < taken; at++) CHECK(!CALL(contains_left)(&t, at * 2 + 1));
-#endif
+        struct pair many[MANY];
+        size_t taken = 99;
+        for (int at = 0; at < MANY; at++) many[at].left = at, many[at].right = at * 7 % MANY;
+        CHECK(!CALL(clear)(&t) && !CALL(shrink_to)(&t, 20)), empty_model();
+        granted = most;
+        CHECK(OUR(insert_many)(&t, many, MANY, &taken) == (taken < MANY ? JETUKOMA_NO_MEMORY : 0) && (BYTES || taken >= 20));
+        granted = SIZE_MAX, refused |= taken < MANY;
+        for (size_t at = 0; at < taken; at++) CHECK(!model_insert(many[at].left, many[at].right, 0, 0, &wanted));
+        OUR(same)(&t);
         CHECK(!CALL(free)(&t) && blocks == 0);
     }
 }

@@ -42,6 +42,23 @@ static uint32_t OUR(remove_by_right)(OUR(table) *table, int right, struct pair *
     uint32_t status = CALL(remove_by_right)(table, number(right), &it);
     return status ? status : (*pair = OUR(named)(it), 0);
 }
+static uint32_t OUR(insert_many)(OUR(table) *table, const struct pair *pairs, size_t count, size_t *taken) {
+    jetukoma_u64_u64_pair row[MANY];
+    for (size_t at = 0; at < count; at++) row[at].left = number(pairs[at].left), row[at].right = number(pairs[at].right);
+    return CALL(insert_many)(table, row, count, taken);
+}
+static int OUR(below_right)(int a, int b) { return number(a) < number(b); }
+/* Reads the pairs from a rank of the rights on. The number of rows is random. Returns how many it read. */
+static size_t OUR(few_by_right)(OUR(table) *table, size_t start, struct pair *pairs) {
+    jetukoma_u64_u64_pair row[5];
+    size_t most = (size_t)chance(4) + 1, filled = 99;
+    memset(row, 77, sizeof row);
+    CHECK(!CALL(fill_by_right)(table, start, row, most, &filled) && filled <= most);
+    for (size_t at = 0; at < 5; at++)
+        if (at < filled) pairs[at] = OUR(named)(row[at]);
+        else CHECK(row[at].left == UINT64_C(0x4D4D4D4D4D4D4D4D) && row[at].right == row[at].left);
+    return filled;
+}
 static uint32_t OUR(walk)(OUR(table) *table, struct pair *row, size_t *count) {
     jetukoma_u64_u64_pair its[MANY + 1], from[MANY + 1];
     uint32_t status = CALL(fill)(table, 0, its, MANY + 1, count);
@@ -111,6 +128,11 @@ static void OUR(own)(OUR(table) *table, uint32_t status) {
     CHECK(CALL(fill_from)(table, 9, row, 3, &n) == ordered && n == (ordered ? 99 : 0));
     CHECK(CALL(left_rank)(table, 8, &rank) == ordered && rank == (ordered ? 99 : 1));
     uint32_t endless = !status && table_kind == JETUKOMA_HASHED ? JETUKOMA_NO_ORDER : status;
+    n = rank = 99, memset(row, 0, sizeof row);
+    CHECK(CALL(right_rank)(table, 9, &rank) == ordered && rank == (ordered ? 99 : 1));
+    CHECK(CALL(fill_by_right)(table, 0, row, 3, &n) == ordered && n == (ordered ? 99 : 2));
+    CHECK(ordered ? !row[0].left : row[0].left == 8 && row[0].right == 8 && row[1].left == 7 && row[1].right == 9);
+    CHECK(CALL(fill_by_right)(table, SIZE_MAX, row, 3, &n) == ordered && n == (ordered ? 99 : 0));
     n = 99, memset(row, 0, sizeof row);
     CHECK(CALL(fill_back)(table, 1, row, 3, &n) == endless && n == (endless ? 99 : 1) && row[0].left == (endless ? 0 : 7) && !row[1].left);
 }
@@ -127,7 +149,9 @@ static void OUR(nulls)(OUR(table) *table, uint32_t null, uint32_t beyond) {
     CHECK(CALL(fill_back)(table, 0, NULL, 0, &n) == null && CALL(fill_back)(table, 0, row, 1, NULL) == null && CALL(fill_back)(table, 0, row, SIZE_MAX / 16, &n) == beyond);
     CHECK(CALL(fill_from)(table, 0, NULL, 0, &n) == null && CALL(fill_from)(table, 0, row, 1, NULL) == null);
     CHECK(CALL(fill_from)(table, 0, row, SIZE_MAX / 16, &n) == beyond && CALL(left_rank)(table, 0, NULL) == null);
-    CHECK(CALL(pop_first)(table, NULL) == null && CALL(pop_last)(table, NULL) == null);
+    CHECK(CALL(pop_first)(table, NULL) == null && CALL(pop_last)(table, NULL) == null && CALL(right_rank)(table, 0, NULL) == null);
+    CHECK(CALL(fill_by_right)(table, 0, NULL, 0, &n) == null && CALL(fill_by_right)(table, 0, row, 1, NULL) == null);
+    CHECK(CALL(fill_by_right)(table, 0, row, SIZE_MAX / 16, &n) == beyond);
 }
 
 #include "test_calls.h"
