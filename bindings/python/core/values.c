@@ -43,7 +43,7 @@ static int wrong_type(int type, PyObject *object)
 static int number_of(int type, PyObject *object, uint64_t *number)
 {
     if (!PyLong_CheckExact(object) && (!PyLong_Check(object) || PyBool_Check(object))) return wrong_type(type, object);
-    *number = type == INT ? (uint64_t)PyLong_AsLongLong(object) ^ TOP : PyLong_AsUnsignedLongLong(object);
+    *number = type == INT ? (uint64_t)PyLong_AsLong(object) ^ TOP : PyLong_AsUnsignedLong(object);
     if (*number != (type == INT ? ~TOP : ~(uint64_t)0) || !PyErr_Occurred()) return 0;
     PyErr_Clear();
     PyErr_SetString(PyExc_OverflowError, type == INT ? "an int is from -2**63 to 2**63 - 1 here" : "a jetukoma.u64 is from 0 to 2**64 - 1");
@@ -81,7 +81,7 @@ PyObject *object_of(Side side, const Value *value)
         memcpy(&word, value->bytes, 8);
         word = __builtin_bswap64(word);
     }
-    return side.type == INT ? PyLong_FromLongLong((int64_t)(word ^ TOP)) : PyLong_FromUnsignedLongLong(word);
+    return side.type == INT ? PyLong_FromLong((long)(word ^ TOP)) : PyLong_FromUnsignedLong(word);
 }
 
 /* Returns a pair as an item, which is a tuple. */
