@@ -23,7 +23,6 @@ Threads. A method that changes a map makes its change in one call, which no othe
 """
 from ._core import __version__
 from ._maps import (
-    BiBTreeMap,
     BidictBase,
     BiHashMap,
     FrozenOrderedBidict,
@@ -52,6 +51,7 @@ from ._names import (
     inverted,
     u64,
 )
+from ._sorted import BiBTreeMap
 from ._views import BidictItemsView, BidictKeysView
 
 OnDupAction = OD

@@ -25,7 +25,7 @@ CLASSES = [bidict, OrderedBidict, BiHashMap, BiBTreeMap, jetukoma.frozenbidict]
 
 
 def load_tests(loader, tests, pattern):
-    for module in (jetukoma, jetukoma._core, jetukoma._maps, jetukoma._names, jetukoma._named, jetukoma._views):
+    for module in (jetukoma, jetukoma._core, jetukoma._maps, jetukoma._names, jetukoma._named, jetukoma._sorted, jetukoma._views):
         tests.addTests(doctest.DocTestSuite(module, globs=dict(vars(jetukoma))))
     return tests
 
