@@ -1,3 +1,4 @@
+pub mod Batches
 pub mod Breaks
 pub mod Changed
 pub mod Found
@@ -7,5 +8,7 @@ pub mod Listed
 pub mod Moments
 pub mod Opened
 pub mod Parsed
+pub mod Refusing
+pub mod Replacing
 pub mod Steps
 pub mod Values

@@ -34,11 +34,11 @@ module _ {L R : Type 0} (reads_left : Data → L → Type 0) (reads_right : Data
   pub more_kept : (S T : L × R → Type 0) (texts : List (List ℕ)) (text : List ℕ) (change : Change L R) → Keeps texts S → IsLineOf same_left same_right reads_left reads_right change text → IsAfter same_left same_right change S T → Keeps (texts ++ text ∷ []) T
   more_kept S T texts text change kept line after = kept_more reads_left reads_right same_left same_right left right texts text change S T kept line after
 
-  pub step_moment : (S T : L × R → Type 0) (old new : List Event) (texts : List (List ℕ)) (text : List ℕ) → Keeps texts S → Keeps (texts ++ text ∷ []) T
-      → LeavesOnly old new (λ file. HasLines file texts ⊎ HasLines file (texts ++ text ∷ [])) → LeavesOnly old new (λ file. Stands S file ⊎ Stands T file)
-  step_moment S T old new texts text before after leaves =
-      leaves_weaker (λ file. HasLines file texts ⊎ HasLines file (texts ++ text ∷ [])) (λ file. Stands S file ⊎ Stands T file) old new
-      (λ file either. elim either [ inl has ↦ inl (stands S texts file before has) | inr has ↦ inr (stands T (texts ++ text ∷ []) file after has) ]) leaves
+  step_moment : (S T : L × R → Type 0) (old new : List Event) (texts more : List (List ℕ)) → Keeps texts S → Keeps (texts ++ more) T
+      → LeavesOnly old new (λ file. HasLines file texts ⊎ HasLines file (texts ++ more)) → LeavesOnly old new (λ file. Stands S file ⊎ Stands T file)
+  step_moment S T old new texts more before after leaves =
+      leaves_weaker (λ file. HasLines file texts ⊎ HasLines file (texts ++ more)) (λ file. Stands S file ⊎ Stands T file) old new
+      (λ file either. elim either [ inl has ↦ inl (stands S texts file before has) | inr has ↦ inr (stands T (texts ++ more) file after has) ]) leaves
 
   abbrev Durable : State L R → Type 0
   Durable = IsDurable same_left same_right reads_left reads_right
@@ -52,22 +52,30 @@ module _ {L R : Type 0} (reads_left : Data → L → Type 0) (reads_right : Data
       subst (λ calls. LeavesOnly old.calls calls (λ file. Stands (Contains old.held.pairs) file ⊎ Stands (Contains new.held.pairs) file)) (sym e)
       (no_moment (Contains old.held.pairs) (Contains new.held.pairs) old.calls old.end d.texts d.rests d.kept)
 
+  -- Lines were added that leave the pairs of the map.
+  module _ (old new : State L R) (d : Durable old) (more : List (List ℕ)) (kept : Keeps (d.texts ++ more) (Contains new.held.pairs)) where
+    pub group_moment : LeavesOnly old.calls new.calls (λ file. HasLines file d.texts ⊎ HasLines file (d.texts ++ more)) → OneOf old new
+    group_moment leaves = step_moment (Contains old.held.pairs) (Contains new.held.pairs) old.calls new.calls d.texts more d.kept kept leaves
+
+    pub group_durable : IsAtRest new.calls new.end (d.texts ++ more) → Durable new
+    group_durable rests = record { texts = d.texts ++ more; rests = rests; kept = kept }
+
   -- A change was made and its line added.
   module _ (old new : State L R) (d : Durable old) (change : Change L R) (text : List ℕ) (line : IsLineOf same_left same_right reads_left reads_right change text) (after : IsAfter same_left same_right change (Contains old.held.pairs) (Contains new.held.pairs)) where
     kept : Keeps (d.texts ++ text ∷ []) (Contains new.held.pairs)
     kept = more_kept (Contains old.held.pairs) (Contains new.held.pairs) d.texts text change d.kept line after
 
     pub stored_moment : LeavesOnly old.calls new.calls (λ file. HasLines file d.texts ⊎ HasLines file (d.texts ++ text ∷ [])) → OneOf old new
-    stored_moment leaves = step_moment (Contains old.held.pairs) (Contains new.held.pairs) old.calls new.calls d.texts text d.kept kept leaves
+    stored_moment = group_moment old new d (text ∷ []) kept
 
     pub stored_durable : IsAtRest new.calls new.end (d.texts ++ text ∷ []) → Durable new
-    stored_durable rests = record { texts = d.texts ++ text ∷ []; rests = rests; kept = kept }
+    stored_durable = group_durable old new d (text ∷ []) kept
 
   pub acknowledges : (state : State L R) → Durable state → Acknowledges same_left same_right reads_left reads_right state
   acknowledges state d file left = rest_stands (Contains state.held.pairs) state.calls state.end d.texts d.rests d.kept file left
 
   -- The map has the same pairs as before.
-  same_kept : (S T : L × R → Type 0) (texts : List (List ℕ)) → ((p : L × R) → T p ↔ S p) → Keeps texts S → Keeps texts T
+  pub same_kept : (S T : L × R → Type 0) (texts : List (List ℕ)) → ((p : L × R) → T p ↔ S p) → Keeps texts S → Keeps texts T
   same_kept S T texts same before =
       record {
         is_read = before.is_read;

@@ -1,5 +1,6 @@
 //! A map with a file that has each of its changes. It does not know which map it is, nor where the file is.
 mod compaction;
+mod groups;
 
 use crate::disk::Disk;
 use crate::fault::{NotOpened, NotStored};

@@ -1,6 +1,7 @@
 //! A map that outlives a crash: each change is in a file before it is acknowledged.
 #![tactic(auto)]
 
+mod batch;
 mod change;
 mod disk;
 mod fault;

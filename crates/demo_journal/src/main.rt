@@ -2,7 +2,7 @@
 #![tactic(auto)]
 
 use anyhow::Result;
-use bimap::BiBTreeMap;
+use bimap::{BiBTreeMap, Call};
 use bimap_journal::{File, Journaled};
 use std::fs;
 
@@ -14,6 +14,24 @@ fn open_seats(rt: &HostRuntime) -> Result<StoredSeats> {
         Ok(seats) => Ok(seats),
         Err((why, _)) => Err(why.into()),
     }
+}
+
+fn apply_group(rt: &HostRuntime, seats: &mut StoredSeats) -> Result<()> {
+    let (bob, cal, dan) = (
+        String::from_str(rt.alloc(), "bob")?,
+        String::from_str(rt.alloc(), "cal")?,
+        String::from_str(rt.alloc(), "dan")?,
+    );
+    let calls = vec![in rt.alloc();
+        Call::Insert(bob, 7),
+        Call::Insert(cal, 12),
+        Call::InsertNoOverwrite(dan, 12),
+    ]?;
+    for reply in seats.apply(calls)?.iter() {
+        println!(rt; "{reply:?}")?; // Inserted(Left("bob", 12)), Inserted(Neither), Occupied("dan", 12)
+    }
+    println!(rt; "{:?}", seats.map())?; // {"bob" <> 7, "cal" <> 12}
+    Ok(())
 }
 
 fn main(rt: HostRuntime) -> Result<()> {
@@ -29,6 +47,7 @@ fn main(rt: HostRuntime) -> Result<()> {
     println!(rt; "{:?}", seats.map())?; // {"bob" <> 12}
     seats.compact()?;
     println!(rt; "{}", fs::read_to_string(&rt, "seats.journal")?)?;
+    apply_group(&rt, &mut seats)?;
     // The next run begins anew.
     fs::remove_file(&rt, "seats.journal")?;
     Ok(())

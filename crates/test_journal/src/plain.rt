@@ -1,5 +1,5 @@
 //! A list of pairs that says what a map must contain. It does not use the library.
-use crate::step::Step;
+use crate::step::{Step, group};
 use std::alloc::{AllocError, Global};
 
 /// The pairs after some steps.
@@ -20,6 +20,17 @@ impl Plain {
         Ok(plain)
     }
 
+    // Makes one step.
+    fn make(&mut self, step: &Step) -> Result<(), AllocError> {
+        let Step::Group(drawn) = *step else {
+            return self.change(step);
+        };
+        for step in group(drawn).iter() {
+            self.change(step)?;
+        }
+        Ok(())
+    }
+
     /// Returns the pairs.
     pub fn pairs(&self) -> &[(&'static str, u64)] {
         &self.pairs
@@ -33,8 +44,8 @@ impl Plain {
         self.pairs.iter().any(|pair| pair.1 == right)
     }
 
-    /// Makes one step.
-    pub fn make(&mut self, step: &Step) -> Result<(), AllocError> {
+    // Makes a step that is no group.
+    fn change(&mut self, step: &Step) -> Result<(), AllocError> {
         match *step {
             Step::Insert(left, right) => self.insert(left, right)?,
             Step::InsertNew(left, right) => {
@@ -51,8 +62,31 @@ impl Plain {
             Step::RemoveByRight(right) => self.pairs.retain(|pair| pair.1 != right),
             Step::Clear => self.pairs.clear(),
             Step::Compact => {}
+            Step::ReplaceLeft(from, to) => {
+                if from == to || !self.has_left(to) {
+                    self.replace(|pair| pair.0 == from, |pair| (to, pair.1));
+                }
+            }
+            Step::ReplaceRight(from, to) => {
+                if from == to || !self.has_right(to) {
+                    self.replace(|pair| pair.1 == from, |pair| (pair.0, to));
+                }
+            }
+            Step::Group(_) => {}
         }
         Ok(())
+    }
+
+    // Replaces the pairs for which the test returns true.
+    fn replace<
+        F: Fn(&(&'static str, u64)) -> bool,
+        G: Fn(&(&'static str, u64)) -> (&'static str, u64),
+    >(&mut self, is_old: F, renewed: G) {
+        for pair in self.pairs.iter_mut() {
+            if is_old(pair) {
+                *pair = renewed(pair);
+            }
+        }
     }
 
     // A forced insertion: no pair that shares a value with the new one stays.

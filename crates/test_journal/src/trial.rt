@@ -2,11 +2,12 @@
 ghost use Rattle.std.specs.Prelude.{◌<◌};
 
 use crate::plain::Plain;
-use crate::step::Step;
+use crate::step::{Step, group};
 use crate::world::{Lent, World};
-use bimap::{BiBTreeMap, Bijection, OnHeld, Policy};
+use bimap::{BiBTreeMap, Bijection, Call, OnHeld, Policy};
 use bimap_journal::{Journaled, NotStored};
 use std::alloc::{AllocError, Global};
+use std::convert::Infallible;
 
 /// The journal that is tried.
 type Names<'a> = Journaled<BiBTreeMap<String, u64>, String, u64, Lent<'a>>;
@@ -40,41 +41,53 @@ fn is_stored<A: Drop, G: Drop, B: Drop>(
     }
 }
 
-// Inserts a pair. If the map contains its left or its right, this says what to do.
-fn insert(
+const MOVE: Policy = Policy {
+    left: OnHeld::Overwrite,
+    right: OnHeld::Refuse,
+};
+
+// Returns the call of a step that is one change.
+fn call_of(
     alloc: Global,
-    names: &mut Names<'_>,
-    pair: (&'static str, u64),
-    left: OnHeld,
-    right: OnHeld,
-) -> Result<bool, AllocError> {
-    let name = String::from_str(alloc, pair.0)?;
-    is_stored(names.insert_with(name, pair.1, Policy { left, right }))
+    step: &Step,
+) -> Result<Option<Call<String, u64, Infallible>>, AllocError> {
+    let text = |name| String::from_str(alloc, name);
+    Ok(match *step {
+        Step::Insert(left, right) => Some(Call::Insert(text(left)?, right)),
+        Step::InsertNew(left, right) => Some(Call::InsertNoOverwrite(text(left)?, right)),
+        Step::Move(left, right) => Some(Call::InsertWith(text(left)?, right, MOVE)),
+        Step::RemoveByLeft(left) => Some(Call::RemoveByLeft(text(left)?)),
+        Step::RemoveByRight(right) => Some(Call::RemoveByRight(right)),
+        Step::Clear => Some(Call::Clear),
+        _ => None,
+    })
+}
+
+// Performs the steps of a group.
+fn perform_group(alloc: Global, names: &mut Names<'_>, drawn: u64) -> Result<bool, AllocError> {
+    let mut calls = Vec::new(alloc);
+    for step in group(drawn).iter() {
+        if let Some(call) = call_of(alloc, step)? {
+            calls.push(call)?;
+        }
+    }
+    is_stored(names.apply(calls))
 }
 
 // Performs one step, and returns whether it was acknowledged.
 fn perform(alloc: Global, names: &mut Names<'_>, step: &Step) -> Result<bool, AllocError> {
+    let text = |name| String::from_str(alloc, name);
     match *step {
-        Step::Insert(left, right) => is_stored(names.insert(String::from_str(alloc, left)?, right)),
-        Step::InsertNew(left, right) => {
-            insert(alloc, names, (left, right), OnHeld::Refuse, OnHeld::Refuse)
-        }
-        Step::Move(left, right) => {
-            insert(
-                alloc,
-                names,
-                (left, right),
-                OnHeld::Overwrite,
-                OnHeld::Refuse,
-            )
-        }
-        Step::RemoveByLeft(left) => {
-            let left = String::from_str(alloc, left)?;
-            is_stored(names.remove_by_left(&left))
-        }
+        Step::Insert(left, right) => is_stored(names.insert(text(left)?, right)),
+        Step::InsertNew(left, right) => is_stored(names.insert_no_overwrite(text(left)?, right)),
+        Step::Move(left, right) => is_stored(names.insert_with(text(left)?, right, MOVE)),
+        Step::RemoveByLeft(left) => is_stored(names.remove_by_left(&text(left)?)),
         Step::RemoveByRight(right) => is_stored(names.remove_by_right(&right)),
         Step::Clear => is_stored(names.clear()),
         Step::Compact => is_stored(names.compact()),
+        Step::ReplaceLeft(from, to) => is_stored(names.replace_left(&text(from)?, text(to)?)),
+        Step::ReplaceRight(from, to) => is_stored(names.replace_right(&from, to)),
+        Step::Group(drawn) => perform_group(alloc, names, drawn),
     }
 }
 

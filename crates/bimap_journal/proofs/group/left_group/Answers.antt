@@ -1,6 +1,6 @@
-use Rattle.bimap_journal.proofs.Kept.{line_of_left}
+use Rattle.bimap_journal.proofs.Batches.{group_of_line}
 use Rattle.bimap_journal.proofs.Opened.{ok_then}
 use Rattle.bimap_journal.proofs.group.left_group.Goals as goal
 
-pub returns-in-Ok : goal.returns-in-Ok
-returns-in-Ok g c = ok_then c.group_of.result (λ group h. (h.0, line_of_left g.L.Stored.reads g.R.Stored.reads g.L.PartialEq.eq g.R.PartialEq.eq g.met.L.Eq.laws g.met.R.Eq.laws h.0 _ h.1 _ c.args.left.now c.in-Ok.ensures.json c.in-Ok.ensures.left, h.2)) c.group_of.ensures
+pub returns : goal.returns
+returns g c = ok_then c.closed.result (λ group e. group_of_line g.L.Stored.reads g.R.Stored.reads g.L.PartialEq.eq g.R.PartialEq.eq _ _ _ c.in_ok-left_line.ensures e) c.closed.ensures
