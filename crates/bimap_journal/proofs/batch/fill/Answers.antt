@@ -1,6 +1,6 @@
-use Rattle.std.proofs.Common.{◌≡◌, ◌≢◌, ◌∙◌, ◌+◌, ◌<◌, true, false, List, ℕ, [], ◌∷◌, ◌++◌, length, take, drop, suc, sym, ap, subst, arith}
+use Rattle.std.proofs.Common.{◌≡◌, ◌∙◌, ◌+◌, ◌<◌, [], ◌∷◌, ◌++◌, length, take, drop, suc, sym, ap, subst, arith}
 use Rattle.std.specs.Prelude.{Contains}
-use Rattle.std.specs.List.{AllZip, zip}
+use Rattle.std.specs.List.{zip}
 use Rattle.std.proofs.lemmas.Grind.{common_steps}
 use Rattle.bimap_journal.specs.Batches.{has_changed, IsLineOfCall}
 use Rattle.bimap_journal.proofs.Batches.{IsPart, at, zip_whole, space_more, space_less, part_none, part_more, part_same, recorded, recorded_none}

@@ -1,8 +1,7 @@
-use Rattle.std.proofs.Common.{◌≡◌, ◌∙◌, Contains, length, subst, arith}
-use Rattle.std.specs.Prelude.{Result, Ok, Err, IfOk, vec_len}
+use Rattle.std.proofs.Common.{subst, arith}
+use Rattle.std.specs.Prelude.{Result, Ok, Err, IfOk}
 use Rattle.std.specs.List.{zip}
 use Rattle.bimap.specs.History.{IsHistory}
-use Rattle.bimap_journal.specs.Batches.{IsRun}
 use Rattle.bimap_journal.proofs.Batches.{any_test}
 use Rattle.bimap_journal.proofs.batch.perform_all.Goals as goal
 

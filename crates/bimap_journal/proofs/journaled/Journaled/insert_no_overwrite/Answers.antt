@@ -17,4 +17,4 @@ returns-in-Ok-Err-RightHeld-clause-reply g c =
 pub returns-clause-fault : goal.returns-clause-fault
 returns-clause-fault g c =
     let h = rw c.in-Err-Failed.field-0-is at c.in-Err-Failed.ensures.fault in
-    (no_overwrite g.L.PartialEq.eq g.R.PartialEq.eq _ _ _ _ h.0, h.1)
+    (no_overwrite g.L.PartialEq.eq g.R.PartialEq.eq _ _ _ _ h.0, h.1, h.2, h.3)
