@@ -1,6 +1,6 @@
 -- What opening a file makes of it.
 use Rattle.std.proofs.Common.{◌≡◌, ◌∙◌, inl, inr, ℕ, ◌+◌, Bool, true, false, List, [], ◌∷◌, ◌++◌, length, take, drop, refl, sym, ap, subst, append_assoc, arith, Vec, Global}
-use Rattle.std.specs.Prelude.{Result, Ok, Err, IfOk, IfErr, OnOk, is_ok}
+use Rattle.std.specs.Prelude.{Result, Ok, Err, IfOk, OnOk, is_ok}
 use Rattle.std.proofs.lemmas.List.{take_at, length-append}
 use Rattle.bimap_journal.specs.declared.disk.Operation.TheVariants.{Found, Cut, Synced, Replaced}
 use Rattle.bimap_journal.specs.Calls.{Event, KeepsFront, seen, MayLeave, LeavesOnly}
@@ -122,7 +122,3 @@ none_any_moment calls found empty = leaves_now HasNone ((Found, found) ∷ calls
 pub ok_then : {T E : Type 0} {P Q : T → Type 0} (r : Result T E) → ((x : T) → P x → Q x) → IfOk r P → IfOk r Q
 ok_then (Ok x) f h = f x h
 ok_then (Err e) f h = tt
-
-pub err_then : {T E : Type 0} {P Q : E → Type 0} (r : Result T E) → ((e : E) → P e → Q e) → IfErr r P → IfErr r Q
-err_then (Ok x) f h = tt
-err_then (Err e) f h = f e h

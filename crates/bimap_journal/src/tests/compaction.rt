@@ -16,7 +16,7 @@ fn opened(alloc: Global, bytes: &mut Vec<u8>) -> Result<Seats<'_>, Fail> {
 
 fn lefts(alloc: Global, seats: &Seats<'_>) -> Result<Vec<u64>, Fail> {
     let mut lefts = Vec::new(alloc);
-    for (left, _) in seats.map() {
+    for (left, _) in seats.map().iter() {
         lefts.push(*left)?;
     }
     Ok(lefts)
@@ -43,8 +43,8 @@ fn keeps_the_insertion_order(rt: HostRuntime) -> Result<(), Fail> {
     let alloc = rt.alloc();
     let mut bytes = Vec::new(alloc);
     let mut seats = opened(alloc, &mut bytes)?;
-    for left in [5, 1, 4, 2] {
-        let _ = seats.insert(left, left * 10)?;
+    for (left, right) in [(5, 50), (1, 10), (4, 40), (2, 20)] {
+        let _ = seats.insert(left, right)?;
     }
     let _ = seats.remove_by_left(&1)?;
     let _ = seats.insert(3, 30)?;
