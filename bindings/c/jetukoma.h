@@ -110,8 +110,8 @@ enum {
      * `clone` return it if the handle for the new table has a table already. Nothing has changed. */
     JETUKOMA_NO_TABLE = 2,
     /* The call was refused, and nothing has changed. A value is contained and must not be overwritten, a flag is
-     * above 1, there is no such kind, or a pointer to a value is null. For JSON: the table cannot be written as
-     * JSON, or the text is no table. */
+     * above 1, there is no such kind, or a pointer to a value is null. Rows name more bytes than there are. For
+     * JSON: the table cannot be written as JSON, or the text is no table. */
     JETUKOMA_REFUSED = 3,
     /* The buffer is too short. The call has written the length that it needs. Nothing else has changed. */
     JETUKOMA_BUFFER_TOO_SHORT = 4,

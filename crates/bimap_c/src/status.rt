@@ -12,8 +12,8 @@ pub const NO_MEMORY: u32 = 1;
 pub const NO_TABLE: u32 = 2;
 
 /// The call was refused, and nothing has changed. A value is contained and must not be overwritten, a flag is above 1,
-/// there is no such kind, or a pointer to a value is null. For JSON: the table cannot be written as JSON, or the text
-/// is no table.
+/// there is no such kind, or a pointer to a value is null. Rows name more bytes than there are. For JSON: the table
+/// cannot be written as JSON, or the text is no table.
 pub const REFUSED: u32 = 3;
 
 /// The buffer is too short. The call has written the length that it needs. Nothing else has changed.
