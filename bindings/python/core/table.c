@@ -61,7 +61,7 @@ int done(uint32_t status)
 int table_has(Table *table, int side, const Value *value)
 {
     uint32_t status = table->shape.calls->has[side](&table->handle, value);
-    return status == JETUKOMA_NOT_FOUND ? 0 : done(status) ? -1 : 1;
+    return !status ? 1 : status == JETUKOMA_NOT_FOUND ? 0 : done(status);
 }
 
 /* Writes the partner of a value. The bytes of the partner are those of `found`. */
@@ -80,15 +80,13 @@ uint32_t partner_of(Table *table, int side, const Value *value, Found *found, Va
     return status;
 }
 
-void found_free(Found *found) { free(found->bytes == found->few ? NULL : found->bytes); }
-
 /* Returns the partner of a value. If the value is not contained, it returns null without an error. */
 PyObject *partner_object(Table *table, int side, const Value *value)
 {
     Found found;
     Value partner;
     uint32_t status = partner_of(table, side, value, &found, &partner);
-    if (status == JETUKOMA_NOT_FOUND || done(status)) return NULL;
+    if (status && (status == JETUKOMA_NOT_FOUND || done(status))) return NULL;
     PyObject *object = object_of(table->shape.sides[!side], &partner);
     found_free(&found);
     return object;
