@@ -74,7 +74,7 @@ impl<H: Borrow<Handle<B>>, B: Library> Walk<H, B> {
     /// Returns how many pairs the next row has.
     fn stride(&mut self) -> usize {
         let stride = self.long.min(self.end - self.next);
-        self.long = self.long.saturating_mul(2).min(self.longest);
+        self.long = self.long.saturating_mul(4).min(self.longest);
         stride
     }
 
