@@ -10,14 +10,13 @@ use Rattle.std.proofs.lemmas.Bool.{false≢true}
 use Rattle.std.proofs.lemmas.List.{append-nil, drop_more, get_or_default}
 use Rattle.std.proofs.lemmas.List.Elements.{All-push}
 use Rattle.serde_json.specs.Data.{Data}
-use Rattle.bimap.specs.Survivors.{Survives}
 use Rattle.bimap_any.proofs.Survivors.{Survives_append, Survives_none, Survives_one}
 use Rattle.bimap.specs.Holding.{Holding}
 use Rattle.bimap.specs.declared.call.Call.{Call}
 use Rattle.bimap.specs.declared.call.Call.TheVariants.{Insert, InsertNoOverwrite, InsertWith, RemoveByLeft, RemoveByRight, ContainsLeft, ContainsRight, Retain, Clear}
 use Rattle.bimap.specs.declared.call.Reply.{Reply}
 use Rattle.bimap.specs.declared.call.Reply.TheVariants.{Inserted, NoRoom, Put, Occupied, LeftHeld, RightHeld, Removed, Holds, Done}
-use Rattle.bimap.specs.History.{Entry, Puts, Touches, IsRight, IsSurvivor, IsLegal}
+use Rattle.bimap.specs.History.{Entry, Puts, Touches, IsRight, IsSurvivor}
 use Rattle.bimap_journal.specs.declared.change.Change.{Change}
 use Rattle.bimap_journal.specs.declared.change.Change.TheVariants.{Insert as Inserts, RemoveByLeft as RemovesByLeft, RemoveByRight as RemovesByRight, Clear as Clears}
 use Rattle.bimap_journal.specs.Lines.{lines, closed, AreUnbroken, IsGroup}

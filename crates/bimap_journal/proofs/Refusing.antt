@@ -1,9 +1,9 @@
 -- An insertion that refuses to overwrite either value is one without overwriting.
-use Rattle.std.proofs.Common.{◌≡◌, ◌∙◌, Bool, Result, Ok, Err, refl, arith, Contains}
+use Rattle.std.proofs.Common.{Bool, Result, Ok, Err, refl, arith, Contains}
 use Rattle.std.proofs.lemmas.Bool.{or_left, or_right, or_from}
 use Rattle.bimap_base.specs.Sets.{NoneShares}
 use Rattle.bimap_base.proofs.Counts.{none_named}
-use Rattle.bimap.specs.Types.{Overwritten, Policy, Refuse, NotInsertedWith, NotInserted}
+use Rattle.bimap.specs.Types.{Overwritten, Refuse, NotInsertedWith, NotInserted}
 use Rattle.bimap_base.specs.declared.refusal.NotInserted.TheVariants.{Occupied}
 use Rattle.bimap_base.specs.declared.refusal.NotInsertedWith.TheVariants.{LeftHeld, RightHeld}
 use Rattle.bimap.specs.Holding.{Holding, IsInsertionUnder, IsInsertionWithoutOverwriting}

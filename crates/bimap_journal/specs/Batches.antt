@@ -1,5 +1,5 @@
 -- What a list of calls adds to a file, as one group of lines.
-use Rattle.std.specs.Prelude.{◌≡◌, ◌⊎◌, ℕ, ◌+◌, Bool, true, false, Some, None, List, [], ◌∷◌, ◌++◌, length, Contains, Vec}
+use Rattle.std.specs.Prelude.{◌≡◌, ◌⊎◌, ℕ, ◌+◌, Bool, true, false, Some, List, [], ◌∷◌, ◌++◌, length, Contains, Vec}
 use Rattle.std.specs.declared.alloc.Global.{Global}
 use Rattle.std.specs.declared.convert.Infallible.{Infallible}
 use Rattle.std.specs.List.{zip}
@@ -7,7 +7,7 @@ use Rattle.serde_json.specs.Data.{Data}
 use Rattle.bimap.specs.Holding.{Holding}
 use Rattle.bimap.specs.History.{IsHistory}
 use Rattle.bimap.specs.declared.call.Call.{Call}
-use Rattle.bimap.specs.declared.call.Call.TheVariants.{Insert, InsertNoOverwrite, InsertWith, RemoveByLeft, RemoveByRight, ContainsLeft, ContainsRight, Clear}
+use Rattle.bimap.specs.declared.call.Call.TheVariants.{Insert, InsertNoOverwrite, InsertWith, RemoveByLeft, RemoveByRight, Clear}
 use Rattle.bimap.specs.declared.call.Reply.{Reply}
 use Rattle.bimap.specs.declared.call.Reply.TheVariants.{Inserted, Put, Removed, Done}
 use Rattle.bimap_journal.specs.declared.change.Change.{Change}
