@@ -106,10 +106,7 @@ size_t table_len(Table *table);
 int done(uint32_t status);
 int table_has(Table *table, int side, const Value *value);
 uint32_t partner_of(Table *table, int side, const Value *value, Found *found, Value *partner);
-static inline void found_free(Found *found)
-{
-    if (found->bytes != found->few) free(found->bytes);
-}
+static inline void found_free(Found *found) { if (found->bytes != found->few) free(found->bytes); }
 PyObject *partner_object(Table *table, int side, const Value *value);
 int table_read(Table *table, bool back, size_t start, size_t count, Rows *rows);
 int table_remove(Table *table, int side, const Value *value);
