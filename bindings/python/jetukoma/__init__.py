@@ -8,18 +8,19 @@
     >>> seats
     bidict({'ann': 7})
 
-Each item is in a table of the library libjetukoma, which is proved function by function. So a map has few types, and takes less memory.
+Each item is in a table of the library libjetukoma, which is proved function by function. So a map has few types.
 
-Types. Keys are of one type, and values are of one type: int, str or bytes. `keys=` and `values=` name the types, and otherwise the first
-item sets them. An int is from -2**63 to 2**63 - 1. `u64` names a side from 0 to 2**64 - 1. A bool is refused, since it would come back as
-an int.
+Types. Keys are of one type, and values are of one type: int, str or bytes. `keys=` and `values=` name the types, and
+otherwise the first item sets them. An int is from -2**63 to 2**63 - 1. `u64` names a side from 0 to 2**64 - 1. A bool is
+refused, since it would come back as an int.
 
-Errors. A key of another type, or an int out of range, is not contained. To insert one is a TypeError or an OverflowError. To insert a
-text that has no UTF-8 is a UnicodeError. After an exception the map is as it was.
+Errors. A key of another type, or an int out of range, is not contained. To insert one is a TypeError or an
+OverflowError. To insert a text that has no UTF-8 is a UnicodeError. After an exception the map is as it was.
 
-Iteration. If a key comes, goes or moves during an iteration, the next step raises a RuntimeError. A new value of a key does not matter.
+Iteration. If a key comes, goes or moves during an iteration, the next step raises a RuntimeError. A new value of a key
+does not matter.
 
-Threads. A method that changes a map makes its change in one call, which no other thread sees half done.
+Threads. An insertion or a removal is one call, which no other thread sees half done. So is one of many items.
 """
 from ._core import __version__
 from ._maps import (

@@ -361,7 +361,7 @@ class FrozenOrderedBidict(frozenbidict):
 
 
 class BiHashMap(MutableBidict):
-    """A two-way map without an order. It takes less memory than `bidict`, and the time of a call does not grow with its size.
+    """A two-way map without an order. It needs no memory for one, as `bidict` does.
 
     >>> BiHashMap({1: "one"}).inverse["one"]
     1

@@ -21,7 +21,7 @@ class Chance(unittest.TestCase):
 
     def calls(self, kind, keys, values, chance):
         self.it, self.model, self.chance, self.types = kind(keys=keys, values=values), Model(kind), chance, (keys, values)
-        for _ in range(150):
+        for _ in range(100):
             call = chance.choice(CALLS)
             getattr(self, call.replace(" ", "_"))(*(of(it, chance.randrange(30)) for it in self.types))
             self.assertEqual(items_of(self.it), self.model.items(), call)
