@@ -15,7 +15,7 @@ otherwise the first item sets them. An int is from -2**63 to 2**63 - 1. `u64` na
 refused, since it would come back as an int.
 
 Errors. A key of another type, or an int out of range, is not contained. To insert one is a TypeError or an
-OverflowError. To insert a text that has no UTF-8 is a UnicodeError. After an exception the map is as it was.
+OverflowError. To insert a text that has no UTF-8 is a UnicodeError. After an exception the map has the items that it had.
 
 Iteration. If a key comes, goes or moves during an iteration, the next step raises a RuntimeError. A new value of a key
 does not matter.
