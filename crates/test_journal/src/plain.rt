@@ -64,12 +64,12 @@ impl Plain {
             Step::Compact => {}
             Step::ReplaceLeft(from, to) => {
                 if from == to || !self.has_left(to) {
-                    self.replace(|pair| pair.0 == from, |pair| (to, pair.1));
+                    self.replace_left(from, to);
                 }
             }
             Step::ReplaceRight(from, to) => {
                 if from == to || !self.has_right(to) {
-                    self.replace(|pair| pair.1 == from, |pair| (pair.0, to));
+                    self.replace_right(from, to);
                 }
             }
             Step::Group(_) => {}
@@ -77,14 +77,18 @@ impl Plain {
         Ok(())
     }
 
-    // Replaces the pairs for which the test returns true.
-    fn replace<
-        F: Fn(&(&'static str, u64)) -> bool,
-        G: Fn(&(&'static str, u64)) -> (&'static str, u64),
-    >(&mut self, is_old: F, renewed: G) {
+    fn replace_left(&mut self, from: &'static str, to: &'static str) {
         for pair in self.pairs.iter_mut() {
-            if is_old(pair) {
-                *pair = renewed(pair);
+            if pair.0 == from {
+                pair.0 = to;
+            }
+        }
+    }
+
+    fn replace_right(&mut self, from: u64, to: u64) {
+        for pair in self.pairs.iter_mut() {
+            if pair.1 == from {
+                pair.1 = to;
             }
         }
     }
