@@ -48,9 +48,12 @@ typedef union { uint32_t kind; jetukoma_u64_u64_overwritten overwritten; } Told;
     CALL(T##_fill, FILL) { return jetukoma_##T##_fill(&it->T, start, FREE_##T); }                                       \
     CALL(T##_fill_back, FILL) { return jetukoma_##T##_fill_back(&it->T, start, FREE_##T); }                             \
     CALL(T##_rank, const Value *l, size_t *rank) { return jetukoma_##T##_left_rank(&it->T, IN_##L(l), rank); }          \
+    CALL(T##_to_front, const Value *l) { return jetukoma_##T##_to_front(&it->T, IN_##L(l)); }                           \
+    CALL(T##_to_back, const Value *l) { return jetukoma_##T##_to_back(&it->T, IN_##L(l)); }                             \
     const Calls calls_##T = {                                                                                           \
         T##_make, T##_free, T##_len, T##_reserve, T##_clear, T##_clone, T##_equals, {T##_has_l, T##_has_r},             \
         {T##_get_l, T##_get_r}, {T##_remove_l, T##_remove_r}, T##_insert, {T##_fill, T##_fill_back}, T##_rank,          \
+        {T##_to_front, T##_to_back},                                                                                    \
     };
 
 CALLS(u64_u64, u64, u64)

@@ -45,14 +45,15 @@ typedef struct {
 
 typedef union { jetukoma_u64_u64 u64_u64; jetukoma_bytes_u64 bytes_u64; jetukoma_bytes_bytes bytes_bytes; } Handle;
 
-/* The calls of a table. Of two calls, the first is for lefts or forwards, the second for rights or backwards. */
+/* The calls of a table. Of two calls, the first is for lefts or forwards, the second for rights or backwards. The first
+ * `move` is to the front, the second to the back. */
 typedef struct {
     uint32_t (*make)(Handle *, uint32_t kind, uint64_t seed), (*free)(Handle *), (*len)(Handle *, size_t *);
     uint32_t (*reserve)(Handle *, size_t), (*clear)(Handle *), (*clone)(Handle *, Handle *copy), (*equals)(Handle *, Handle *other);
     uint32_t (*has[2])(Handle *, const Value *), (*get[2])(Handle *, const Value *, Found *), (*remove[2])(Handle *, const Value *);
     uint32_t (*insert)(Handle *, const Value pair[2], bool left_refuses, bool right_refuses, uint32_t *kind);
     uint32_t (*fill[2])(Handle *, size_t start, Rows *, size_t count, size_t *filled, size_t *used);
-    uint32_t (*rank)(Handle *, const Value *, size_t *);
+    uint32_t (*rank)(Handle *, const Value *, size_t *), (*move[2])(Handle *, const Value *left);
 } Calls;
 extern const Calls calls_u64_u64, calls_bytes_u64, calls_bytes_bytes;
 
@@ -110,13 +111,12 @@ static inline void found_free(Found *found) { if (found->bytes != found->few) fr
 PyObject *partner_object(Table *table, int side, const Value *value);
 int table_read(Table *table, bool back, size_t start, size_t count, Rows *rows);
 int table_remove(Table *table, int side, const Value *value);
+int table_move(Table *table, int side, const Value *value, bool last);
 void raise_duplicate(const Shape *shape, const Value pair[2], int key_side, int there);
 uint32_t overwrite(Table *table, const Value pair[2], int key_side, int there);
 uint32_t table_insert(Table *table, const Value pair[2], bool left_refuses, bool right_refuses);
 int what_is_there(Table *table, const Value pair[2], int key_side);
 int table_put(Table *table, const Value pair[2], int key_side, int policy);
-uint32_t put_back(Table *table, const Value pair[2], void **kept);
-uint32_t move_pair(Table *table, const Value pair[2], bool last);
 
 /* many.c */
 bool alike(const Map *map, const Map *other);

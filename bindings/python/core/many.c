@@ -136,6 +136,15 @@ static void last_noted(Log *log, const Shape *shape, Value pair[2])
     pair_of(shape, words, log->old.bytes + log->old.used, pair);
 }
 
+/* Inserts a pair that was there before. If there is no memory, it frees what was kept for this and tries again. */
+static void put_back(Table *table, const Value pair[2], void **kept)
+{
+    if (table_insert(table, pair, false, false) != JETUKOMA_NO_MEMORY) return;
+    free(*kept);
+    *kept = NULL;
+    table_insert(table, pair, false, false);
+}
+
 static void take_back(Log *log, Table *table, const Value pair[2], int what)
 {
     Value old[2];

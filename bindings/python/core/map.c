@@ -225,18 +225,13 @@ static PyObject *map_clear(Map *map, PyObject *none)
 static PyObject *map_move(Map *map, PyObject *args)
 {
     PyObject *key;
-    int last, side = key_side(map);
-    Value pair[2];
-    Found found;
+    int last;
+    Value value;
     if (!PyArg_ParseTuple(args, "Op", &key, &last)) return NULL;
-    int contained = find(map, key, pair + side);
-    if (contained < 0) return NULL;
-    uint32_t status = contained ? partner_of(map->table, side, pair + side, &found, pair + !side) : JETUKOMA_NOT_FOUND;
-    if (!status) {
-        status = move_pair(map->table, pair, last);
-        found_free(&found);
-    } else if (status == JETUKOMA_NOT_FOUND) PyErr_SetObject(PyExc_KeyError, key);
-    return none_unless(done(status));
+    int found = find(map, key, &value);
+    if (found > 0) found = table_move(map->table, key_side(map), &value, last);
+    if (!found) PyErr_SetObject(PyExc_KeyError, key);
+    return none_unless(found <= 0);
 }
 
 #define METHOD(name, call, how, doc) {name, (PyCFunction)(void (*)(void))call, how, doc}

@@ -119,6 +119,22 @@ int table_remove(Table *table, int side, const Value *value)
     return 1;
 }
 
+/* Moves the pair of a value to the end, or to the front. It returns what `table_remove` returns. */
+int table_move(Table *table, int side, const Value *value, bool last)
+{
+    Found found;
+    Value left = *value;
+    uint32_t status = side ? partner_of(table, side, value, &found, &left) : JETUKOMA_DONE;
+    if (!status) {
+        status = table->shape.calls->move[last](&table->handle, &left);
+        if (side) found_free(&found);
+    }
+    if (status == JETUKOMA_NOT_FOUND) return 0;
+    if (done(status)) return -1;
+    table->moves++;
+    return 1;
+}
+
 /* Returns what the table has of a pair, or -1 with an error. There must be something. */
 int what_is_there(Table *table, const Value pair[2], int key_side)
 {
@@ -144,22 +160,21 @@ void raise_duplicate(const Shape *shape, const Value pair[2], int key_side, int 
     Py_XDECREF(package);
 }
 
-/* Makes the table again from its pairs. The new pair takes the first position, or that of the pair of its right. */
-static uint32_t rebuild(Table *table, const Value pair[2], bool first)
+/* Makes the table again from its pairs. The new pair takes the position of the pair of its right. */
+static uint32_t rebuild(Table *table, const Value pair[2])
 {
     Rows rows = {0};
     Handle copy = {0};
     const Calls *calls = table->shape.calls;
     uint32_t kind, status = JETUKOMA_NO_MEMORY;
     if (!table_read(table, false, 0, table_len(table), &rows)) status = calls->make(&copy, INSERTION_ORDER, next_seed += 0x9e3779b97f4a7c15);
-    if (!status && first) status = calls->insert(&copy, pair, false, false, &kind);
     const uint8_t *bytes = rows.bytes;
     for (size_t i = 0; i < rows.count && !status; i++) {
         Value it[2];
         pair_of(&table->shape, rows.words + 2 * i, bytes, it);
         bytes += bytes_of(&table->shape, rows.words + 2 * i);
         bool right = same_value(table->shape.sides[1], it + 1, pair + 1);
-        if (right && !first) status = calls->insert(&copy, pair, false, false, &kind);
+        if (right) status = calls->insert(&copy, pair, false, false, &kind);
         else if (!same_value(table->shape.sides[0], it, pair)) status = calls->insert(&copy, it, false, false, &kind);
     }
     rows_free(&rows);
@@ -180,7 +195,7 @@ uint32_t table_insert(Table *table, const Value pair[2], bool left_refuses, bool
 uint32_t overwrite(Table *table, const Value pair[2], int key_side, int there)
 {
     bool at_right = there == BOTH ? key_side : there == (key_side ? THE_KEY : THE_VALUE);
-    return table->kind == LINKED && at_right ? rebuild(table, pair, false) : table_insert(table, pair, false, false);
+    return table->kind == LINKED && at_right ? rebuild(table, pair) : table_insert(table, pair, false, false);
 }
 
 /* Inserts a pair under a policy. Returns -1 with an error if the policy refuses it. */
@@ -196,28 +211,6 @@ int table_put(Table *table, const Value pair[2], int key_side, int policy)
     if (action == DROP_OLD) return done(overwrite(table, pair, key_side, there));
     if (action == RAISE) raise_duplicate(&table->shape, pair, key_side, there);
     return action == RAISE ? -1 : 0;
-}
-
-/* Inserts a pair that was there before. If there is no memory, it frees what was kept for this and tries again. */
-uint32_t put_back(Table *table, const Value pair[2], void **kept)
-{
-    uint32_t status = table_insert(table, pair, false, false);
-    if (status != JETUKOMA_NO_MEMORY) return status;
-    free(*kept);
-    *kept = NULL;
-    return table_insert(table, pair, false, false);
-}
-
-/* Moves a pair of the table to the end, or to the front. */
-uint32_t move_pair(Table *table, const Value pair[2], bool last)
-{
-    if (!last) return rebuild(table, pair, true);
-    const Side *sides = table->shape.sides;
-    void *kept = malloc(64 + (has_bytes(sides[0]) ? pair[0].word : 0) + (has_bytes(sides[1]) ? pair[1].word : 0));
-    uint32_t status = kept ? table->shape.calls->remove[0](&table->handle, pair) : JETUKOMA_NO_MEMORY;
-    if (!status) status = put_back(table, pair, &kept);
-    free(kept);
-    return status;
 }
 
 /* Returns a table with the same pairs in the same order, or null with an error. */

@@ -60,9 +60,13 @@ class Model:
         at = self.at(side, value)
         return None if at is None else self.pairs.pop(at)[1 - side]
 
-    def move(self, key, last):
-        pair = self.pairs.pop(self.at(0, key))
-        self.pairs.insert(len(self.pairs) if last else 0, pair)
+    def move(self, side, value, last):
+        """Moves a pair to the end, or to the beginning. Returns whether there is one."""
+        at = self.at(side, value)
+        if at is not None:
+            pair = self.pairs.pop(at)
+            self.pairs.insert(len(self.pairs) if last else 0, pair)
+        return at is not None
 
     def items(self):
         """Returns the pairs in the order of iteration. That of a BiHashMap is not specified."""

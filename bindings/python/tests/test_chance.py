@@ -112,10 +112,15 @@ class Chance(unittest.TestCase):
             self.model.put((key, value), OnDup(DROP_NEW, DROP_NEW))
 
     def move(self, key, value):
-        if self.model.kind is OrderedBidict and self.model.at(0, key) is not None:
-            last = self.chance.randrange(2)
-            self.it.move_to_end(key, last=last)
-            self.model.move(key, last)
+        if self.model.kind is OrderedBidict:
+            for it, side, each in [(self.it, 0, key), (self.it.inverse, 1, value)]:
+                last = self.chance.randrange(2)
+                if self.model.move(side, each, last):
+                    it.move_to_end(each, last=last)
+                else:
+                    with self.assertRaises(KeyError):
+                        it.move_to_end(each, last=last)
+                self.assertEqual(items_of(self.it), self.model.items())
 
     def copy(self, key, value):
         for other in [self.it.copy(), copy.copy(self.it), copy.deepcopy(self.it), pickle.loads(pickle.dumps(self.it)), self.it.inverse.inverse]:

@@ -126,6 +126,13 @@ class Iteration(unittest.TestCase):
                         for _ in view(it):
                             change(it)
 
+    def test_a_move_ends_it(self):
+        for last in (True, False):
+            it = OrderedBidict((number, number) for number in range(3))
+            with self.assertRaises(RuntimeError):
+                for key in it:
+                    it.move_to_end(key, last)
+
     def test_new_values_show(self):
         for kind in KINDS:
             for make in (int, str):

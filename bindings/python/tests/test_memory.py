@@ -67,6 +67,7 @@ def calls_of(kind, keys, values):
     ]
     if kind is OrderedBidict:
         calls += [lambda it: it.move_to_end(k(1)), lambda it: it.move_to_end(k(3), last=False)]
+        calls += [lambda it: it.inverse.move_to_end(v(1)), lambda it: it.inverse.move_to_end(v(3), last=False)]
     return calls
 
 
