@@ -73,6 +73,7 @@ pub trait Library: Sized {
     fn len(handle: &Handle<Self>) -> usize;
     fn capacity(handle: &Handle<Self>) -> usize;
     fn reserve(handle: &Handle<Self>, more: usize) -> Result<(), Refusal>;
+    fn shrink_to(handle: &Handle<Self>, least: usize) -> Result<(), Refusal>;
     fn clear(handle: &Handle<Self>);
     fn insert_with(handle: &Handle<Self>, left: &Self::Left, right: &Self::Right, policy: Policy) -> Result<Told<Self>, Refusal>;
     fn get_by_left(handle: &Handle<Self>, left: &Self::Left) -> Asked<Owned<Self::Right>>;
@@ -202,6 +203,9 @@ macro_rules! plain {
         }
         fn reserve(handle: &Handle<Self>, more: usize) -> Result<(), Refusal> {
             done(unsafe { reserve(handle.raw.get(), more) })
+        }
+        fn shrink_to(handle: &Handle<Self>, least: usize) -> Result<(), Refusal> {
+            done(unsafe { shrink_to(handle.raw.get(), least) })
         }
         fn clear(handle: &Handle<Self>) {
             sure(unsafe { clear(handle.raw.get()) });

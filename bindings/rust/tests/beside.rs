@@ -31,6 +31,11 @@ fn no_memory() {
     assert_eq!(NoMemory.to_string(), "no memory");
 }
 
+fn a_mib() -> Option<Vec<u8>> {
+    let mut it = Vec::new();
+    it.try_reserve_exact(1 << 20).is_ok().then_some(it)
+}
+
 /// The next test runs this one alone, with little memory.
 #[test]
 #[ignore]
@@ -43,6 +48,12 @@ fn starved() {
     assert_eq!((bimap.get_by_left(&len), bimap.get_by_right(&(len - 1))), (None, Some(len - 1)));
     assert_eq!(bimap.try_insert(0, 1), Ok(Overwritten::Both((0, 0), (1, 1))));
     assert_eq!(bimap.try_insert(len, len), Ok(Overwritten::Neither));
+    // No MiB is left then, and a map of one pair less needs more.
+    let _taken: Vec<_> = std::iter::from_fn(a_mib).collect();
+    let capacity = bimap.capacity();
+    bimap.remove_by_left(&len);
+    bimap.shrink_to_fit();
+    assert_eq!((bimap.capacity(), bimap.get_by_left(&0)), (capacity, Some(1)));
 }
 
 #[test]

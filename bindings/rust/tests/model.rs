@@ -173,7 +173,9 @@ fn beside<L: Value, R: Value, K: Seeded>(order: Order<L, R>, also: Also<L, R, K>
             }
         }
         if step % 20 == 0 {
-            map.shrink_to(chance(state, 20) as usize);
+            let (capacity, least) = (map.capacity(), chance(state, 20) as usize);
+            map.shrink_to(least);
+            assert_eq!(map.capacity(), capacity.min(least.max(map.len())));
             same_pairs(&map, &model, order);
             also(&map, state);
         }

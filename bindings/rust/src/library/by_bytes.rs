@@ -61,7 +61,7 @@ macro_rules! with_bytes {
         const _: () = {
             external! { $sides:
                 new(kind: u32, seed: u64); clone(copy: *mut Raw); equals(other: *mut Raw); free();
-                len(it: *mut usize); capacity(it: *mut usize); reserve(more: usize); clear();
+                len(it: *mut usize); capacity(it: *mut usize); reserve(more: usize); shrink_to(least: usize); clear();
                 insert_with(left: *const u8, left_len: usize, $($given: $type,)* left_refuses: u8, right_refuses: u8, kind: *mut u32);
                 get_by_left(left: *const u8, left_len: usize, $($out: $of),*);
                 get_by_right($($given: $type,)* buffer: *mut u8, size: usize, len: *mut usize);

@@ -31,7 +31,7 @@ pub struct U64U64;
 
 external! { "u64_u64":
     new(kind: u32, seed: u64); clone(copy: *mut Raw); equals(other: *mut Raw); free();
-    len(it: *mut usize); capacity(it: *mut usize); reserve(more: usize); clear();
+    len(it: *mut usize); capacity(it: *mut usize); reserve(more: usize); shrink_to(least: usize); clear();
     insert_with(left: u64, right: u64, left_refuses: u8, right_refuses: u8, told: *mut Answer);
     get_by_left(left: u64, right: *mut u64); get_by_right(right: u64, left: *mut u64);
     contains_left(left: u64); contains_right(right: u64);

@@ -1,8 +1,5 @@
 //! The memory of a map.
-use std::hash::RandomState;
-
 use super::*;
-use crate::kind::Seeded;
 
 impl<L: Side, R: Side, K: Kind> BijectiveMap<L, R, K> {
     /// Returns the capacity, which is the number of pairs for which there is memory.
@@ -49,7 +46,7 @@ impl<L: Side, R: Side, K: Kind> BijectiveMap<L, R, K> {
     }
 
     /// Makes the capacity `min_capacity`, or the number of pairs if there are more. If the capacity is not above that,
-    /// it does not change. The map is copied for this. If there is no memory for the copy, the map does not change.
+    /// it does not change. If there is no memory for the smaller map, nothing changes.
     ///
     /// ```
     /// let mut seats = jetukoma::BiMap::with_capacity(100);
@@ -58,22 +55,6 @@ impl<L: Side, R: Side, K: Kind> BijectiveMap<L, R, K> {
     /// assert!((10..100).contains(&seats.capacity()));
     /// ```
     pub fn shrink_to(&mut self, min_capacity: usize) {
-        let capacity = min_capacity.max(self.len());
-        if capacity < self.capacity()
-            && let Ok(copy) = self.copied(capacity)
-        {
-            *self = copy;
-        }
-    }
-
-    /// Returns a copy with this capacity.
-    fn copied(&self, capacity: usize) -> Result<Self, Refusal> {
-        let copy = Self::seeded(Hashed::<RandomState>::seed())?;
-        Library::reserve(&copy.handle, capacity)?;
-        let mut walk = self.walk();
-        while let Some((left, right)) = walk.next() {
-            Library::insert_with(&copy.handle, left.borrow(), right.borrow(), Policy::OVERWRITE)?;
-        }
-        Ok(copy)
+        let _ = Library::shrink_to(&self.handle, min_capacity);
     }
 }
