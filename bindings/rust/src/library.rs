@@ -58,8 +58,8 @@ pub type Found<B> = (Owned<<B as Library>::Left>, Owned<<B as Library>::Right>);
 type Told<B> = Overwritten<Owned<<B as Library>::Left>, Owned<<B as Library>::Right>>;
 type Asked<T> = Result<Option<T>, Refusal>;
 
-/// The calls on tables with one pair of sides. Three of them need an order: `left_rank`, `pop_first` and `pop_last`.
-/// The map has them only for kinds with this order.
+/// The calls on tables with one pair of sides. Those from `left_rank` to `to_back` need an order. The map has them only
+/// for kinds with this order.
 pub trait Library: Sized {
     type Left: ?Sized + Ord + ToOwned<Owned: Ord + Clone + Debug>;
     type Right: ?Sized + Ord + ToOwned<Owned: Ord + Clone + Debug>;
@@ -85,6 +85,8 @@ pub trait Library: Sized {
     fn left_rank(handle: &Handle<Self>, left: &Self::Left) -> Result<usize, Refusal>;
     fn pop_first(handle: &Handle<Self>) -> Option<Found<Self>>;
     fn pop_last(handle: &Handle<Self>) -> Option<Found<Self>>;
+    fn to_front(handle: &Handle<Self>, left: &Self::Left) -> Result<bool, Refusal>;
+    fn to_back(handle: &Handle<Self>, left: &Self::Left) -> Result<bool, Refusal>;
     /// Returns at most this many pairs, from the start-th pair on.
     fn row(handle: &Handle<Self>, start: usize, most: usize) -> Vec<Found<Self>>;
 }

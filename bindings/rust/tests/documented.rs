@@ -237,6 +237,7 @@ fn insertion_order() {
     assert_eq!((bimap.pop_first(), bimap.pop_last()), (Some((30, 4)), Some((40, 2))));
     assert_eq!((bimap.pop_last(), bimap.pop_first()), (Some((20, 3)), None));
     let mut bimap: BiInsertionOrderMap<String, u64> = [("b", 1), ("a", 2)].map(|(l, r)| (s(l), r)).into_iter().collect();
+    assert!(bimap.to_back("b") && bimap.to_front("b") && !bimap.to_front("c") && !bimap.to_back("c"));
     assert_eq!(bimap.pop_first(), Some((s("b"), 1)));
 }
 

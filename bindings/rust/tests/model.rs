@@ -2,7 +2,7 @@
 //! map, over several pairs of sides.
 use jetukoma::kind::{Hashed, InsertionOrder, Kind, Ordered, Seeded};
 use jetukoma::side::{Number, Side, check_ordered_side};
-use jetukoma::{BiBTreeMap, BijectiveMap, OnHeld, Overwritten, Policy};
+use jetukoma::{BiBTreeMap, BiInsertionOrderMap, BijectiveMap, OnHeld, Overwritten, Policy};
 use std::fmt::Debug;
 use std::hash::{BuildHasher, BuildHasherDefault, DefaultHasher};
 use std::ops::Bound;
@@ -138,7 +138,7 @@ fn same_pairs<L: Value, R: Value, K: Kind>(map: &BijectiveMap<L, R, K>, model: &
 }
 
 type Order<L, R> = fn(Vec<(L, R)>) -> Vec<(L, R)>;
-type Also<L, R, K> = fn(&BijectiveMap<L, R, K>, &mut u64);
+type Also<L, R, K> = fn(&mut BijectiveMap<L, R, K>, &mut Model<L, R>, &mut u64);
 
 /// Makes random calls on a map, and now and then compares all of it.
 fn beside<L: Value, R: Value, K: Seeded>(order: Order<L, R>, also: Also<L, R, K>) {
@@ -176,14 +176,14 @@ fn beside<L: Value, R: Value, K: Seeded>(order: Order<L, R>, also: Also<L, R, K>
             let (capacity, least) = (map.capacity(), chance(state, 20) as usize);
             map.shrink_to(least);
             assert_eq!(map.capacity(), capacity.min(least.max(map.len())));
+            also(&mut map, &mut model, state);
             same_pairs(&map, &model, order);
-            also(&map, state);
         }
     }
 }
 
 /// Compares what only an ordered map has: both ends, both orders, ranges, ranks, and the hash of a `BTreeMap`.
-fn also_ordered<L: Value, R: Value>(map: &BiBTreeMap<L, R>, state: &mut u64) {
+fn also_ordered<L: Value, R: Value>(map: &mut BiBTreeMap<L, R>, _: &mut Model<L, R>, state: &mut u64) {
     let pairs: Vec<_> = map.iter().collect();
     let by_rights = |mut pairs: Vec<(L, R)>| {
         pairs.sort_by(|one, other| one.1.cmp(&other.1));
@@ -215,6 +215,19 @@ fn also_ordered<L: Value, R: Value>(map: &BiBTreeMap<L, R>, state: &mut u64) {
     assert_eq!(hasher.hash_one(map), hasher.hash_one(tree));
 }
 
+/// Moves a pair to an end of the insertion order.
+fn also_in_insertion_order<L: Value, R: Value>(map: &mut BiInsertionOrderMap<L, R>, model: &mut Model<L, R>, state: &mut u64) {
+    let left = L::of(chance(state, 30));
+    let pair = model.remove(|it| it.0 == left);
+    if chance(state, 2) == 0 {
+        assert_eq!(map.to_front(&left), pair.is_some());
+        model.0.splice(0..0, pair);
+    } else {
+        assert_eq!(map.to_back(&left), pair.is_some());
+        model.0.extend(pair);
+    }
+}
+
 fn bound<T>(end: u64, it: &T) -> Bound<&T> {
     [Bound::Unbounded, Bound::Included(it), Bound::Excluded(it)][end as usize]
 }
@@ -238,12 +251,12 @@ macro_rules! over_sides {
 
             #[test]
             fn hashed() {
-                beside::<$L, $R, Hashed>(sorted, |_, _| ());
+                beside::<$L, $R, Hashed>(sorted, |_, _, _| ());
             }
 
             #[test]
             fn in_insertion_order() {
-                beside::<$L, $R, InsertionOrder>(|pairs| pairs, |_, _| ());
+                beside::<$L, $R, InsertionOrder>(|pairs| pairs, also_in_insertion_order);
             }
         }
     )* };

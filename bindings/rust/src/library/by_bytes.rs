@@ -70,6 +70,7 @@ macro_rules! with_bytes {
                 overwritten_left(index: usize, buffer: *mut u8, size: usize, len: *mut usize);
                 overwritten_right(index: usize, $($out: $of),*);
                 left_rank(left: *const u8, left_len: usize, it: *mut usize); pop_first(); pop_last();
+                to_front(left: *const u8, left_len: usize); to_back(left: *const u8, left_len: usize);
                 fill(start: usize, buffer: *mut u8, size: usize, rows: *mut Row, most: usize, len: *mut usize, filled: *mut usize);
             }
             /// Returns the pair that the last call overwrote or removed.
@@ -118,6 +119,12 @@ macro_rules! with_bytes {
                 }
                 fn pop_last(handle: &Handle<Self>) -> Option<Found<Self>> {
                     found(unsafe { pop_last(handle.raw.get()) }).ok()?.then(|| gone(handle, 0))
+                }
+                fn to_front(handle: &Handle<Self>, left: &[u8]) -> Result<bool, Refusal> {
+                    found(unsafe { to_front(handle.raw.get(), left.as_ptr(), left.len()) })
+                }
+                fn to_back(handle: &Handle<Self>, left: &[u8]) -> Result<bool, Refusal> {
+                    found(unsafe { to_back(handle.raw.get(), left.as_ptr(), left.len()) })
                 }
                 fn row(handle: &Handle<Self>, start: usize, most: usize) -> Vec<Found<Self>> {
                     let fill = |at, (buffer, rows, len, filled): Page| unsafe {

@@ -37,6 +37,7 @@ external! { "u64_u64":
     contains_left(left: u64); contains_right(right: u64);
     remove_by_left(left: u64, it: *mut Pair); remove_by_right(right: u64, it: *mut Pair);
     left_rank(left: u64, it: *mut usize); pop_first(it: *mut Pair); pop_last(it: *mut Pair);
+    to_front(left: u64); to_back(left: u64);
     fill(start: usize, row: *mut Pair, most: usize, filled: *mut usize);
 }
 
@@ -84,6 +85,12 @@ impl Library for U64U64 {
     }
     fn pop_last(handle: &Handle<Self>) -> Option<(u64, u64)> {
         pair(|it| unsafe { pop_last(handle.raw.get(), it) }).ok().flatten()
+    }
+    fn to_front(handle: &Handle<Self>, left: &u64) -> Result<bool, Refusal> {
+        found(unsafe { to_front(handle.raw.get(), *left) })
+    }
+    fn to_back(handle: &Handle<Self>, left: &u64) -> Result<bool, Refusal> {
+        found(unsafe { to_back(handle.raw.get(), *left) })
     }
     fn row(handle: &Handle<Self>, start: usize, most: usize) -> Vec<(u64, u64)> {
         let (mut row, mut filled) = (Vec::<Pair>::with_capacity(most), 0);

@@ -44,4 +44,32 @@ impl<L: Side, R: Side> BijectiveMap<L, R, InsertionOrder> {
     pub fn pop_last(&mut self) -> Option<(L, R)> {
         Library::pop_last(&self.handle).map(pair_of::<L, R>)
     }
+
+    /// Moves the pair of a left to the front of the insertion order. Returns whether the left is contained.
+    ///
+    /// ```
+    /// let mut seats = jetukoma::BiInsertionOrderMap::from_iter([('a', 1), ('b', 2), ('c', 3)]);
+    /// assert!(seats.to_front(&'c') && !seats.to_front(&'d'));
+    /// assert_eq!(seats.left_values().collect::<String>(), "cab");
+    /// ```
+    pub fn to_front<Q: Key<Form = L::Form> + ?Sized>(&mut self, left: &Q) -> bool
+    where
+        L: Borrow<Q>,
+    {
+        lend(left, |left| Library::to_front(&self.handle, left)).unwrap_or_else(ended)
+    }
+
+    /// Moves the pair of a left to the end of the insertion order. Returns whether the left is contained.
+    ///
+    /// ```
+    /// let mut seats = jetukoma::BiInsertionOrderMap::from_iter([('a', 1), ('b', 2), ('c', 3)]);
+    /// assert!(seats.to_back(&'a') && !seats.to_back(&'d'));
+    /// assert_eq!(seats.left_values().collect::<String>(), "bca");
+    /// ```
+    pub fn to_back<Q: Key<Form = L::Form> + ?Sized>(&mut self, left: &Q) -> bool
+    where
+        L: Borrow<Q>,
+    {
+        lend(left, |left| Library::to_back(&self.handle, left)).unwrap_or_else(ended)
+    }
 }
