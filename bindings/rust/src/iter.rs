@@ -12,10 +12,14 @@ use crate::kind::{Kind, Ordered};
 use crate::library::{Found, Handle, Library};
 use crate::side::{Side, Table, left_of, pair_of, right_of};
 
+/// A call that reads a row: [`Library::row`] or [`Library::row_by_right`].
+type Row<B> = fn(&Handle<B>, usize, usize) -> Vec<Found<B>>;
+
 /// The pairs of a table between two positions. Those in `front` come before these positions, and those in `back` after
 /// them.
 pub(crate) struct Walk<H, B: Library> {
     handle: H,
+    row: Row<B>,
     front: vec::IntoIter<Found<B>>,
     back: vec::IntoIter<Found<B>>,
     next: usize,
@@ -26,12 +30,13 @@ pub(crate) struct Walk<H, B: Library> {
 }
 
 impl<H: Borrow<Handle<B>>, B: Library> Walk<H, B> {
-    pub(crate) fn new<K: Kind>(handle: H, next: usize, end: usize) -> Self {
+    pub(crate) fn new<K: Kind>(handle: H, row: Row<B>, next: usize, end: usize) -> Self {
         let longest = if K::ORDERED { B::LONGEST } else { usize::MAX };
         let (front, back) = (Vec::new().into_iter(), Vec::new().into_iter());
         let long = 16;
         Walk {
             handle,
+            row,
             front,
             back,
             next,
@@ -41,23 +46,15 @@ impl<H: Borrow<Handle<B>>, B: Library> Walk<H, B> {
         }
     }
 
-    /// Gives pairs that were read already.
-    pub(crate) fn of(handle: H, pairs: Vec<Found<B>>) -> Self {
-        let front = pairs.into_iter();
-        Walk {
-            front,
-            ..Walk::new::<Ordered>(handle, 0, 0)
-        }
-    }
-
     /// Gives the same pairs by another handle of the table.
     fn by<G: Borrow<Handle<B>>>(&self, handle: G) -> Walk<G, B> {
-        let (front, back) = (self.front.clone(), self.back.clone());
+        let (row, front, back) = (self.row, self.front.clone(), self.back.clone());
         let Walk {
             next, end, long, longest, ..
         } = *self;
         Walk {
             handle,
+            row,
             front,
             back,
             next,
@@ -85,7 +82,7 @@ impl<H: Borrow<Handle<B>>, B: Library> Walk<H, B> {
                 return self.back.next();
             }
             let stride = self.stride();
-            self.front = B::row(self.handle.borrow(), self.next, stride).into_iter();
+            self.front = (self.row)(self.handle.borrow(), self.next, stride).into_iter();
             self.next += stride;
         }
         self.front.next()
@@ -99,7 +96,7 @@ impl<H: Borrow<Handle<B>>, B: Library> Walk<H, B> {
             }
             let stride = self.stride();
             self.end -= stride;
-            self.back = B::row(self.handle.borrow(), self.end, stride).into_iter();
+            self.back = (self.row)(self.handle.borrow(), self.end, stride).into_iter();
         }
         self.back.next_back()
     }

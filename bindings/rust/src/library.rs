@@ -1,7 +1,6 @@
 //! The calls of the C library, made safe. A `Handle` has a table from the time that it is made.
 use std::cell::UnsafeCell;
 use std::ffi::c_void;
-use std::fmt::Debug;
 use std::marker::PhantomData;
 use std::panic::RefUnwindSafe;
 use std::ptr::{self, null_mut};
@@ -58,11 +57,11 @@ pub type Found<B> = (Owned<<B as Library>::Left>, Owned<<B as Library>::Right>);
 type Told<B> = Overwritten<Owned<<B as Library>::Left>, Owned<<B as Library>::Right>>;
 type Asked<T> = Result<Option<T>, Refusal>;
 
-/// The calls on tables with one pair of sides. Those from `left_rank` to `to_back` need an order. The map has them only
-/// for kinds with this order.
+/// The calls on tables with one pair of sides. Those from `left_rank` to `row_by_right` need an order. The map has them
+/// only for kinds with this order.
 pub trait Library: Sized {
-    type Left: ?Sized + Ord + ToOwned<Owned: Ord + Clone + Debug>;
-    type Right: ?Sized + Ord + ToOwned<Owned: Ord + Clone + Debug>;
+    type Left: ?Sized + ToOwned<Owned: Clone>;
+    type Right: ?Sized + ToOwned<Owned: Clone>;
     /// The longest row to read from an ordered table. The others go from their first pair to the start of each row.
     const LONGEST: usize;
 
@@ -83,10 +82,13 @@ pub trait Library: Sized {
     fn remove_by_left(handle: &Handle<Self>, left: &Self::Left) -> Asked<Found<Self>>;
     fn remove_by_right(handle: &Handle<Self>, right: &Self::Right) -> Asked<Found<Self>>;
     fn left_rank(handle: &Handle<Self>, left: &Self::Left) -> Result<usize, Refusal>;
+    fn right_rank(handle: &Handle<Self>, right: &Self::Right) -> Result<usize, Refusal>;
     fn pop_first(handle: &Handle<Self>) -> Option<Found<Self>>;
     fn pop_last(handle: &Handle<Self>) -> Option<Found<Self>>;
     fn to_front(handle: &Handle<Self>, left: &Self::Left) -> Result<bool, Refusal>;
     fn to_back(handle: &Handle<Self>, left: &Self::Left) -> Result<bool, Refusal>;
+    /// Does what `row` does, in ascending order of the rights.
+    fn row_by_right(handle: &Handle<Self>, start: usize, most: usize) -> Vec<Found<Self>>;
     /// Returns at most this many pairs, from the start-th pair on.
     fn row(handle: &Handle<Self>, start: usize, most: usize) -> Vec<Found<Self>>;
 }

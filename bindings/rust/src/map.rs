@@ -327,7 +327,7 @@ impl<L: Side, R: Side, K: Kind> BijectiveMap<L, R, K> {
     }
 
     fn walk(&self) -> Walk<&Handle<Table<L, R>>, Table<L, R>> {
-        Walk::new::<K>(&self.handle, 0, self.len())
+        Walk::new::<K>(&self.handle, Library::row, 0, self.len())
     }
 
     /// Returns an iterator over the pairs. A [`BiBTreeMap`](crate::BiBTreeMap) has them in ascending order of their
@@ -352,16 +352,16 @@ impl<L: Side, R: Side, K: Kind> BijectiveMap<L, R, K> {
         LeftValues(self.walk(), PhantomData)
     }
 
-    /// Returns an iterator over the rights. A [`BiBTreeMap`](crate::BiBTreeMap) has them in ascending order, for which
-    /// it first copies and sorts its pairs. The other kinds have them in the order of [`iter`](Self::iter).
+    /// Returns an iterator over the rights. A [`BiBTreeMap`](crate::BiBTreeMap) has them in ascending order. The other
+    /// kinds have them in the order of [`iter`](Self::iter).
     ///
     /// ```
     /// let seats = jetukoma::BiBTreeMap::from_iter([('a', 2), ('b', 1)]);
     /// assert_eq!(seats.right_values().collect::<Vec<_>>(), [1, 2]);
     /// ```
     pub fn right_values(&self) -> RightValues<'_, L, R, K::Order> {
-        let walk = if K::ORDERED { self.by_rights(|_| true) } else { self.walk() };
-        RightValues(walk, PhantomData)
+        let row = if K::ORDERED { Library::row_by_right } else { Library::row };
+        RightValues(Walk::new::<K>(&self.handle, row, 0, self.len()), PhantomData)
     }
 
     /// Keeps the pairs for which `f` returns `true`. It calls `f` once for each pair, in the order of

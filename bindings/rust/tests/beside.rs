@@ -196,7 +196,11 @@ fn many_pairs() {
     let pairs: Vec<(u64, u64)> = (0..100_000).map(|it| (it * 7919 % 100_003, it)).collect();
     let mut ascending = pairs.clone();
     ascending.sort();
-    assert_eq!(BiBTreeMap::from_iter(pairs.clone()).into_iter().collect::<Vec<_>>(), ascending);
+    let ordered = BiBTreeMap::from_iter(pairs.clone());
+    assert!(ordered.right_values().eq(0..100_000) && ordered.right_values().rev().eq((0..100_000).rev()));
+    let (range, within) = (ordered.right_range(5000..70_000), &pairs[5000..70_000]);
+    assert!(range.clone().eq(within.iter().copied()) && range.rev().eq(within.iter().rev().copied()));
+    assert_eq!(ordered.into_iter().collect::<Vec<_>>(), ascending);
     let mut walked: Vec<_> = BiMap::from_iter(pairs).into_iter().collect();
     walked.sort();
     assert_eq!(walked, ascending);
@@ -211,7 +215,13 @@ fn many_bytes() {
     let (mut ascending, mut both_ascending) = (pairs.clone(), both.clone());
     ascending.sort();
     both_ascending.sort();
-    assert_eq!(BiBTreeMap::from_iter(pairs.clone()).into_iter().collect::<Vec<_>>(), ascending);
+    let (ordered, mut by_rights) = (BiBTreeMap::from_iter(both.clone()), both.clone());
+    by_rights.sort_by(|one, other| one.1.cmp(&other.1));
+    assert!(ordered.right_range::<[u8], _>(..).eq(by_rights.iter().cloned()));
+    assert!(ordered.right_values().rev().eq(by_rights.into_iter().rev().map(|it| it.1)));
+    let ordered = BiBTreeMap::from_iter(pairs.clone());
+    assert!(ordered.right_range(..).rev().eq(pairs.iter().rev().cloned()));
+    assert_eq!(ordered.into_iter().collect::<Vec<_>>(), ascending);
     assert_eq!(BiInsertionOrderMap::from_iter(pairs.clone()).into_iter().collect::<Vec<_>>(), pairs);
     assert_eq!(BiInsertionOrderMap::from_iter(both.clone()).into_iter().collect::<Vec<_>>(), both);
     let mut hashed: Vec<_> = BiMap::from_iter(pairs).into_iter().collect();

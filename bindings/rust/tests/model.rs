@@ -195,6 +195,7 @@ fn also_ordered<L: Value, R: Value>(map: &mut BiBTreeMap<L, R>, _: &mut Model<L,
     assert_eq!(from_both_ends(map.right_values(), state), sorted(map.right_values().collect()));
     let (lefts, rights): ([L; 2], [R; 2]) = ([0; 2].map(|_| L::of(chance(state, 30))), [0; 2].map(|_| R::of(chance(state, 30))));
     assert_eq!(map.left_rank(&lefts[0]), pairs.iter().filter(|it| it.0 < lefts[0]).count());
+    assert_eq!(map.right_rank(&rights[0]), pairs.iter().filter(|it| it.1 < rights[0]).count());
     let ends = [chance(state, 3), chance(state, 3)];
     let bounds = (bound(ends[0], &lefts[0]), bound(ends[1], &lefts[1]));
     let within: Vec<_> = pairs

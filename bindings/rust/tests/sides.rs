@@ -184,6 +184,7 @@ fn borrowed_forms() {
         (Some(Name("b".into())), false)
     );
     assert_eq!(map.left_range::<str, _>((Excluded("a"), Included("b"))).count(), 1);
+    assert_eq!((map.left_rank("b"), map.right_rank(&[9][..])), (1, 2));
     let below_five = (Unbounded, Excluded(&[5][..]));
     assert_eq!(
         map.right_range::<[u8], _>(below_five).map(|it| it.1).collect::<Vec<_>>(),

@@ -9,16 +9,26 @@ struct Row {
     right: u64,
 }
 
-/// The bytes, the rows, and where the library writes how many of each it wrote.
-type Page<'a> = (&'a mut [u8], &'a mut [Row], &'a mut usize, &'a mut usize);
+/// A call that writes rows from a position on, and how many bytes and rows it wrote.
+type Fill = unsafe extern "C" fn(
+    handle: *mut Raw,
+    start: usize,
+    buffer: *mut u8,
+    size: usize,
+    rows: *mut Row,
+    most: usize,
+    len: *mut usize,
+    filled: *mut usize,
+) -> u32;
 
 /// Reads rows until there are this many pairs or no more. `right` reads a right from a row and the bytes that follow.
-fn rows<R>(start: usize, most: usize, fill: impl Fn(usize, Page) -> u32, right: fn(&mut &[u8], u64) -> R) -> Vec<(Vec<u8>, R)> {
+fn pairs<B: Library, R>(handle: &Handle<B>, fill: Fill, start: usize, most: usize, right: fn(&mut &[u8], u64) -> R) -> Vec<(Vec<u8>, R)> {
     let (mut pairs, mut rows) = (Vec::with_capacity(most), vec![Row::default(); most]);
     let mut buffer = vec![0; most.saturating_mul(32)];
     while pairs.len() < most {
         let (mut len, mut filled, wanted) = (0, 0, most - pairs.len());
-        let status = fill(start + pairs.len(), (&mut buffer, &mut rows[..wanted], &mut len, &mut filled));
+        let (at, raw, size) = (start + pairs.len(), handle.raw.get(), buffer.len());
+        let status = unsafe { fill(raw, at, buffer.as_mut_ptr(), size, rows.as_mut_ptr(), wanted, &mut len, &mut filled) };
         if status == BUFFER_TOO_SHORT {
             buffer = vec![0; len.max(buffer.len() * 2)];
             continue;
@@ -69,9 +79,10 @@ macro_rules! with_bytes {
                 remove_by_left(left: *const u8, left_len: usize); remove_by_right($($given: $type),*);
                 overwritten_left(index: usize, buffer: *mut u8, size: usize, len: *mut usize);
                 overwritten_right(index: usize, $($out: $of),*);
-                left_rank(left: *const u8, left_len: usize, it: *mut usize); pop_first(); pop_last();
-                to_front(left: *const u8, left_len: usize); to_back(left: *const u8, left_len: usize);
+                left_rank(left: *const u8, left_len: usize, it: *mut usize); right_rank($($given: $type,)* it: *mut usize);
+                pop_first(); pop_last(); to_front(left: *const u8, left_len: usize); to_back(left: *const u8, left_len: usize);
                 fill(start: usize, buffer: *mut u8, size: usize, rows: *mut Row, most: usize, len: *mut usize, filled: *mut usize);
+                fill_by_right(start: usize, buffer: *mut u8, size: usize, rows: *mut Row, most: usize, len: *mut usize, filled: *mut usize);
             }
             /// Returns the pair that the last call overwrote or removed.
             fn gone(handle: &Handle<$name>, index: usize) -> Found<$name> {
@@ -114,6 +125,9 @@ macro_rules! with_bytes {
                 fn left_rank(handle: &Handle<Self>, left: &[u8]) -> Result<usize, Refusal> {
                     size(|it| unsafe { left_rank(handle.raw.get(), left.as_ptr(), left.len(), it) })
                 }
+                fn right_rank(handle: &Handle<Self>, $right: &$Right) -> Result<usize, Refusal> {
+                    size(|it| unsafe { right_rank(handle.raw.get(), $($arg,)* it) })
+                }
                 fn pop_first(handle: &Handle<Self>) -> Option<Found<Self>> {
                     found(unsafe { pop_first(handle.raw.get()) }).ok()?.then(|| gone(handle, 0))
                 }
@@ -126,11 +140,11 @@ macro_rules! with_bytes {
                 fn to_back(handle: &Handle<Self>, left: &[u8]) -> Result<bool, Refusal> {
                     found(unsafe { to_back(handle.raw.get(), left.as_ptr(), left.len()) })
                 }
+                fn row_by_right(handle: &Handle<Self>, start: usize, most: usize) -> Vec<Found<Self>> {
+                    pairs(handle, fill_by_right, start, most, $in_row)
+                }
                 fn row(handle: &Handle<Self>, start: usize, most: usize) -> Vec<Found<Self>> {
-                    let fill = |at, (buffer, rows, len, filled): Page| unsafe {
-                        fill(handle.raw.get(), at, buffer.as_mut_ptr(), buffer.len(), rows.as_mut_ptr(), rows.len(), len, filled)
-                    };
-                    rows(start, most, fill, $in_row)
+                    pairs(handle, fill, start, most, $in_row)
                 }
             }
         };

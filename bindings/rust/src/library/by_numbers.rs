@@ -27,6 +27,17 @@ fn pair(call: impl FnOnce(*mut Pair) -> u32) -> Asked<(u64, u64)> {
     Ok(found(call(&mut it))?.then_some(it.parts()))
 }
 
+/// A call that writes pairs from a position on.
+type Fill = unsafe extern "C" fn(handle: *mut Raw, start: usize, row: *mut Pair, most: usize, filled: *mut usize) -> u32;
+
+fn pairs(handle: &Handle<U64U64>, fill: Fill, start: usize, most: usize) -> Vec<(u64, u64)> {
+    let (mut row, mut filled) = (Vec::<Pair>::with_capacity(most), 0);
+    sure(unsafe { fill(handle.raw.get(), start, row.as_mut_ptr(), most, &mut filled) });
+    // SAFETY: the library has written this many pairs, and there is room for `most`.
+    unsafe { row.set_len(filled) };
+    row.into_iter().map(Pair::parts).collect()
+}
+
 pub struct U64U64;
 
 external! { "u64_u64":
@@ -36,9 +47,10 @@ external! { "u64_u64":
     get_by_left(left: u64, right: *mut u64); get_by_right(right: u64, left: *mut u64);
     contains_left(left: u64); contains_right(right: u64);
     remove_by_left(left: u64, it: *mut Pair); remove_by_right(right: u64, it: *mut Pair);
-    left_rank(left: u64, it: *mut usize); pop_first(it: *mut Pair); pop_last(it: *mut Pair);
-    to_front(left: u64); to_back(left: u64);
+    left_rank(left: u64, it: *mut usize); right_rank(right: u64, it: *mut usize);
+    pop_first(it: *mut Pair); pop_last(it: *mut Pair); to_front(left: u64); to_back(left: u64);
     fill(start: usize, row: *mut Pair, most: usize, filled: *mut usize);
+    fill_by_right(start: usize, row: *mut Pair, most: usize, filled: *mut usize);
 }
 
 impl Library for U64U64 {
@@ -80,6 +92,9 @@ impl Library for U64U64 {
     fn left_rank(handle: &Handle<Self>, left: &u64) -> Result<usize, Refusal> {
         size(|it| unsafe { left_rank(handle.raw.get(), *left, it) })
     }
+    fn right_rank(handle: &Handle<Self>, right: &u64) -> Result<usize, Refusal> {
+        size(|it| unsafe { right_rank(handle.raw.get(), *right, it) })
+    }
     fn pop_first(handle: &Handle<Self>) -> Option<(u64, u64)> {
         pair(|it| unsafe { pop_first(handle.raw.get(), it) }).ok().flatten()
     }
@@ -92,11 +107,10 @@ impl Library for U64U64 {
     fn to_back(handle: &Handle<Self>, left: &u64) -> Result<bool, Refusal> {
         found(unsafe { to_back(handle.raw.get(), *left) })
     }
+    fn row_by_right(handle: &Handle<Self>, start: usize, most: usize) -> Vec<(u64, u64)> {
+        pairs(handle, fill_by_right, start, most)
+    }
     fn row(handle: &Handle<Self>, start: usize, most: usize) -> Vec<(u64, u64)> {
-        let (mut row, mut filled) = (Vec::<Pair>::with_capacity(most), 0);
-        sure(unsafe { fill(handle.raw.get(), start, row.as_mut_ptr(), most, &mut filled) });
-        // SAFETY: the library has written this many pairs, and there is room for `most`.
-        unsafe { row.set_len(filled) };
-        row.into_iter().map(Pair::parts).collect()
+        pairs(handle, fill, start, most)
     }
 }

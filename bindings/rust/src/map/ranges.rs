@@ -4,19 +4,21 @@ use std::ops::{Bound, RangeBounds};
 use super::*;
 use crate::btree::{LeftRange, RightRange};
 use crate::kind::Ordered;
-use crate::library::Owned;
 
-impl<L: Side, R: Side, K: Kind> BijectiveMap<L, R, K> {
-    /// Gives the pairs whose rights pass a test, in ascending order of their rights.
-    pub(super) fn by_rights(
-        &self,
-        test: impl Fn(&Owned<<Table<L, R> as Library>::Right>) -> bool,
-    ) -> Walk<&Handle<Table<L, R>>, Table<L, R>> {
-        let mut pairs: Vec<_> = Library::row(&self.handle, 0, self.len());
-        pairs.retain(|(_, right)| test(right));
-        pairs.sort_unstable_by(|(_, one), (_, other)| one.cmp(other));
-        Walk::of(&self.handle, pairs)
-    }
+/// Returns the positions between which the values are within the bounds. There are `len` values. `below` returns how
+/// many of them are less than a value, and if its flag says so, it counts this value too.
+fn within<T: ?Sized>(range: impl RangeBounds<T>, len: usize, below: impl Fn(&T, bool) -> usize) -> (usize, usize) {
+    let start = match range.start_bound() {
+        Bound::Included(it) => below(it, false),
+        Bound::Excluded(it) => below(it, true),
+        Bound::Unbounded => 0,
+    };
+    let end = match range.end_bound() {
+        Bound::Included(it) => below(it, true),
+        Bound::Excluded(it) => below(it, false),
+        Bound::Unbounded => len,
+    };
+    (start, end.max(start))
 }
 
 impl<L: Side, R: Side> BijectiveMap<L, R, Ordered> {
@@ -33,6 +35,19 @@ impl<L: Side, R: Side> BijectiveMap<L, R, Ordered> {
         lend(left, |left| Library::left_rank(&self.handle, left)).unwrap_or_else(ended)
     }
 
+    /// Returns how many rights are less than this one, which need not be contained.
+    ///
+    /// ```
+    /// let seats = jetukoma::BiBTreeMap::from_iter([('a', 20), ('b', 10)]);
+    /// assert_eq!([9, 10, 11, 21].map(|right| seats.right_rank(&right)), [0, 0, 1, 2]);
+    /// ```
+    pub fn right_rank<Q: Key<Form = R::Form> + ?Sized>(&self, right: &Q) -> usize
+    where
+        R: Borrow<Q>,
+    {
+        lend(right, |right| Library::right_rank(&self.handle, right)).unwrap_or_else(ended)
+    }
+
     /// Returns an iterator over the pairs whose left is within the bounds, in ascending order of their lefts. If the
     /// bounds run backwards, there are none.
     ///
@@ -47,22 +62,13 @@ impl<L: Side, R: Side> BijectiveMap<L, R, Ordered> {
         A: RangeBounds<T>,
         T: Key<Form = L::Form> + ?Sized,
     {
-        let below = |left: &T, and_itself: bool| self.left_rank(left) + usize::from(and_itself && self.contains_left(left));
-        let start = match range.start_bound() {
-            Bound::Included(left) => below(left, false),
-            Bound::Excluded(left) => below(left, true),
-            Bound::Unbounded => 0,
-        };
-        let end = match range.end_bound() {
-            Bound::Included(left) => below(left, true),
-            Bound::Excluded(left) => below(left, false),
-            Bound::Unbounded => self.len(),
-        };
-        Iter(Walk::new::<Ordered>(&self.handle, start, end.max(start)), PhantomData)
+        let below = |left: &T, and_itself| self.left_rank(left) + usize::from(and_itself && self.contains_left(left));
+        let (start, end) = within(range, self.len(), below);
+        Iter(Walk::new::<Ordered>(&self.handle, Library::row, start, end), PhantomData)
     }
 
     /// Returns an iterator over the pairs whose right is within the bounds, in ascending order of their rights. If the
-    /// bounds run backwards, there are none. The map first copies all pairs, and sorts those within the bounds.
+    /// bounds run backwards, there are none.
     ///
     /// ```
     /// let seats = jetukoma::BiBTreeMap::from_iter([('a', 4), ('b', 3), ('c', 2), ('d', 1)]);
@@ -74,8 +80,8 @@ impl<L: Side, R: Side> BijectiveMap<L, R, Ordered> {
         A: RangeBounds<T>,
         T: Key<Form = R::Form> + ?Sized,
     {
-        let own = |bound: Bound<&T>| bound.map(|it| lend(it, <Table<L, R> as Library>::Right::to_owned));
-        let bounds = (own(range.start_bound()), own(range.end_bound()));
-        Iter(self.by_rights(|right| bounds.contains(right)), PhantomData)
+        let below = |right: &T, and_itself| self.right_rank(right) + usize::from(and_itself && self.contains_right(right));
+        let (start, end) = within(range, self.len(), below);
+        Iter(Walk::new::<Ordered>(&self.handle, Library::row_by_right, start, end), PhantomData)
     }
 }

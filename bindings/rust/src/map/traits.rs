@@ -101,6 +101,6 @@ impl<L: Side, R: Side, K: Kind> IntoIterator for BijectiveMap<L, R, K> {
 
     fn into_iter(self) -> Self::IntoIter {
         let len = self.len();
-        IntoIter(Walk::new::<K>(self.handle, 0, len), PhantomData)
+        IntoIter(Walk::new::<K>(self.handle, Library::row, 0, len), PhantomData)
     }
 }
