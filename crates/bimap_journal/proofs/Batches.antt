@@ -27,11 +27,11 @@ use Rattle.bimap_journal.proofs.Kept.{kept_more}
 use Rattle.bimap_journal.proofs.Steps.{same_kept}
 
 -- A test of keys that do not exist is like any other.
-pub any_test : {P : Type 0} (test other : Infallible → P → Bool → Type 0) → test ≡ other
-any_test {P} test other = λ i key. same key i
+pub any_test : {K P : Type 0} → (K → ⊥) → (test other : K → P → Bool → Type 0) → test ≡ other
+any_test {K} none test other = λ i key. same key i
   where
-    same : (key : Infallible) → test key ≡ other key
-    same key = elim key [ ]
+    same : (key : K) → test key ≡ other key
+    same key = absurd (none key)
 
 -- What stands at a place of three lists.
 pub record IsAt {A B C : Type 0} (P : A → B → Type 0) (calls : List A) (lines : List B) (replies : List C) (i : ℕ) : Type 0 where

@@ -3,6 +3,7 @@ ghost use Rattle.std.specs.Prelude.{◌≡◌, ◌≤◌, ◌+◌, ◌++◌, ◌
 ghost use Rattle.std.specs.List.{AllZip, zip};
 ghost use Rattle.std.specs.Vec.{vec_capacity};
 ghost use Rattle.std.specs.declared.convert.Infallible.{Infallible};
+ghost use Rattle.bimap.specs.History.{IsHistory};
 ghost use Rattle.bimap.specs.Holding.{Holding};
 ghost use Rattle.bimap.specs.declared.call.Call.{Call};
 ghost use Rattle.bimap_journal.specs.Batches.{has_changed as is_change, space, IsRun, IsLineOfCall, IsRecorded};
@@ -90,6 +91,22 @@ pub fn prepare<L: Stored + Drop, R: Stored + Drop>(
     Ok((lines, group))
 }
 
+// Performs calls in order. If the type of the keys has no value, no call is a `Retain`. The function is over any such
+// type, since nobody could call a closure that takes an `Infallible`.
+fn run_all<L: Stored + Drop, R: Stored + Drop, K: Drop, B: Bijection<L, R>>(
+    alloc: Global,
+    map: &mut B,
+    calls: Vec<Call<L, R, K>>,
+) -> Result<Vec<Reply<L, R>>, RunRefused<L, R, K>>
+    ensures one_each { IfOk result (λ replies. vec_len replies ≡ vec_len calls) }
+    ensures ran { IfOk result (λ replies. (K → ⊥) → IsHistory L.eq R.eq (λ key pair kept. ⊥)
+        (B.holding map.old) (zip calls.items replies.items) (B.holding map.new)) }
+    ensures handed_back { IfErr result (λ e. e.calls.items ≡ calls.items) }
+    ensures unchanged { OnErr result (B.holding map.new ≡ B.holding map.old) }
+{
+    run(alloc, map, calls, |_: &K, _: &L, _: &R| true)
+}
+
 /// Performs the calls in order, as `run` does.
 pub fn perform_all<L: Stored + Drop, R: Stored + Drop, B: Bijection<L, R>>(
     alloc: Global,
@@ -101,12 +118,7 @@ pub fn perform_all<L: Stored + Drop, R: Stored + Drop, B: Bijection<L, R>>(
     ensures handed_back { IfErr result (λ e. e.calls.items ≡ calls.items) }
     ensures unchanged { OnErr result (B.holding map.new ≡ B.holding map.old) }
 {
-    run(
-        alloc,
-        map,
-        calls,
-        |key: &Infallible, _: &L, _: &R| -> bool { match *key {} },
-    )
+    run_all(alloc, map, calls)
 }
 
 // Appends a line to a group. It does not allocate.
