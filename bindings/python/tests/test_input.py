@@ -194,13 +194,13 @@ class Signals(unittest.TestCase):
         def interrupt(*_):
             raise KeyboardInterrupt
 
-        before = signal.signal(signal.SIGALRM, interrupt)
+        before = signal.signal(signal.SIGVTALRM, interrupt)
         for kind in KINDS:
             it = kind({-1: -1})
-            signal.setitimer(signal.ITIMER_REAL, 0.01)
+            signal.setitimer(signal.ITIMER_VIRTUAL, 0.01)
             self.assertRaises(KeyboardInterrupt, it.putall, zip(range(1500000), range(1500000)))
             self.assertEqual(it, {-1: -1})
-        signal.signal(signal.SIGALRM, before)
+        signal.signal(signal.SIGVTALRM, before)
 
 
 class Retain(unittest.TestCase):
