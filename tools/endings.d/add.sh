@@ -21,11 +21,11 @@ added() {
     adds "no repository" 1 "tools/add: $user is no repository: it has neither a crates.txt nor a .git. Run \`git init\` there first" "$user"
     printf 'mine: bimap' >"$user/crates.txt" && chmod 640 "$user/crates.txt"
     adds "added" 0 "$ends \`myprogram: bimap_undo\`." "$user" --undo
-    adds "added with a journal" 0 "$ends \`myprogram: bimap_undo bimap_journal\`." "$user" --undo --journal
+    adds "added with all" 0 "$ends \`myprogram: bimap_undo bimap_dynamic bimap_journal\`." "$user" --journal --undo --dynamic
     adds "added again" 0 "$ends \`myprogram: bimap\`." "$user"
     # The file keeps its mode and the line that was there.
     printf %s "$(grep -c '^bimap' "$user/crates.txt") $(stat -c %a "$user/crates.txt") $(tail -n 1 "$user/crates.txt")" >"$room/out"
-    check "the lines of crates.txt" 0 "12 640 mine: bimap" ""
+    check "the lines of crates.txt" 0 "13 640 mine: bimap" ""
     (cd "$user" && sum=$(find . -type f -exec cksum {} + | sort) && echo >>crates/bimap/src/lib.rt && printf %s "$sum" >"$room/sum")
     adds "a crate that was changed" 1 "tools/add: $user/crates/bimap was changed after it was added: move your changes away, or remove the folder, first" "$user"
     truncate -s -1 "$user/crates/bimap/src/lib.rt"
