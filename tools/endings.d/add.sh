@@ -20,8 +20,8 @@ added() {
     adds "no folder" 1 "tools/add: $room/none is no folder" "$room/none"
     adds "no repository" 1 "tools/add: $user is no repository: it has neither a crates.txt nor a .git. Run \`git init\` there first" "$user"
     printf 'mine: bimap' >"$user/crates.txt" && chmod 640 "$user/crates.txt"
-    adds "added" 0 "$ends \`myprogram: bimap_undo\`." "$user" --undo
-    adds "added with all" 0 "$ends \`myprogram: bimap_undo bimap_dynamic bimap_journal\`." "$user" --journal --undo --dynamic
+    adds "added" 0 "$ends \`myprogram: bimap bimap_undo\`." "$user" --undo
+    adds "added with all" 0 "$ends \`myprogram: bimap bimap_undo bimap_dynamic bimap_journal\`." "$user" --journal --undo --dynamic
     adds "added again" 0 "$ends \`myprogram: bimap\`." "$user"
     # The file keeps its mode and the line that was there.
     printf %s "$(grep -c '^bimap' "$user/crates.txt") $(stat -c %a "$user/crates.txt") $(tail -n 1 "$user/crates.txt")" >"$room/out"
