@@ -7,18 +7,21 @@ from glob import glob
 MAPS = {"BiHashMap": ["HashIndex", "HashIndex"], "BiBTreeHashMap": ["Ordered", "HashIndex"], "BiHashBTreeMap": ["HashIndex", "Ordered"],
         "BiInsertionOrderMap": ["HashIndex", "HashIndex"]}
 #    Where calls are: the types and traits that have them, and the files.
-OWNERS = ["BijectiveMap", *MAPS, "Seeded", "Bijection", "Interning", "Inverse", "JsonObject", "JsonKey", "JsonValue", "Undoable", "CopyLeft", "Overwritten", "OnHeld"]
-SOURCES = ["crates/bimap_kinds/src/*.rt", "crates/bimap_any/src/*.rt", "crates/bimap_base/src/*.rt", "crates/bimap/src/**/*.rt", "crates/bimap_undo/src/*.rt"]
+OWNERS = ["BijectiveMap", *MAPS, "Seeded", "Bijection", "Interning", "Inverse", "JsonObject", "JsonKey", "JsonValue", "Undoable", "CopyLeft", "Journaled", "File", "Overwritten", "OnHeld"]
+SOURCES = ["crates/bimap_kinds/src/*.rt", "crates/bimap_any/src/*.rt", "crates/bimap_base/src/*.rt", "crates/bimap/src/**/*.rt", "crates/bimap_undo/src/*.rt",
+           "crates/bimap_journal/src/journaled.rt", "crates/bimap_journal/src/journaled/*.rt", "crates/bimap_journal/src/file.rt"]
 #    Traits of these names that no caller names: the numbers of JSON.
 WITHOUT_CALLS = ["crates/bimap/src/value/numbers.rt"]
 #    What the crates give out, module by module.
 MODULES = {"bimap": "crates/bimap/src/lib.rt", "bimap::btree": "crates/bimap/src/btree.rt", "bimap::hash": "crates/bimap/src/hash.rt",
-           "bimap::insertion_order": "crates/bimap/src/insertion_order.rt", "bimap::value": "crates/bimap/src/value.rt", "bimap_undo": "crates/bimap_undo/src/lib.rt"}
+           "bimap::insertion_order": "crates/bimap/src/insertion_order.rt", "bimap::value": "crates/bimap/src/value.rt", "bimap_undo": "crates/bimap_undo/src/lib.rt",
+           "bimap_journal": "crates/bimap_journal/src/lib.rt", "bimap_dynamic": "crates/bimap_dynamic/src/lib.rt"}
 #    The types that calls return or take, in the order of the page.
 TYPES = ["crates/bimap_base/src/overwritten.rt", "crates/bimap_base/src/policy.rt", "crates/bimap_base/src/refusal.rt", "crates/bimap_kinds/src/seeded.rt",
          "crates/bimap/src/call.rt",
          "crates/bimap/src/undone.rt", "crates/bimap/src/value/object.rt", "crates/bimap/src/value/pairs.rt", "crates/bimap/src/value/sides.rt",
-         "crates/bimap_undo/src/entry.rt", "crates/bimap_undo/src/refusal.rt", "crates/bimap_undo/src/operations.rt"]
+         "crates/bimap_undo/src/entry.rt", "crates/bimap_undo/src/refusal.rt", "crates/bimap_undo/src/operations.rt",
+         "crates/bimap_journal/src/fault.rt", "crates/bimap_journal/src/file.rt", "crates/bimap_dynamic/src/any_of.rt"]
 #    What is not named in brackets: all types of values have these, and an index is what a map's name says.
 ALWAYS = {"Eq", "Drop", "Sized", "BuildHasher", "Index", "WalkedIndex", "EmptyIndex", "DefaultIndex", "CompactedIndex", "Bijection"}
 OF_SIDES = {"Ordered": ("an ordered left", "an ordered right"), "HashIndex": ("`BiHashMap`, `BiHashBTreeMap`", "a hashed right"), "InsertionOrder": ("`BiInsertionOrderMap`", "")}

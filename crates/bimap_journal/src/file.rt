@@ -130,8 +130,8 @@ impl File {
     ///
     /// Memory: It allocates for the path.
     ///
-    /// `Err`: [`FileError`] says why. The content of the file has not changed. If the file was missing, it may be there
-    /// now, and is empty.
+    /// `Err`: [`FileError`] says why, and the content of the file has not changed. If the file was missing, it may be
+    /// there now, and is empty.
     pub fn open(rt: &HostRuntime, path: &str) -> Result<File, FileError> {
         match fs::metadata(rt, path) {
             Ok(found) => check(&found)?,

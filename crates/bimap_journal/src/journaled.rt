@@ -317,7 +317,13 @@ impl<B: Bijection<L, R> + Drop, L: Stored + Drop, R: Stored + Drop, S: Storage +
     ///
     /// It calls [`Progress::at`] before the first line, and again after each 10,000 lines.
     ///
-    /// Condition, time, memory and `Err`: Those of `open`.
+    /// Condition: `empty` contains no pair.
+    ///
+    /// Time: That of `open`.
+    ///
+    /// Memory: It allocates as `open` does.
+    ///
+    /// `Err`: [`NotOpened`] says why, and the file is handed back. It has the same lines as before.
     pub fn open_with<P: Progress>(
         alloc: Global,
         empty: B,

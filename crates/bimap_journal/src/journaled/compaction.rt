@@ -68,7 +68,7 @@ impl<
     ///
     /// Memory: It allocates the content of the new file.
     ///
-    /// `Err`: The file may still be the old one. The map has not changed. [`NotStored`] says why.
+    /// `Err`: The map has not changed, and the file may still be the old one. [`NotStored`] says why.
     pub fn compact(&mut self) -> Result<(), NotStored<(), ()>>
         ensures unchanged { self.new.held ≡ self.old.held }
         ensures listed { OnOk result (IsListOf L.eq R.eq L.reads R.reads (self.new.held).pairs

@@ -161,13 +161,12 @@ impl<B: Bijection<L, R> + Drop, L: Stored + Drop, R: Stored + Drop, S: Storage +
     /// Performs the calls in order, as `run` does, and stores their changes as one group.
     ///
     /// After a crash the file has the changes of all calls, or of none. It has a line for each call that changed the
-    /// map. A call that was refused, or that removed nothing, has no line. `Infallible` has no value, so no call is a
-    /// `Retain`.
+    /// map. A call that was refused, or that removed nothing, has no line. A call that runs out of memory replies
+    /// `NoRoom`, and the next one follows. `Infallible` has no value, so no call is a `Retain`.
     ///
     /// Time: That of the calls, and two syncs if they change the map.
     ///
     /// Memory: It allocates the lines and the replies before it changes the map, and then as the calls of the map do.
-    /// A call that runs out of memory replies `NoRoom`, and the next one follows.
     ///
     /// `Err`: The changes are not known to be in the file. [`NotStored`] says why.
     pub fn apply(
