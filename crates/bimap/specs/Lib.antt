@@ -1,6 +1,7 @@
 pub use Rattle.bimap_base.specs.Sets
 pub use Rattle.bimap_base.specs.Answer
 pub use Rattle.bimap_base.specs.Holding
+pub use Rattle.bimap_base.specs.QueryLaws
 pub use Rattle.bimap_any.specs.InterningByRight
 pub use Rattle.bimap_base.specs.Kept
 pub use Rattle.bimap_kinds.specs.Extraction

@@ -15,10 +15,11 @@ pub use bimap_any::{
     swap_partners,
 };
 pub use bimap_base::{
-    ExtendStopped, ItemRefused, NoMemory, NoRoom, NotInserted, NotInsertedWith, NotInverted,
-    NotReplaced, NotSwapped, OnHeld, OrderQuery, Overwritten, Policy, Query, UndoStopped,
+    ExtendStopped, HashQuery, ItemRefused, NoMemory, NoRoom, NotInserted, NotInsertedWith,
+    NotInverted, NotReplaced, NotSwapped, OnHeld, OrderQuery, Overwritten, Policy, Query,
+    UndoStopped,
 };
-pub use bimap_index::{Index, Lookup};
+pub use bimap_index::{By, Index, Lookup};
 pub use bimap_kinds::{
     BiBTreeHashMap, BiBTreeMap, BiHashBTreeMap, BiHashMap, BiInsertionOrderMap, BijectiveMap,
     Seeded, WalkedIndex,

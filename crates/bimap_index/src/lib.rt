@@ -5,6 +5,7 @@
 #![tactic(auto)]
 
 mod borrowed;
+mod by;
 mod constructors;
 mod hash_index;
 mod index;
@@ -12,6 +13,7 @@ mod insertion_order;
 mod lookup;
 mod ordered;
 
+pub use by::By;
 pub use constructors::{CompactedIndex, CopiedIndex, DefaultIndex, EmptyIndex};
 pub use hash_index::HashIndex;
 pub use index::Index;

@@ -1,16 +1,25 @@
 //! The examples of docs/GUIDE.md: the whole program in `main`, and one function for each other section.
 #![tactic(auto)]
 
+ghost use Rattle.std.proofs.Common.{ap, sym};
+ghost use Rattle.std.specs.Cmp.Lexicographic.{nat_list_eq_equiv, nat_list_cmp_total, slice_cmp, texts_ties, bytes_decides};
+ghost use Rattle.std.specs.Hash as fed;
+ghost use Rattle.std.specs.Ordering.{nat_cmp};
+ghost use Rattle.std.specs.Str.{bytes_eq};
+ghost use Rattle.std.specs.String.{string_bytes};
+ghost use Rattle.bimap.specs.QueryLaws.{respects_equal, follows_itself};
+
 use anyhow::Result;
 use bimap::BiBTreeMap;
 
 // For the other sections.
 use bimap::value::{JsonObject, Value, read_pairs, read_text_with, write_pairs};
 use bimap::{
-    BiHashBTreeMap, BiHashMap, BiInsertionOrderMap, Bijection, Call, OnHeld, Overwritten, Policy,
-    extend_with, replace_left, run, swap_partners,
+    BiHashBTreeMap, BiHashMap, BiInsertionOrderMap, Bijection, By, Call, HashQuery, OnHeld,
+    OrderQuery, Overwritten, Policy, Query, extend_with, replace_left, run, swap_partners,
 };
 use bimap_undo::Undoable;
+use std::cmp::Ordering;
 use std::ops::Bound;
 
 // Make a map
@@ -249,6 +258,51 @@ fn own_types(rt: &(impl Print + AllocGlobal)) -> Result<()> {
     Ok(())
 }
 
+// Borrowed forms of your own key types
+#[derive(Debug, Drop, Eq, Hash, Ord, PartialEq, PartialOrd)]
+struct Name {
+    text: String,
+}
+
+impl Query<Name> for &str {
+    ghost same = { λ name text. bytes_eq (string_bytes name.text) text.now };
+
+    ghost respects = { λ text x y. respects_equal nat_list_eq_equiv text.now (string_bytes x.text)
+        (string_bytes y.text) };
+
+    fn is(&self, name: &Name) -> bool {
+        name.text.as_str() == *self
+    }
+}
+
+impl OrderQuery<Name> for &str {
+    ghost order = { λ name text. slice_cmp nat_cmp (string_bytes name.text) text.now };
+
+    ghost agrees = { λ text name. texts_ties (string_bytes name.text) text.now };
+
+    ghost follows = { λ text x y. follows_itself nat_list_cmp_total text.now (string_bytes x.text)
+        (string_bytes y.text) };
+
+    fn order(&self, name: &Name) -> Ordering {
+        name.text.as_str().cmp(*self)
+    }
+}
+
+impl HashQuery<Name> for &str {
+    ghost hashed = { λ text name e. sym (ap fed.str ((bytes_decides (string_bytes name.text)
+        text.now).0 e)) };
+}
+
+fn own_forms(rt: &(impl Print + AllocGlobal)) -> Result<()> {
+    let mut seats: BiBTreeMap<Name, u32> = BiBTreeMap::new(rt.alloc());
+    let text = String::from_str(rt.alloc(), "ann")?;
+    seats.insert(Name { text }, 12)?;
+    println!(rt; "{:?}", seats.get_by_left(By("ann")))?; // Some(12)
+    println!(rt; "{}", seats.left_rank(By("bob")))?; // 1
+    println!(rt; "{}", seats.remove_by_left(By("bob")).is_some())?; // false
+    Ok(())
+}
+
 fn main(rt: HostRuntime) -> Result<()> {
     let mut seats: BiBTreeMap<&str, u32> = BiBTreeMap::new(rt.alloc());
     seats.insert("ann", 12)?;
@@ -266,5 +320,6 @@ fn main(rt: HostRuntime) -> Result<()> {
     json(&rt)?;
     undo(&rt)?;
     any_map(&rt)?;
-    own_types(&rt)
+    own_types(&rt)?;
+    own_forms(&rt)
 }
