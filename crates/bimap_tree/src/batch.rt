@@ -1,5 +1,5 @@
 //! The places of a few ranks, read by one descent. The code here knows no key.
-ghost use Rattle.std.specs.Prelude.{◌≡◌, ◌↔◌, ◌+◌, ◌*◌, ◌<◌, ◌≤◌, IsTrue, Some, length, slice_get};
+ghost use Rattle.std.specs.Prelude.{◌≡◌, ◌↔◌, ℕ, ◌+◌, ◌*◌, ◌<◌, ◌≤◌, IsTrue, Some, length, slice_get};
 ghost use Rattle.bimap_base.specs.Digits.{most_height};
 
 use crate::ordered::Ordered;
@@ -78,6 +78,29 @@ impl Batch {
         if !self.has(rank) {
             self.fill(index, rank, meter);
         }
+        self.at(index, rank)
+    }
+
+    /// Returns the place at a rank that the batch contains.
+    #[inline(always)]
+    pub fn at(&self, index: &Ordered, rank: usize) -> usize
+        requires batch { IsBatch index.now.places self.now }
+        requires has { HasRank self.now rank }
+        ensures { slice_get index.now.places rank ≡ Some result }
+    {
+        // Only the contract uses the index.
+        let _ = index;
         self.places[rank - self.from]
+    }
+
+    /// Returns the first rank of the batch, and the rank behind its last one.
+    pub fn ranks(&self, index: &Ordered) -> (usize, usize)
+        requires { IsBatch index.now.places self.now }
+        ensures { (rank : ℕ) → HasRank self.now rank ↔ ((result.0 ≤ rank) × (rank < result.1)) }
+    {
+        // This establishes that the sum fits.
+        let len = index.len();
+        prove!(self.from <= len && self.count <= len - self.from);
+        (self.from, self.from + self.count)
     }
 }

@@ -1,3 +1,4 @@
+pub mod Ready
 pub mod Windows
 pub mod Ends
 pub mod Listed

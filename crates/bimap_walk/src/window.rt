@@ -1,22 +1,38 @@
 //! A window of ranks, which gives its places one at a time from either end. This module knows no pair.
-ghost use Rattle.std.specs.Prelude.{◌≡◌, ◌≤◌, length};
+ghost use Rattle.std.specs.Prelude.{◌≡◌, ◌<◌, ◌≤◌, IfSome, IsSomeAnd, IsTrue, length};
+ghost use Rattle.bimap_tree.specs.Batches.{IsBatch};
 ghost use Rattle.std.specs.List.{between};
 ghost use Rattle.std.specs.Map.Iter.{TakesFirst, TakesLast};
 
 use bimap_base::Count;
 use bimap_tree::{Batch, Ordered};
 
-/// The ranks from `front` up to `back`, which is excluded. `ahead` and `behind` contain places near the two ends.
+/// The ranks from `front` up to `back`, which is excluded. `ahead` and `behind` contain places near the two ends. Most iterators
+/// never go back, so `behind` is made by the first call of `last`.
 #[derive(Clone, Copy)]
 pub struct Window {
     front: usize,
+    // `ahead` contains the places of the ranks from `front` up to `ready`, which is excluded.
+    ready: usize,
+    // `behind` contains the places of the ranks from `ready_back` up to `back`, which is excluded.
+    ready_back: usize,
     back: usize,
     ahead: Batch,
-    behind: Batch,
+    behind: Option<Batch>,
+}
+
+// Makes a batch, unless there is one.
+fn make_batch(batch: &mut Option<Batch>, index: &Ordered)
+    requires { IfSome batch.old (IsBatch index.now.places) }
+    ensures { IsSomeAnd batch.new (IsBatch index.now.places) }
+{
+    if batch.is_none() {
+        *batch = Some(Batch::new(index));
+    }
 }
 
 impl Window {
-    ghost use Rattle.bimap_walk.specs.Windows.{IsWindow, places_in};
+    ghost use Rattle.bimap_walk.specs.Windows.{IsRead, IsWindow, places_in};
 
     pub(crate) fn new(index: &Ordered, front: usize, back: usize) -> Self
         requires ordered { front ≤ back }
@@ -27,12 +43,13 @@ impl Window {
         // This establishes that the listed places are distinct.
         let len = index.len();
         prove!(back <= len);
-        let batch = Batch::new(index);
         Window {
             front,
+            ready: front,
+            ready_back: back,
             back,
-            ahead: batch,
-            behind: batch,
+            ahead: Batch::new(index),
+            behind: None,
         }
     }
 
@@ -54,6 +71,34 @@ impl Window {
         self.back - self.front
     }
 
+    // Gets the places of further ranks ready at the front, if a rank is left. Returns whether one is left. It is never inlined,
+    // because most calls of `has_first` skip it.
+    #[inline(never)]
+    fn read_ahead(&mut self, index: &Ordered) -> bool
+        requires { IsWindow index.now.places self.old }
+        ensures read { IsRead index.now.places self.old self.new result }
+        ensures ready { IsTrue result → self.new.front < self.new.ready }
+    {
+        if self.front == self.back {
+            return false;
+        }
+        let _ = self.ahead.place(index, self.front, &mut Count::new());
+        let (_, end) = self.ahead.ranks(index);
+        self.ready = end.min(self.back);
+        self.ready_back = self.ready_back.max(self.ready);
+        true
+    }
+
+    // Returns whether a rank is left. If one is left, the place of the first rank is ready then.
+    #[inline(always)]
+    fn has_first(&mut self, index: &Ordered) -> bool
+        requires { IsWindow index.now.places self.old }
+        ensures read { IsRead index.now.places self.old self.new result }
+        ensures ready { IsTrue result → self.new.front < self.new.ready }
+    {
+        self.front < self.ready || self.read_ahead(index)
+    }
+
     // Returns the first place left and removes it from the window. One descent in the index serves many calls.
     #[inline(always)]
     pub(crate) fn first(&mut self, index: &Ordered) -> Option<usize>
@@ -62,13 +107,44 @@ impl Window {
         ensures takes { TakesFirst (λ place. place) (places_in index.now.places self.old) result
             (places_in index.now.places self.new) }
     {
-        if self.front == self.back {
+        if !self.has_first(index) {
             return None;
         }
-        let rank = self.front;
-        let place = self.ahead.place(index, rank, &mut Count::new());
+        let place = self.ahead.at(index, self.front);
         self.front += 1;
         Some(place)
+    }
+
+    // Gets the places of further ranks ready at the back, if a rank is left. Returns whether one is left. It is never inlined,
+    // because most calls of `has_last` skip it.
+    #[inline(never)]
+    fn read_behind(&mut self, index: &Ordered) -> bool
+        requires { IsWindow index.now.places self.old }
+        ensures read { IsRead index.now.places self.old self.new result }
+        ensures ready { IsTrue result → self.new.ready_back < self.new.back }
+    {
+        if self.front == self.back {
+            return false;
+        }
+        make_batch(&mut self.behind, index);
+        let Some(behind) = &mut self.behind else {
+            unreachable!();
+        };
+        let _ = behind.place(index, self.back - 1, &mut Count::new());
+        let (start, _) = behind.ranks(index);
+        self.ready_back = start.max(self.front);
+        self.ready = self.ready.min(self.ready_back);
+        true
+    }
+
+    // Returns whether a rank is left. If one is left, the place of the last rank is ready then.
+    #[inline(always)]
+    fn has_last(&mut self, index: &Ordered) -> bool
+        requires { IsWindow index.now.places self.old }
+        ensures read { IsRead index.now.places self.old self.new result }
+        ensures ready { IsTrue result → self.new.ready_back < self.new.back }
+    {
+        self.ready_back < self.back || self.read_behind(index)
     }
 
     // Returns the last place left and removes it from the window. One descent in the index serves many calls.
@@ -79,10 +155,13 @@ impl Window {
         ensures takes { TakesLast (λ place. place) (places_in index.now.places self.old) result
             (places_in index.now.places self.new) }
     {
-        if self.front == self.back {
+        if !self.has_last(index) {
             return None;
         }
+        let Some(behind) = &self.behind else {
+            unreachable!();
+        };
         self.back -= 1;
-        Some(self.behind.place(index, self.back, &mut Count::new()))
+        Some(behind.at(index, self.back))
     }
 }
