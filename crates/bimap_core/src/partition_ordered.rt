@@ -47,7 +47,7 @@ impl<K: Ord> PartedIndex<K> for Ordered {
         let mut rank = 0;
         let mut batch = Batch::new(&table.left);
         while rank < table.pairs.len() {
-            let place = batch.place(&table.left, rank, meter);
+            let place = batch.place(&table.left, rank, usize::MAX, meter);
             if table.goes_at(place, goes, &mut f) {
                 outlet.receive(table.take(place, meter));
                 batch = Batch::new(&table.left);

@@ -41,11 +41,11 @@ one_place : (t : Tree) → height t ≤ 1 → length (reading t) ≤ 1
 one_place leaf h = omega arith
 one_place (fork l p r) h = rw (no_levels l (omega arith), no_levels r (omega arith)) (omega arith)
 
-pub two_levels : (f : ℕ) (old b new : List ℕ) (node : Node) (l r : Tree) (at n m : ℕ) → node ≡ node_of l r → height l ≤ 1 → height r ≤ 1 → f < 61 → length old ≡ 64 → IsFilled 64 f old (place_in node.left) b n → IsFilled 64 (n + 1) (slice_set b n at) (place_in node.right) new m → IsFilled 64 f old (reading l ++ at ∷ reading r) new m
+pub two_levels : (f : ℕ) (old b new : List ℕ) (node : Node) (l r : Tree) (at n m : ℕ) → node ≡ node_of l r → height l ≤ 1 → height r ≤ 1 → f < 125 → length old ≡ 128 → IsFilled 128 f old (place_in node.left) b n → IsFilled 128 (n + 1) (slice_set b n at) (place_in node.right) new m → IsFilled 128 f old (reading l ++ at ∷ reading r) new m
 two_levels f old b new node l r at n m e hl hr few long h k =
     let el : place_in node.left ≡ reading l = ap (λ z. place_in z.left) e ∙ one_level l hl in
     let er : place_in node.right ≡ reading r = ap (λ z. place_in z.right) e ∙ one_level r hr in
-    on 64 f old (reading l) (reading r) b new at n m (omega (arith, few, long)) (omega (arith, few, one_place l hl)) (IsFilled-same 64 f old _ _ b n el h) (IsFilled-same 64 (n + 1) (slice_set b n at) _ _ new m er k)
+    on 128 f old (reading l) (reading r) b new at n m (omega (arith, few, long)) (omega (arith, few, one_place l hl)) (IsFilled-same 128 f old _ _ b n el h) (IsFilled-same 128 (n + 1) (slice_set b n at) _ _ new m er k)
 
 -- The two subtrees of a place.
 pub parts : (ns : List Node) (at : ℕ) (node : Node) (t : Tree) → CanFill ns at node t → (l : Tree) × (r : Tree) × Opened ns at node t l r × IsBalanced l × IsBalanced r
@@ -64,18 +64,18 @@ pub told_height : (ns : List Node) (p : ℕ) (node : Node) (t : Tree) → CanFil
 told_height ns p node t h = let (l, r, i, _, _) = parts ns p node t h in ap (λ z. z.height) i.node_is ∙ ap height (sym i.is)
 
 -- The left subtree, the place and the right subtree.
-pub both_sides : (f : ℕ) (old b new : List ℕ) (ns : List Node) (at left right : ℕ) (node left_node right_node : Node) (t : Tree) → CanFill ns at node t → node.left ≡ Some left → node.right ≡ Some right → slice_get ns left ≡ Some left_node → slice_get ns right ≡ Some right_node → f + size t < 62 → length old ≡ 64
-    → ((l : Tree) → CanFill ns left left_node l → f + size l < 62 → IsFilled 64 f old (reading l) b (f + size l))
-    → ((r : Tree) → CanFill ns right right_node r → f + left_node.size + 1 + size r < 62 → IsFilled 64 (f + left_node.size + 1) (slice_set b (f + left_node.size) at) (reading r) new (f + left_node.size + 1 + size r))
-    → IsFilled 64 f old (reading t) new (f + size t)
+pub both_sides : (f : ℕ) (old b new : List ℕ) (ns : List Node) (at left right : ℕ) (node left_node right_node : Node) (t : Tree) → CanFill ns at node t → node.left ≡ Some left → node.right ≡ Some right → slice_get ns left ≡ Some left_node → slice_get ns right ≡ Some right_node → f + size t < 126 → length old ≡ 128
+    → ((l : Tree) → CanFill ns left left_node l → f + size l < 126 → IsFilled 128 f old (reading l) b (f + size l))
+    → ((r : Tree) → CanFill ns right right_node r → f + left_node.size + 1 + size r < 126 → IsFilled 128 (f + left_node.size + 1) (slice_set b (f + left_node.size) at) (reading r) new (f + left_node.size + 1 + size r))
+    → IsFilled 128 f old (reading t) new (f + size t)
 both_sides f old b new ns at left right node left_node right_node t h el er gl gr few long kl kr =
     let (l, r, i, bl, br) = parts ns at node t h in
     let hl = below ns node.left left left_node l i.left_stands bl el gl in
     let hr = below ns node.right right right_node r i.right_stands br er gr in
     let n : left_node.size ≡ size l = told_size ns left left_node l hl in
     let whole : size t ≡ size l + size r + 1 = ap size i.is in
-    let first = subst (λ z. IsFilled 64 f old (reading l) b z) (ap (λ z. f + z) (sym n)) (kl l hl (omega arith)) in
+    let first = subst (λ z. IsFilled 128 f old (reading l) b z) (ap (λ z. f + z) (sym n)) (kl l hl (omega arith)) in
     let last = kr r hr (omega arith) in
     let all : f + left_node.size + 1 + size r ≡ f + size t = omega arith in
-    subst (λ m. IsFilled 64 f old (reading t) new m) all
-    (IsFilled-same 64 f old _ _ new (f + left_node.size + 1 + size r) (sym (ap reading i.is)) (on 64 f old (reading l) (reading r) b new at (f + left_node.size) (f + left_node.size + 1 + size r) (omega (arith, long)) (omega (arith, size-reading l)) first last))
+    subst (λ m. IsFilled 128 f old (reading t) new m) all
+    (IsFilled-same 128 f old _ _ new (f + left_node.size + 1 + size r) (sym (ap reading i.is)) (on 128 f old (reading l) (reading r) b new at (f + left_node.size) (f + left_node.size + 1 + size r) (omega (arith, long)) (omega (arith, size-reading l)) first last))

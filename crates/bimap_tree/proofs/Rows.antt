@@ -86,13 +86,13 @@ module _ (ns : List Node) (places : List ℕ) (rank : ℕ) where
         omega (arith, h.start_is, size-reading s, ap length h.is, length-append h.front (B ++ (reading s ++ E)), length-append B (reading s ++ E), length-append (reading s) E)
 
     -- The places of the subtree, and the places beside it.
-    pub row : (old b c new : List ℕ) (f m : ℕ) → subtree.node.size ≤ 60 → IsFilled 64 0 old (place_in subtree.before) b f → IsFilled 64 f b (reading s) c (f + size s) → IsFilled 64 (f + subtree.node.size) c (place_in subtree.behind) new m → IsRow places rank new (subtree.start - f) m
+    pub row : (old b c new : List ℕ) (f m : ℕ) → subtree.node.size ≤ 124 → IsFilled 128 0 old (place_in subtree.before) b f → IsFilled 128 f b (reading s) c (f + size s) → IsFilled 128 (f + subtree.node.size) c (place_in subtree.behind) new m → IsRow places rank new (subtree.start - f) m
     row old b c new f m few k1 k2 k3 =
         let n : subtree.node.size ≡ size s = told_size ns subtree.at subtree.node s h.shown in
         let f_is : f ≡ length (place_in subtree.before) = omega (arith, k1.enough, k1.most, k1.within) in
         let k12 = joined 0 old (place_in subtree.before) (reading s) b c f (f + size s) (omega arith) (omega (arith, f_is)) k1 k2 in
         let mid : f + size s ≡ 0 + length (place_in subtree.before ++ reading s) = omega (arith, f_is, length-append (place_in subtree.before) (reading s), size-reading s) in
-        let k = joined 0 old (place_in subtree.before ++ reading s) (place_in subtree.behind) c new (f + size s) m (omega arith) mid k12 (subst (λ z. IsFilled 64 z c (place_in subtree.behind) new m) (ap (λ z. f + z) n) k3) in
+        let k = joined 0 old (place_in subtree.before ++ reading s) (place_in subtree.behind) c new (f + size s) m (omega arith) mid k12 (subst (λ z. IsFilled 128 z c (place_in subtree.behind) new m) (ap (λ z. f + z) n) k3) in
         let all : length ((place_in subtree.before ++ reading s) ++ place_in subtree.behind) ≡ f + size s + length (place_in subtree.behind) = omega (arith, mid, length-append (place_in subtree.before ++ reading s) (place_in subtree.behind)) in
         let m_is : m ≡ f + size s + length (place_in subtree.behind) = omega (arith, all, k.enough, k.most, k.within) in
         let from_is : subtree.start - f ≡ length h.front = omega (arith, h.start_is, f_is) in
@@ -108,7 +108,7 @@ module _ (ns : List Node) (places : List ℕ) (rank : ℕ) where
               ∙ sym (ap (λ z. take m z) (ap (λ z. drop (subtree.start - f) z) is ∙ drop_front h.front (A ++ h.back) (subtree.start - f) from_is) ∙ take-append-le m A h.back (omega (arith, m_is, all)));
         }
       where
-        joined : (f : ℕ) (old xs ys b new : List ℕ) (n m : ℕ) → f ≤ length old → n ≡ f + length xs → IsFilled 64 f old xs b n → IsFilled 64 n b ys new m → IsFilled 64 f old (xs ++ ys) new m
+        joined : (f : ℕ) (old xs ys b new : List ℕ) (n m : ℕ) → f ≤ length old → n ≡ f + length xs → IsFilled 128 f old xs b n → IsFilled 128 n b ys new m → IsFilled 128 f old (xs ++ ys) new m
         joined f old xs ys b new n m short all h k =
             let front : length (take f old ++ xs) ≡ f + length xs = omega (arith, length-append (take f old) xs, length-take-le f old short) in
             let t : take n b ≡ take f old ++ xs = h.places ∙ take_all n (take f old ++ xs) (omega (arith, front, all)) in

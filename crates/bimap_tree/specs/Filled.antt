@@ -19,8 +19,8 @@ pub record CanFill (nodes : List Node) (at : ℕ) (node : Node) (t : Tree) : Typ
 pub record IsFilled (wanted filled : ℕ) (old added new : List ℕ) (count : ℕ) : Type 0 where
   pub enough : min wanted (filled + length added) ≤ count
   pub most : count ≤ filled + length added
-  pub within : count < 64
-  pub long : length new ≡ 64
+  pub within : count < 128
+  pub long : length new ≡ 128
   pub places : take count new ≡ take count (take filled old ++ added)
 
 -- The buffer begins with `count` listed places, from the rank `from` on. The place at `rank` is among them.
@@ -28,5 +28,5 @@ pub record IsRow (places : List ℕ) (rank : ℕ) (buffer : List ℕ) (from coun
   pub low : from ≤ rank
   pub high : rank < from + count
   pub most : from + count ≤ length places
-  pub within : count < 64
+  pub within : count < 128
   pub same : take count buffer ≡ take count (drop from places)

@@ -11,7 +11,7 @@ pub struct Batch {
     // The first rank.
     from: usize,
     count: usize,
-    places: [usize; 64],
+    places: [usize; 128],
 }
 
 impl Batch {
@@ -26,7 +26,7 @@ impl Batch {
         Batch {
             from: 0,
             count: 0,
-            places: [0; 64],
+            places: [0; 128],
         }
     }
 
@@ -37,46 +37,58 @@ impl Batch {
         self.from <= rank && rank - self.from < self.count
     }
 
-    // Returns how many places the subtree of the next read may have. The first read is small, because many iterations are short.
-    fn wanted(&self) -> usize
+    // Returns how many places the subtree of the next read may have. The first two reads are small, because many iterations are
+    // short. Not many more places are read than the caller may still need.
+    fn wanted(&self, left: usize) -> usize
         ensures least { 2 ≤ result }
-        ensures most { result ≤ 60 }
+        ensures most { result ≤ 124 }
     {
-        if self.count == 0 { 7 } else { 60 }
+        let most = match self.count {
+            0 if left > 15 => 7,
+            1..=9 => 60,
+            _ => 124,
+        };
+        most.min(left.max(7))
     }
 
     // Reads the places of some ranks, with this rank among them. It is never inlined, because most calls of `place` skip it.
     #[inline(never)]
-    fn fill<M: Meter>(&mut self, index: &Ordered, rank: usize, meter: &mut M)
+    fn fill<M: Meter>(&mut self, index: &Ordered, rank: usize, left: usize, meter: &mut M)
         requires { rank < length index.now.places }
         ensures batch { IsBatch index.now.places self.new }
         ensures has { HasRank self.new rank }
         ensures comparisons { M.comparisons meter.new ≡ M.comparisons meter.old }
-        ensures touches { M.touches meter.new ≤ M.touches meter.old + 60
+        ensures touches { M.touches meter.new ≤ M.touches meter.old + 124
             + 2 * most_height (length index.now.places) }
     {
-        let (from, count) = index.places_around(rank, self.wanted(), &mut self.places, meter);
+        let (from, count) = index.places_around(rank, self.wanted(left), &mut self.places, meter);
         self.from = from;
         self.count = count;
     }
 
     /// Returns the place at a rank. If the batch does not contain it, first fills the batch with places around this rank, by one
-    /// descent.
+    /// descent. `left` is about how many places the caller may still need. If it is small, few places are read.
     #[inline(always)]
-    pub fn place<M: Meter>(&mut self, index: &Ordered, rank: usize, meter: &mut M) -> usize
+    pub fn place<M: Meter>(
+        &mut self,
+        index: &Ordered,
+        rank: usize,
+        left: usize,
+        meter: &mut M,
+    ) -> usize
         requires batch { IsBatch index.now.places self.old }
         requires listed { rank < length index.now.places }
         ensures place { slice_get index.now.places rank ≡ Some result }
         ensures batch { IsBatch index.now.places self.new }
         ensures comparisons { M.comparisons meter.new ≡ M.comparisons meter.old }
-        ensures touches { M.touches meter.new ≤ M.touches meter.old + 60
+        ensures touches { M.touches meter.new ≤ M.touches meter.old + 124
             + 2 * most_height (length index.now.places) }
         ensures has { HasRank self.new rank }
         ensures kept { HasRank self.old rank → self.new ≡ self.old }
         ensures held { HasRank self.old rank → M.touches meter.new ≡ M.touches meter.old }
     {
         if !self.has(rank) {
-            self.fill(index, rank, meter);
+            self.fill(index, rank, left, meter);
         }
         self.at(index, rank)
     }

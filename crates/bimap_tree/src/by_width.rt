@@ -129,19 +129,19 @@ pub fn fill_around<M: Meter>(
     root: Option<usize>,
     rank: usize,
     most: usize,
-    buffer: &mut [usize; 64],
+    buffer: &mut [usize; 128],
     meter: &mut M,
 ) -> (usize, usize)
     requires tree { (t : Tree) × Stands (nodes_in cells.now) root t × IsBalanced t × (rank < size t)
         × (size t < 2 ^ 64) }
     requires least { 2 ≤ most }
-    requires most { most ≤ 60 }
-    requires long { length buffer.old ≡ 64 }
+    requires most { most ≤ 124 }
+    requires long { length buffer.old ≡ 128 }
     ensures row { (t : Tree) → Stands (nodes_in cells.now) root t → IsBalanced t → rank < size t →
         IsRow (reading t) rank buffer.new result.0 result.1 }
     ensures comparisons { M.comparisons meter.new ≡ M.comparisons meter.old }
     ensures touches { (t : Tree) → Stands (nodes_in cells.now) root t → IsBalanced t →
-        rank < size t → M.touches meter.new ≤ M.touches meter.old + 60 + 2 * height t }
+        rank < size t → M.touches meter.new ≤ M.touches meter.old + 124 + 2 * height t }
 {
     match cells {
         Cells::Narrow(nodes) => walk::fill_around(nodes, root, rank, most, buffer, meter),

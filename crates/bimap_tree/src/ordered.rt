@@ -404,15 +404,15 @@ impl Ordered {
         &self,
         rank: usize,
         most: usize,
-        buffer: &mut [usize; 64],
+        buffer: &mut [usize; 128],
         meter: &mut M,
     ) -> (usize, usize)
         requires rank { rank < length self.now.places }
         requires least { 2 ≤ most }
-        requires most { most ≤ 60 }
+        requires most { most ≤ 124 }
         ensures row { IsRow self.now.places rank buffer.new result.0 result.1 }
         ensures comparisons { M.comparisons meter.new ≡ M.comparisons meter.old }
-        ensures touches { M.touches meter.new ≤ M.touches meter.old + 60
+        ensures touches { M.touches meter.new ≤ M.touches meter.old + 124
             + 2 * most_height (length self.now.places) }
     {
         fill_around(&self.cells, self.root, rank, most, buffer, meter)

@@ -20,21 +20,21 @@ pub struct RankedSubtree {
 
 // Appends a place to the first `filled` ones of the buffer, if there is a place. Returns how many there are then. It has no
 // branch, because without a place it writes 0 and does not count it.
-fn put(buffer: &mut [usize; 64], filled: usize, place: Option<usize>) -> usize
-    requires room { filled < 63 }
-    requires long { length buffer.old ≡ 64 }
-    ensures { IsFilled 64 filled buffer.old (place_in place) buffer.new result }
+fn put(buffer: &mut [usize; 128], filled: usize, place: Option<usize>) -> usize
+    requires room { filled < 127 }
+    requires long { length buffer.old ≡ 128 }
+    ensures { IsFilled 128 filled buffer.old (place_in place) buffer.new result }
 {
     buffer[filled] = place.unwrap_or(0);
     filled + place.is_some() as usize
 }
 
 // Appends the places of a tree of at most two levels, whose root has this node.
-fn fill_two_levels(buffer: &mut [usize; 64], filled: usize, at: usize, node: Node) -> usize
-    requires room { filled < 61 }
-    requires long { length buffer.old ≡ 64 }
+fn fill_two_levels(buffer: &mut [usize; 128], filled: usize, at: usize, node: Node) -> usize
+    requires room { filled < 125 }
+    requires long { length buffer.old ≡ 128 }
     ensures { (l r : Tree) → node ≡ node_of l r → height l ≤ 1 → height r ≤ 1 →
-        IsFilled 64 filled buffer.old (reading l ++ at ∷ reading r) buffer.new result }
+        IsFilled 128 filled buffer.old (reading l ++ at ∷ reading r) buffer.new result }
 {
     let before = put(buffer, filled, node.left);
     buffer[before] = at;
@@ -48,14 +48,14 @@ fn fill_tree<C: Cell, M: Meter>(
     cells: &Nodes<C>,
     at: usize,
     node: Node,
-    buffer: &mut [usize; 64],
+    buffer: &mut [usize; 128],
     filled: usize,
     meter: &mut M,
 )
-    requires tree { (t : Tree) × CanFill cells.now at node t × (filled + size t < 62) }
-    requires long { length buffer.old ≡ 64 }
-    ensures filled { (t : Tree) → CanFill cells.now at node t → filled + size t < 62 →
-        IsFilled 64 filled buffer.old (reading t) buffer.new (filled + size t) }
+    requires tree { (t : Tree) × CanFill cells.now at node t × (filled + size t < 126) }
+    requires long { length buffer.old ≡ 128 }
+    ensures filled { (t : Tree) → CanFill cells.now at node t → filled + size t < 126 →
+        IsFilled 128 filled buffer.old (reading t) buffer.new (filled + size t) }
     ensures comparisons { M.comparisons meter.new ≡ M.comparisons meter.old }
     ensures touches { (t : Tree) → CanFill cells.now at node t →
         M.touches meter.new + 1 ≤ M.touches meter.old + size t }
@@ -78,16 +78,16 @@ fn fill_high<C: Cell, M: Meter>(
     at: usize,
     left: usize,
     right: usize,
-    buffer: &mut [usize; 64],
+    buffer: &mut [usize; 128],
     filled: usize,
     meter: &mut M,
 )
     requires tree { (node : Node) × (t : Tree) × CanFill cells.now at node t
-        × (node.left ≡ Some left) × (node.right ≡ Some right) × (filled + size t < 62) }
-    requires long { length buffer.old ≡ 64 }
+        × (node.left ≡ Some left) × (node.right ≡ Some right) × (filled + size t < 126) }
+    requires long { length buffer.old ≡ 128 }
     ensures filled { (node : Node) (t : Tree) → CanFill cells.now at node t →
-        node.left ≡ Some left → node.right ≡ Some right → filled + size t < 62 →
-        IsFilled 64 filled buffer.old (reading t) buffer.new (filled + size t) }
+        node.left ≡ Some left → node.right ≡ Some right → filled + size t < 126 →
+        IsFilled 128 filled buffer.old (reading t) buffer.new (filled + size t) }
     ensures comparisons { M.comparisons meter.new ≡ M.comparisons meter.old }
     ensures touches { (node : Node) (t : Tree) → CanFill cells.now at node t →
         node.left ≡ Some left → node.right ≡ Some right →
@@ -164,19 +164,19 @@ pub fn fill_around<C: Cell, M: Meter>(
     root: Option<usize>,
     rank: usize,
     most: usize,
-    buffer: &mut [usize; 64],
+    buffer: &mut [usize; 128],
     meter: &mut M,
 ) -> (usize, usize)
     requires tree { (t : Tree) × Stands cells.now root t × IsBalanced t × (rank < size t)
         × (size t < 2 ^ 64) }
     requires least { 2 ≤ most }
-    requires most { most ≤ 60 }
-    requires long { length buffer.old ≡ 64 }
+    requires most { most ≤ 124 }
+    requires long { length buffer.old ≡ 128 }
     ensures row { (t : Tree) → Stands cells.now root t → IsBalanced t → rank < size t →
         IsRow (reading t) rank buffer.new result.0 result.1 }
     ensures comparisons { M.comparisons meter.new ≡ M.comparisons meter.old }
     ensures touches { (t : Tree) → Stands cells.now root t → IsBalanced t → rank < size t →
-        M.touches meter.new ≤ M.touches meter.old + 60 + 2 * height t }
+        M.touches meter.new ≤ M.touches meter.old + 124 + 2 * height t }
 {
     let subtree = subtree_around(cells, root, rank, most, meter);
     let first = put(buffer, 0, subtree.before);

@@ -82,7 +82,8 @@ impl Window {
         if self.front == self.back {
             return false;
         }
-        let _ = self.ahead.place(index, self.front, &mut Count::new());
+        let left = self.len(index);
+        let _ = self.ahead.place(index, self.front, left, &mut Count::new());
         let (_, end) = self.ahead.ranks(index);
         self.ready = end.min(self.back);
         self.ready_back = self.ready_back.max(self.ready);
@@ -126,11 +127,12 @@ impl Window {
         if self.front == self.back {
             return false;
         }
+        let left = self.len(index);
         make_batch(&mut self.behind, index);
         let Some(behind) = &mut self.behind else {
             unreachable!();
         };
-        let _ = behind.place(index, self.back - 1, &mut Count::new());
+        let _ = behind.place(index, self.back - 1, left, &mut Count::new());
         let (start, _) = behind.ranks(index);
         self.ready_back = start.max(self.front);
         self.ready = self.ready.min(self.ready_back);

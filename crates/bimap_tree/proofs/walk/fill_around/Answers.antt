@@ -8,7 +8,7 @@ pub returns-clause-row : goal.returns-clause-row
 returns-clause-row g c t h b few =
     let (s, p, cost) = c.subtree_around-subtree.ensures.subtree t h b few in
     let n = told_size _ _ _ s p.shown in
-    let room : c.put-first.result + size s < 62 = omega (arith, n, c.subtree_around-subtree.ensures.few, c.requires.most, c.put-first.ensures.most, one_at_most c.subtree_around-subtree.result.before) in
+    let room : c.put-first.result + size s < 126 = omega (arith, n, c.subtree_around-subtree.ensures.few, c.requires.most, c.put-first.ensures.most, one_at_most c.subtree_around-subtree.result.before) in
     row _ _ _ _ s p _ _ _ _ _ _ (omega (arith, c.subtree_around-subtree.ensures.few, c.requires.most)) c.put-first.ensures (c.fill_tree.ensures.filled s p.shown room) c.put-count.ensures
 
 pub fill_tree-requires-clause-tree : goal.fill_tree-requires-clause-tree
