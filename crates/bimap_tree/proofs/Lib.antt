@@ -6,6 +6,7 @@ pub mod Searches
 pub mod Ranks
 pub mod Filling
 pub mod Rows
+pub mod Queues
 pub mod IndexView
 pub mod Rooms
 pub mod Distinct

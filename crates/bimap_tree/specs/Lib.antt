@@ -1,5 +1,6 @@
 pub mod Tree
 pub mod Filled
+pub mod Queued
 pub mod IndexView
 pub mod Order
 pub mod Search

@@ -58,7 +58,7 @@ impl Batch {
         ensures batch { IsBatch index.now.places self.new }
         ensures has { HasRank self.new rank }
         ensures comparisons { M.comparisons meter.new ≡ M.comparisons meter.old }
-        ensures touches { M.touches meter.new ≤ M.touches meter.old + 124
+        ensures touches { M.touches meter.new ≤ M.touches meter.old + 376
             + 2 * most_height (length index.now.places) }
     {
         let (from, count) = index.places_around(rank, self.wanted(left), &mut self.places, meter);
@@ -81,7 +81,7 @@ impl Batch {
         ensures place { slice_get index.now.places rank ≡ Some result }
         ensures batch { IsBatch index.now.places self.new }
         ensures comparisons { M.comparisons meter.new ≡ M.comparisons meter.old }
-        ensures touches { M.touches meter.new ≤ M.touches meter.old + 124
+        ensures touches { M.touches meter.new ≤ M.touches meter.old + 376
             + 2 * most_height (length index.now.places) }
         ensures has { HasRank self.new rank }
         ensures kept { HasRank self.old rank → self.new ≡ self.old }

@@ -141,7 +141,7 @@ pub fn fill_around<M: Meter>(
         IsRow (reading t) rank buffer.new result.0 result.1 }
     ensures comparisons { M.comparisons meter.new ≡ M.comparisons meter.old }
     ensures touches { (t : Tree) → Stands (nodes_in cells.now) root t → IsBalanced t →
-        rank < size t → M.touches meter.new ≤ M.touches meter.old + 124 + 2 * height t }
+        rank < size t → M.touches meter.new ≤ M.touches meter.old + 376 + 2 * height t }
 {
     match cells {
         Cells::Narrow(nodes) => walk::fill_around(nodes, root, rank, most, buffer, meter),

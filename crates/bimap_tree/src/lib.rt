@@ -5,6 +5,7 @@ mod ahead;
 mod batch;
 mod by_width;
 mod descent;
+mod levels;
 mod link;
 mod notes;
 mod ordered;

@@ -412,7 +412,7 @@ impl Ordered {
         requires most { most ≤ 124 }
         ensures row { IsRow self.now.places rank buffer.new result.0 result.1 }
         ensures comparisons { M.comparisons meter.new ≡ M.comparisons meter.old }
-        ensures touches { M.touches meter.new ≤ M.touches meter.old + 124
+        ensures touches { M.touches meter.new ≤ M.touches meter.old + 376
             + 2 * most_height (length self.now.places) }
     {
         fill_around(&self.cells, self.root, rank, most, buffer, meter)

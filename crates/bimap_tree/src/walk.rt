@@ -5,6 +5,7 @@ ghost use Rattle.bimap_tree.specs.Filled.{CanFill, IsFilled, IsRow, place_in};
 ghost use Rattle.bimap_tree.specs.RankedSubtree.{IsRankedSubtree};
 ghost use Rattle.bimap_tree.specs.Tree.{Tree, Stands, IsBalanced, node_of, height, size, reading};
 
+use crate::levels::read_by_levels;
 use bimap_base::{Cell, Meter, Node, Nodes};
 
 // A subtree of the index. `start` is the rank of its first place. `before` and `behind` are the listed places just before and
@@ -176,9 +177,10 @@ pub fn fill_around<C: Cell, M: Meter>(
         IsRow (reading t) rank buffer.new result.0 result.1 }
     ensures comparisons { M.comparisons meter.new ≡ M.comparisons meter.old }
     ensures touches { (t : Tree) → Stands cells.now root t → IsBalanced t → rank < size t →
-        M.touches meter.new ≤ M.touches meter.old + 124 + 2 * height t }
+        M.touches meter.new ≤ M.touches meter.old + 376 + 2 * height t }
 {
     let subtree = subtree_around(cells, root, rank, most, meter);
+    read_by_levels(cells, subtree.at, buffer, meter);
     let first = put(buffer, 0, subtree.before);
     fill_tree(cells, subtree.at, subtree.node, buffer, first, meter);
     let count = put(buffer, first + subtree.node.size, subtree.behind);

@@ -24,4 +24,10 @@ put-count-requires-clause-room g c =
 pub returns-clause-touches : goal.returns-clause-touches
 returns-clause-touches g c t h b few =
     let (s, p, cost) = c.subtree_around-subtree.ensures.subtree t h b few in
-    omega (arith, cost, told_size _ _ _ s p.shown, c.subtree_around-subtree.ensures.few, c.requires.most, c.fill_tree.ensures.touches s p.shown)
+    omega (arith, cost, told_size _ _ _ s p.shown, c.subtree_around-subtree.ensures.few, c.requires.most, c.read_by_levels.ensures.touches, c.fill_tree.ensures.touches s p.shown)
+
+pub read_by_levels-requires-clause-tree : goal.read_by_levels-requires-clause-tree
+read_by_levels-requires-clause-tree g c =
+    let (t, h, b, few, fits) = c.requires.tree in
+    let (s, p, cost) = c.subtree_around-subtree.ensures.subtree t h b few in
+    (s, p.shown.tree)
