@@ -31,8 +31,8 @@ pub trait CopiedIndex<K: Eq>: Index<K> {
     /// compares no keys. Its time is linear in the number of cells. If it has a hash builder, it hashes each key once,
     /// by the clone of the builder.
     ///
-    /// It allocates all cells at once, and what cloning the hash builder allocates. If it runs out of memory, there is
-    /// no index.
+    /// It allocates all cells at once, what the index keeps beside them, and what cloning the hash builder allocates. If
+    /// it runs out of memory, there is no index.
     fn copied<S: Side<K>>(&self, side: S) -> Result<Self, NoMemory>
         requires listing { Self.is_listing self.now (S.key_at side) }
         ensures listing { IfOk result (λ index. Self.is_listing index (S.key_at side)) }

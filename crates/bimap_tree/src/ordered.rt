@@ -20,7 +20,7 @@ use crate::by_width::{
     fill_around, place_in_tree, put_at, rank_in_tree, route_from_first, route_in_tree, take_at,
 };
 use crate::descent::{Descent, finish_in_tree, step_in_tree};
-use crate::route::Route;
+use crate::route::{Route, kept_or_new, make_kept};
 use crate::search::find_in_tree;
 use crate::search_key::{AfterQuery, ToKey, ToPlace, ToQuery};
 use bimap_base::{Cells, Keys, Meter, NoMemory, Sought};
@@ -41,6 +41,10 @@ pub struct Ordered {
     takes_first: bool,
     // What the last removal has read ahead, as a number that means nothing. The compiler keeps the reads because it is stored.
     seen: usize,
+    // A route for the searches of `insert`, `remove` and `remove_key`, which write over what the last search noted. It is made with
+    // the first cells. So no such search has to make a route of its own.
+    route: Option<Box<Route>>,
+    alloc: Global,
 }
 
 impl Model for Ordered {
@@ -68,6 +72,8 @@ impl Ordered {
             len: 0,
             takes_first: false,
             seen: 0,
+            route: None,
+            alloc,
         }
     }
 
@@ -86,7 +92,8 @@ impl Ordered {
 
     /// Makes a cell for each place below `to` that has none, and no further cell.
     ///
-    /// Allocates only if cells are missing. If it runs out of memory, nothing changes.
+    /// Allocates only if cells are missing. With the first cells it also makes the route that the index keeps. If it runs out of
+    /// memory, nothing changes.
     pub fn grow(&mut self, to: usize) -> Result<(), NoMemory>
         ensures places { self.new.places ≡ self.old.places }
         ensures cells { length self.old.nodes ≤ length self.new.nodes }
@@ -97,6 +104,7 @@ impl Ordered {
         ensures routes { (go : _) (route : _) → IsRoute self.old go route →
             IsRoute self.new go route }
     {
+        make_kept(&mut self.route, self.alloc, self.cells.places(), to)?;
         self.cells.grow(to)
     }
 
@@ -252,17 +260,18 @@ impl Ordered {
     {
         // The contract of this call says that there are fewer than 2^64 cells.
         let _ = self.cells.places();
-        let mut route = Route::new();
+        let mut fresh = None;
+        let noted = kept_or_new(&mut self.route, &mut fresh);
         // The search finds no place, because no listed key is equal.
         let _ = route_in_tree(
             &self.cells,
             self.root,
             0,
             &ToPlace { keys, place },
-            &mut route,
+            noted,
             meter,
         );
-        self.root = put_at(&mut self.cells, self.root, &route, place, meter);
+        self.root = put_at(&mut self.cells, self.root, noted, place, meter);
         self.len += 1;
     }
 
@@ -279,19 +288,20 @@ impl Ordered {
         ensures touches { M.touches meter.new ≤ M.touches meter.old
             + 64 * (most_height (length self.old.places) + 1) }
     {
-        let mut route = Route::new();
+        let mut fresh = None;
+        let noted = kept_or_new(&mut self.route, &mut fresh);
         // The search finds `place` itself.
         let _ = route_from_first(
             &self.cells,
             self.root,
             self.takes_first,
             &ToPlace { keys, place },
-            &mut route,
+            noted,
             meter,
         );
-        self.takes_first = route.goes_left();
-        self.seen = route.seen();
-        self.root = take_at(&mut self.cells, self.root, &mut route, place, meter);
+        self.takes_first = noted.goes_left();
+        self.seen = noted.seen();
+        self.root = take_at(&mut self.cells, self.root, noted, place, meter);
         self.len -= 1;
     }
 
@@ -317,18 +327,19 @@ impl Ordered {
         ensures touches { M.touches meter.new ≤ M.touches meter.old
             + 64 * (most_height (length self.old.places) + 1) }
     {
-        let mut route = Route::new();
+        let mut fresh = None;
+        let noted = kept_or_new(&mut self.route, &mut fresh);
         let found = route_from_first(
             &self.cells,
             self.root,
             self.takes_first,
             &ToQuery { keys, query },
-            &mut route,
+            noted,
             meter,
         )?;
-        self.takes_first = route.goes_left();
-        self.seen = route.seen();
-        self.root = take_at(&mut self.cells, self.root, &mut route, found, meter);
+        self.takes_first = noted.goes_left();
+        self.seen = noted.seen();
+        self.root = take_at(&mut self.cells, self.root, noted, found, meter);
         self.len -= 1;
         Some(found)
     }

@@ -1,5 +1,5 @@
 //! The route of a search down a tree. The code here knows in which direction a key lies, and not the key.
-ghost use Rattle.std.specs.Prelude.{◌≡◌, ℕ, ◌+◌, ◌*◌, ◌<◌, ◌≤◌, false};
+ghost use Rattle.std.specs.Prelude.{◌≡◌, ℕ, ◌+◌, ◌*◌, ◌<◌, ◌≤◌, false, IsOk};
 ghost use Rattle.std.specs.declared.cmp.Ordering.{Ordering};
 ghost use Rattle.bimap_tree.specs.Tree.{IsBalanced, Tree, leaf, Stands, height, reading, size};
 ghost use Rattle.bimap_base.specs.Digits.{most_height};
@@ -13,6 +13,7 @@ use crate::notes::{PACKED, Steps};
 use crate::remove::first_in_tree;
 use crate::search_key::SearchKey;
 use bimap_base::{Cell, Meter, Nodes};
+use std::alloc::{AllocError, Global};
 
 /// The route of a search down an index. At each depth it stores a place, and whether the route goes on to the right of it.
 ///
@@ -53,6 +54,32 @@ impl Route {
     // Returns what the search has read ahead, as a number that means nothing.
     pub(crate) fn seen(&self) -> usize {
         self.seen
+    }
+}
+
+// Makes the route that an index keeps, if the index has no cells and will have `to` cells.
+pub fn make_kept(
+    kept: &mut Option<Box<Route>>,
+    alloc: Global,
+    cells: usize,
+    to: usize,
+) -> Result<(), AllocError>
+    ensures { to ≤ cells → IsOk result }
+{
+    if cells == 0 && to > 0 {
+        *kept = Some(Box::new(alloc, Route::new()).map_err(AllocError::from)?);
+    }
+    Ok(())
+}
+
+// Returns the kept route to write over. If none is kept, returns a new one, which it puts into `fresh`.
+pub fn kept_or_new<'a>(
+    kept: &'a mut Option<Box<Route>>,
+    fresh: &'a mut Option<Route>,
+) -> &'a mut Route {
+    match kept {
+        Some(route) => &mut **route,
+        None => fresh.insert(Route::new()),
     }
 }
 

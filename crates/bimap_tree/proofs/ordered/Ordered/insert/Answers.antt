@@ -19,7 +19,7 @@ route_in_tree-self-inside-requires g c =
 the_route : (g : Over) (c : After-route_in_tree-self-inside g) → (k : _) × (g.K.Keys.key_at c.args.keys.now c.args.place ≡ Some k) × IsRoute c.args.self.now (λ q. standing g.K.Keys.order (g.K.Keys.key_at c.args.keys.now q) (Some k)) c.route_in_tree-self-inside.new.route
 the_route g c =
     let (k, is) = key_is (g.K.Keys.key_at c.args.keys.now) g.K.Keys.order _ c.requires.live in
-    let f = can_follow _ _ _ _ c.self.invariant c.self.view_is _ _ c.new-route.result (can_seek_place _ _ _ _ c.self.invariant c.self.view_is _ _ g.met.K.Keys.total c.requires.ascends c.args.place k is) in
+    let f = can_follow _ _ _ _ c.self.invariant c.self.view_is _ _ c.kept_or_new-noted.result.now (can_seek_place _ _ _ _ c.self.invariant c.self.view_is _ _ g.met.K.Keys.total c.requires.ascends c.args.place k is) in
     (k, is, place_route _ _ _ _ c.self.invariant c.self.view_is (g.K.Keys.key_at c.args.keys.now) g.K.Keys.order c.args.place k is _ (c.route_in_tree-self-inside.ensures.found _ _ f) (λ p listed same. c.requires.unequal p k listed is same) _ (c.route_in_tree-self-inside.ensures.follows _ _ f))
 
 pub put_at-self-inside-requires : goal.put_at-self-inside-requires

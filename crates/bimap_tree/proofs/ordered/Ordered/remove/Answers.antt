@@ -21,7 +21,7 @@ route_from_first-self-inside-requires g c =
 the_notes : (g : Over) (c : After-route_from_first-self-inside g) → (low : Path) × (s : Tree) × IsFollowed (λ q. standing g.K.Keys.order (g.K.Keys.key_at c.args.keys.now q) (g.K.Keys.key_at c.args.keys.now c.args.place)) c.route_from_first-self-inside.new.route c.route_from_first-self-inside.new.route.depth (Some c.args.place) (tree_in (nodes_in c.self.inside.cells) c.self.inside.root) low s
 the_notes g c =
     let (k, is) = key_listed (g.K.Keys.key_at c.args.keys.now) g.K.Keys.order _ c.requires.ascends _ c.requires.listed in
-    let f = can_follow _ _ _ _ c.self.invariant c.self.view_is _ _ c.new-route.result (can_seek_place _ _ _ _ c.self.invariant c.self.view_is _ _ g.met.K.Keys.total c.requires.ascends c.args.place k is) in
+    let f = can_follow _ _ _ _ c.self.invariant c.self.view_is _ _ c.kept_or_new-noted.result.now (can_seek_place _ _ _ _ c.self.invariant c.self.view_is _ _ g.met.K.Keys.total c.requires.ascends c.args.place k is) in
     let found = place_found _ _ _ _ c.self.invariant c.self.view_is _ _ _ k is _ (c.route_from_first-self-inside.ensures.found _ f) g.met.K.Keys.total c.requires.ascends c.requires.listed in
     subst (λ o. (low : Path) × (s : Tree) × IsFollowed (λ q. standing g.K.Keys.order (g.K.Keys.key_at c.args.keys.now q) (g.K.Keys.key_at c.args.keys.now c.args.place)) c.route_from_first-self-inside.new.route c.route_from_first-self-inside.new.route.depth o (tree_in (nodes_in c.self.inside.cells) c.self.inside.root) low s) found (c.route_from_first-self-inside.ensures.follows _ f)
 

@@ -20,7 +20,7 @@ route_from_first-requires g c =
 -- The search returns the first equal place.
 first : (g : Over) (c : After-route_from_first g) → c.route_from_first.result ≡ first_equal (λ q. standing g.Q.Sought.order (g.K.Keys.key_at c.args.keys.now q) (Some c.args.query)) c.args.self.now.places
 first g c =
-    let f = can_follow _ _ _ _ c.self.invariant c.self.view_is _ _ c.new-route.result (can_seek _ _ _ _ c.self.invariant c.self.view_is _ _ _ g.met.Q.Sought.follows c.requires c.args.query) in
+    let f = can_follow _ _ _ _ c.self.invariant c.self.view_is _ _ c.kept_or_new-noted.result.now (can_seek _ _ _ _ c.self.invariant c.self.view_is _ _ _ g.met.Q.Sought.follows c.requires c.args.query) in
     c.route_from_first.ensures.found _ f ∙ ap (λ x. first_equal (λ q. standing g.Q.Sought.order (g.K.Keys.key_at c.args.keys.now q) (Some c.args.query)) x) (places_are _ _ _ _ c.self.invariant c.self.view_is)
 
 pub returns-in_err-found-clause-none : goal.returns-in_err-found-clause-none
@@ -36,7 +36,7 @@ returns-in_err-found-clause-touches g c = omega (arith, c.route_from_first.ensur
 -- The route of the search to the place that was found.
 the_notes : (g : Over) (c : In_ok-found g) → (low : Path) × (s : Tree) × IsFollowed (λ q. standing g.Q.Sought.order (g.K.Keys.key_at c.args.keys.now q) (Some c.args.query)) c.route_from_first.new.route c.route_from_first.new.route.depth (Some c.in_ok-found.found) (tree_in (nodes_in c.self.inside.cells) c.self.inside.root) low s
 the_notes g c =
-    let f = can_follow _ _ _ _ c.self.invariant c.self.view_is _ _ c.new-route.result (can_seek _ _ _ _ c.self.invariant c.self.view_is _ _ _ g.met.Q.Sought.follows c.requires c.args.query) in
+    let f = can_follow _ _ _ _ c.self.invariant c.self.view_is _ _ c.kept_or_new-noted.result.now (can_seek _ _ _ _ c.self.invariant c.self.view_is _ _ _ g.met.Q.Sought.follows c.requires c.args.query) in
     subst (λ o. (low : Path) × (s : Tree) × IsFollowed (λ q. standing g.Q.Sought.order (g.K.Keys.key_at c.args.keys.now q) (Some c.args.query)) c.route_from_first.new.route c.route_from_first.new.route.depth o (tree_in (nodes_in c.self.inside.cells) c.self.inside.root) low s) c.in_ok-found.was (c.route_from_first.ensures.follows _ f)
 
 pub take_at-self-inside-requires : goal.take_at-self-inside-requires
@@ -45,8 +45,11 @@ take_at-self-inside-requires g c =
     (low, _, _, can_take _ _ _ _ c.self.invariant c.self.view_is _ _ _ low s f, take_root _ _ _ _ c.self.invariant c.self.view_is _ _ _ low s f)
 
 pub invariant_of-self : goal.invariant_of-self
-invariant_of-self g c =
-    let (low, s, f) = the_notes g (goal.at.invariant_of-self g c).In_ok-found in
+invariant_of-self g c = c.self.invariant
+
+pub invariant_of-self-2 : goal.invariant_of-self-2
+invariant_of-self-2 g c =
+    let (low, s, f) = the_notes g (goal.at.invariant_of-self-2 g c).In_ok-found in
     take_whole _ _ _ _ c.self.invariant c.self.view_is _ _ _ low s f _ _ (c.take_at-self-inside.ensures.tree low _ _ (can_take _ _ _ _ c.self.invariant c.self.view_is _ _ _ low s f) (take_root _ _ _ _ c.self.invariant c.self.view_is _ _ _ low s f))
 
 pub returns : goal.returns
