@@ -29,6 +29,9 @@ enum { RAISE, DROP_NEW, DROP_OLD, ALL_DROP_OLD = DROP_OLD | DROP_OLD << 2 | DROP
 /* A side of a table. If `packed` is true, the table has its numbers as 8 bytes, whose order is that of the numbers. */
 typedef struct { uint8_t type; bool packed; } Side;
 
+/* An int is the number without a sign of the same order: its highest bit is the other one. */
+#define TOP ((uint64_t)1 << 63)
+
 /* A value as a table takes it: a number, or the number of its bytes with the bytes. */
 typedef struct { uint64_t word; const uint8_t *bytes; uint8_t own[8]; } Value;
 
@@ -90,7 +93,7 @@ int value_of(Side side, PyObject *object, Value *value);
 PyObject *object_of(Side side, const Value *value);
 PyObject *item_of(const Shape *shape, const Value pair[2], int key_side);
 size_t bytes_of(const Shape *shape, const uint64_t *words);
-void pair_of(const Shape *shape, const uint64_t *words, const uint8_t *bytes, Value pair[2]);
+const uint8_t *pair_of(const Shape *shape, const uint64_t *words, const uint8_t *bytes, Value pair[2]);
 bool same_value(Side side, const Value *one, const Value *other);
 int rows_room(Rows *rows, size_t more, size_t bytes);
 int rows_add(Rows *rows, const Shape *shape, const Value pair[2]);

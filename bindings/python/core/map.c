@@ -2,6 +2,7 @@
 #include <sys/random.h>
 #include "core.h"
 
+#define UNUSED __attribute__((unused))
 PyTypeObject *map_type;
 
 static PyObject *none_unless(int wrong) { return wrong ? NULL : Py_BuildValue(""); }
@@ -16,9 +17,8 @@ static Map *map_of(PyTypeObject *type, Table *table, int policy)
 }
 
 /* Makes an empty map. `_rules` of its class is the kind, and the policy from the third bit on. */
-static PyObject *map_new(PyTypeObject *type, PyObject *args, PyObject *named)
+static PyObject *map_new(PyTypeObject *type, PyObject *args UNUSED, PyObject *named UNUSED)
 {
-    (void)args, (void)named;
     PyObject *rules = PyObject_GetAttrString((PyObject *)type, "_rules");
     long number = rules ? PyLong_AsLong(rules) : -1;
     Py_XDECREF(rules);
@@ -35,9 +35,8 @@ static void map_free(Map *map)
     Py_DECREF(type);
 }
 
-static PyObject *map_inverse(Map *map, void *unused)
+static PyObject *map_inverse(Map *map, void *none UNUSED)
 {
-    (void)unused;
     if (!map->other) {
         PyObject *type = PyObject_GetAttrString((PyObject *)Py_TYPE(map), "_inv_cls");
         if (!type) return NULL;
@@ -56,10 +55,15 @@ static PyObject *map_inverse(Map *map, void *unused)
 static Py_ssize_t map_len(Map *map) { return table_len(map->table); }
 
 /* Writes a key as a value of the table, which is made. */
-static int value_from(Map *map, PyObject *key, Value *value)
+static inline int value_from(Map *map, PyObject *key, Value *value)
 {
+    Side side = map->table->shape.sides[key_side(map)];
+    if (side.type == INT && !side.packed && PyLong_CheckExact(key)) {
+        value->word = (uint64_t)PyLong_AsLong(key) ^ TOP;
+        if (value->word != ~TOP || !PyErr_Occurred()) return 0;
+    }
     PyObject *it = settled(key);
-    int wrong = it ? value_of(map->table->shape.sides[key_side(map)], it, value) : -1;
+    int wrong = it ? value_of(side, it, value) : -1;
     Py_XDECREF(it);
     return wrong;
 }
@@ -116,9 +120,8 @@ static PyObject *map_walk(Map *map, PyObject *args)
 }
 
 /* The copy of an inverse has a table of its own, in which the keys are the keys. */
-static PyObject *map_copy(Map *map, PyObject *none)
+static PyObject *map_copy(Map *map, PyObject *none UNUSED)
 {
-    (void)none;
     Table *own = map->table, *table = map->inverse ? table_new(own->kind, own->types[1], own->types[0]) : table_copy(own);
     Map *copy = map_of(Py_TYPE(map), table, map->policy);
     if (copy && map->inverse && put_many(copy, (PyObject *)map, NULL, RAISE)) Py_CLEAR(copy);
@@ -214,9 +217,8 @@ static PyObject *map_pop(Map *map, PyObject *const *args, Py_ssize_t count)
     return args[1];
 }
 
-static PyObject *map_clear(Map *map, PyObject *none)
+static PyObject *map_clear(Map *map, PyObject *none UNUSED)
 {
-    (void)none;
     Table *table = map->table;
     table->moves++;
     return none_unless(table->shape.calls && done(table->shape.calls->clear(&table->handle)));

@@ -70,10 +70,8 @@ uint32_t partner_of(Table *table, int side, const Value *value, Found *found, Va
     found->bytes = found->few, found->room = sizeof found->few;
     uint32_t status = table->shape.calls->get[side](&table->handle, value, found);
     if (status == JETUKOMA_BUFFER_TOO_SHORT) {
-        uint8_t *longer = malloc(found->word);
-        if (!longer) return JETUKOMA_NO_MEMORY;
-        found->bytes = longer, found->room = found->word;
-        status = table->shape.calls->get[side](&table->handle, value, found);
+        found->bytes = malloc(found->word), found->room = found->word;
+        status = found->bytes ? table->shape.calls->get[side](&table->handle, value, found) : JETUKOMA_NO_MEMORY;
         if (status) found_free(found);
     }
     partner->word = found->word, partner->bytes = found->bytes;
@@ -171,8 +169,7 @@ static uint32_t rebuild(Table *table, const Value pair[2])
     const uint8_t *bytes = rows.bytes;
     for (size_t i = 0; i < rows.count && !status; i++) {
         Value it[2];
-        pair_of(&table->shape, rows.words + 2 * i, bytes, it);
-        bytes += bytes_of(&table->shape, rows.words + 2 * i);
+        bytes = pair_of(&table->shape, rows.words + 2 * i, bytes, it);
         bool right = same_value(table->shape.sides[1], it + 1, pair + 1);
         if (right) status = calls->insert(&copy, pair, false, false, &kind);
         else if (!same_value(table->shape.sides[0], it, pair)) status = calls->insert(&copy, it, false, false, &kind);

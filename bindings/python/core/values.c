@@ -2,8 +2,6 @@
 #include "core.h"
 
 static const char *const NAMES[] = {"", "int", "jetukoma.u64", "str", "bytes"};
-static const uint64_t TOP = (uint64_t)1 << 63;
-
 /* Returns the type of a side whose first value is this object. */
 int type_of(PyObject *object)
 {
@@ -75,6 +73,7 @@ int value_of(Side side, PyObject *object, Value *value)
 PyObject *object_of(Side side, const Value *value)
 {
     uint64_t word = value->word;
+    if (side.type == INT && !side.packed) return PyLong_FromLong((long)(word ^ TOP));
     if (side.type == STR) return PyUnicode_DecodeUTF8((const char *)value->bytes, word, NULL);
     if (side.type == BYTES) return PyBytes_FromStringAndSize((const char *)value->bytes, word);
     if (side.packed) {
@@ -97,11 +96,12 @@ size_t bytes_of(const Shape *shape, const uint64_t *words)
     return (has_bytes(shape->sides[0]) ? words[0] : 0) + (has_bytes(shape->sides[1]) ? words[1] : 0);
 }
 
-/* Writes the values of a pair of rows, whose bytes begin here. */
-void pair_of(const Shape *shape, const uint64_t *words, const uint8_t *bytes, Value pair[2])
+/* Writes the values of a pair of rows, whose bytes begin here. Returns where they end. */
+const uint8_t *pair_of(const Shape *shape, const uint64_t *words, const uint8_t *bytes, Value pair[2])
 {
     pair[0].word = words[0], pair[1].word = words[1];
     pair[0].bytes = bytes, pair[1].bytes = has_bytes(shape->sides[0]) ? bytes + words[0] : bytes;
+    return has_bytes(shape->sides[1]) ? pair[1].bytes + words[1] : pair[1].bytes;
 }
 
 bool same_value(Side side, const Value *one, const Value *other)
@@ -114,10 +114,7 @@ static int grow(void **block, size_t *room, size_t need, size_t each)
     if (need <= *room) return 0;
     size_t wanted = need < 2 * *room ? 2 * *room : need;
     void *longer = wanted > PTRDIFF_MAX / each ? NULL : realloc(*block, wanted * each);
-    if (!longer) {
-        PyErr_NoMemory();
-        return -1;
-    }
+    if (!longer) return done(JETUKOMA_NO_MEMORY);
     *block = longer, *room = wanted;
     return 0;
 }

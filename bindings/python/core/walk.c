@@ -8,7 +8,8 @@ typedef struct {
     bool back, from_end;   /* whether it goes from the end of the table, and from the end of the rows */
     size_t from, to, more; /* the positions that were not read, and how many to read next */
     Rows rows;
-    size_t at, offset; /* the next pair of the rows, and where its bytes begin or end */
+    size_t at; /* the next pair of the rows */
+    const uint8_t *bytes; /* where its bytes begin or end */
     uint64_t moves, writes;
     PyObject *item; /* the last item */
 } Walk;
@@ -49,7 +50,7 @@ static int read_next(Walk *walk)
     if (walk->back) walk->to -= count;
     else walk->from += count;
     walk->writes = walk->table->writes, walk->more *= 4;
-    walk->at = walk->from_end ? count : 0, walk->offset = walk->from_end ? walk->rows.used : 0;
+    walk->at = walk->from_end ? count : 0, walk->bytes = walk->rows.bytes + (walk->from_end ? walk->rows.used : 0);
     return 0;
 }
 
@@ -65,36 +66,36 @@ static int next_pair(Walk *walk, Value pair[2])
         if (read_next(walk)) return -1;
     }
     const Shape *shape = &walk->table->shape;
-    if (walk->from_end) walk->at--;
-    uint64_t *words = walk->rows.words + 2 * walk->at;
-    if (walk->from_end) walk->offset -= bytes_of(shape, words);
-    pair_of(shape, words, walk->rows.bytes + walk->offset, pair);
-    if (!walk->from_end) walk->at++, walk->offset += bytes_of(shape, words);
+    if (walk->from_end) walk->at--, walk->bytes -= bytes_of(shape, walk->rows.words + 2 * walk->at);
+    const uint8_t *end = pair_of(shape, walk->rows.words + 2 * walk->at, walk->bytes, pair);
+    if (!walk->from_end) walk->at++, walk->bytes = end;
     return 1;
+}
+
+/* Returns a value of the pair that was read. The value of a key was perhaps overwritten since. */
+static inline PyObject *object_at(Walk *walk, const Value pair[2], int side)
+{
+    const Shape *shape = &walk->table->shape;
+    if (walk->writes != walk->table->writes && side != shape->turned) return partner_object(walk->table, !side, pair + !side);
+    return object_of(shape->sides[side], pair + side);
 }
 
 static PyObject *walk_next(Walk *walk)
 {
     Value pair[2];
-    const Shape *shape = &walk->table->shape;
-    PyObject *objects[2] = {NULL, NULL}, *item = walk->item;
     if (next_pair(walk, pair) <= 0) return NULL;
-    for (int i = 0; i < 2; i++) {
-        int side = walk->side ^ i;
-        if (walk->what == !i) continue;
-        /* The value of a key was perhaps overwritten after this pair was read. */
-        bool stays = side == shape->turned || walk->writes == walk->table->writes;
-        objects[i] = stays ? object_of(shape->sides[side], pair + side) : partner_object(walk->table, !side, pair + !side);
-        if (walk->what != 2) return objects[i];
-    }
+    PyObject *key = walk->what != 1 ? object_at(walk, pair, walk->side) : NULL;
+    if (!walk->what) return key;
+    PyObject *value = object_at(walk, pair, !walk->side), *item = walk->item;
+    if (walk->what == 1) return value;
     /* An item that nobody else has any more is used again. */
-    if (!item || Py_REFCNT(item) > 1) item = PyTuple_New(2);
-    bool made = item && objects[0] && objects[1];
-    if (item != walk->item) Py_XDECREF(walk->item);
-    walk->item = item;
-    if (made) PyTuple_SetItem(item, 0, objects[0]), PyTuple_SetItem(item, 1, objects[1]), Py_INCREF(item);
-    else Py_XDECREF(objects[0]), Py_XDECREF(objects[1]);
-    return made ? item : NULL;
+    if (!item || Py_REFCNT(item) > 1) {
+        Py_XDECREF(item);
+        walk->item = item = PyTuple_New(2);
+    }
+    if (!item || !key || !value) return Py_XDECREF(key), Py_XDECREF(value), NULL;
+    PyTuple_SetItem(item, 0, key), PyTuple_SetItem(item, 1, value), Py_INCREF(item);
+    return item;
 }
 
 static PyType_Slot slots[] = {
