@@ -240,8 +240,7 @@ static PyObject *map_move(Map *map, PyObject *args)
 #define DOC(head, text, code) head "\n--\n\n" text "\n\n    >>> m = bidict({1: 'one', 2: 'two'})\n    >>> " code
 static PyMethodDef methods[] = {
     METHOD("get", map_get, METH_FASTCALL, DOC("get(key, default=None)", "Returns the value of a key, or the default.", "m.get(3, 'none')\n    'none'")),
-    METHOD("copy", map_copy, METH_NOARGS, DOC("copy()", "Returns a new map with the same items.", "m.copy()\n    bidict({1: 'one', 2: 'two'})")),
-    METHOD("__copy__", map_copy, METH_NOARGS, NULL),
+    METHOD("_copy", map_copy, METH_NOARGS, NULL),
     METHOD("_walk", map_walk, METH_VARARGS, NULL),
     METHOD("_same", map_same, METH_O, NULL),
     METHOD("_rank", map_rank, METH_O, NULL),

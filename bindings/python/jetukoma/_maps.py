@@ -40,12 +40,16 @@ def _one(args):
     return args[0] if args else ()
 
 
-def _made(cls, items, keys, values):
-    """Makes a map, as pickle and from_json need it."""
-    made = cls.__new__(cls)
+def _filled(made, items, keys, values):
+    """Names the types of a new map, inserts items, and returns the map."""
     made._about(keys, values)
     made._put_many(items)
     return made
+
+
+def _made(cls, *given):
+    """Makes a map, as pickle needs it."""
+    return _filled(cls.__new__(cls), *given)
 
 
 class BidictBase(Map):
@@ -93,6 +97,18 @@ class BidictBase(Map):
         """
         return BidictItemsView(self)
 
+    def copy(self):
+        """Returns a new map with the same items. It has the attributes that this map has, if a subclass set some.
+
+        >>> bidict({1: "one", 2: "two"}).copy()
+        bidict({1: 'one', 2: 'two'})
+        """
+        made = self._copy()
+        made.__dict__.update(self.__dict__)
+        return made
+
+    __copy__ = copy
+
     def __reversed__(self):
         return self._walk(0, True)
 
@@ -133,7 +149,7 @@ class BidictBase(Map):
         return f"{type(self).__name__}({self._shown(self.items()) if self else ''})"
 
     def __reduce__(self):
-        return _made, (type(self), list(self.items()), *self._about()[1:])
+        return _made, (type(self), list(self.items()), *self._about()[1:]), self.__dict__ or None
 
     def to_json(self):
         """Returns the items as the text of a JSON object. The keys must be str, or bytes in UTF-8. The values must be str or int.
@@ -158,8 +174,9 @@ class BidictBase(Map):
         items = json.loads(text, object_pairs_hook=_Object)
         if type(items) is not _Object:
             raise ValueError("the text is not a JSON object")
+        made = cls()
         try:
-            made = _made(cls, [(name.encode(), value) for name, value in items] if keys is bytes else items, TYPES[keys], TYPES[values])
+            _filled(made, [(name.encode(), value) for name, value in items] if keys is bytes else items, TYPES[keys], TYPES[values])
         except Exception as error:
             raise ValueError(f"the text is not a map: {error}") from error
         if len(made) != len(items):
@@ -342,6 +359,9 @@ class frozenbidict(BidictBase):
     >>> {frozenbidict({1: "one"}): "a key"}[frozenbidict({1: "one"})]
     'a key'
     """
+
+    # In a slot, so that no pickle has it. The hash of a str is another one in each process.
+    __slots__ = ("_hash",)
 
     def __hash__(self):
         if not hasattr(self, "_hash"):

@@ -32,7 +32,7 @@ def namedbidict(typename, keyname, valname, *, base_type=bidict):
         return type(name, (base_type, NamedBidictBase), {"__module__": module, "keyname": key, "valname": value, f"{value}_for": itself, f"{key}_for": other, **more})
 
     def reduced(self):
-        return _made_inverse, (cls, list(self.inverse.items()), *self._about()[:0:-1])
+        return _made_inverse, (cls, list(self.inverse.items()), *self._about()[:0:-1]), self.__dict__ or None
 
     cls = made(typename, keyname, valname)
     cls._inv_cls = made(f"{typename}Inv", valname, keyname, _inv_cls=cls, __reduce__=reduced)

@@ -156,6 +156,18 @@ class Beside(unittest.TestCase):
             it.name = "strict"
             self.assertEqual((it.name, type(it.inverse), type(it.copy())), ("strict", Strict, Strict))
 
+    def test_the_attributes_of_a_class_of_the_user(self):
+        for package in (jetukoma, bidict):
+            class Labelled(package.bidict):
+                def __init__(self, *args):
+                    super().__init__(*args)
+                    self.label = "seats"
+
+            globals()["Labelled"], Labelled.__qualname__ = Labelled, "Labelled"
+            it = Labelled({1: 2})
+            for again in (it.copy(), copy.copy(it), copy.deepcopy(it), pickle.loads(pickle.dumps(it)), it | {}):
+                self.assertEqual((again, type(again), again.label), (it, Labelled, "seats"))
+
     def test_named(self):
         for package in (jetukoma, bidict):
             Elements = package.namedbidict("Elements", "symbol", "name")

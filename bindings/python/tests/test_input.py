@@ -1,5 +1,7 @@
 """Bad input, the types of sides, iteration while a map changes, undo, retain and JSON."""
+import copy
 import json
+import pickle
 import random
 import signal
 import unittest
@@ -243,6 +245,18 @@ class Others(unittest.TestCase):
         self.assertFalse(any(hasattr(it, name) for name in ("put", "pop", "clear", "update", "insert", "__delitem__")))
         self.assertEqual(hash(it), hash(frozenbidict({"a": 1})))
         self.assertRaises(TypeError, hash, bidict())
+        # Another process hashes a str in another way, so neither a copy by pickle nor an inverse may have the hash.
+        self.assertNotIn(b"_hash", pickle.dumps(it))
+        self.assertEqual(hash(it.inverse), hash(frozenbidict({1: "a"})))
+
+    def test_a_copy_has_the_attributes(self):
+        class Labelled(bidict):
+            def __init__(self, label, *args):
+                super().__init__(*args)
+                self.label = label
+
+        it = Labelled("seats", {1: 2})
+        self.assertEqual((it.copy().label, (it | {3: 4}).label, copy.deepcopy(it).label), ("seats",) * 3)
 
     def test_the_order_of_an_inverse(self):
         inverse = BiBTreeMap({1: 2}).inverse
