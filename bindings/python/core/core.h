@@ -29,22 +29,16 @@ enum { RAISE, DROP_NEW, DROP_OLD, ALL_DROP_OLD = DROP_OLD | DROP_OLD << 2 | DROP
 /* A side of a table. If `packed` is true, the table has its numbers as 8 bytes, whose order is that of the numbers. */
 typedef struct { uint8_t type; bool packed; } Side;
 
-/* An int is the number without a sign of the same order: its highest bit is the other one. */
-#define TOP ((uint64_t)1 << 63)
-
+#define TOP ((uint64_t)1 << 63) /* An int and its number differ in this bit, so that they have the same order. */
 /* A value as a table takes it: a number, or the number of its bytes with the bytes. */
 typedef struct { uint64_t word; const uint8_t *bytes; uint8_t own[8]; } Value;
 
 /* Where a table writes a value. Long bytes are not in `few`, and `found_free` frees them. */
 typedef struct { uint64_t word; uint8_t *bytes; size_t room; uint8_t few[256]; } Found;
 
-/* Pairs as a table writes them: two words for each pair, and the bytes of all pairs, one behind another. */
-typedef struct {
-    uint64_t *words;
-    size_t count, room;
-    uint8_t *bytes;
-    size_t used, space;
-} Rows;
+/* Pairs as a table writes them: two words for each pair, and the bytes of all pairs, one behind another. There are `count`
+ * pairs with `used` bytes. There is room for `room` pairs with `space` bytes. */
+typedef struct { uint64_t *words; uint8_t *bytes; size_t count, room, used, space; } Rows;
 
 typedef union { jetukoma_u64_u64 u64_u64; jetukoma_bytes_u64 bytes_u64; jetukoma_bytes_bytes bytes_bytes; } Handle;
 
@@ -111,7 +105,7 @@ int done(uint32_t status);
 int table_has(Table *table, int side, const Value *value);
 uint32_t partner_of(Table *table, int side, const Value *value, Found *found, Value *partner);
 static inline void found_free(Found *found) { if (found->bytes != found->few) free(found->bytes); }
-PyObject *partner_object(Table *table, int side, const Value *value);
+PyObject *any_partner(Table *table, int side, const Value *value);
 int table_read(Table *table, bool back, size_t start, size_t count, Rows *rows);
 int table_remove(Table *table, int side, const Value *value);
 int table_move(Table *table, int side, const Value *value, bool last);
@@ -130,6 +124,16 @@ PyObject *map_insert(Map *map, PyObject *args);
 extern PyTypeObject *walk_type, *map_type;
 extern PyType_Spec walk_spec;
 PyObject *walk_new(Table *table, int key_side, int what, bool back, size_t from, size_t to);
-int find(Map *map, PyObject *key, Value *value);
 static inline int key_side(const Map *map) { return map->inverse ^ map->table->shape.turned; }
+
+/* Returns the partner of a value. If the value is not contained, it returns null without an error. */
+static inline PyObject *partner_object(Table *table, int side, const Value *value)
+{
+    Found found;
+    Side other = table->shape.sides[!side];
+    if (other.type != INT || other.packed) return any_partner(table, side, value);
+    uint32_t status = table->shape.calls->get[side](&table->handle, value, &found);
+    if (status == JETUKOMA_NOT_FOUND || done(status)) return NULL;
+    return PyLong_FromLong((long)(found.word ^ TOP));
+}
 #endif

@@ -69,7 +69,7 @@ static inline int value_from(Map *map, PyObject *key, Value *value)
 }
 
 /* Writes a key as a value to look up. Returns 1, or 0 if the map cannot contain it, or -1 with an error. */
-int find(Map *map, PyObject *key, Value *value)
+static int find(Map *map, PyObject *key, Value *value)
 {
     if (map->table->shape.calls && !value_from(map, key, value)) return 1;
     PyObject *error = PyErr_Occurred();

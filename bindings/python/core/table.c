@@ -78,8 +78,8 @@ uint32_t partner_of(Table *table, int side, const Value *value, Found *found, Va
     return status;
 }
 
-/* Returns the partner of a value. If the value is not contained, it returns null without an error. */
-PyObject *partner_object(Table *table, int side, const Value *value)
+/* Does what `partner_object` does, for a partner of any type. */
+PyObject *any_partner(Table *table, int side, const Value *value)
 {
     Found found;
     Value partner;

@@ -98,7 +98,5 @@ static PyObject *walk_next(Walk *walk)
     return item;
 }
 
-static PyType_Slot slots[] = {
-    {Py_tp_dealloc, walk_free}, {Py_tp_iter, PyObject_SelfIter}, {Py_tp_iternext, walk_next}, {0, NULL},
-};
+static PyType_Slot slots[] = {{Py_tp_dealloc, walk_free}, {Py_tp_iter, PyObject_SelfIter}, {Py_tp_iternext, walk_next}, {0, NULL}};
 PyType_Spec walk_spec = {"jetukoma._core.Walk", sizeof(Walk), 0, Py_TPFLAGS_DEFAULT, slots};
