@@ -11,8 +11,8 @@ int type_of(PyObject *object)
 /* Returns the object, or the int that its __index__ returns, as a new reference. Nothing else calls __index__. */
 PyObject *settled(PyObject *object)
 {
-    if (!PyLong_CheckExact(object) && !PyUnicode_CheckExact(object) && PyIndex_Check(object) && !PyLong_Check(object))
-        return PyNumber_Index(object);
+    bool exact = PyLong_CheckExact(object) || PyUnicode_CheckExact(object) || PyBytes_CheckExact(object);
+    if (!exact && PyIndex_Check(object) && !PyLong_Check(object)) return PyNumber_Index(object);
     Py_INCREF(object);
     return object;
 }
@@ -59,10 +59,10 @@ int value_of(Side side, PyObject *object, Value *value)
         memcpy(value->own, &packed, 8);
         value->bytes = value->own;
     } else if (side.type == STR) {
-        if (!PyUnicode_Check(object)) return wrong_type(STR, object);
+        if (!PyUnicode_CheckExact(object) && !PyUnicode_Check(object)) return wrong_type(STR, object);
         if (!(value->bytes = (const uint8_t *)PyUnicode_AsUTF8AndSize(object, &size))) return -1;
     } else {
-        if (!PyBytes_Check(object)) return wrong_type(BYTES, object);
+        if (!PyBytes_CheckExact(object) && !PyBytes_Check(object)) return wrong_type(BYTES, object);
         if (PyBytes_AsStringAndSize(object, (char **)&value->bytes, &size)) return -1;
     }
     value->word = size;
