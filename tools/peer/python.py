@@ -1,4 +1,6 @@
-"""python.py [PAIRS ..]: times the calls of the package jetukoma beside bidict, and prints a table. Both must be installed.
+"""python.py [KIND ..] [PAIRS ..]: times the calls of maps of the package jetukoma beside bidict, and prints a table.
+
+Both packages must be installed. KIND is a class of jetukoma, and `bidict` by default.
 
 A figure is nanoseconds a pair, and in brackets its ratio to bidict. It is the median of several runs, in which both take
 turns. Each loop drops what a call returns. The line `spread` is the greatest difference of the quartiles of a ratio over
@@ -12,6 +14,7 @@ import statistics
 import subprocess
 import sys
 import time
+from itertools import product
 
 RUNS = {1_000: 201, 100_000: 9, 1_000_000: 5}
 GOALS = [0.4, 0.7, 0.7, 0.9, 1.0, 0.1, 0.4, 0.6, 0.12, 0.7]
@@ -104,8 +107,10 @@ print((size() - before) / {pairs} / maps)"""
     return float(subprocess.run([sys.executable, "-c", grown], capture_output=True, check=True, text=True).stdout)
 
 
-def main(sizes):
-    for pairs, text, kind in [(pairs, text, kind) for pairs in sizes for text in (False, True) for kind in ("bidict", "BiHashMap")]:
+def main(words):
+    kinds = [it for it in words if not it.isdigit()] or ["bidict"]
+    sizes = [int(it) for it in words if it.isdigit()] or list(RUNS)
+    for pairs, text, kind in product(sizes, (False, True), kinds):
         both = [("jetukoma", kind, text, pairs), ("bidict", "bidict", text, pairs)]
         runs = [[timed(*each) for each in both] + [two_ints(pairs)] for _ in range(RUNS.get(pairs, 5))]
         figures = {name: [statistics.median(run[i][name] for run in runs) for i in (0, 1)] for name in runs[0][0]}
@@ -123,4 +128,4 @@ def main(sizes):
 
 
 if __name__ == "__main__":
-    main([int(it) for it in sys.argv[1:]] or list(RUNS))
+    main(sys.argv[1:])
