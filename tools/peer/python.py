@@ -8,7 +8,7 @@ the runs, divided by the median ratio. The line `two ints` is the time in which 
 nothing else, beside bidict's `items()`.
 
 `bytes` is how much the memory of a process grows, without the objects that the caller has and without shared memory. The
-process first makes a map of each size, so that what is paid once does not count. Then it makes maps of 100,000 pairs in all.
+process first makes one such map, so that what is paid once does not count. Then it makes maps of 100,000 pairs in all.
 """
 import statistics
 import subprocess
