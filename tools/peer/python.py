@@ -1,15 +1,18 @@
 """python.py [KIND ..] [PAIRS ..]: times the calls of maps of the package jetukoma beside bidict, and prints a table.
 
-Both packages must be installed. KIND is a class of jetukoma, and `bidict` by default.
+Both packages must be installed. KIND is a class of jetukoma, and `bidict` by default. The table of `bidict` is the one in
+docs/PYTHON.md. Run the tool on a quiet machine. It prints the load before and after.
 
-A figure is nanoseconds a pair, and in brackets its ratio to bidict. It is the median of several runs, in which both take
-turns. Each loop drops what a call returns. The line `spread` is the greatest difference of the quartiles of a ratio over
-the runs, divided by the median ratio. The line `two ints` is the time in which Python makes two ints of 62 bits and
-nothing else, beside bidict's `items()`.
+A figure is nanoseconds a pair, and in brackets its ratio to bidict. A ratio in bold is above its goal. A figure is the median
+of several runs, in which both packages take turns. Each loop drops what a call returns.
 
-`bytes` is how much the memory of a process grows, without the objects that the caller has and without shared memory. The
-process first makes one such map, so that what is paid once does not count. Then it makes maps of 100,000 pairs in all.
+- `bytes` is how much the memory of a process grows, without the objects that the caller has and without shared memory. The
+  process first makes one such map, so that what is paid once does not count. Then it makes maps of 100,000 pairs in all.
+- `two ints` is the time in which Python makes two ints of 62 bits, and its ratio to the time of bidict's `items()`.
+- `spread` is how far the ratio of a call differs from run to run: the difference of its quartiles, divided by its median. It
+  is the greatest of all calls.
 """
+import os
 import statistics
 import subprocess
 import sys
@@ -17,7 +20,18 @@ import time
 from itertools import product
 
 RUNS = {1_000: 201, 100_000: 9, 1_000_000: 5}
-GOALS = [0.4, 0.7, 0.7, 0.9, 1.0, 0.1, 0.4, 0.6, 0.12, 0.7]
+GOALS = {
+    "`m[k] = v`, new": 0.4,
+    "`m[k] = v`, overwriting": 0.4,
+    "`m[k]`": 0.7,
+    "`m.inverse[v]`": 0.7,
+    "`k in m`": 0.9,
+    "`del m[k]`": 0.6,
+    "`items()`": 1.0,
+    "`putall`": 0.12,
+    "`copy`": 0.1,
+    "`bytes`": 0.7,
+}
 
 
 def values_of(text, start, pairs, factor):
@@ -57,15 +71,15 @@ def timed(package, kind, text, pairs):
             del m[key]
 
     calls = {
-        "m[k] = new": lambda: put(items),
-        "m[k]": get,
-        "m.inverse[v]": get_inverse,
-        "k in m": contains,
-        "items()": iterate,
-        "copy": m.copy,
-        "m[k] = over": lambda: put(zip(keys, more)),
-        "del m[k]": delete,
-        "putall": lambda: m.putall(items),
+        "`m[k] = v`, new": lambda: put(items),
+        "`m[k]`": get,
+        "`m.inverse[v]`": get_inverse,
+        "`k in m`": contains,
+        "`items()`": iterate,
+        "`copy`": m.copy,
+        "`m[k] = v`, overwriting": lambda: put(zip(keys, more)),
+        "`del m[k]`": delete,
+        "`putall`": lambda: m.putall(items),
     }
     for name, call in calls.items():
         start = time.perf_counter_ns()
@@ -107,24 +121,35 @@ print((size() - before) / {pairs} / maps)"""
     return float(subprocess.run([sys.executable, "-c", grown], capture_output=True, check=True, text=True).stdout)
 
 
+def column(kind, text, pairs):
+    """Returns the cells of a column of the table."""
+    both = [("jetukoma", kind, text, pairs), ("bidict", "bidict", text, pairs)]
+    runs = [[timed(*each) for each in both] + [two_ints(pairs)] for _ in range(RUNS.get(pairs, 5))]
+    cells, spread = {}, 0
+    for name, goal in GOALS.items():
+        if name == "`bytes`":
+            ours, theirs = (bytes_of(*each) for each in both)
+        else:
+            ours, theirs = (statistics.median(run[i][name] for run in runs) for i in (0, 1))
+            low, middle, high = statistics.quantiles((run[0][name] / run[1][name] for run in runs), n=4)
+            spread = max(spread, (high - low) / middle)
+        ratio = f"{ours / theirs if theirs else 0:.2f}"
+        cells[name] = f"{ours:.0f} ({f'**{ratio}**' if float(ratio) > goal else ratio})"
+    ints, iterated = (statistics.median(each) for each in zip(*((run[2], run[1]["`items()`"]) for run in runs)))
+    return {**cells, "two ints": f"{ints:.0f} ({ints / iterated:.2f})", "spread": f"{spread:.2f}"}
+
+
 def main(words):
     kinds = [it for it in words if not it.isdigit()] or ["bidict"]
     sizes = [int(it) for it in words if it.isdigit()] or list(RUNS)
-    for pairs, text, kind in product(sizes, (False, True), kinds):
-        both = [("jetukoma", kind, text, pairs), ("bidict", "bidict", text, pairs)]
-        runs = [[timed(*each) for each in both] + [two_ints(pairs)] for _ in range(RUNS.get(pairs, 5))]
-        figures = {name: [statistics.median(run[i][name] for run in runs) for i in (0, 1)] for name in runs[0][0]}
-        spread = 0
-        for name in figures:
-            low, middle, high = statistics.quantiles((run[0][name] / run[1][name] for run in runs), n=4)
-            spread = max(spread, (high - low) / middle)
-        figures["bytes"] = [bytes_of(*each) for each in both]
-        print(f"{pairs:,} pairs of {'str' if text else 'int'} and int, {kind}")
-        for (name, (ours, theirs)), goal in zip(figures.items(), GOALS):
-            ratio = ours / theirs if theirs else 0
-            print(f"    {name:<14}{ours:>9.1f} ({ratio:.2f})" + f", above {goal}" * (ratio > goal))
-        ints = statistics.median(run[2] for run in runs)
-        print(f"    {'two ints':<14}{ints:>9.1f} ({ints / figures['items()'][1]:.2f})\n    {'spread':<14}{spread:>9.2f}")
+    print("load:", *os.getloadavg())
+    for kind in kinds:
+        heads = [f"{'str' if text else 'int'}, {pairs:,}" for text, pairs in product((False, True), sizes)]
+        columns = [column(kind, text, pairs) for text, pairs in product((False, True), sizes)]
+        print(f"{kind}:\n| call |", " | ".join(heads), "| goal |\n" + "|---" * (len(heads) + 2) + "|")
+        for name in columns[0]:
+            print(f"| {name} |", " | ".join(it[name] for it in columns), f"| {GOALS.get(name, '')} |")
+    print("load:", *os.getloadavg())
 
 
 if __name__ == "__main__":
