@@ -49,7 +49,7 @@ benched() {
     echo 'echo BiBTreeMap insert fast 0' >"$ours.lines"
     bench "no measurement" "this library: a line must have a kind, a column, a figure and what was found, but this is a line: BiBTreeMap insert fast 0" 1000
     echo 'echo BiBTreeMap insert 1.5 0' >"$ours.lines"
-    bench "a column alone" "this library: $words must print a line for each of insert, hit-by-left, hit-by-right, miss-by-left, same-pair, overwrite, walk, walk-back, remove, bytes" 1000
+    bench "a column alone" "this library: $words must print a line for each of insert, hit-by-left, hit-by-right, miss-by-left, same-pair, overwrite, walk, walk-back, clone, queue, pop-first, remove, bytes" 1000
     rm "$ours"
     bench "no program" "this library: $words could not be started" 1000
     printf '#!/bin/sh\nexit 4\n' >"$room/path/rt"

@@ -1,14 +1,17 @@
 // Runs the calls of `crates/tool_bench` on Boost.Bimap. `boost PAIRS times KEYS KIND` uses the same keys in the same
 // order, and prints the same lines. `boost` alone prints its version.
 #include <boost/bimap.hpp>
+#include <boost/bimap/list_of.hpp>
 #include <boost/bimap/set_of.hpp>
 #include <boost/bimap/unordered_set_of.hpp>
 #include <boost/version.hpp>
 #include <chrono>
 #include <cstdint>
 #include <cstdio>
+#include <optional>
 #include <string>
 
+using boost::bimaps::list_of_relation;
 using boost::bimaps::set_of;
 using boost::bimaps::unordered_set_of;
 
@@ -49,22 +52,22 @@ static uint64_t memory() {
     return own * 4096;
 }
 
-template <class Bimap, bool is_left_ordered> void measure(const char *kind, Keys keys) {
-    typedef typename Bimap::value_type Pair;
+template <class Bimap, bool has_order> void measure(const char *kind, Keys keys) {
     uint64_t n = keys.pairs;
     Bimap bimap;
-    // An insertion that overwrites. It first erases the pairs that have one of the values. It counts the insertions
-    // that overwrite.
+    // An insertion that overwrites. It first erases the pairs that have one of the values. It returns whether it
+    // overwrites.
+    auto put = [&](Bimap &bimap, uint64_t at, uint64_t apart) {
+        typename Bimap::left_value_type pair(keys.left(at), keys.right(at + apart));
+        if (bimap.left.insert(pair).second) return false;
+        bimap.left.erase(pair.first);
+        bimap.right.erase(pair.second);
+        bimap.left.insert(pair);
+        return true;
+    };
     auto insert = [&](uint64_t apart) {
         uint64_t struck = 0;
-        for (uint64_t at = 0; at < n; at++) {
-            Pair pair(keys.left(at), keys.right(at + apart));
-            if (bimap.insert(pair).second) continue;
-            struck++;
-            bimap.left.erase(pair.left);
-            bimap.right.erase(pair.right);
-            bimap.insert(pair);
-        }
+        for (uint64_t at = 0; at < n; at++) struck += put(bimap, at, apart);
         return struck;
     };
     uint64_t before = memory();
@@ -78,14 +81,38 @@ template <class Bimap, bool is_left_ordered> void measure(const char *kind, Keys
     timed(kind, "overwrite", n, [&] { return insert(n); });
     timed(kind, "walk", n, [&] {
         uint64_t sum = 0;
-        for (auto &pair : bimap.left) sum += pair.first ^ pair.second;
+        for (auto &pair : bimap) sum += pair.left ^ pair.right;
         return sum;
     });
-    if constexpr (is_left_ordered) timed(kind, "walk-back", n, [&] {
+    if constexpr (has_order) timed(kind, "walk-back", n, [&] {
         uint64_t sum = 0;
-        for (auto at = bimap.left.rbegin(); at != bimap.left.rend(); ++at) sum += at->first ^ at->second;
+        for (auto at = bimap.rbegin(); at != bimap.rend(); ++at) sum += at->left ^ at->right;
         return sum;
     });
+    std::optional<Bimap> copy;
+    timed(kind, "clone", n, [&] { return copy.emplace(bimap).size(); });
+    if constexpr (has_order) {
+        // Removes the first pair, and returns `left ^ right`.
+        auto pop = [&] {
+            auto first = copy->begin();
+            uint64_t mixed = first->left ^ first->right;
+            copy->erase(first);
+            return mixed;
+        };
+        timed(kind, "queue", n, [&] {
+            uint64_t sum = 0;
+            for (uint64_t at = 0; at < n; at++) {
+                put(*copy, n + at, n);
+                sum += pop();
+            }
+            return sum;
+        });
+        timed(kind, "pop-first", n, [&] {
+            uint64_t sum = 0;
+            for (uint64_t at = 0; at < n; at++) sum += pop();
+            return sum;
+        });
+    }
     timed(kind, "remove", n, [&] { return keys.count([&](uint64_t at) { return bimap.left.erase(keys.left(at)) != 0; }); });
 }
 
@@ -101,4 +128,5 @@ int main(int count, char **words) {
     if (kind == "BiBTreeHashMap") measure<boost::bimap<set_of<N>, unordered_set_of<N>>, true>("BiBTreeHashMap", keys);
     if (kind == "BiHashBTreeMap") measure<boost::bimap<unordered_set_of<N>, set_of<N>>, false>("BiHashBTreeMap", keys);
     if (kind == "BiHashMap") measure<boost::bimap<unordered_set_of<N>, unordered_set_of<N>>, false>("BiHashMap", keys);
+    if (kind == "BiInsertionOrderMap") measure<boost::bimap<unordered_set_of<N>, unordered_set_of<N>, list_of_relation>, true>("BiInsertionOrderMap", keys);
 }

@@ -4,22 +4,32 @@ ghost use Rattle.std.specs.Iterator.{IsFinite};
 
 use crate::keys::Keys;
 use crate::report::Report;
-use bimap::{Bijection, Overwritten};
+use bimap::Bijection;
 use std::io::{self, ErrorKind, Print};
 use std::rt::Files;
 use std::time::Clock;
 
-// Inserts the pair of each number. Its right is the right of the number that is `apart` further on. Returns how many
-// insertions overwrote a pair.
+// Inserts the pair of a number. Its right is the right of the number that is `apart` further on. Returns whether the
+// insertion overwrote a pair.
+#[inline]
+fn put<B: Bijection<u64, u64>>(
+    bimap: &mut B,
+    keys: Keys,
+    number: u64,
+    apart: u64,
+) -> io::Result<bool> {
+    let right = keys.right(number.wrapping_add(apart));
+    match bimap.insert(keys.left(number), right) {
+        Ok(overwritten) => Ok(overwritten.did_overwrite()),
+        Err(_) => Err(ErrorKind::OutOfMemory.into()),
+    }
+}
+
+// Inserts the pair of each number. Returns how many insertions overwrote a pair.
 fn insert<B: Bijection<u64, u64>>(bimap: &mut B, keys: Keys, apart: u64) -> io::Result<u64> {
     let mut struck = 0u64;
     for number in 0..keys.pairs() {
-        let right = keys.right(number.wrapping_add(apart));
-        match bimap.insert(keys.left(number), right) {
-            Ok(Overwritten::Neither) => {}
-            Ok(_) => struck = struck.wrapping_add(1),
-            Err(_) => return Err(ErrorKind::OutOfMemory.into()),
-        }
+        struck = struck.wrapping_add(put(bimap, keys, number, apart)? as u64);
     }
     Ok(struck)
 }
@@ -55,6 +65,43 @@ fn remove_by_left<B: Bijection<u64, u64>>(bimap: &mut B, keys: Keys) -> u64 {
         number = keys.after(number);
     }
     removed
+}
+
+// Returns `left ^ right` of a removed pair, or 0 if there is none.
+fn mixed(pair: Option<(u64, u64)>) -> u64 {
+    pair.map_or(0, |(left, right)| left ^ right)
+}
+
+// Inserts a new pair for each pair, and removes the first pair each time. Returns the sum of `left ^ right` over the
+// removed pairs.
+fn exchange<B: Bijection<u64, u64>, P: Fn(&mut B) -> Option<(u64, u64)>>(
+    bimap: &mut B,
+    keys: Keys,
+    pop: &P,
+) -> io::Result<u64>
+    requires { P.IsAlwaysCallable pop.now }
+{
+    let mut sum = 0u64;
+    for number in 0..keys.pairs() {
+        put(bimap, keys, number.wrapping_add(keys.pairs()), keys.pairs())?;
+        sum = sum.wrapping_add(mixed(pop(bimap)));
+    }
+    Ok(sum)
+}
+
+// Removes the first pair, once for each pair. Returns the sum of `left ^ right` over the removed pairs.
+fn pop_all<B: Bijection<u64, u64>, P: Fn(&mut B) -> Option<(u64, u64)>>(
+    bimap: &mut B,
+    keys: Keys,
+    pop: &P,
+) -> u64
+    requires { P.IsAlwaysCallable pop.now }
+{
+    let mut sum = 0u64;
+    for _ in 0..keys.pairs() {
+        sum = sum.wrapping_add(mixed(pop(bimap)));
+    }
+    sum
 }
 
 /// Iterates over all pairs, and returns the sum of `left ^ right`.
@@ -105,6 +152,24 @@ pub fn changes<R: Clock + Print, B: Bijection<u64, u64>>(
     let start = report.start(rt)?;
     let struck = insert(bimap, keys, keys.pairs())?;
     report.end(rt, "overwrite", start, struck)
+}
+
+/// Times a queue of as many pairs as the map contains: a new pair is inserted, and the first pair is removed by `pop`.
+/// Then it times the removals of the first pair, until the map is empty.
+pub fn queue<
+    R: Clock + Print,
+    B: Bijection<u64, u64> + Drop,
+    P: Fn(&mut B) -> Option<(u64, u64)> + Drop,
+>(rt: &R, report: &Report, mut bimap: B, pop: P) -> io::Result<()>
+    requires { P.IsAlwaysCallable pop }
+{
+    let keys = report.keys();
+    let start = report.start(rt)?;
+    let sum = exchange(&mut bimap, keys, &pop)?;
+    report.end(rt, "queue", start, sum)?;
+    let start = report.start(rt)?;
+    let sum = pop_all(&mut bimap, keys, &pop);
+    report.end(rt, "pop-first", start, sum)
 }
 
 /// Times the removals by left, until the map is empty.

@@ -14,8 +14,8 @@ mod calls;
 mod keys;
 mod report;
 
-use bimap::{BiBTreeHashMap, BiBTreeMap, BiHashBTreeMap, BiHashMap};
-use calls::{changes, fill, removals, total};
+use bimap::{BiBTreeHashMap, BiBTreeMap, BiHashBTreeMap, BiHashMap, BiInsertionOrderMap};
+use calls::{changes, fill, queue, removals, total};
 use keys::Keys;
 use report::Report;
 use std::env;
@@ -23,10 +23,10 @@ use std::io::{self, ErrorKind, Print};
 use std::rt::Files;
 use std::time::Clock;
 
-// Times the calls over one type of map, which is empty before and after. With an ordered left side it also iterates
-// backwards.
+// Times the calls over one type of map, which is empty before and after. If its pairs have an order, it also iterates
+// backwards, and removes the first pairs of a clone by `$pop`.
 macro_rules! measure {
-    ($rt:expr, $report:expr, $kind:ident $(, $rev:ident)?) => {{
+    ($rt:expr, $report:expr, $kind:ident $(, $rev:ident, $pop:ident)?) => {{
         let mut bimap: $kind<u64, u64> = $kind::new($rt.alloc());
         let report = $report.of(stringify!($kind));
         fill($rt, &report, &mut bimap)?;
@@ -39,17 +39,21 @@ macro_rules! measure {
             let sum = total(bimap.iter().$rev());
             report.end($rt, "walk-back", start, sum)?;
         )?
+        let start = report.start($rt)?;
+        let copy = bimap.clone().map_err(|_| ErrorKind::OutOfMemory)?;
+        report.end($rt, "clone", start, copy.len() as u64)?;
+        $(queue($rt, &report, copy, |bimap: &mut $kind<u64, u64>| bimap.$pop())?;)?
         removals($rt, &report, &mut bimap)
     }};
 }
 
 // Each type of map has a function of its own. One function with all calls would take minutes to prove.
 fn ordered<R: AllocGlobal + Clock + Files + Print>(rt: &R, report: &Report) -> io::Result<()> {
-    measure!(rt, report, BiBTreeMap, rev)
+    measure!(rt, report, BiBTreeMap, rev, pop_first_by_left)
 }
 
 fn ordered_left<R: AllocGlobal + Clock + Files + Print>(rt: &R, report: &Report) -> io::Result<()> {
-    measure!(rt, report, BiBTreeHashMap, rev)
+    measure!(rt, report, BiBTreeHashMap, rev, pop_first_by_left)
 }
 
 fn ordered_right<R: AllocGlobal + Clock + Files + Print>(
@@ -63,6 +67,10 @@ fn hashed<R: AllocGlobal + Clock + Files + Print>(rt: &R, report: &Report) -> io
     measure!(rt, report, BiHashMap)
 }
 
+fn in_order<R: AllocGlobal + Clock + Files + Print>(rt: &R, report: &Report) -> io::Result<()> {
+    measure!(rt, report, BiInsertionOrderMap, rev, pop_first)
+}
+
 // Runs the type of map that has this name.
 fn run<R: AllocGlobal + Clock + Files + Print>(
     rt: &R,
@@ -74,15 +82,17 @@ fn run<R: AllocGlobal + Clock + Files + Print>(
         "BiBTreeHashMap" => ordered_left(rt, report),
         "BiHashBTreeMap" => ordered_right(rt, report),
         "BiHashMap" => hashed(rt, report),
+        "BiInsertionOrderMap" => in_order(rt, report),
         _ => Err(ErrorKind::InvalidInput.into()),
     }
 }
 
-const KINDS: [&str; 4] = [
+const KINDS: [&str; 5] = [
     "BiBTreeMap",
     "BiBTreeHashMap",
     "BiHashBTreeMap",
     "BiHashMap",
+    "BiInsertionOrderMap",
 ];
 
 fn main(rt: HostRuntime) -> io::Result<()> {

@@ -1,5 +1,5 @@
 //! Makes the calls of `crates/tool_bench` on a crate that is named `bimap`. This is the Rust crate, or the bindings
-//! for Rust, which are not timed backwards.
+//! for Rust. The feature `ends` adds the calls at the ends of the order, which are not timed from the bindings.
 use bimap::{BiBTreeMap, BiHashMap, Overwritten};
 use std::time::Instant;
 
@@ -58,16 +58,16 @@ fn memory() -> u64 {
 }
 
 macro_rules! measure {
-    ($kind:ident, $keys:expr $(, $rev:ident)?) => {{
+    ($kind:ident, $keys:expr $(, $rev:ident, $values:ident)?) => {{
         let (name, keys, n) = (stringify!($kind), $keys, $keys.pairs);
         let mut bimap: $kind<u64, u64> = $kind::new();
+        // Inserts the pair of a number, and returns whether this overwrites a pair.
+        let put = |bimap: &mut $kind<u64, u64>, at: u64, apart: u64| {
+            let right = keys.right(at.wrapping_add(apart));
+            bimap.insert(keys.left(at), right) != Overwritten::Neither
+        };
         let insert = |bimap: &mut $kind<u64, u64>, apart: u64| {
-            (0..n)
-                .filter(|at| {
-                    let right = keys.right(at.wrapping_add(apart));
-                    bimap.insert(keys.left(*at), right) != Overwritten::Neither
-                })
-                .count() as u64
+            (0..n).filter(|at| put(bimap, *at, apart)).count() as u64
         };
         let before = memory();
         timed(name, "insert", n, || insert(&mut bimap, 0));
@@ -85,10 +85,35 @@ macro_rules! measure {
         timed(name, "overwrite", n, || insert(&mut bimap, n));
         timed(name, "walk", n, || bimap.iter().fold(0, |sum, (l, r)| sum.wrapping_add(l ^ r)));
         $(
-            #[cfg(feature = "back")]
+            #[cfg(feature = "ends")]
             timed(name, "walk-back", n, || {
                 bimap.iter().$rev().fold(0, |sum, (l, r)| sum.wrapping_add(l ^ r))
             });
+        )?
+        let mut copy: $kind<u64, u64> = $kind::new();
+        timed(name, "clone", n, || {
+            copy = bimap.clone();
+            copy.len() as u64
+        });
+        $(
+            #[cfg(feature = "ends")]
+            {
+                // Removes the first pair, and returns its `left ^ right`. The crate has no such call, so this finds the
+                // least left first.
+                let pop = |bimap: &mut $kind<u64, u64>| {
+                    let left = bimap.$values().next().copied();
+                    left.and_then(|left| bimap.remove_by_left(&left)).map_or(0, |(l, r)| l ^ r)
+                };
+                timed(name, "queue", n, || {
+                    (0..n).fold(0, |sum: u64, at| {
+                        put(&mut copy, n + at, n);
+                        sum.wrapping_add(pop(&mut copy))
+                    })
+                });
+                timed(name, "pop-first", n, || {
+                    (0..n).fold(0, |sum: u64, _| sum.wrapping_add(pop(&mut copy)))
+                });
+            }
         )?
         timed(name, "remove", n, || {
             keys.count(|at| bimap.remove_by_left(&keys.left(at)).is_some())
@@ -100,7 +125,7 @@ macro_rules! measure {
 pub fn times(pairs: &str, keys: &str, kind: &str) {
     let keys = Keys::new(pairs.parse().unwrap_or(1000), keys == "rising");
     match kind {
-        "BiBTreeMap" => measure!(BiBTreeMap, keys, rev),
+        "BiBTreeMap" => measure!(BiBTreeMap, keys, rev, left_values),
         "BiHashMap" => measure!(BiHashMap, keys),
         kind => eprintln!("peer: no kind {kind}"),
     }
