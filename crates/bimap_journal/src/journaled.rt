@@ -11,7 +11,7 @@ use crate::reading::read_into;
 use crate::storage::Storage;
 use crate::stored::Stored;
 use crate::text::NotWritten;
-use bimap::{Bijection, NoRoom, NotInsertedWith, OnHeld, Overwritten, Policy};
+use bimap::{Bijection, NoMemory, NoRoom, NotInsertedWith, OnHeld, Overwritten, Policy};
 use std::alloc::Global;
 use std::marker::{Model, PhantomData};
 
@@ -79,6 +79,7 @@ impl<B: Bijection<L, R> + Drop, L: Stored + Drop, R: Stored + Drop, S: Storage +
     S,
 > {
     ghost use Rattle.std.specs.Prelude.{◌≡◌, ◌∷◌, [], Ok, Some, false, Contains, OnOk, IfOk, IfErr, IfSome};
+    ghost use Rattle.bimap.specs.Capacity.{IsReservation};
     ghost use Rattle.bimap.specs.Holding.{IsInsertion, IsInsertionUnder, IsRemovalByLeft, IsRemovalByRight};
     ghost use Rattle.bimap_journal.specs.Reading.{IsOpened, IsNotOpened};
     ghost use Rattle.bimap_journal.specs.State.{KeepsOneOf, Acknowledges, IsNotStored};
@@ -270,6 +271,21 @@ impl<B: Bijection<L, R> + Drop, L: Stored + Drop, R: Stored + Drop, S: Storage +
             Err(NotWritten::Memory) => Err(NotStored::Memory(())),
             Err(NotWritten::LineBreak) => Err(NotStored::LineBreak(())),
         }
+    }
+
+    /// Grows the capacity of the map, as `Bijection::reserve` does. The file does not change.
+    ///
+    /// Time: That of the call of the map.
+    ///
+    /// Memory: It allocates as the call of the map does.
+    ///
+    /// `Err`: Out of memory. Pairs and capacity are as before.
+    pub fn reserve(&mut self, more: usize) -> Result<(), NoMemory>
+        ensures reply { IsReservation self.old.held more result self.new.held }
+        ensures file { self.new.calls ≡ self.old.calls }
+        ensures stopped { self.new.is_stopped ≡ self.old.is_stopped }
+    {
+        self.map.reserve(more)
     }
 
     /// Returns the map. All look-ups and iterators are those of the map.

@@ -13,8 +13,6 @@ mod progress;
 mod reading;
 mod storage;
 mod stored;
-#[cfg(test)]
-mod tests;
 mod text;
 
 pub use disk::Disk;

@@ -16,6 +16,23 @@ fn open_seats(rt: &HostRuntime) -> Result<StoredSeats> {
     }
 }
 
+fn insert_two(rt: &HostRuntime, seats: &mut StoredSeats) -> Result<()> {
+    let (ann, bob) = (
+        String::from_str(rt.alloc(), "ann")?,
+        String::from_str(rt.alloc(), "bob")?,
+    );
+    println!(rt; "{:?}", seats.insert(ann, 12)?)?; // Ok(Neither)
+    println!(rt; "{:?}", seats.insert(bob, 12)?)?; // Ok(Right("ann", 12))
+    Ok(())
+}
+
+fn compact(rt: &HostRuntime, seats: &mut StoredSeats) -> Result<()> {
+    println!(rt; "{:?}", seats.map())?; // {"bob" <> 12}
+    seats.compact()?;
+    println!(rt; "{}", fs::read_to_string(rt, "seats.journal")?)?;
+    Ok(())
+}
+
 fn apply_group(rt: &HostRuntime, seats: &mut StoredSeats) -> Result<()> {
     let (bob, cal, dan) = (
         String::from_str(rt.alloc(), "bob")?,
@@ -36,17 +53,10 @@ fn apply_group(rt: &HostRuntime, seats: &mut StoredSeats) -> Result<()> {
 
 fn main(rt: HostRuntime) -> Result<()> {
     let mut seats = open_seats(&rt)?;
-    let (ann, bob) = (
-        String::from_str(rt.alloc(), "ann")?,
-        String::from_str(rt.alloc(), "bob")?,
-    );
-    println!(rt; "{:?}", seats.insert(ann, 12)?)?; // Ok(Neither)
-    println!(rt; "{:?}", seats.insert(bob, 12)?)?; // Ok(Right("ann", 12))
+    insert_two(&rt, &mut seats)?;
     drop(seats);
     let mut seats = open_seats(&rt)?;
-    println!(rt; "{:?}", seats.map())?; // {"bob" <> 12}
-    seats.compact()?;
-    println!(rt; "{}", fs::read_to_string(&rt, "seats.journal")?)?;
+    compact(&rt, &mut seats)?;
     apply_group(&rt, &mut seats)?;
     // The next run begins anew.
     fs::remove_file(&rt, "seats.journal")?;

@@ -1,7 +1,9 @@
 //! Tests of a journal by crashes. A scenario runs on a file in memory, which stops at each of its calls in turn. Each
-//! content that a crash may leave then is opened. The map must have all acknowledged changes, or the next one too.
+//! content that a crash may leave then is opened. The map must have all acknowledged changes, or the next one too. A
+//! further test compacts a map in insertion order.
 #![tactic(auto)]
 
+mod order;
 mod plain;
 mod step;
 mod torn;
@@ -22,5 +24,6 @@ fn main(rt: HostRuntime) -> Result<()> {
         tally.opened_again
     )?;
     println!(rt; "{} wrong", tally.wrong)?;
+    println!(rt; "insertion order is kept: {}", order::is_kept(rt.alloc())?)?;
     Ok(())
 }

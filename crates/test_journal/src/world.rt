@@ -69,6 +69,11 @@ impl World {
         self.calls_too_many
     }
 
+    /// Returns what is surely on the disk.
+    pub fn disk(&self) -> &[u8] {
+        &self.disk
+    }
+
     /// Returns contents that a crash may leave now.
     pub fn outcomes(&self, alloc: Global) -> Result<Vec<Vec<u8>>, AllocError> {
         let mut files = Vec::new(alloc);
