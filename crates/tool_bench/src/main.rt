@@ -7,10 +7,14 @@
 //! `tool_bench PAIRS times rising` uses rising keys. Any other third word means random keys. With a fourth word, as
 //! `BiHashMap`, only this type of map runs. Without `times` the program prints only what the calls found.
 //!
+//! `tool_bench PAIRS times chance journal FILE CALL` opens a journal, and makes one of the calls `open`, `insert`,
+//! `apply` and `compact` on it. `insert` makes a call for each pair, and `apply` one for each 1,000 pairs.
+//!
 //! The program ends with an error if the first word is not a number, or if there is no memory.
 #![tactic(auto)]
 
 mod calls;
+mod journal;
 mod keys;
 mod report;
 
@@ -108,7 +112,12 @@ fn main(rt: HostRuntime) -> io::Result<()> {
     let is_rising = words.next().is_some_and(|word| word.as_str() == "rising");
     let report = Report::new(Keys::new(pairs, is_rising), is_measured);
     if let Some(kind) = words.next() {
-        return run(&rt, &report, kind.as_str());
+        return match (words.next(), words.next()) {
+            (Some(path), Some(call)) => {
+                journal::run(&rt, &report.of("journal"), path.as_str(), call.as_str())
+            }
+            _ => run(&rt, &report, kind.as_str()),
+        };
     }
     for kind in KINDS {
         run(&rt, &report, kind)?;
