@@ -34,3 +34,14 @@ journals() {
     reads_journal "$room/changed"
     check "the reader of a journal refuses another checksum" 1 "" -
 }
+
+# Runs tools/crashes over a program that keeps its state in a journal, and counts its checks.
+crashed() {
+    tools/crashes "$program" "$name" >"$room/out" 2>"$room/err" </dev/null
+    status=$?
+    local right wrong
+    read -r right wrong < <(sed -n 's/^\([0-9]*\) passed, \([0-9]*\) failed$/\1 \2/p' "$room/out" | tail -n 1)
+    [ -n "${wrong:-}" ] || right=0 wrong=1
+    [ "$wrong" = 0 ] || cat "$room/err" >&2
+    passed=$((passed + right)) failed=$((failed + wrong))
+}

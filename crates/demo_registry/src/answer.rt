@@ -1,10 +1,8 @@
-//! Answers lines. This file does not know how a registry keeps its members.
-use crate::fault::Fault;
-use crate::file::listed;
+//! Answers lines. This file does not know how a registry keeps its members, nor where.
+use crate::fault::Refused;
 use crate::line::{REQUESTS, Request, parse_line, parse_members};
-use crate::registry::{
-    Registry, give_back_room, id_of, name_of, register, register_all, rename, renumber,
-};
+use crate::members::{Members, give_back_room, register, register_all, rename, renumber};
+use crate::registry::{self, Registry, id_of, name_of};
 use bimap::{NoMemory, NotInserted, NotReplaced};
 use std::fmt::Display;
 use std::io;
@@ -18,11 +16,11 @@ fn owned(rt: &impl AllocGlobal, name: &str) -> io::Result<String> {
 // Registers one member, and prints the answer.
 fn answer_register(
     rt: &(impl Print + AllocGlobal),
-    registry: &mut Registry,
+    members: &mut Members,
     id: u32,
     name: &str,
 ) -> io::Result<()> {
-    match register(registry, id, owned(rt, name)?) {
+    match register(members, id, owned(rt, name)?)? {
         Ok(()) => println!(rt; "{id} is {name}"),
         Err(NotInserted::Occupied(id, name)) => println!(rt; "{id} or {name} is taken"),
         Err(NotInserted::Memory(_, _)) => println!(rt; "no memory"),
@@ -37,7 +35,7 @@ fn answer_bad(rt: &impl Print, line: &str) -> io::Result<()> {
 // Registers all members that the rest of a line lists, or none, and prints the answer.
 fn answer_batch(
     rt: &(impl Print + AllocGlobal),
-    registry: &mut Registry,
+    members: &mut Members,
     line: &str,
     rest: &str,
 ) -> io::Result<()> {
@@ -45,9 +43,9 @@ fn answer_batch(
         return answer_bad(rt, line);
     };
     let count = batch.len();
-    match register_all(rt.alloc(), registry, batch).map_err(Fault::Refused) {
+    match register_all(rt.alloc(), members, batch)? {
         Ok(()) => println!(rt; "{count} are registered"),
-        Err(fault) => println!(rt; "none is registered: {fault}"),
+        Err(refused) => println!(rt; "none is registered: {}", Refused(refused)),
     }
 }
 
@@ -66,50 +64,69 @@ fn answer_replaced<V: Display + Drop>(
 }
 
 // Gives spare capacity back, and prints the answer.
-fn answer_give_back(rt: &impl Print, registry: &mut Registry) -> io::Result<()> {
-    match give_back_room(registry) {
-        Ok(()) => println!(rt; "no capacity is spare"),
-        Err(NoMemory) => println!(rt; "no memory"),
+fn answer_give_back(rt: &impl Print, members: &mut Members) -> io::Result<()> {
+    match give_back_room(members) {
+        Some(Ok(())) => println!(rt; "no capacity is spare"),
+        Some(Err(NoMemory)) => println!(rt; "no memory"),
+        None => println!(rt; "a registry in a file keeps its capacity"),
     }
 }
 
 // Prints all members in ascending order of their ids.
 fn answer_list(rt: &(impl Print + AllocGlobal), registry: &Registry) -> io::Result<()> {
-    println!(rt; "{} are registered", registry.len())?;
-    print!(rt; "{}", listed(rt.alloc(), registry)?)
+    let mut listed = String::new(rt.alloc());
+    for (id, name) in registry::members(registry) {
+        writeln!(listed, "{id} {name}")?;
+    }
+    print!(rt; "{} are registered\n{listed}", registry.len())
 }
 
-/// Does what a line asks for, and prints the answer. If the line is not a request, nothing changes, and the answer says
-/// what the line should have been.
-pub fn answer(
+// Answers a request that changes nothing.
+fn tell(
     rt: &(impl Print + AllocGlobal),
-    registry: &mut Registry,
-    line: &str,
+    registry: &Registry,
+    request: Request<'_>,
 ) -> io::Result<()> {
-    match parse_line(line) {
-        Some(Request::Register(id, name)) => answer_register(rt, registry, id, name),
-        Some(Request::Rename(from, to)) => {
-            let (from, to) = (owned(rt, from)?, owned(rt, to)?);
-            let renamed = rename(registry, &from, to.clone()?);
-            answer_replaced(rt, &from, &to, renamed)
-        }
-        Some(Request::Renumber(from, to)) => {
-            let renumbered = renumber(registry, &from, to);
-            answer_replaced(rt, &from, &to, renumbered)
-        }
-        Some(Request::Batch(rest)) => answer_batch(rt, registry, line, rest),
-        Some(Request::Who(id)) => match name_of(registry, &id) {
+    match request {
+        Request::Who(id) => match name_of(registry, &id) {
             Some(name) => println!(rt; "{id} is {name}"),
             None => println!(rt; "{id} is free"),
         },
-        Some(Request::Id(name)) => match id_of(registry, name) {
+        Request::Id(name) => match id_of(registry, name) {
             Some(id) => println!(rt; "{name} has {id}"),
             None => println!(rt; "{name} is free"),
         },
-        Some(Request::List) => answer_list(rt, registry),
-        Some(Request::Room) => println!(rt; "capacity for {}", registry.capacity()),
-        Some(Request::GiveBack) => answer_give_back(rt, registry),
-        Some(Request::Help) => println!(rt; "{REQUESTS}"),
+        Request::List => answer_list(rt, registry),
+        Request::Room => println!(rt; "capacity for {}", registry.capacity()),
+        _ => println!(rt; "{REQUESTS}"),
+    }
+}
+
+/// Does what a line asks for, and prints the answer. If the registry has a file, the file then has what the line changed.
+/// If the line is not a request, nothing changes, and the answer says what the line should have been.
+pub fn answer(
+    rt: &(impl Print + AllocGlobal),
+    members: &mut Members,
+    line: &str,
+) -> io::Result<()> {
+    match parse_line(line) {
+        Some(Request::Register(id, name)) => answer_register(rt, members, id, name),
+        Some(Request::Rename(from, to)) => {
+            let (from, to) = (owned(rt, from)?, owned(rt, to)?);
+            let renamed = rename(members, &from, to.clone()?)?;
+            answer_replaced(rt, &from, &to, renamed)
+        }
+        Some(Request::Renumber(from, to)) => {
+            let renumbered = renumber(members, &from, to)?;
+            answer_replaced(rt, &from, &to, renumbered)
+        }
+        Some(Request::Batch(rest)) => answer_batch(rt, members, line, rest),
+        Some(Request::GiveBack) => answer_give_back(rt, members),
+        Some(Request::Compact) => match members.compact()? {
+            true => println!(rt; "FILE has a line for each member"),
+            false => println!(rt; "there is no FILE"),
+        },
+        Some(request) => tell(rt, members.map(), request),
         None => answer_bad(rt, line),
     }
 }

@@ -12,6 +12,7 @@ id NAME - prints the id of the name
 list - prints all ids with their names
 room - prints the capacity
 give-back - gives back the capacity that nobody uses
+compact - writes FILE anew, with a line for each member
 help - lists these requests, in which ID is a number up to 4294967295";
 
 /// A line as a request.
@@ -35,6 +36,8 @@ pub enum Request<'a> {
     Room,
     /// `give-back` gives spare capacity back.
     GiveBack,
+    /// `compact` writes the file anew.
+    Compact,
     /// `help` lists the requests.
     Help,
 }
@@ -77,6 +80,7 @@ pub fn parse_line(line: &str) -> Option<Request<'_>> {
         ("list", None, None, None) => Some(Request::List),
         ("room", None, None, None) => Some(Request::Room),
         ("give-back", None, None, None) => Some(Request::GiveBack),
+        ("compact", None, None, None) => Some(Request::Compact),
         ("help", None, None, None) => Some(Request::Help),
         _ => None,
     }

@@ -1,8 +1,9 @@
 //! The requests that a line can make of the ledger, and the replies.
 ghost use Rattle.std.specs.Prelude.{◌≤◌};
 
-use crate::seats::{first_taken, guest_on, last_taken, leave, move_to, row, seat_of, take};
-use bimap::{BiHashBTreeMap, NoRoom, NotInsertedWith, Overwritten};
+use crate::ledger::{Ledger, Seats, leave, move_to, take};
+use crate::seats::{first_taken, guest_on, last_taken, row, seat_of};
+use bimap::{NoRoom, NotInsertedWith, Overwritten};
 use std::alloc::{AllocError, Global};
 use std::io;
 use tool_lines::{NO_TEXT, number, text_of, wanted, words};
@@ -16,10 +17,8 @@ guest SEAT - prints who has the seat
 row FIRST END - prints who sits from FIRST to before END, which is at least FIRST
 first - prints who has the first seat that is taken
 last - prints who has the last seat that is taken
+compact - writes FILE anew, with a line for each guest
 help - lists these requests, in which SEAT, FIRST and END are numbers up to 4294967295";
-
-/// Guests by their names, each with the number of a seat.
-pub type Seats = BiHashBTreeMap<String, u32>;
 
 // Returns in words who lost which seat when a guest got a seat.
 fn seated(alloc: Global, lost: &Overwritten<String, u32>) -> Result<String, AllocError> {
@@ -34,29 +33,31 @@ fn seated(alloc: Global, lost: &Overwritten<String, u32>) -> Result<String, Allo
     }
 }
 
-fn taken(alloc: Global, seats: &mut Seats, guest: &str, seat: u32) -> Result<String, AllocError> {
-    match take(seats, String::from_str(alloc, guest)?, seat) {
-        Ok(lost) => seated(alloc, &lost),
-        Err(NoRoom { .. }) => Err(AllocError),
+fn taken(alloc: Global, ledger: &mut Ledger, guest: &str, seat: u32) -> io::Result<String> {
+    match take(ledger, String::from_str(alloc, guest)?, seat)? {
+        Ok(lost) => Ok(seated(alloc, &lost)?),
+        Err(NoRoom { .. }) => Err(AllocError.into()),
     }
 }
 
-fn moved(alloc: Global, seats: &mut Seats, guest: &str, seat: u32) -> Result<String, AllocError> {
-    match move_to(seats, String::from_str(alloc, guest)?, seat) {
-        Ok(lost) => seated(alloc, &lost),
-        Err(NotInsertedWith::Memory(_, _)) => Err(AllocError),
-        Err(NotInsertedWith::LeftHeld(guest, _)) => format!(in alloc; "{guest} stays"),
+fn moved(alloc: Global, ledger: &mut Ledger, guest: &str, seat: u32) -> io::Result<String> {
+    let told = match move_to(ledger, String::from_str(alloc, guest)?, seat)? {
+        Ok(lost) => seated(alloc, &lost)?,
+        Err(NotInsertedWith::Memory(_, _)) => return Err(AllocError.into()),
+        Err(NotInsertedWith::LeftHeld(guest, _)) => format!(in alloc; "{guest} stays")?,
         Err(NotInsertedWith::RightHeld(guest, seat)) => {
-            format!(in alloc; "{guest} stays, {seat} is taken")
+            format!(in alloc; "{guest} stays, {seat} is taken")?
         }
-    }
+    };
+    Ok(told)
 }
 
-fn gone(alloc: Global, seats: &mut Seats, guest: &str) -> Result<String, AllocError> {
-    match leave(seats, &String::from_str(alloc, guest)?) {
-        Some((_, seat)) => format!(in alloc; "leaves {seat}"),
-        None => String::from_str(alloc, "has none"),
-    }
+fn gone(alloc: Global, ledger: &mut Ledger, guest: &str) -> io::Result<String> {
+    let told = match leave(ledger, &String::from_str(alloc, guest)?)? {
+        Some((_, seat)) => format!(in alloc; "leaves {seat}")?,
+        None => String::from_str(alloc, "has none")?,
+    };
+    Ok(told)
 }
 
 fn place(alloc: Global, seats: &Seats, guest: &str) -> Result<String, AllocError> {
@@ -96,33 +97,50 @@ fn end(alloc: Global, taken: Option<(&String, &u32)>) -> Result<String, AllocErr
     }
 }
 
-// Returns the reply to a line of text.
-fn reply_to(alloc: Global, seats: &mut Seats, line: &str) -> Result<String, AllocError> {
+fn compacted(alloc: Global, ledger: &mut Ledger) -> io::Result<String> {
+    let told = match ledger.compact()? {
+        true => "FILE has a line for each guest",
+        false => "there is no FILE",
+    };
+    Ok(String::from_str(alloc, told)?)
+}
+
+// Returns the reply to a line that changes nothing, or to a bad one.
+fn told(alloc: Global, seats: &Seats, line: &str) -> Result<String, AllocError> {
     let mut words = words(line);
     let (verb, first) = (words.next(), words.next());
     let (seat, second) = (first.map(number), words.next().map(number));
     match (verb, first, seat, second, words.next()) {
-        (Some("take"), Some(guest), _, Some(Some(seat)), None) => taken(alloc, seats, guest, seat),
-        (Some("move"), Some(guest), _, Some(Some(seat)), None) => moved(alloc, seats, guest, seat),
         (Some("row"), _, Some(Some(first)), Some(Some(end)), None) if first <= end => {
             sitters(alloc, seats, first, end)
         }
         (Some("guest"), _, Some(Some(seat)), None, None) => sitter(alloc, seats, seat),
         (Some("first"), None, _, None, None) => end(alloc, first_taken(seats)),
         (Some("last"), None, _, None, None) => end(alloc, last_taken(seats)),
-        (Some("leave"), Some(guest), _, None, None) => gone(alloc, seats, guest),
         (Some("seat"), Some(guest), _, None, None) => place(alloc, seats, guest),
         (Some("help"), None, _, None, None) => String::from_str(alloc, REQUESTS),
         _ => format!(in alloc; "bad line; wanted: {}", wanted(REQUESTS, line)),
     }
 }
 
+// Returns the reply to a line of text.
+fn reply_to(alloc: Global, ledger: &mut Ledger, line: &str) -> io::Result<String> {
+    let mut words = words(line);
+    let (verb, guest, seat) = (words.next(), words.next(), words.next().map(number));
+    match (verb, guest, seat, words.next()) {
+        (Some("take"), Some(guest), Some(Some(seat)), None) => taken(alloc, ledger, guest, seat),
+        (Some("move"), Some(guest), Some(Some(seat)), None) => moved(alloc, ledger, guest, seat),
+        (Some("leave"), Some(guest), None, None) => gone(alloc, ledger, guest),
+        (Some("compact"), None, None, None) => compacted(alloc, ledger),
+        _ => Ok(told(alloc, ledger.map(), line)?),
+    }
+}
+
 /// Returns the reply to a line, which is one of `REQUESTS`. If the line is another one, the reply says what it should
-/// have been, and nothing changes.
-pub fn reply(alloc: Global, seats: &mut Seats, line: io::Result<String>) -> io::Result<String> {
-    let told = match text_of(line)? {
-        Some(line) => reply_to(alloc, seats, line.as_str())?,
-        None => String::from_str(alloc, NO_TEXT)?,
-    };
-    Ok(told)
+/// have been, and nothing changes. If the ledger has a file, the file has what the line changed.
+pub fn reply(alloc: Global, ledger: &mut Ledger, line: io::Result<String>) -> io::Result<String> {
+    match text_of(line)? {
+        Some(line) => reply_to(alloc, ledger, line.as_str()),
+        None => Ok(String::from_str(alloc, NO_TEXT)?),
+    }
 }

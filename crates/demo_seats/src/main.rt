@@ -1,31 +1,49 @@
 //! A program that keeps a ledger of guests and their seats. Each line of input is a request. The reply says who lost a
 //! seat.
+//!
+//! By default the ledger is empty at the start. If the program gets the name of a file, it keeps the ledger in this
+//! file, and it replies to a line when the file has what the line changed. The status is 2 if the file could not be
+//! opened. Then the program answers no line.
 #![tactic(auto)]
 
+mod ledger;
 mod line;
 mod seats;
 
-use line::{REQUESTS, Seats, reply};
+use ledger::{Ledger, Seats};
+use line::{REQUESTS, reply};
 use std::io;
 use std::process::ExitCode;
-use tool_lines::{no_argument, status_of};
+use tool_journal::Kept;
+use tool_lines::{Asked, file_argument, status_of};
 
 // Answers all lines, and prints at the end how many seats are taken.
-fn serve(rt: &HostRuntime) -> io::Result<ExitCode> {
+fn serve(rt: &HostRuntime, ledger: &mut Ledger) -> io::Result<ExitCode> {
     let alloc = rt.alloc();
-    let mut seats: Seats = Seats::new(alloc);
     for line in rt.lines(alloc) {
-        let told = reply(alloc, &mut seats, line)?;
+        let told = reply(alloc, ledger, line)?;
         println!(rt; "{told}")?;
     }
-    println!(rt; "{} seated", seats.len())?;
+    println!(rt; "{} seated", ledger.map().len())?;
     Ok(ExitCode::SUCCESS)
 }
 
+// Answers all lines over the ledger of a file.
+fn serve_file(rt: &HostRuntime, path: &str) -> io::Result<ExitCode> {
+    match Kept::open(rt, path, Seats::new(rt.alloc())) {
+        Ok(mut ledger) => {
+            let ended = serve(rt, &mut ledger);
+            ledger.end(rt, path, ended)
+        }
+        Err(status) => Ok(status),
+    }
+}
+
 fn run(rt: &HostRuntime) -> io::Result<ExitCode> {
-    match no_argument(rt, "demo_seats", REQUESTS)? {
-        Some(status) => Ok(status),
-        None => serve(rt),
+    match file_argument(rt, "demo_seats [FILE]", REQUESTS)? {
+        Asked::Lines => serve(rt, &mut Kept::InMemory(Seats::new(rt.alloc()))),
+        Asked::File(path) => serve_file(rt, path.as_str()),
+        Asked::Ended(status) => Ok(status),
     }
 }
 
