@@ -3,6 +3,7 @@
 
 mod found;
 mod held;
+mod keys;
 mod ledger;
 mod looks;
 mod loops;
@@ -15,6 +16,7 @@ mod undone;
 
 pub use found::{leave_and_find, seat_and_find};
 pub use held::seat_new;
+pub use keys::TableSeat;
 pub use ledger::{hand_over, seat_both, seat_in_free_place, show_seats, take, vacate};
 pub use looks::{Shown, run_and_look, run_and_look_ordered};
 pub use loops::seat_all;
