@@ -293,18 +293,18 @@ impl HashQuery<Name> for &str {
         text.now).0 e)) };
 }
 
-fn name(rt: &impl AllocGlobal, text: &str) -> Result<Name> {
+fn make_name(rt: &impl AllocGlobal, text: &str) -> Result<Name> {
     let text = String::from_str(rt.alloc(), text)?;
     Ok(Name { text })
 }
 
 fn own_forms(rt: &(impl Print + AllocGlobal)) -> Result<()> {
     let mut seats: BiBTreeMap<Name, u32> = BiBTreeMap::new(rt.alloc());
-    seats.insert(name(rt, "ann")?, 12)?;
+    seats.insert(make_name(rt, "ann")?, 12)?;
     println!(rt; "{:?}", seats.get_by_left(By("ann")))?; // Some(12)
     println!(rt; "{}", seats.left_rank(By("bob")))?; // 1
     let mut queue: BiInsertionOrderMap<Name, u32> = BiInsertionOrderMap::new(rt.alloc());
-    queue.insert(name(rt, "cat")?, 3)?;
+    queue.insert(make_name(rt, "cat")?, 3)?;
     println!(rt; "{}", queue.to_back(By("cat")))?; // true
     println!(rt; "{}", queue.remove_by_left(By("ann")).is_some())?; // false
     Ok(())
