@@ -13,3 +13,11 @@ module _ {L R I J LeftSpot LeftSearch RightSpot RightSearch : Type 0} {left_eq :
   -- The contained pairs, in the order of iteration by right.
   abbrev pub by_right : BijectiveMap L R I J LeftSpot LeftSearch RightSpot RightSearch left_eq right_eq left right → List (L × R)
   by_right bimap = held_by_right bimap.table
+
+  -- What the left side finds its values by: the hash builder of a hashed side.
+  abbrev pub lefts_hashed_by : BijectiveMap L R I J LeftSpot LeftSearch RightSpot RightSearch left_eq right_eq left right → left.Finder
+  lefts_hashed_by bimap = left.finds_by bimap.table.left
+
+  -- What the right side finds its values by: the hash builder of a hashed side.
+  abbrev pub rights_hashed_by : BijectiveMap L R I J LeftSpot LeftSearch RightSpot RightSearch left_eq right_eq left right → right.Finder
+  rights_hashed_by bimap = right.finds_by bimap.table.right

@@ -12,7 +12,7 @@ use std::alloc::Global;
 use std::hash::{BuildHasher, Hash};
 
 impl<L: Eq + Hash, R: Eq + Hash, LS: BuildHasher, RS: BuildHasher> BiHashMap<L, R, LS, RS> {
-    ghost use Rattle.bimap_kinds.specs.Held.{holding};
+    ghost use Rattle.bimap_kinds.specs.Held.{holding, lefts_hashed_by, rights_hashed_by};
 
     /// Returns an empty map of capacity 0, with these hash builders.
     ///
@@ -24,6 +24,8 @@ impl<L: Eq + Hash, R: Eq + Hash, LS: BuildHasher, RS: BuildHasher> BiHashMap<L, 
     pub fn with_hashers(alloc: Global, left_builder: LS, right_builder: RS) -> Self
         ensures pairs { (holding result).pairs ≡ [] }
         ensures room { (holding result).room ≡ 0 }
+        ensures left_builder { lefts_hashed_by result ≡ left_builder }
+        ensures right_builder { rights_hashed_by result ≡ right_builder }
     {
         let left = HashIndex::new(alloc, left_builder);
         let right = HashIndex::new(alloc, right_builder);
@@ -100,7 +102,7 @@ impl<L: Eq + Hash, R: Eq + Hash, LS: BuildHasher, RS: BuildHasher> BiHashMap<L, 
 }
 
 impl<L: Ord, R: Eq + Hash, RS: BuildHasher> BiBTreeHashMap<L, R, RS> {
-    ghost use Rattle.bimap_kinds.specs.Held.{holding};
+    ghost use Rattle.bimap_kinds.specs.Held.{holding, rights_hashed_by};
 
     /// Returns an empty map of capacity 0, with this hash builder for the rights.
     ///
@@ -111,6 +113,7 @@ impl<L: Ord, R: Eq + Hash, RS: BuildHasher> BiBTreeHashMap<L, R, RS> {
     pub fn with_hasher(alloc: Global, right_builder: RS) -> Self
         ensures pairs { (holding result).pairs ≡ [] }
         ensures room { (holding result).room ≡ 0 }
+        ensures right_builder { rights_hashed_by result ≡ right_builder }
     {
         let rights = HashIndex::new(alloc, right_builder);
         BijectiveMap::over(alloc, Ordered::new(alloc), rights)
@@ -118,7 +121,7 @@ impl<L: Ord, R: Eq + Hash, RS: BuildHasher> BiBTreeHashMap<L, R, RS> {
 }
 
 impl<L: Eq + Hash, R: Ord, LS: BuildHasher> BiHashBTreeMap<L, R, LS> {
-    ghost use Rattle.bimap_kinds.specs.Held.{holding};
+    ghost use Rattle.bimap_kinds.specs.Held.{holding, lefts_hashed_by};
 
     /// Returns an empty map of capacity 0, with this hash builder for the lefts.
     ///
@@ -129,6 +132,7 @@ impl<L: Eq + Hash, R: Ord, LS: BuildHasher> BiHashBTreeMap<L, R, LS> {
     pub fn with_hasher(alloc: Global, left_builder: LS) -> Self
         ensures pairs { (holding result).pairs ≡ [] }
         ensures room { (holding result).room ≡ 0 }
+        ensures left_builder { lefts_hashed_by result ≡ left_builder }
     {
         let lefts = HashIndex::new(alloc, left_builder);
         BijectiveMap::over(alloc, lefts, Ordered::new(alloc))
@@ -141,7 +145,7 @@ impl<L: Eq + Hash, R: Eq + Hash, LS: BuildHasher, RS: BuildHasher> BiInsertionOr
     LS,
     RS,
 > {
-    ghost use Rattle.bimap_kinds.specs.Held.{holding};
+    ghost use Rattle.bimap_kinds.specs.Held.{holding, lefts_hashed_by, rights_hashed_by};
 
     /// Returns an empty map of capacity 0, with these hash builders.
     ///
@@ -153,6 +157,8 @@ impl<L: Eq + Hash, R: Eq + Hash, LS: BuildHasher, RS: BuildHasher> BiInsertionOr
     pub fn with_hashers(alloc: Global, left_builder: LS, right_builder: RS) -> Self
         ensures pairs { (holding result).pairs ≡ [] }
         ensures room { (holding result).room ≡ 0 }
+        ensures left_builder { lefts_hashed_by result ≡ left_builder }
+        ensures right_builder { rights_hashed_by result ≡ right_builder }
     {
         let lefts = InsertionOrder::new(alloc, HashIndex::new(alloc, left_builder));
         let rights = HashIndex::new(alloc, right_builder);

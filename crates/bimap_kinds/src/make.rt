@@ -17,6 +17,8 @@ impl<L: Eq, R: Eq, I: Index<L>, J: Index<R>> BijectiveMap<L, R, I, J> {
         requires right { J.is_listing right (λ _. None) }
         ensures pairs { (holding result).pairs ≡ [] }
         ensures room { (holding result).room ≡ 0 }
+        ensures left { result.table.left ≡ left }
+        ensures right { result.table.right ≡ right }
     {
         BijectiveMap {
             table: Table::new(alloc, left, right),
