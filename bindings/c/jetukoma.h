@@ -36,16 +36,20 @@
  * overlap, but a call with two handles accepts one handle twice. A pointer that comes with a number must point to this number of
  * values. Do not make a call from a signal handler.
  *
- * Pass bytes as a pointer, which is not null, and their number. A call copies them. Byte strings are compared byte by byte, so
- * texts in UTF-8 are in the order of their code points. A call writes bytes to the front of a buffer, and their number. If the
+ * Pass bytes as a pointer, which is not null, and their number. An insertion copies them. Byte strings are compared byte by byte,
+ * so texts in UTF-8 are in the order of their code points. A call writes bytes to the front of a buffer, and their number. If the
  * buffer is too short, the call writes the number alone and returns JETUKOMA_BUFFER_TOO_SHORT.
  *
  * A search takes logarithmic time in an ordered table, and expected constant time in a table of another kind. A look-up makes one
  * search. An insertion and a removal make one on each side. `.._new`, `.._clone`, `.._reserve`, `.._shrink_to`, insertions and the
- * JSON calls allocate. So do look-ups, ranks, moves and removals by bytes that are longer than any before. No other call allocates.
+ * JSON calls allocate. No other call does.
  *
- * To read all pairs of a table, iterate row by row. A position stays right until the table changes. A row of a table with byte
- * strings has their lengths, and their bytes are in a buffer:
+ * To read all pairs of a table, iterate row by row. A position is a number of pairs that the call leaves out, and stays right
+ * until the table changes. No status says that the table has changed since. After a change, begin again at position 0. In an
+ * ordered table you can also go on behind the last left that you read. The position of the next pair is the `.._left_rank` of this
+ * left, plus one if the table still contains the left.
+ *
+ * A row of a table with byte strings has their lengths, and their bytes are in a buffer:
  *
  *     jetukoma_bytes_u64_row row[64];
  *     uint8_t bytes[4096];
@@ -503,8 +507,7 @@ JETUKOMA_API uint32_t jetukoma_bytes_u64_insert_many(jetukoma_bytes_u64 *handle,
     return jetukoma_bytes_u64_insert_many_unchecked(handle, bytes, bytes_len, rows, rows_len, taken);
 }
 
-/* Writes the right of a left. It allocates if the left is longer than every left that was looked up or removed
- * before. Returns 1 if there is no memory for that, and 5 if the left is not contained. */
+/* Writes the right of a left. Returns 5 if the left is not contained. */
 uint32_t jetukoma_bytes_u64_get_by_left_unchecked(jetukoma_bytes_u64 *handle, const uint8_t *left, size_t left_len, uint64_t *right);
 JETUKOMA_API uint32_t jetukoma_bytes_u64_get_by_left(jetukoma_bytes_u64 *handle, const uint8_t *left, size_t left_len, uint64_t *right) {
     if (!handle) return JETUKOMA_NO_TABLE;
@@ -521,8 +524,7 @@ JETUKOMA_API uint32_t jetukoma_bytes_u64_get_by_right(jetukoma_bytes_u64 *handle
     return jetukoma_bytes_u64_get_by_right_unchecked(handle, right, buf, buf_len, len);
 }
 
-/* Returns 0 if the left is contained, and 5 if it is not. It allocates as `get_by_left` does. Returns 1 if there is
- * no memory for that. */
+/* Returns 0 if the left is contained, and 5 if it is not. */
 uint32_t jetukoma_bytes_u64_contains_left_unchecked(jetukoma_bytes_u64 *handle, const uint8_t *left, size_t left_len);
 JETUKOMA_API uint32_t jetukoma_bytes_u64_contains_left(jetukoma_bytes_u64 *handle, const uint8_t *left, size_t left_len) {
     if (!handle) return JETUKOMA_NO_TABLE;
@@ -538,8 +540,7 @@ JETUKOMA_API uint32_t jetukoma_bytes_u64_contains_right(jetukoma_bytes_u64 *hand
 }
 
 /* Removes the pair of a left. The table keeps the pair, so that `overwritten_left` and `overwritten_right` copy it.
- * The call allocates as `get_by_left` does. Returns 1 if there is no memory for that, and 5 if the left is not
- * contained. */
+ * Returns 5 if the left is not contained. */
 uint32_t jetukoma_bytes_u64_remove_by_left_unchecked(jetukoma_bytes_u64 *handle, const uint8_t *left, size_t left_len);
 JETUKOMA_API uint32_t jetukoma_bytes_u64_remove_by_left(jetukoma_bytes_u64 *handle, const uint8_t *left, size_t left_len) {
     if (!handle) return JETUKOMA_NO_TABLE;
@@ -669,8 +670,8 @@ JETUKOMA_API uint32_t jetukoma_bytes_u64_pair_at_rank(jetukoma_bytes_u64 *handle
     return jetukoma_bytes_u64_pair_at_rank_unchecked(handle, rank, buf, buf_len, len, right);
 }
 
-/* Writes how many lefts are less than this one, compared byte by byte. This one need not be contained. It allocates
- * as `get_by_left` does. Returns 1 if there is no memory for that, and 6 if the table is not ordered. */
+/* Writes how many lefts are less than this one, compared byte by byte. This one need not be contained. Returns 6 if
+ * the table is not ordered. */
 uint32_t jetukoma_bytes_u64_left_rank_unchecked(jetukoma_bytes_u64 *handle, const uint8_t *left, size_t left_len, size_t *rank);
 JETUKOMA_API uint32_t jetukoma_bytes_u64_left_rank(jetukoma_bytes_u64 *handle, const uint8_t *left, size_t left_len, size_t *rank) {
     if (!handle) return JETUKOMA_NO_TABLE;
@@ -713,9 +714,8 @@ JETUKOMA_API uint32_t jetukoma_bytes_u64_pop_last(jetukoma_bytes_u64 *handle) {
     return jetukoma_bytes_u64_pop_last_unchecked(handle);
 }
 
-/* Moves the pair of a left to the front of the insertion order. The other pairs keep their order. It allocates as
- * `get_by_left` does. Returns 1 if there is no memory for that, 5 if the left is not contained, and 6 if the table
- * is not in insertion order. */
+/* Moves the pair of a left to the front of the insertion order. The other pairs keep their order. Returns 5 if the
+ * left is not contained, and 6 if the table is not in insertion order. */
 uint32_t jetukoma_bytes_u64_to_front_unchecked(jetukoma_bytes_u64 *handle, const uint8_t *left, size_t left_len);
 JETUKOMA_API uint32_t jetukoma_bytes_u64_to_front(jetukoma_bytes_u64 *handle, const uint8_t *left, size_t left_len) {
     if (!handle) return JETUKOMA_NO_TABLE;
@@ -723,9 +723,8 @@ JETUKOMA_API uint32_t jetukoma_bytes_u64_to_front(jetukoma_bytes_u64 *handle, co
     return jetukoma_bytes_u64_to_front_unchecked(handle, left, left_len);
 }
 
-/* Moves the pair of a left to the end of the insertion order. The other pairs keep their order. It allocates as
- * `get_by_left` does. Returns 1 if there is no memory for that, 5 if the left is not contained, and 6 if the table
- * is not in insertion order. */
+/* Moves the pair of a left to the end of the insertion order. The other pairs keep their order. Returns 5 if the
+ * left is not contained, and 6 if the table is not in insertion order. */
 uint32_t jetukoma_bytes_u64_to_back_unchecked(jetukoma_bytes_u64 *handle, const uint8_t *left, size_t left_len);
 JETUKOMA_API uint32_t jetukoma_bytes_u64_to_back(jetukoma_bytes_u64 *handle, const uint8_t *left, size_t left_len) {
     if (!handle) return JETUKOMA_NO_TABLE;
@@ -837,9 +836,8 @@ JETUKOMA_API uint32_t jetukoma_bytes_bytes_insert_many(jetukoma_bytes_bytes *han
     return jetukoma_bytes_bytes_insert_many_unchecked(handle, bytes, bytes_len, rows, rows_len, taken);
 }
 
-/* Writes the right of a left to the front of a buffer, and its length. It allocates if the left is longer than every
- * value that was looked up or removed before. Returns 1 if there is no memory for that, 4 if the buffer is too
- * short, and 5 if the left is not contained. On 4 it has written the length alone. */
+/* Writes the right of a left to the front of a buffer, and its length. Returns 4 if the buffer is too short, and 5
+ * if the left is not contained. On 4 it has written the length alone. */
 uint32_t jetukoma_bytes_bytes_get_by_left_unchecked(jetukoma_bytes_bytes *handle, const uint8_t *left, size_t left_len, uint8_t *buf, size_t buf_len, size_t *len);
 JETUKOMA_API uint32_t jetukoma_bytes_bytes_get_by_left(jetukoma_bytes_bytes *handle, const uint8_t *left, size_t left_len, uint8_t *buf, size_t buf_len, size_t *len) {
     if (!handle) return JETUKOMA_NO_TABLE;
@@ -847,9 +845,8 @@ JETUKOMA_API uint32_t jetukoma_bytes_bytes_get_by_left(jetukoma_bytes_bytes *han
     return jetukoma_bytes_bytes_get_by_left_unchecked(handle, left, left_len, buf, buf_len, len);
 }
 
-/* Writes the left of a right to the front of a buffer, and its length. It allocates as `get_by_left` does. Returns 1
- * if there is no memory for that, 4 if the buffer is too short, and 5 if the right is not contained. On 4 it has
- * written the length alone. */
+/* Writes the left of a right to the front of a buffer, and its length. Returns 4 if the buffer is too short, and 5
+ * if the right is not contained. On 4 it has written the length alone. */
 uint32_t jetukoma_bytes_bytes_get_by_right_unchecked(jetukoma_bytes_bytes *handle, const uint8_t *right, size_t right_len, uint8_t *buf, size_t buf_len, size_t *len);
 JETUKOMA_API uint32_t jetukoma_bytes_bytes_get_by_right(jetukoma_bytes_bytes *handle, const uint8_t *right, size_t right_len, uint8_t *buf, size_t buf_len, size_t *len) {
     if (!handle) return JETUKOMA_NO_TABLE;
@@ -857,8 +854,7 @@ JETUKOMA_API uint32_t jetukoma_bytes_bytes_get_by_right(jetukoma_bytes_bytes *ha
     return jetukoma_bytes_bytes_get_by_right_unchecked(handle, right, right_len, buf, buf_len, len);
 }
 
-/* Returns 0 if the left is contained, and 5 if it is not. It allocates as `get_by_left` does. Returns 1 if there is
- * no memory for that. */
+/* Returns 0 if the left is contained, and 5 if it is not. */
 uint32_t jetukoma_bytes_bytes_contains_left_unchecked(jetukoma_bytes_bytes *handle, const uint8_t *left, size_t left_len);
 JETUKOMA_API uint32_t jetukoma_bytes_bytes_contains_left(jetukoma_bytes_bytes *handle, const uint8_t *left, size_t left_len) {
     if (!handle) return JETUKOMA_NO_TABLE;
@@ -866,8 +862,7 @@ JETUKOMA_API uint32_t jetukoma_bytes_bytes_contains_left(jetukoma_bytes_bytes *h
     return jetukoma_bytes_bytes_contains_left_unchecked(handle, left, left_len);
 }
 
-/* Returns 0 if the right is contained, and 5 if it is not. It allocates as `get_by_left` does. Returns 1 if there is
- * no memory for that. */
+/* Returns 0 if the right is contained, and 5 if it is not. */
 uint32_t jetukoma_bytes_bytes_contains_right_unchecked(jetukoma_bytes_bytes *handle, const uint8_t *right, size_t right_len);
 JETUKOMA_API uint32_t jetukoma_bytes_bytes_contains_right(jetukoma_bytes_bytes *handle, const uint8_t *right, size_t right_len) {
     if (!handle) return JETUKOMA_NO_TABLE;
@@ -876,8 +871,7 @@ JETUKOMA_API uint32_t jetukoma_bytes_bytes_contains_right(jetukoma_bytes_bytes *
 }
 
 /* Removes the pair of a left. The table keeps the pair, so that `overwritten_left` and `overwritten_right` copy it.
- * The call allocates as `get_by_left` does. Returns 1 if there is no memory for that, and 5 if the left is not
- * contained. */
+ * Returns 5 if the left is not contained. */
 uint32_t jetukoma_bytes_bytes_remove_by_left_unchecked(jetukoma_bytes_bytes *handle, const uint8_t *left, size_t left_len);
 JETUKOMA_API uint32_t jetukoma_bytes_bytes_remove_by_left(jetukoma_bytes_bytes *handle, const uint8_t *left, size_t left_len) {
     if (!handle) return JETUKOMA_NO_TABLE;
@@ -886,8 +880,7 @@ JETUKOMA_API uint32_t jetukoma_bytes_bytes_remove_by_left(jetukoma_bytes_bytes *
 }
 
 /* Removes the pair of a right. The table keeps the pair, so that `overwritten_left` and `overwritten_right` copy it.
- * The call allocates as `get_by_left` does. Returns 1 if there is no memory for that, and 5 if the right is not
- * contained. */
+ * Returns 5 if the right is not contained. */
 uint32_t jetukoma_bytes_bytes_remove_by_right_unchecked(jetukoma_bytes_bytes *handle, const uint8_t *right, size_t right_len);
 JETUKOMA_API uint32_t jetukoma_bytes_bytes_remove_by_right(jetukoma_bytes_bytes *handle, const uint8_t *right, size_t right_len) {
     if (!handle) return JETUKOMA_NO_TABLE;
@@ -988,8 +981,8 @@ JETUKOMA_API uint32_t jetukoma_bytes_bytes_pair_at_rank(jetukoma_bytes_bytes *ha
     return jetukoma_bytes_bytes_pair_at_rank_unchecked(handle, rank, left_buf, left_buf_len, left_len, right_buf, right_buf_len, right_len);
 }
 
-/* Writes how many lefts are less than this one, compared byte by byte. This one need not be contained. It allocates
- * as `get_by_left` does. Returns 1 if there is no memory for that, and 6 if the table is not ordered. */
+/* Writes how many lefts are less than this one, compared byte by byte. This one need not be contained. Returns 6 if
+ * the table is not ordered. */
 uint32_t jetukoma_bytes_bytes_left_rank_unchecked(jetukoma_bytes_bytes *handle, const uint8_t *left, size_t left_len, size_t *rank);
 JETUKOMA_API uint32_t jetukoma_bytes_bytes_left_rank(jetukoma_bytes_bytes *handle, const uint8_t *left, size_t left_len, size_t *rank) {
     if (!handle) return JETUKOMA_NO_TABLE;
@@ -997,8 +990,8 @@ JETUKOMA_API uint32_t jetukoma_bytes_bytes_left_rank(jetukoma_bytes_bytes *handl
     return jetukoma_bytes_bytes_left_rank_unchecked(handle, left, left_len, rank);
 }
 
-/* Writes how many rights are less than this one, compared byte by byte. This one need not be contained. It allocates
- * as `get_by_left` does. Returns 1 if there is no memory for that, and 6 if the table is not ordered. */
+/* Writes how many rights are less than this one, compared byte by byte. This one need not be contained. Returns 6 if
+ * the table is not ordered. */
 uint32_t jetukoma_bytes_bytes_right_rank_unchecked(jetukoma_bytes_bytes *handle, const uint8_t *right, size_t right_len, size_t *rank);
 JETUKOMA_API uint32_t jetukoma_bytes_bytes_right_rank(jetukoma_bytes_bytes *handle, const uint8_t *right, size_t right_len, size_t *rank) {
     if (!handle) return JETUKOMA_NO_TABLE;
@@ -1033,9 +1026,8 @@ JETUKOMA_API uint32_t jetukoma_bytes_bytes_pop_last(jetukoma_bytes_bytes *handle
     return jetukoma_bytes_bytes_pop_last_unchecked(handle);
 }
 
-/* Moves the pair of a left to the front of the insertion order. The other pairs keep their order. It allocates as
- * `get_by_left` does. Returns 1 if there is no memory for that, 5 if the left is not contained, and 6 if the table
- * is not in insertion order. */
+/* Moves the pair of a left to the front of the insertion order. The other pairs keep their order. Returns 5 if the
+ * left is not contained, and 6 if the table is not in insertion order. */
 uint32_t jetukoma_bytes_bytes_to_front_unchecked(jetukoma_bytes_bytes *handle, const uint8_t *left, size_t left_len);
 JETUKOMA_API uint32_t jetukoma_bytes_bytes_to_front(jetukoma_bytes_bytes *handle, const uint8_t *left, size_t left_len) {
     if (!handle) return JETUKOMA_NO_TABLE;
@@ -1043,9 +1035,8 @@ JETUKOMA_API uint32_t jetukoma_bytes_bytes_to_front(jetukoma_bytes_bytes *handle
     return jetukoma_bytes_bytes_to_front_unchecked(handle, left, left_len);
 }
 
-/* Moves the pair of a left to the end of the insertion order. The other pairs keep their order. It allocates as
- * `get_by_left` does. Returns 1 if there is no memory for that, 5 if the left is not contained, and 6 if the table
- * is not in insertion order. */
+/* Moves the pair of a left to the end of the insertion order. The other pairs keep their order. Returns 5 if the
+ * left is not contained, and 6 if the table is not in insertion order. */
 uint32_t jetukoma_bytes_bytes_to_back_unchecked(jetukoma_bytes_bytes *handle, const uint8_t *left, size_t left_len);
 JETUKOMA_API uint32_t jetukoma_bytes_bytes_to_back(jetukoma_bytes_bytes *handle, const uint8_t *left, size_t left_len) {
     if (!handle) return JETUKOMA_NO_TABLE;

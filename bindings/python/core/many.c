@@ -161,16 +161,10 @@ static int put_rows(Table *table, const Rows *rows, int side, int policy)
     Log log = {0};
     Value pair[2], before[2];
     uint8_t *what = calloc(rows->count, 1), *bytes = rows->bytes;
-    uint64_t longest = 0;
     int refused = what ? 0 : done(JETUKOMA_NO_MEMORY);
     for (size_t i = 0; i < rows->count && !refused; i++) {
         pair_of(&table->shape, rows->words + 2 * i, bytes, pair);
-        /* After a look-up, a removal of the same left needs no memory. */
-        if (has_bytes(table->shape.sides[0]) && pair[0].word > longest) {
-            longest = pair[0].word;
-            if (table_has(table, 0, pair) < 0) refused = -1;
-        }
-        if (!refused) refused = put_noted(&log, what + i, table, pair, side, policy);
+        refused = put_noted(&log, what + i, table, pair, side, policy);
         if (!refused) bytes += bytes_of(&table->shape, rows->words + 2 * i);
         for (; refused && i; i--) {
             bytes -= bytes_of(&table->shape, rows->words + 2 * i - 2);

@@ -28,8 +28,8 @@
 //! - The library hashes the values itself. Hash builders only give the seed of the hashes.
 //! - If there is no memory, a call that `bimap` has too ends the process, as the collections of std do. A call named
 //!   `try_..` returns an error with the pair that it was given, and nothing has changed.
-//! - An insertion that overwrites numbers never allocates. A look-up or a removal by bytes allocates if these bytes are
-//!   longer than any before.
+//! - An insertion that overwrites numbers never allocates. The library never allocates for a look-up or a removal. A call
+//!   that returns a value of bytes allocates for it.
 //! - A range whose bounds run backwards is empty. In `bimap` it panics.
 //! - There is no feature `serde`, because this crate uses no other crate.
 //! - A map can be sent to another thread. Two threads cannot share it: it is `Send` and not `Sync`.

@@ -1,14 +1,13 @@
 -- What a contract for C says about a table whose lefts are byte strings, and what its calls return, write and leave.
--- The record of the facade holds for some copy of the bytes as the key, and for some result. The status and the
--- out-parameters are those of this result.
-use Rattle.std.specs.Prelude.{◌≡◌, ℕ, ◌<◌, ◌≤◌, ◌++◌, ◌⊎◌, Bool, Option, None, Some, Result, List, [], ◌∷◌, length, drop, nat_eq, vec_capacity, IfOk, OnErr, count_by}
+-- The record of the facade holds for some result. The status and the out-parameters are those of this result.
+use Rattle.std.specs.Prelude.{◌≡◌, ℕ, ◌<◌, ◌≤◌, ◌++◌, ◌⊎◌, Bool, Option, None, Some, Result, List, [], ◌∷◌, length, drop, nat_eq, IfOk, OnErr}
 use Rattle.std.specs.Cmp.Lexicographic.{pointwise, slice_cmp}
 use Rattle.std.specs.declared.cmp.Ordering.{Ordering}
-use Rattle.std.specs.Ordering.{is_lt, nat_cmp}
+use Rattle.std.specs.Ordering.{nat_cmp}
 use Rattle.std.specs.Map.Iter.{TakesFirst, TakesLast}
 use Rattle.bimap.specs.Holding.{Holding, IsInsertionUnder, IsRemovalByLeft, IsRemovalByRight}
 use Rattle.bimap.specs.Types.{Overwritten, Neither, Left, Right, Pair, Both, Policy, NotInsertedWith}
-use Rattle.bimap_c.specs.Calls.{inserted_with, on_held, AreFlags, Clears, Moves}
+use Rattle.bimap_c.specs.Calls.{inserted_with, on_held, AreFlags, Clears}
 use Rattle.bimap_c.specs.declared.byte_string.ByteString.{ByteString}
 use Rattle.bimap_c.specs.declared.bytes.BytesTable.{BytesTable}
 
@@ -16,20 +15,26 @@ use Rattle.bimap_c.specs.declared.bytes.BytesTable.{BytesTable}
 abbrev pub same_bytes : ByteString → ByteString → Bool
 same_bytes v w = pointwise nat_eq v.bytes.items w.bytes.items
 
+-- The byte string has these bytes.
+abbrev pub has_bytes : ByteString → List ℕ → Bool
+has_bytes b bytes = pointwise nat_eq b.bytes.items bytes
+
 -- How two byte strings compare, byte by byte.
 abbrev pub byte_order : ByteString → ByteString → Ordering
 byte_order v w = slice_cmp nat_cmp v.bytes.items w.bytes.items
 
--- What the map contains, the pairs that the last change overwrote or removed, and the last key. A next key that fits in the
--- capacity of the last key needs no memory.
+-- How a byte string compares with bytes.
+abbrev pub to_bytes : ByteString → List ℕ → Ordering
+to_bytes b bytes = slice_cmp nat_cmp b.bytes.items bytes
+
+-- What the map contains, and the pairs that the last change overwrote or removed.
 pub record Kept (R : Type 0) : Type 0 where
   pub held : Holding (ByteString) R
   pub struck : Overwritten (ByteString) R
-  pub key : ByteString
 
 -- What a table keeps, by what its map contains.
 abbrev pub kept : {R B : Type 0} → (B → Holding (ByteString) R) → BytesTable R B → Kept R
-kept holding t = record { held = holding t.map; struck = t.struck; key = t.key }
+kept holding t = record { held = holding t.map; struck = t.struck }
 
 -- The pairs that an insertion overwrote. The pair of the left is first.
 abbrev pub named_pairs : {L R : Type 0} → Overwritten L R → List (L × R)
@@ -68,36 +73,24 @@ abbrev pub IsLengthWritten : ℕ → ℕ → ℕ → Type 0
 IsLengthWritten status old new = (status ≡ 0 → ⊥) → (status ≡ 4 → ⊥) → new ≡ old
 
 module _ {R : Type 0} where
-  -- No pair has changed, nor have the overwritten pairs.
-  pub record IsRead (old new : Kept R) : Type 0 where
-    pub held : new.held ≡ old.held
-    pub struck : new.struck ≡ old.struck
-    pub key_room : vec_capacity old.key.bytes ≤ vec_capacity new.key.bytes
-
-  -- With a copy of the bytes as its key, the call does what `P` says. Or there was no memory for a copy, and the bytes are
-  -- longer than any key before.
-  abbrev pub IsByKey : Kept R → List ℕ → ℕ → Kept R → (ByteString → Type 0) → Type 0
-  IsByKey old bytes status new P =
-      ((status ≡ 1) × (vec_capacity old.key.bytes < length bytes) × IsRead old new) ⊎ ((new.key.bytes.items ≡ bytes) × P new.key)
-
   -- The pair that a removal keeps, and its status.
   abbrev pub IsStruck : Overwritten (ByteString) R → Option (ByteString × R) → ℕ → Overwritten (ByteString) R → Type 0
   IsStruck old None status new = (status ≡ 5) × (new ≡ old)
   IsStruck old (Some p) status new = (status ≡ 0) × (new ≡ Pair p.0 p.1)
 
-  -- What `remove_by_left` does.
-  abbrev pub RemovesByLeft : Kept R → List ℕ → ℕ → Kept R → Type 0
-  RemovesByLeft old left status new = IsByKey old left status new (λ key. (taken : Option (ByteString × R))
-      × IsRemovalByLeft same_bytes old.held key taken new.held × IsStruck old.struck taken status new.struck)
+  -- What `remove_by_left` does. `same` tests a left.
+  abbrev pub RemovesByLeft : {Q : Type 0} → (ByteString → Q → Bool) → Kept R → Q → ℕ → Kept R → Type 0
+  RemovesByLeft same old left status new = (taken : Option (ByteString × R))
+      × IsRemovalByLeft same old.held left taken new.held × IsStruck old.struck taken status new.struck
 
-  -- What `remove_by_right` does.
-  abbrev pub RemovesByRight : (R → R → Bool) → Kept R → R → ℕ → Kept R → Type 0
-  RemovesByRight same_right old right status new = (taken : Option (ByteString × R))
-      × IsRemovalByRight same_right old.held right taken new.held × IsStruck old.struck taken status new.struck
+  -- What `remove_by_right` does. `same` tests a right.
+  abbrev pub RemovesByRight : {Q : Type 0} → (R → Q → Bool) → Kept R → Q → ℕ → Kept R → Type 0
+  RemovesByRight same old right status new = (taken : Option (ByteString × R))
+      × IsRemovalByRight same old.held right taken new.held × IsStruck old.struck taken status new.struck
 
   -- What `clear` does.
   abbrev pub ClearsAll : Kept R → ℕ → Kept R → Type 0
-  ClearsAll old status new = Clears old.held status new.held × (new.struck ≡ Neither) × (new.key ≡ old.key)
+  ClearsAll old status new = Clears old.held status new.held × (new.struck ≡ Neither)
 
   -- What an insertion under a policy does if there was memory for a copy of the left.
   pub record IsInserted (same_right : R → R → Bool) (old : Kept R) (left : List ℕ) (right : R) (policy : Policy) (status : ℕ) (new : Kept R) : Type 0 where
@@ -107,7 +100,6 @@ module _ {R : Type 0} where
     pub inserted : IsInsertionUnder same_bytes same_right old.held (key, right) policy result new.held
     pub told : status ≡ inserted_with result
     pub struck : IfOk result (λ answer. new.struck ≡ answer)
-    pub last_key : new.key ≡ old.key
     pub unchanged : OnErr result (new ≡ old)
 
   -- What an insertion under a policy does. If there was no memory for a copy of the left, nothing changes.
@@ -124,21 +116,10 @@ module _ {R : Type 0} where
   abbrev pub IsKind : ℕ → ℕ → Kept R → Type 0
   IsKind status kind new = status ≡ 0 → kind ≡ kind_of new.struck
 
-  -- What `left_rank` does: it writes how many lefts are less than a copy of the bytes.
-  abbrev pub IsRanked : Kept R → List ℕ → ℕ → ℕ → Kept R → Type 0
-  IsRanked old left status rank new = IsByKey old left status new (λ key. (status ≡ 0)
-      × (rank ≡ count_by (λ p. is_lt (byte_order p.0 key)) old.held.pairs))
-
-  -- What `to_front` and `to_back` do: they move the pair of a copy of the bytes as `Comes` says.
-  abbrev pub MovesByKey : (List (ByteString × R) → ByteString × R → List (ByteString × R) → Type 0) → Kept R → List ℕ → ℕ → Kept R → Type 0
-  MovesByKey Comes old left status new = IsByKey old left status new (λ key.
-      Moves (λ p. same_bytes p.0 key) Comes old.held status new.held × (new.struck ≡ old.struck))
-
   -- What the removal of the first or the last pair leaves, and what the table keeps of the pair.
   pub record IsTaken (old : Kept R) (taken : Option (ByteString × R)) (status : ℕ) (new : Kept R) : Type 0 where
     pub struck : IsStruck old.struck taken status new.struck
     pub room : new.held.room ≡ old.held.room
-    pub key : new.key ≡ old.key
 
   -- What `pop_first` does.
   abbrev pub PopsFirst : Kept R → ℕ → Kept R → Type 0

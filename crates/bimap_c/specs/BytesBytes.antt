@@ -1,8 +1,6 @@
 -- What a contract for C says beside `Bytes` if both sides are byte strings.
-use Rattle.std.specs.Prelude.{◌≡◌, ℕ, ◌<◌, ◌≤◌, ◌++◌, ◌⊎◌, Option, None, Some, List, length, drop, count_by}
-use Rattle.std.specs.Ordering.{is_lt}
-use Rattle.bimap_c.specs.Bytes.{Kept, IsByKey, byte_order}
-use Rattle.bimap_c.specs.Calls.{ByRight}
+use Rattle.std.specs.Prelude.{◌≡◌, ℕ, ◌<◌, ◌≤◌, ◌++◌, ◌⊎◌, Option, None, Some, List, length, drop}
+use Rattle.bimap_c.specs.Bytes.{Kept}
 use Rattle.bimap_c.specs.declared.byte_string.ByteString.{ByteString}
 
 -- With some copy of the bytes, the call does what `P` says. Or there was no memory for a copy, and nothing has changed.
@@ -25,8 +23,3 @@ abbrev pub AreBothOut : Option (ByteString × ByteString) → ℕ → List ℕ �
 AreBothOut None status left_old left_new left_told right_old right_new right_told = status ≡ 5
 AreBothOut (Some p) status left_old left_new left_told right_old right_new right_told =
     AreCopiedOut p status left_old left_new left_told right_old right_new right_told
-
--- What `right_rank` does: it writes how many rights are less than a copy of the bytes.
-abbrev pub IsRightRanked : Kept ByteString → List ℕ → ℕ → ℕ → Kept ByteString → Type 0
-IsRightRanked old right status rank new = IsByKey old right status new (λ key. (status ≡ 0)
-    × ByRight byte_order old.held.pairs (λ sorted. rank ≡ count_by (λ p. is_lt (byte_order p.1 key)) sorted))

@@ -1,5 +1,6 @@
 -- What a call for C returns, writes and leaves, for all types of the sides.
-use Rattle.std.specs.Prelude.{◌≡◌, ◌⊎◌, ◌↔◌, ◌≤◌, ℕ, Bool, List, [], IsTrue, Option, None, Some, Result, Ok, Err, MatchOption, nat_eq, if◌then◌else◌}
+use Rattle.std.specs.Prelude.{◌≡◌, ◌⊎◌, ◌↔◌, ◌≤◌, ℕ, Bool, List, [], IsTrue, Option, None, Some, Result, Ok, Err, MatchOption, nat_eq, count_by, if◌then◌else◌}
+use Rattle.std.specs.Ordering.{is_lt}
 use Rattle.std.specs.declared.cmp.Ordering.{Ordering}
 use Rattle.bimap.specs.BTree.{IsByRight}
 use Rattle.bimap.specs.Holding.{Holding}
@@ -47,10 +48,6 @@ module _ {H : Type 0} (find : Option CTable → Option (Kinds H)) (old : Option 
   -- What a call that may change the table does, on a table of any kind.
   abbrev pub Changes : (H → H → Type 0) → Type 0
   Changes holds = ChangesByKind holds holds holds
-
-  -- What such a call does if it needs an ordered table.
-  abbrev pub ChangesOrdered : (H → H → Type 0) → Type 0
-  ChangesOrdered holds = ChangesByKind holds HasNoOrder HasNoOrder
 
   -- What such a call does if it needs a first or last pair, as an ordered table has and one in insertion order.
   abbrev pub ChangesAtEnd : (H → H → Type 0) → Type 0
@@ -123,6 +120,10 @@ pub record Moves {L R : Type 0} (passes : L × R → Bool) (Comes : List (L × R
 -- `P` is true of the pairs in ascending order of their rights.
 abbrev pub ByRight : {L R : Type 0} → (R → R → Ordering) → List (L × R) → (List (L × R) → Type 0) → Type 0
 ByRight {L} {R} order pairs P = (sorted : List (L × R)) × IsByRight order pairs sorted × P sorted
+
+-- What a rank says: how many of the pairs stand below.
+abbrev pub IsRank : {P : Type 0} → (P → Ordering) → List P → ℕ → ℕ → Type 0
+IsRank stands pairs status rank = (status ≡ 0) × (rank ≡ count_by (λ p. is_lt (stands p)) pairs)
 
 -- What `clear` does. No pair is left, and the capacity stays.
 abbrev pub Clears : {L R : Type 0} → Holding L R → ℕ → Holding L R → Type 0

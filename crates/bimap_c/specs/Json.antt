@@ -39,7 +39,7 @@ read_status fault = 3
 
 -- What a reading leaves: the pairs that were read, or the table as it was.
 abbrev pub IsReadInto : Kept ℕ → Result (Holding ByteString ℕ) JsonFault → ℕ → Kept ℕ → Type 0
-IsReadInto old (Ok held) status new = (status ≡ 0) × (new.held ≡ held) × (new.struck ≡ Neither) × (new.key ≡ old.key)
+IsReadInto old (Ok held) status new = (status ≡ 0) × (new.held ≡ held) × (new.struck ≡ Neither)
 IsReadInto old (Err fault) status new = (status ≡ read_status fault) × (new ≡ old)
 
 -- What `from_json` does. It reads a text into a map of capacity 0, and no name or number may occur twice.

@@ -1,6 +1,6 @@
-//! The bodies of the calls that go by the rights of an ordered table: ranks and iteration.
-ghost use Rattle.std.specs.Prelude.{◌≡◌, [], drop, count_by, MatchOption};
-ghost use Rattle.std.specs.Ordering.{is_lt, nat_cmp};
+//! The bodies of the calls that iterate by the rights of an ordered table.
+ghost use Rattle.std.specs.Prelude.{◌≡◌, [], drop, MatchOption};
+ghost use Rattle.std.specs.Ordering.{nat_cmp};
 ghost use Rattle.bimap.specs.BTree.{holding, by_right, IsByRight};
 ghost use Rattle.bimap_c.specs.Bytes.{IsLengthWritten};
 ghost use Rattle.bimap_c.specs.Calls.{IsWritten, ByRight};
@@ -14,19 +14,6 @@ use crate::u64_u64::{Pair, write_row};
 use bimap::btree::RightRange;
 use bimap::{BiBTreeMap, BijectiveMap, Index, Ordered};
 use std::ops::Bound;
-
-/// Writes how many rights are less than this one.
-pub(crate) fn right_rank<L: Eq + Drop, R: Ord + Drop, I: Index<L>>(
-    map: &BijectiveMap<L, R, I, Ordered>,
-    right: &R,
-    rank: &mut usize,
-) -> u32
-    ensures { (result ≡ 0) × ByRight R.cmp (holding map.now).pairs
-        (λ sorted. rank.new ≡ count_by (λ p. is_lt (R.cmp p.1 right.now)) sorted) }
-{
-    *rank = map.right_rank(right);
-    DONE
-}
 
 // Returns an iterator over the pairs from a rank of the rights on, or `None` if there are none.
 fn from_rank<L: Eq + Drop, R: Ord + Drop, I: Index<L>>(

@@ -1,9 +1,16 @@
 //! Byte strings as a side of a map.
-ghost use Rattle.std.specs.Prelude.{◌≡◌, IfSome};
+ghost use Rattle.std.specs.Prelude.{◌≡◌, nat_eq, IfSome};
+ghost use Rattle.std.proofs.Common.{ap, sym};
+ghost use Rattle.std.specs.Cmp.Lexicographic.{nat_list_eq_equiv, nat_list_cmp_total, slice_cmp, texts_ties, bytes_decides, pointwise};
+ghost use Rattle.std.specs.Hash as fed;
+ghost use Rattle.std.specs.Ordering.{nat_cmp};
+ghost use Rattle.bimap_base.specs.QueryLaws.{respects_equal, follows_itself};
 
-use bimap::NoMemory;
 use bimap::value::{JsonKey, ReadFault};
+use bimap::{NoMemory, OrderQuery, Query};
+use bimap_base::HashQuery;
 use std::alloc::{AllocError, Global};
+use std::cmp::Ordering;
 use std::str;
 
 /// A byte string. Byte strings are compared byte by byte.
@@ -32,6 +39,36 @@ impl Clone for ByteString {
             bytes: self.bytes.clone()?,
         })
     }
+}
+
+/// The bytes of a byte string find it, without a copy.
+impl Query<ByteString> for &[u8] {
+    ghost same = { λ b bytes. pointwise nat_eq b.bytes.items bytes.now };
+
+    ghost respects = { λ bytes x y. respects_equal nat_list_eq_equiv bytes.now x.bytes.items
+        y.bytes.items };
+
+    fn is(&self, key: &ByteString) -> bool {
+        key.bytes.as_slice() == *self
+    }
+}
+
+impl OrderQuery<ByteString> for &[u8] {
+    ghost order = { λ b bytes. slice_cmp nat_cmp b.bytes.items bytes.now };
+
+    ghost agrees = { λ bytes x. texts_ties x.bytes.items bytes.now };
+
+    ghost follows = { λ bytes x y. follows_itself nat_list_cmp_total bytes.now x.bytes.items
+        y.bytes.items };
+
+    fn order(&self, key: &ByteString) -> Ordering {
+        key.bytes.as_slice().cmp(*self)
+    }
+}
+
+impl HashQuery<ByteString> for &[u8] {
+    ghost hashed = { λ bytes b e. sym (ap (fed.slice fed.u8) ((bytes_decides b.bytes.items
+        bytes.now).0 e)) };
 }
 
 /// A byte string in UTF-8 is written as its text. For other byte strings `to_key` returns `NoMemory`. A caller that

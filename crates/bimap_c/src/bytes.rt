@@ -1,17 +1,15 @@
 //! The tables whose lefts are byte strings, and the bodies of their calls. They work on any map.
-ghost use Rattle.std.specs.Prelude.{◌≡◌, Option, ◌<◌, ◌≤◌, [], length, true, false, vec_capacity, option_map, slice_get, Contains, IfSome, IfNone};
+ghost use Rattle.std.specs.Prelude.{◌≡◌, ◌≤◌, [], ◌∷◌, option_map, slice_get, IfSome, IfNone};
 ghost use Rattle.std.specs.Map.Iter.{deref, deref_pair};
 ghost use Rattle.bimap.specs.BTree.{holding};
-ghost use Rattle.bimap.specs.Moves.{ComesFirst};
-ghost use Rattle.bimap.specs.Positions.{ComesLast};
-ghost use Rattle.bimap.specs.Sets.{HasLeft};
-ghost use Rattle.bimap_c.specs.Calls.{IsWritten, Tests};
-ghost use Rattle.bimap_c.specs.declared.byte_string.ByteString.{ByteString};
-ghost use Rattle.bimap_c.specs.Bytes.{kept, same_bytes, named_pairs, kind_of, IsRead, IsByKey, IsCopiedOut, AreBytesOut, IsLengthWritten, IsStruck, IsRanked, MovesByKey, RemovesByLeft, ClearsAll, Inserts, InsertsFlagged, IsKind};
+ghost use Rattle.bimap_c.specs.Calls.{IsWritten};
+ghost use Rattle.bimap_c.specs.Bytes.{kept, named_pairs, kind_of, IsCopiedOut, AreBytesOut, IsStruck, ClearsAll, Inserts, InsertsFlagged, IsKind, IsLengthWritten};
+ghost use Rattle.bimap.specs.Hash.{lefts_hashed_by, rights_hashed_by};
 ghost use Rattle.bimap_c.specs.Kinds.{IsOfKind, map_kinds};
+ghost use Rattle.bimap_c.specs.Tables.{AreSeeded};
 
 use crate::byte_string::ByteString;
-use crate::calls::{found, new_map, policy, refused};
+use crate::calls::{new_map, policy, refused};
 use crate::status::{BUFFER_TOO_SHORT, DONE, NO_MEMORY, NOT_FOUND, REFUSED};
 use bimap::{BiBTreeMap, BiHashMap, BiInsertionOrderMap, Bijection, Overwritten, Policy, Seeded};
 use bimap_dynamic::AnyOf;
@@ -25,8 +23,6 @@ pub struct BytesTable<R, B> {
     pub map: B,
     /// The pairs that the last change overwrote or removed.
     pub struck: Overwritten<ByteString, R>,
-    /// The key of the last look-up.
-    pub key: ByteString,
     /// The seed of the hashes, for a map that replaces this one.
     pub seed: u64,
 }
@@ -47,44 +43,29 @@ pub(crate) fn new_table<R: Ord + Hash + Drop>(
     ensures some { IfSome result (λ table. (kind ≤ 2) × IsOfKind kind
         (map_kinds (kept holding) (kept holding) (kept holding) table)
         (λ it. (it.held.pairs ≡ []) × (it.held.room ≡ 0) × (it.struck ≡ Overwritten.Neither))) }
+    ensures seeded { IfSome result (λ table. IsOfKind kind
+        (map_kinds (λ t. []) (λ t. lefts_hashed_by t.map ∷ rights_hashed_by t.map ∷ [])
+        (λ t. lefts_hashed_by t.map ∷ rights_hashed_by t.map ∷ []) table) (AreSeeded seed)) }
     ensures none { IfNone result (kind ≤ 2 → ⊥) }
 {
     match new_map(alloc, kind, seed) {
-        Some(AnyOf::Ordered(map)) => Some(AnyOf::Ordered(table_of(alloc, map, seed))),
-        Some(AnyOf::Hashed(map)) => Some(AnyOf::Hashed(table_of(alloc, map, seed))),
-        Some(AnyOf::InsertionOrder(map)) => {
-            Some(AnyOf::InsertionOrder(table_of(alloc, map, seed)))
-        }
+        Some(AnyOf::Ordered(map)) => Some(AnyOf::Ordered(table_of(map, seed))),
+        Some(AnyOf::Hashed(map)) => Some(AnyOf::Hashed(table_of(map, seed))),
+        Some(AnyOf::InsertionOrder(map)) => Some(AnyOf::InsertionOrder(table_of(map, seed))),
         None => None,
     }
 }
 
 /// Returns a new table with this map.
-pub(crate) fn table_of<R, B>(alloc: Global, map: B, seed: u64) -> BytesTable<R, B>
+pub(crate) fn table_of<R, B>(map: B, seed: u64) -> BytesTable<R, B>
     ensures map { result.map ≡ map }
     ensures struck { result.struck ≡ Overwritten.Neither }
 {
     BytesTable {
         map,
         struck: Overwritten::Neither,
-        key: ByteString {
-            bytes: Vec::new(alloc),
-        },
         seed,
     }
-}
-
-/// Overwrites the key with the bytes, and returns whether there was memory for them.
-pub(crate) fn note(key: &mut ByteString, bytes: &[u8]) -> bool
-    ensures noted { result ≡ true → key.new.bytes.items ≡ bytes.now }
-    ensures full { result ≡ false → vec_capacity key.old.bytes < length bytes.now }
-    ensures room { vec_capacity key.old.bytes ≤ vec_capacity key.new.bytes }
-{
-    if key.bytes.resize(bytes.len(), 0).is_err() {
-        return false;
-    }
-    key.bytes.copy_from_slice(bytes);
-    true
 }
 
 /// Copies the bytes to the front of the buffer if they fit. Writes how many they are, and returns the status.
@@ -225,85 +206,6 @@ pub(crate) fn insert_with<R: Eq + Drop, B: Bijection<ByteString, R>>(
         Some(policy) => insert_under(alloc, table, left, right, policy, kind),
         None => REFUSED,
     }
-}
-
-/// Returns the status that says whether the left is contained.
-pub(crate) fn contains_left<R: Eq + Drop, B: Bijection<ByteString, R>>(
-    table: &mut BytesTable<R, B>,
-    left: &[u8],
-) -> u32
-    ensures told { IsByKey (kept B.holding table.old) left.now result (kept B.holding table.new)
-        (λ key. Tests (HasLeft same_bytes (Contains (B.holding table.old.map).pairs) key)
-        result) }
-    ensures read { IsRead (kept B.holding table.old) (kept B.holding table.new) }
-{
-    if !note(&mut table.key, left) {
-        return NO_MEMORY;
-    }
-    found(table.map.contains_left(&table.key))
-}
-
-/// Removes the pair of a left, and returns the status.
-pub(crate) fn remove_by_left<R: Eq + Drop, B: Bijection<ByteString, R>>(
-    table: &mut BytesTable<R, B>,
-    left: &[u8],
-) -> u32
-    ensures removed { RemovesByLeft (kept B.holding table.old) left.now result
-        (kept B.holding table.new) }
-    ensures room { vec_capacity table.old.key.bytes ≤ vec_capacity table.new.key.bytes }
-{
-    if !note(&mut table.key, left) {
-        return NO_MEMORY;
-    }
-    strike(&mut table.struck, table.map.remove_by_left(&table.key))
-}
-
-/// Writes how many lefts are less than this one, and returns the status.
-pub(crate) fn left_rank<R: Ord + Drop>(
-    table: &mut BytesTable<R, BiBTreeMap<ByteString, R>>,
-    left: &[u8],
-    rank: &mut usize,
-) -> u32
-    ensures ranked { IsRanked (kept holding table.old) left.now result rank.new
-        (kept holding table.new) }
-    ensures out { IsWritten result rank.old rank.new }
-    ensures read { IsRead (kept holding table.old) (kept holding table.new) }
-{
-    if !note(&mut table.key, left) {
-        return NO_MEMORY;
-    }
-    *rank = table.map.left_rank(&table.key);
-    DONE
-}
-
-/// Moves the pair of a left to the front of the insertion order, and returns the status.
-pub(crate) fn to_front<R: Eq + Hash + Drop>(
-    table: &mut BytesTable<R, BiInsertionOrderMap<ByteString, R, Seeded, Seeded>>,
-    left: &[u8],
-) -> u32
-    ensures moved { MovesByKey ComesFirst (kept holding table.old) left.now result
-        (kept holding table.new) }
-    ensures room { vec_capacity table.old.key.bytes ≤ vec_capacity table.new.key.bytes }
-{
-    if !note(&mut table.key, left) {
-        return NO_MEMORY;
-    }
-    found(table.map.to_front(&table.key))
-}
-
-/// Moves the pair of a left to the end of the insertion order, and returns the status.
-pub(crate) fn to_back<R: Eq + Hash + Drop>(
-    table: &mut BytesTable<R, BiInsertionOrderMap<ByteString, R, Seeded, Seeded>>,
-    left: &[u8],
-) -> u32
-    ensures moved { MovesByKey (λ was p. ComesLast was p p) (kept holding table.old) left.now result
-        (kept holding table.new) }
-    ensures room { vec_capacity table.old.key.bytes ≤ vec_capacity table.new.key.bytes }
-{
-    if !note(&mut table.key, left) {
-        return NO_MEMORY;
-    }
-    found(table.map.to_back(&table.key))
 }
 
 /// Removes all pairs, and forgets which pairs the last change overwrote or removed.

@@ -1,24 +1,16 @@
-//! The struct that C sees if the rights are byte strings, and the bodies of the calls. They work on any map of two byte
-//! strings.
-ghost use Rattle.std.specs.Prelude.{◌+◌, ◌≤◌, Option, option_map, vec_capacity, Contains};
-ghost use Rattle.std.specs.Borrow.{Bor};
+//! The struct that C sees if the rights are byte strings, and the bodies of calls. They work on any map of two byte strings.
+ghost use Rattle.std.specs.Prelude.{◌+◌, option_map};
 ghost use Rattle.std.specs.Map.Iter.{deref_pair};
-ghost use Rattle.bimap.specs.BTree.{holding};
-ghost use Rattle.bimap.specs.Holding.{IsFoundByLeft, IsFoundByRight};
-ghost use Rattle.bimap.specs.Sets.{HasRight};
-ghost use Rattle.bimap_c.specs.Calls.{IsWritten, Tests};
-ghost use Rattle.bimap_c.specs.Bytes.{kept, same_bytes, AreBytesOut, IsLengthWritten, IsRead, IsByKey, RemovesByRight, Inserts, InsertsFlagged, IsKind};
+ghost use Rattle.bimap_c.specs.Calls.{IsWritten};
+ghost use Rattle.bimap_c.specs.Bytes.{kept, same_bytes, Inserts, InsertsFlagged, IsKind, IsLengthWritten};
 ghost use Rattle.bimap_c.specs.Packed.{bytes_row};
-ghost use Rattle.bimap_c.specs.declared.byte_string.ByteString.{ByteString};
-ghost use Rattle.bimap_c.specs.BytesBytes.{WithCopy, AreBothOut, IsRightRanked};
+ghost use Rattle.bimap_c.specs.BytesBytes.{WithCopy, AreBothOut};
 
-use crate::by_right;
 use crate::byte_string::ByteString;
-use crate::bytes::{self, BytesTable, note, strike, tell_bytes};
-use crate::calls::found;
+use crate::bytes::{self, BytesTable};
 use crate::fill::RightOfRow;
 use crate::status::{BUFFER_TOO_SHORT, DONE, NO_MEMORY, NOT_FOUND};
-use bimap::{Bijection, BijectiveMap, Index, Ordered, Policy};
+use bimap::{Bijection, Policy};
 use std::alloc::Global;
 
 /// A pair: the number of bytes of its left, and that of its right.
@@ -101,97 +93,6 @@ pub(crate) fn insert_with<B: Bijection<ByteString, ByteString>>(
         return NO_MEMORY;
     };
     bytes::insert_with(alloc, table, left, copy, left_refuses, right_refuses, kind)
-}
-
-/// Writes the right of a left, and returns the status.
-pub(crate) fn get_by_left<B: Bijection<ByteString, ByteString>>(
-    table: &mut BytesTable<ByteString, B>,
-    left: &[u8],
-    buf: &mut [u8],
-    len: &mut usize,
-) -> u32
-    ensures told { IsByKey (kept B.holding table.old) left.now result (kept B.holding table.new)
-        (λ key. (found : Option (Bor ByteString))
-        × IsFoundByLeft same_bytes (B.holding table.old.map) key found
-        × AreBytesOut (option_map (λ v. v.now.bytes.items) found) result buf.old buf.new len.new) }
-    ensures buf { IsWritten result buf.old buf.new }
-    ensures len { IsLengthWritten result len.old len.new }
-    ensures read { IsRead (kept B.holding table.old) (kept B.holding table.new) }
-{
-    if !note(&mut table.key, left) {
-        return NO_MEMORY;
-    }
-    tell_bytes(table.map.get_by_left(&table.key), buf, len)
-}
-
-/// Writes the left of a right, and returns the status.
-pub(crate) fn get_by_right<B: Bijection<ByteString, ByteString>>(
-    table: &mut BytesTable<ByteString, B>,
-    right: &[u8],
-    buf: &mut [u8],
-    len: &mut usize,
-) -> u32
-    ensures told { IsByKey (kept B.holding table.old) right.now result (kept B.holding table.new)
-        (λ key. (found : Option (Bor ByteString))
-        × IsFoundByRight same_bytes (B.holding table.old.map) key found
-        × AreBytesOut (option_map (λ v. v.now.bytes.items) found) result buf.old buf.new len.new) }
-    ensures buf { IsWritten result buf.old buf.new }
-    ensures len { IsLengthWritten result len.old len.new }
-    ensures read { IsRead (kept B.holding table.old) (kept B.holding table.new) }
-{
-    if !note(&mut table.key, right) {
-        return NO_MEMORY;
-    }
-    tell_bytes(table.map.get_by_right(&table.key), buf, len)
-}
-
-/// Returns the status that says whether the right is contained.
-pub(crate) fn contains_right<B: Bijection<ByteString, ByteString>>(
-    table: &mut BytesTable<ByteString, B>,
-    right: &[u8],
-) -> u32
-    ensures told { IsByKey (kept B.holding table.old) right.now result (kept B.holding table.new)
-        (λ key. Tests (HasRight same_bytes (Contains (B.holding table.old.map).pairs) key)
-        result) }
-    ensures read { IsRead (kept B.holding table.old) (kept B.holding table.new) }
-{
-    if !note(&mut table.key, right) {
-        return NO_MEMORY;
-    }
-    found(table.map.contains_right(&table.key))
-}
-
-/// Removes the pair of a right, and returns the status.
-pub(crate) fn remove_by_right<B: Bijection<ByteString, ByteString>>(
-    table: &mut BytesTable<ByteString, B>,
-    right: &[u8],
-) -> u32
-    ensures removed { IsByKey (kept B.holding table.old) right.now result (kept B.holding table.new)
-        (λ key. RemovesByRight same_bytes (kept B.holding table.old) key result
-        (kept B.holding table.new)) }
-    ensures room { vec_capacity table.old.key.bytes ≤ vec_capacity table.new.key.bytes }
-{
-    if !note(&mut table.key, right) {
-        return NO_MEMORY;
-    }
-    strike(&mut table.struck, table.map.remove_by_right(&table.key))
-}
-
-/// Writes how many rights are less than this one, and returns the status.
-pub(crate) fn right_rank<I: Index<ByteString>>(
-    table: &mut BytesTable<ByteString, BijectiveMap<ByteString, ByteString, I, Ordered>>,
-    right: &[u8],
-    rank: &mut usize,
-) -> u32
-    ensures ranked { IsRightRanked (kept holding table.old) right.now result rank.new
-        (kept holding table.new) }
-    ensures out { IsWritten result rank.old rank.new }
-    ensures read { IsRead (kept holding table.old) (kept holding table.new) }
-{
-    if !note(&mut table.key, right) {
-        return NO_MEMORY;
-    }
-    by_right::right_rank(&table.map, &table.key, rank)
 }
 
 /// Writes a pair if there is one, and returns the status.

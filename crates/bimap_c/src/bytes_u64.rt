@@ -1,19 +1,14 @@
-//! The struct that C sees if the rights are numbers, and the bodies of the calls. They work on any map of byte strings
-//! and numbers.
-ghost use Rattle.std.specs.Prelude.{ℕ, Option, [], option_map};
-ghost use Rattle.std.specs.Borrow.{Bor};
-ghost use Rattle.std.specs.Map.Iter.{deref, deref_pair};
-ghost use Rattle.bimap.specs.Holding.{IsFoundByLeft};
-ghost use Rattle.bimap_c.specs.Calls.{IsWritten, Tells};
-ghost use Rattle.bimap_c.specs.Bytes.{kept, same_bytes, IsRead, IsByKey, IsPairOut, IsLengthWritten};
+//! The struct that C sees if the rights are numbers, and the bodies of calls.
+ghost use Rattle.std.specs.Prelude.{[], option_map};
+ghost use Rattle.std.specs.Map.Iter.{deref_pair};
+ghost use Rattle.bimap_c.specs.Calls.{IsWritten};
+ghost use Rattle.bimap_c.specs.Bytes.{IsPairOut, IsLengthWritten};
 ghost use Rattle.bimap_c.specs.Packed.{u64_row};
 
 use crate::byte_string::ByteString;
-use crate::bytes::{BytesTable, copy_out, note};
+use crate::bytes::copy_out;
 use crate::fill::RightOfRow;
-use crate::status::{DONE, NO_MEMORY, NOT_FOUND};
-use crate::u64_u64::tell_value;
-use bimap::Bijection;
+use crate::status::{DONE, NOT_FOUND};
 use std::alloc::Global;
 
 /// A pair: the number of bytes of its left, and its right.
@@ -53,24 +48,6 @@ impl RightOfRow for u64 {
     fn from_row(_alloc: Global, row: &Row, _bytes: &[u8]) -> Option<u64> {
         Some(row.right)
     }
-}
-
-/// Writes the right of a left, and returns the status.
-pub(crate) fn get_by_left<B: Bijection<ByteString, u64>>(
-    table: &mut BytesTable<u64, B>,
-    left: &[u8],
-    right: &mut u64,
-) -> u32
-    ensures told { IsByKey (kept B.holding table.old) left.now result (kept B.holding table.new)
-        (λ key. (found : Option (Bor ℕ)) × IsFoundByLeft same_bytes (B.holding table.old.map) key
-        found × Tells (option_map deref found) result right.new) }
-    ensures out { IsWritten result right.old right.new }
-    ensures read { IsRead (kept B.holding table.old) (kept B.holding table.new) }
-{
-    if !note(&mut table.key, left) {
-        return NO_MEMORY;
-    }
-    tell_value(table.map.get_by_left(&table.key), right)
 }
 
 /// Writes a pair if there is one, and returns the status.

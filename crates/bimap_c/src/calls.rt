@@ -1,14 +1,16 @@
 //! The bodies of the calls that do not depend on the types of the sides. They work on any map.
-ghost use Rattle.std.specs.Prelude.{◌≡◌, ◌≤◌, [], length, if◌then◌else◌, IfSome, IfNone};
+ghost use Rattle.std.specs.Prelude.{◌≡◌, ◌≤◌, [], ◌∷◌, length, if◌then◌else◌, IfSome, IfNone};
 ghost use Rattle.bimap.specs.BTree.{holding};
-ghost use Rattle.bimap_c.specs.Calls.{made, refused, Reserves, Shrinks, Clears, AreFlags, on_held};
+ghost use Rattle.bimap_c.specs.Calls.{made, refused, Reserves, Shrinks, Clears, AreFlags, ByRight, IsRank, on_held};
+ghost use Rattle.bimap.specs.Hash.{lefts_hashed_by, rights_hashed_by};
 ghost use Rattle.bimap_c.specs.Kinds.{IsOfKind, map_kinds};
+ghost use Rattle.bimap_c.specs.Tables.{AreSeeded};
 
 use crate::kind::{HASHED, INSERTION_ORDER, ORDERED};
 use crate::status::{DONE, NO_MEMORY, NOT_FOUND, REFUSED};
 use bimap::{
-    BiBTreeMap, BiHashMap, BiInsertionOrderMap, Bijection, BijectiveMap, NoMemory, NotInsertedWith,
-    OnHeld, Policy, Seeded,
+    BiBTreeMap, BiHashMap, BiInsertionOrderMap, Bijection, BijectiveMap, Index, NoMemory,
+    NotInsertedWith, OnHeld, OrderQuery, Ordered, Policy, Seeded,
 };
 use bimap_dynamic::{AnyMap, AnyOf};
 use bimap_index::CompactedIndex;
@@ -35,6 +37,9 @@ pub(crate) fn new_map<L: Ord + Hash, R: Ord + Hash>(
 ) -> Option<AnyMap<L, R, Seeded, Seeded>>
     ensures some { IfSome result (λ map. (kind ≤ 2) × IsOfKind kind
         (map_kinds holding holding holding map) (λ held. (held.pairs ≡ []) × (held.room ≡ 0))) }
+    ensures seeded { IfSome result (λ map. IsOfKind kind
+        (map_kinds (λ m. []) (λ m. lefts_hashed_by m ∷ rights_hashed_by m ∷ [])
+        (λ m. lefts_hashed_by m ∷ rights_hashed_by m ∷ []) map) (AreSeeded seed)) }
     ensures none { IfNone result (kind ≤ 2 → ⊥) }
 {
     let builder = Seeded::new(seed);
@@ -97,6 +102,31 @@ pub(crate) fn clear<L: Eq + Drop, R: Eq + Drop, B: Bijection<L, R>>(map: &mut B)
     ensures { Clears (B.holding map.old) result (B.holding map.new) }
 {
     map.clear();
+    DONE
+}
+
+/// Writes how many lefts are less than this one.
+pub(crate) fn left_rank<L: Ord + Drop, R: Eq + Drop, J: Index<R>, Q: OrderQuery<L>>(
+    map: &BijectiveMap<L, R, Ordered, J>,
+    left: Q,
+    rank: &mut usize,
+) -> u32
+    ensures { IsRank (λ p. Q.order p.0 left) (holding map.now).pairs result rank.new }
+{
+    *rank = map.left_rank(left);
+    DONE
+}
+
+/// Writes how many rights are less than this one.
+pub(crate) fn right_rank<L: Eq + Drop, R: Ord + Drop, I: Index<L>, Q: OrderQuery<R>>(
+    map: &BijectiveMap<L, R, I, Ordered>,
+    right: Q,
+    rank: &mut usize,
+) -> u32
+    ensures { ByRight R.cmp (holding map.now).pairs
+        (λ sorted. IsRank (λ p. Q.order p.1 right) sorted result rank.new) }
+{
+    *rank = map.right_rank(right);
     DONE
 }
 

@@ -10,7 +10,6 @@ use crate::bytes::{AnyBytesTable, table_of};
 use bimap::{BijectiveMap, Seeded, WalkedIndex};
 use bimap_dynamic::{AnyMap, AnyOf};
 use bimap_index::CopiedIndex;
-use std::alloc::Global;
 use std::hash::Hash;
 
 /// Returns a clone of a map of numbers, or `None` if there is no memory for it.
@@ -29,7 +28,6 @@ pub(crate) fn clone_numbers(
 
 /// Returns a clone of a table, or `None` if there is no memory for it.
 pub(crate) fn clone_table<R: Ord + Hash + Clone + Drop>(
-    alloc: Global,
     table: &AnyBytesTable<R>,
 ) -> Option<AnyBytesTable<R>>
     requires { (right copy : R) → R.is_clone right copy → R.eq right copy ≡ true }
@@ -40,15 +38,15 @@ pub(crate) fn clone_table<R: Ord + Hash + Clone + Drop>(
     match table {
         AnyOf::Ordered(it) => {
             let map = clone_of(&it.map)?;
-            Some(AnyOf::Ordered(table_of(alloc, map, it.seed)))
+            Some(AnyOf::Ordered(table_of(map, it.seed)))
         }
         AnyOf::Hashed(it) => {
             let map = clone_of(&it.map)?;
-            Some(AnyOf::Hashed(table_of(alloc, map, it.seed)))
+            Some(AnyOf::Hashed(table_of(map, it.seed)))
         }
         AnyOf::InsertionOrder(it) => {
             let map = clone_of(&it.map)?;
-            Some(AnyOf::InsertionOrder(table_of(alloc, map, it.seed)))
+            Some(AnyOf::InsertionOrder(table_of(map, it.seed)))
         }
     }
 }

@@ -1,17 +1,17 @@
 //! The functions for C of a table of two byte strings.
-ghost use Rattle.std.specs.Prelude.{◌≡◌, ◌+◌, ◌≤◌, Option, [], length, option_map, slice_get, vec_capacity, Contains};
+ghost use Rattle.std.specs.Prelude.{◌≡◌, ◌+◌, Option, [], length, option_map, slice_get, Contains};
 ghost use Rattle.std.specs.Borrow.{Bor};
 ghost use Rattle.bimap.specs.Holding.{IsFoundByLeft, IsFoundByRight};
 ghost use Rattle.bimap.specs.Sets.{HasLeft, HasRight};
-ghost use Rattle.bimap_c.specs.Bytes.{same_bytes, named_pairs, AreBytesOut, IsLengthWritten, IsRead, IsByKey, RemovesByLeft, RemovesByRight, ClearsAll, Inserts, InsertsFlagged, IsKind};
+ghost use Rattle.bimap_c.specs.Bytes.{same_bytes, has_bytes, named_pairs, AreBytesOut, RemovesByLeft, RemovesByRight, ClearsAll, Inserts, InsertsFlagged, IsKind, IsLengthWritten};
 ghost use Rattle.bimap_c.specs.BytesBytes.{WithCopy};
 ghost use Rattle.bimap_c.specs.Calls.{IsWritten, Reads, Changes, Makes, Frees, Tests, Reserves, Shrinks};
 ghost use Rattle.bimap_c.specs.declared.byte_string.ByteString.{ByteString};
 ghost use Rattle.bimap_c.specs.Packed.{bytes_of, bytes_row};
-ghost use Rattle.bimap_c.specs.Tables.{bytes_bytes};
+ghost use Rattle.bimap_c.specs.Tables.{bytes_bytes, bytes_bytes_builders, AreSeeded};
 ghost use Rattle.bimap_c.specs.Unpacked.{InsertsMany};
 
-use crate::bytes::{left_at, right_at, tell_bytes};
+use crate::bytes::{left_at, right_at, strike, tell_bytes};
 use crate::bytes_bytes::Row;
 use crate::c_table::CTable;
 use crate::calls::{self, OVERWRITE_BOTH, REFUSE_BOTH};
@@ -20,6 +20,7 @@ use crate::status::REFUSED;
 use crate::unpack::insert_many;
 use crate::{bytes, bytes_bytes};
 use bimap::{OnHeld, Overwritten};
+use bimap_index::By;
 use std::alloc::Global;
 
 /// Makes an empty table of capacity 0 for a handle that has no table. The kind is one of the numbers above. The hashes
@@ -32,9 +33,11 @@ pub extern "C" fn jetukoma_bytes_bytes_new_unchecked(
     kind: u32,
     seed: u64,
 ) -> u32
-    ensures { Makes bytes_bytes handle.old.table.value result handle.new.table.value kind
+    ensures made { Makes bytes_bytes handle.old.table.value result handle.new.table.value kind
         (λ kept. (kept.held.pairs ≡ []) × (kept.held.room ≡ 0)
         × (kept.struck ≡ Overwritten.Neither)) }
+    ensures seeded { Makes bytes_bytes_builders handle.old.table.value result handle.new.table.value kind
+        (AreSeeded seed) }
 {
     match bytes::new_table(alloc, kind, seed) {
         Some(table) => handle.make(alloc, CTable::BytesBytes(table)),
@@ -88,8 +91,7 @@ pub extern "C" fn jetukoma_bytes_bytes_reserve_unchecked(
     more: usize,
 ) -> u32
     ensures { Changes bytes_bytes handle.old.table.value result handle.new.table.value
-        (λ old new. Reserves old.held more result new.held
-        × (new.struck ≡ old.struck) × (new.key ≡ old.key)) }
+        (λ old new. Reserves old.held more result new.held × (new.struck ≡ old.struck)) }
 {
     on_table!(handle, alloc, BytesBytes, table => calls::reserve(&mut table.map, more))
 }
@@ -103,8 +105,7 @@ pub extern "C" fn jetukoma_bytes_bytes_shrink_to_unchecked(
     least: usize,
 ) -> u32
     ensures { Changes bytes_bytes handle.old.table.value result handle.new.table.value
-        (λ old new. Shrinks old.held least result new.held
-        × (new.struck ≡ old.struck) × (new.key ≡ old.key)) }
+        (λ old new. Shrinks old.held least result new.held × (new.struck ≡ old.struck)) }
 {
     on_table!(handle, alloc, BytesBytes, table => calls::shrink_to(&mut table.map, least))
 }
@@ -182,16 +183,15 @@ pub extern "C" fn jetukoma_bytes_bytes_insert_many_unchecked(
     taken: &mut usize,
 ) -> u32
     ensures change { Changes bytes_bytes handle.old.table.value result handle.new.table.value
-        (λ old new. InsertsMany same_bytes bytes_row (bytes_of (λ right. right.bytes.items)) (λ row. row.left_len + row.right_len) old rows.now bytes.now
-        result new taken.new) }
+        (λ old new. InsertsMany same_bytes bytes_row (bytes_of (λ right. right.bytes.items))
+        (λ row. row.left_len + row.right_len) old rows.now bytes.now result new taken.new) }
     ensures out { (result ≡ 0 → ⊥) → (result ≡ 1 → ⊥) → taken.new ≡ taken.old }
 {
     on_table!(handle, alloc, BytesBytes, table => insert_many(alloc, table, bytes, rows, taken))
 }
 
-/// Writes the right of a left to the front of a buffer, and its length. It allocates if the left is longer than every
-/// value that was looked up or removed before. Returns 1 if there is no memory for that, 4 if the buffer is too
-/// short, and 5 if the left is not contained. On 4 it has written the length alone.
+/// Writes the right of a left to the front of a buffer, and its length. Returns 4 if the buffer is too short, and 5 if
+/// the left is not contained. On 4 it has written the length alone.
 #[unsafe(no_mangle)]
 pub extern "C" fn jetukoma_bytes_bytes_get_by_left_unchecked(
     alloc: Global,
@@ -200,20 +200,19 @@ pub extern "C" fn jetukoma_bytes_bytes_get_by_left_unchecked(
     buf: &mut [u8],
     len: &mut usize,
 ) -> u32
-    ensures answer { Changes bytes_bytes handle.old.table.value result handle.new.table.value
-        (λ old new. IsByKey old left.now result new (λ key. (found : Option (Bor ByteString))
-        × IsFoundByLeft same_bytes old.held key found
+    ensures answer { Reads bytes_bytes handle.old.table.value result handle.new.table.value
+        (λ kept. (found : Option (Bor ByteString))
+        × IsFoundByLeft has_bytes kept.held left.now found
         × AreBytesOut (option_map (λ right. right.now.bytes.items) found) result buf.old buf.new
-        len.new) × IsRead old new) }
+        len.new) }
     ensures buf { IsWritten result buf.old buf.new }
     ensures len { IsLengthWritten result len.old len.new }
 {
-    on_table!(handle, alloc, BytesBytes, table => bytes_bytes::get_by_left(table, left, buf, len))
+    on_table!(handle, alloc, BytesBytes, table => tell_bytes(table.map.get_by_left(By(left)), buf, len))
 }
 
-/// Writes the left of a right to the front of a buffer, and its length. It allocates as `get_by_left` does. Returns 1
-/// if there is no memory for that, 4 if the buffer is too short, and 5 if the right is not contained. On 4 it has
-/// written the length alone.
+/// Writes the left of a right to the front of a buffer, and its length. Returns 4 if the buffer is too short, and 5 if
+/// the right is not contained. On 4 it has written the length alone.
 #[unsafe(no_mangle)]
 pub extern "C" fn jetukoma_bytes_bytes_get_by_right_unchecked(
     alloc: Global,
@@ -222,50 +221,45 @@ pub extern "C" fn jetukoma_bytes_bytes_get_by_right_unchecked(
     buf: &mut [u8],
     len: &mut usize,
 ) -> u32
-    ensures answer { Changes bytes_bytes handle.old.table.value result handle.new.table.value
-        (λ old new. IsByKey old right.now result new (λ key. (found : Option (Bor ByteString))
-        × IsFoundByRight same_bytes old.held key found
+    ensures answer { Reads bytes_bytes handle.old.table.value result handle.new.table.value
+        (λ kept. (found : Option (Bor ByteString))
+        × IsFoundByRight has_bytes kept.held right.now found
         × AreBytesOut (option_map (λ left. left.now.bytes.items) found) result buf.old buf.new
-        len.new) × IsRead old new) }
+        len.new) }
     ensures buf { IsWritten result buf.old buf.new }
     ensures len { IsLengthWritten result len.old len.new }
 {
-    on_table!(handle, alloc, BytesBytes, table => bytes_bytes::get_by_right(table, right, buf, len))
+    on_table!(handle, alloc, BytesBytes, table => tell_bytes(table.map.get_by_right(By(right)), buf, len))
 }
 
-/// Returns 0 if the left is contained, and 5 if it is not. It allocates as `get_by_left` does. Returns 1 if there is
-/// no memory for that.
+/// Returns 0 if the left is contained, and 5 if it is not.
 #[unsafe(no_mangle)]
 pub extern "C" fn jetukoma_bytes_bytes_contains_left_unchecked(
     alloc: Global,
     handle: &mut Handle,
     left: &[u8],
 ) -> u32
-    ensures { Changes bytes_bytes handle.old.table.value result handle.new.table.value
-        (λ old new. IsByKey old left.now result new (λ key.
-        Tests (HasLeft same_bytes (Contains old.held.pairs) key) result) × IsRead old new) }
+    ensures { Reads bytes_bytes handle.old.table.value result handle.new.table.value
+        (λ kept. Tests (HasLeft has_bytes (Contains kept.held.pairs) left.now) result) }
 {
-    on_table!(handle, alloc, BytesBytes, table => bytes::contains_left(table, left))
+    on_table!(handle, alloc, BytesBytes, table => calls::found(table.map.contains_left(By(left))))
 }
 
-/// Returns 0 if the right is contained, and 5 if it is not. It allocates as `get_by_left` does. Returns 1 if there is
-/// no memory for that.
+/// Returns 0 if the right is contained, and 5 if it is not.
 #[unsafe(no_mangle)]
 pub extern "C" fn jetukoma_bytes_bytes_contains_right_unchecked(
     alloc: Global,
     handle: &mut Handle,
     right: &[u8],
 ) -> u32
-    ensures { Changes bytes_bytes handle.old.table.value result handle.new.table.value
-        (λ old new. IsByKey old right.now result new (λ key.
-        Tests (HasRight same_bytes (Contains old.held.pairs) key) result) × IsRead old new) }
+    ensures { Reads bytes_bytes handle.old.table.value result handle.new.table.value
+        (λ kept. Tests (HasRight has_bytes (Contains kept.held.pairs) right.now) result) }
 {
-    on_table!(handle, alloc, BytesBytes, table => bytes_bytes::contains_right(table, right))
+    on_table!(handle, alloc, BytesBytes, table => calls::found(table.map.contains_right(By(right))))
 }
 
 /// Removes the pair of a left. The table keeps the pair, so that `overwritten_left` and `overwritten_right` copy it.
-/// The call allocates as `get_by_left` does. Returns 1 if there is no memory for that, and 5 if the left is not
-/// contained.
+/// Returns 5 if the left is not contained.
 #[unsafe(no_mangle)]
 pub extern "C" fn jetukoma_bytes_bytes_remove_by_left_unchecked(
     alloc: Global,
@@ -273,15 +267,13 @@ pub extern "C" fn jetukoma_bytes_bytes_remove_by_left_unchecked(
     left: &[u8],
 ) -> u32
     ensures { Changes bytes_bytes handle.old.table.value result handle.new.table.value
-        (λ old new. RemovesByLeft old left.now result new
-        × (vec_capacity old.key.bytes ≤ vec_capacity new.key.bytes)) }
+        (λ old new. RemovesByLeft has_bytes old left.now result new) }
 {
-    on_table!(handle, alloc, BytesBytes, table => bytes::remove_by_left(table, left))
+    on_table!(handle, alloc, BytesBytes, table => strike(&mut table.struck, table.map.remove_by_left(By(left))))
 }
 
 /// Removes the pair of a right. The table keeps the pair, so that `overwritten_left` and `overwritten_right` copy it.
-/// The call allocates as `get_by_left` does. Returns 1 if there is no memory for that, and 5 if the right is not
-/// contained.
+/// Returns 5 if the right is not contained.
 #[unsafe(no_mangle)]
 pub extern "C" fn jetukoma_bytes_bytes_remove_by_right_unchecked(
     alloc: Global,
@@ -289,11 +281,9 @@ pub extern "C" fn jetukoma_bytes_bytes_remove_by_right_unchecked(
     right: &[u8],
 ) -> u32
     ensures { Changes bytes_bytes handle.old.table.value result handle.new.table.value
-        (λ old new. IsByKey old right.now result new (λ key.
-        RemovesByRight same_bytes old key result new)
-        × (vec_capacity old.key.bytes ≤ vec_capacity new.key.bytes)) }
+        (λ old new. RemovesByRight has_bytes old right.now result new) }
 {
-    on_table!(handle, alloc, BytesBytes, table => bytes_bytes::remove_by_right(table, right))
+    on_table!(handle, alloc, BytesBytes, table => strike(&mut table.struck, table.map.remove_by_right(By(right))))
 }
 
 /// Writes the left of a pair that the last change overwrote or removed to the front of a buffer, and its length. If

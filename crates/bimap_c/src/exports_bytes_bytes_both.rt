@@ -23,7 +23,7 @@ pub extern "C" fn jetukoma_bytes_bytes_clone_unchecked(
     ensures { Clones bytes_bytes handle.old.table.value result handle.new.table.value
         copy.old.table.value copy.new.table.value (IsTableCloneOf HasBytesOf) }
 {
-    clone_into!(handle, copy, alloc, BytesBytes, table => clone_table(alloc, table))
+    clone_into!(handle, copy, alloc, BytesBytes, table => clone_table(table))
 }
 
 /// Returns 0 if both tables have the same pairs, and 5 if they do not. The tables may be of two kinds, and their orders

@@ -1,19 +1,20 @@
 //! The functions for C of a table of two byte strings that use an order: iteration, ranks, ends and moves.
-ghost use Rattle.std.specs.Prelude.{◌≤◌, drop, reverse, slice_get, vec_capacity};
+ghost use Rattle.std.specs.Prelude.{◌≡◌, drop, reverse, slice_get};
 ghost use Rattle.bimap.specs.Moves.{ComesFirst};
 ghost use Rattle.bimap.specs.Positions.{ComesLast};
-ghost use Rattle.bimap_c.specs.Bytes.{IsLengthWritten, IsRead, IsRanked, MovesByKey, PopsFirst, PopsLast, byte_order};
-ghost use Rattle.bimap_c.specs.BytesBytes.{AreBothOut, IsRightRanked};
-ghost use Rattle.bimap_c.specs.Calls.{IsWritten, Reads, ReadsAtEnd, ReadsOrdered, ChangesOrdered, ChangesAtEnd, ChangesInOrder, ByRight};
+ghost use Rattle.bimap_c.specs.Bytes.{PopsFirst, PopsLast, byte_order, has_bytes, to_bytes, IsLengthWritten};
+ghost use Rattle.bimap_c.specs.BytesBytes.{AreBothOut};
+ghost use Rattle.bimap_c.specs.Calls.{IsWritten, Reads, ReadsAtEnd, ReadsOrdered, ChangesAtEnd, ChangesInOrder, ByRight, IsRank, Moves};
 ghost use Rattle.bimap_c.specs.Packed.{Packs, bytes_of, bytes_row};
 ghost use Rattle.bimap_c.specs.Tables.{bytes_bytes};
 
 use crate::by_right::fill_rows;
-use crate::bytes::{left_rank, strike, to_back, to_front};
-use crate::bytes_bytes::{Row, right_rank, tell_pair};
+use crate::bytes::strike;
+use crate::bytes_bytes::{Row, tell_pair};
+use crate::calls::{found, left_rank, right_rank};
 use crate::fill::{fill_back, fill_by_rank, fill_by_steps};
 use crate::handle::Handle;
-use crate::status::NO_ORDER;
+use bimap_index::By;
 use std::alloc::Global;
 
 /// Writes pairs to the front of `rows`, each as the number of bytes of its left, and that of its right. The bytes go to
@@ -63,7 +64,8 @@ pub extern "C" fn jetukoma_bytes_bytes_fill_back_unchecked(
 ) -> u32
     ensures answer { ReadsAtEnd bytes_bytes handle.old.table.value result handle.new.table.value
         (λ kept. Packs (bytes_of (λ right. right.bytes.items)) bytes_row
-        (drop start (reverse kept.held.pairs)) result rows.old rows.new filled.new buf.old buf.new len.new) }
+        (drop start (reverse kept.held.pairs)) result rows.old rows.new filled.new buf.old buf.new
+        len.new) }
     ensures rows { IsWritten result rows.old rows.new }
     ensures buf { IsWritten result buf.old buf.new }
     ensures len { IsLengthWritten result len.old len.new }
@@ -71,7 +73,6 @@ pub extern "C" fn jetukoma_bytes_bytes_fill_back_unchecked(
 {
     on_table!(handle, alloc, BytesBytes,
         Ordered(table) => fill_back(&table.map, start, buf, rows, len, filled),
-        Hashed(_) => NO_ORDER,
         InsertionOrder(table) => fill_back(&table.map, start, buf, rows, len, filled))
 }
 
@@ -96,14 +97,11 @@ pub extern "C" fn jetukoma_bytes_bytes_pair_at_rank_unchecked(
     ensures right_buf { IsWritten result right_buf.old right_buf.new }
     ensures right_len { IsLengthWritten result right_len.old right_len.new }
 {
-    on_table!(handle, alloc, BytesBytes,
-        Ordered(table) => tell_pair(table.map.pair_at_left_rank(rank), left_buf, left_len, right_buf, right_len),
-        Hashed(_) => NO_ORDER,
-        InsertionOrder(_) => NO_ORDER)
+    on_table!(handle, alloc, BytesBytes, Ordered(table) => tell_pair(table.map.pair_at_left_rank(rank), left_buf, left_len, right_buf, right_len))
 }
 
-/// Writes how many lefts are less than this one, compared byte by byte. This one need not be contained. It allocates
-/// as `get_by_left` does. Returns 1 if there is no memory for that, and 6 if the table is not ordered.
+/// Writes how many lefts are less than this one, compared byte by byte. This one need not be contained. Returns 6
+/// if the table is not ordered.
 #[unsafe(no_mangle)]
 pub extern "C" fn jetukoma_bytes_bytes_left_rank_unchecked(
     alloc: Global,
@@ -111,18 +109,15 @@ pub extern "C" fn jetukoma_bytes_bytes_left_rank_unchecked(
     left: &[u8],
     rank: &mut usize,
 ) -> u32
-    ensures answer { ChangesOrdered bytes_bytes handle.old.table.value result handle.new.table.value
-        (λ old new. IsRanked old left.now result rank.new new × IsRead old new) }
+    ensures answer { ReadsOrdered bytes_bytes handle.old.table.value result handle.new.table.value
+        (λ kept. IsRank (λ p. to_bytes p.0 left.now) kept.held.pairs result rank.new) }
     ensures out { IsWritten result rank.old rank.new }
 {
-    on_table!(handle, alloc, BytesBytes,
-        Ordered(table) => left_rank(table, left, rank),
-        Hashed(_) => NO_ORDER,
-        InsertionOrder(_) => NO_ORDER)
+    on_table!(handle, alloc, BytesBytes, Ordered(table) => left_rank(&table.map, By(left), rank))
 }
 
-/// Writes how many rights are less than this one, compared byte by byte. This one need not be contained. It allocates
-/// as `get_by_left` does. Returns 1 if there is no memory for that, and 6 if the table is not ordered.
+/// Writes how many rights are less than this one, compared byte by byte. This one need not be contained. Returns 6
+/// if the table is not ordered.
 #[unsafe(no_mangle)]
 pub extern "C" fn jetukoma_bytes_bytes_right_rank_unchecked(
     alloc: Global,
@@ -130,14 +125,12 @@ pub extern "C" fn jetukoma_bytes_bytes_right_rank_unchecked(
     right: &[u8],
     rank: &mut usize,
 ) -> u32
-    ensures answer { ChangesOrdered bytes_bytes handle.old.table.value result handle.new.table.value
-        (λ old new. IsRightRanked old right.now result rank.new new × IsRead old new) }
+    ensures answer { ReadsOrdered bytes_bytes handle.old.table.value result handle.new.table.value
+        (λ kept. ByRight byte_order kept.held.pairs
+        (λ sorted. IsRank (λ p. to_bytes p.1 right.now) sorted result rank.new)) }
     ensures out { IsWritten result rank.old rank.new }
 {
-    on_table!(handle, alloc, BytesBytes,
-        Ordered(table) => right_rank(table, right, rank),
-        Hashed(_) => NO_ORDER,
-        InsertionOrder(_) => NO_ORDER)
+    on_table!(handle, alloc, BytesBytes, Ordered(table) => right_rank(&table.map, By(right), rank))
 }
 
 /// Writes pairs as `fill` does, but in ascending order of their rights. It takes one search, and at most one descent in
@@ -153,17 +146,15 @@ pub extern "C" fn jetukoma_bytes_bytes_fill_by_right_unchecked(
     filled: &mut usize,
 ) -> u32
     ensures answer { ReadsOrdered bytes_bytes handle.old.table.value result handle.new.table.value
-        (λ kept. ByRight byte_order kept.held.pairs (λ sorted. Packs (bytes_of (λ right. right.bytes.items)) bytes_row
-        (drop start sorted) result rows.old rows.new filled.new buf.old buf.new len.new)) }
+        (λ kept. ByRight byte_order kept.held.pairs (λ sorted.
+        Packs (bytes_of (λ right. right.bytes.items)) bytes_row (drop start sorted) result rows.old
+        rows.new filled.new buf.old buf.new len.new)) }
     ensures rows { IsWritten result rows.old rows.new }
     ensures buf { IsWritten result buf.old buf.new }
     ensures len { IsLengthWritten result len.old len.new }
     ensures filled { IsWritten result filled.old filled.new }
 {
-    on_table!(handle, alloc, BytesBytes,
-        Ordered(table) => fill_rows(&table.map, start, buf, rows, len, filled),
-        Hashed(_) => NO_ORDER,
-        InsertionOrder(_) => NO_ORDER)
+    on_table!(handle, alloc, BytesBytes, Ordered(table) => fill_rows(&table.map, start, buf, rows, len, filled))
 }
 
 /// Removes a pair. In an ordered table it is the pair of the least left. In a table in insertion order it is the first
@@ -179,7 +170,6 @@ pub extern "C" fn jetukoma_bytes_bytes_pop_first_unchecked(
 {
     on_table!(handle, alloc, BytesBytes,
         Ordered(table) => strike(&mut table.struck, table.map.pop_first_by_left()),
-        Hashed(_) => NO_ORDER,
         InsertionOrder(table) => strike(&mut table.struck, table.map.pop_first()))
 }
 
@@ -193,13 +183,11 @@ pub extern "C" fn jetukoma_bytes_bytes_pop_last_unchecked(alloc: Global, handle:
 {
     on_table!(handle, alloc, BytesBytes,
         Ordered(table) => strike(&mut table.struck, table.map.pop_last_by_left()),
-        Hashed(_) => NO_ORDER,
         InsertionOrder(table) => strike(&mut table.struck, table.map.pop_last()))
 }
 
-/// Moves the pair of a left to the front of the insertion order. The other pairs keep their order. It allocates as
-/// `get_by_left` does. Returns 1 if there is no memory for that, 5 if the left is not contained, and 6 if the table is
-/// not in insertion order.
+/// Moves the pair of a left to the front of the insertion order. The other pairs keep their order. Returns 5 if the
+/// left is not contained, and 6 if the table is not in insertion order.
 #[unsafe(no_mangle)]
 pub extern "C" fn jetukoma_bytes_bytes_to_front_unchecked(
     alloc: Global,
@@ -207,18 +195,14 @@ pub extern "C" fn jetukoma_bytes_bytes_to_front_unchecked(
     left: &[u8],
 ) -> u32
     ensures { ChangesInOrder bytes_bytes handle.old.table.value result handle.new.table.value
-        (λ old new. MovesByKey ComesFirst old left.now result new
-        × (vec_capacity old.key.bytes ≤ vec_capacity new.key.bytes)) }
+        (λ old new. Moves (λ p. has_bytes p.0 left.now) ComesFirst old.held result new.held
+        × (new.struck ≡ old.struck)) }
 {
-    on_table!(handle, alloc, BytesBytes,
-        Ordered(_) => NO_ORDER,
-        Hashed(_) => NO_ORDER,
-        InsertionOrder(table) => to_front(table, left))
+    on_table!(handle, alloc, BytesBytes, InsertionOrder(table) => found(table.map.to_front(By(left))))
 }
 
-/// Moves the pair of a left to the end of the insertion order. The other pairs keep their order. It allocates as
-/// `get_by_left` does. Returns 1 if there is no memory for that, 5 if the left is not contained, and 6 if the table is
-/// not in insertion order.
+/// Moves the pair of a left to the end of the insertion order. The other pairs keep their order. Returns 5 if the
+/// left is not contained, and 6 if the table is not in insertion order.
 #[unsafe(no_mangle)]
 pub extern "C" fn jetukoma_bytes_bytes_to_back_unchecked(
     alloc: Global,
@@ -226,11 +210,8 @@ pub extern "C" fn jetukoma_bytes_bytes_to_back_unchecked(
     left: &[u8],
 ) -> u32
     ensures { ChangesInOrder bytes_bytes handle.old.table.value result handle.new.table.value
-        (λ old new. MovesByKey (λ was p. ComesLast was p p) old left.now result new
-        × (vec_capacity old.key.bytes ≤ vec_capacity new.key.bytes)) }
+        (λ old new. Moves (λ p. has_bytes p.0 left.now) (λ was p. ComesLast was p p) old.held result
+        new.held × (new.struck ≡ old.struck)) }
 {
-    on_table!(handle, alloc, BytesBytes,
-        Ordered(_) => NO_ORDER,
-        Hashed(_) => NO_ORDER,
-        InsertionOrder(table) => to_back(table, left))
+    on_table!(handle, alloc, BytesBytes, InsertionOrder(table) => found(table.map.to_back(By(left))))
 }

@@ -1,15 +1,15 @@
 //! The functions for C of a table of byte strings and numbers.
-ghost use Rattle.std.specs.Prelude.{◌≡◌, ◌≤◌, ℕ, Option, [], length, nat_eq, option_map, slice_get, vec_capacity, Contains};
+ghost use Rattle.std.specs.Prelude.{◌≡◌, ℕ, Option, [], length, nat_eq, option_map, slice_get, Contains};
 ghost use Rattle.std.specs.Borrow.{Bor};
 ghost use Rattle.std.specs.Map.Iter.{deref};
 ghost use Rattle.bimap.specs.Holding.{IsFoundByLeft, IsFoundByRight};
 ghost use Rattle.bimap.specs.Sets.{HasLeft, HasRight};
-ghost use Rattle.bimap_c.specs.Bytes.{same_bytes, named_pairs, AreBytesOut, IsLengthWritten, IsRead, IsByKey, RemovesByLeft, RemovesByRight, ClearsAll, Inserts, InsertsFlagged, IsKind};
+ghost use Rattle.bimap_c.specs.Bytes.{has_bytes, named_pairs, AreBytesOut, RemovesByLeft, RemovesByRight, ClearsAll, Inserts, InsertsFlagged, IsKind, IsLengthWritten};
 ghost use Rattle.bimap_c.specs.Calls.{IsWritten, Reads, Changes, Makes, Frees, Tells, Tests, Reserves, Shrinks};
 ghost use Rattle.bimap_c.specs.declared.byte_string.ByteString.{ByteString};
 ghost use Rattle.bimap_c.specs.Json.{WritesTexts, ReadsJson};
 ghost use Rattle.bimap_c.specs.Packed.{bytes_of, u64_row};
-ghost use Rattle.bimap_c.specs.Tables.{bytes_u64};
+ghost use Rattle.bimap_c.specs.Tables.{bytes_u64, bytes_u64_builders, AreSeeded};
 ghost use Rattle.bimap_c.specs.Unpacked.{InsertsMany};
 
 use crate::bytes::{left_at, right_at, strike, tell_bytes};
@@ -20,8 +20,9 @@ use crate::handle::Handle;
 use crate::status::REFUSED;
 use crate::u64_u64::tell_value;
 use crate::unpack::insert_many;
-use crate::{bytes, bytes_u64, json};
+use crate::{bytes, json};
 use bimap::{BiBTreeMap, BiHashMap, BiInsertionOrderMap, OnHeld, Overwritten, Seeded};
+use bimap_index::By;
 use std::alloc::Global;
 
 /// Makes an empty table of capacity 0 for a handle that has no table. The kind is one of the numbers above. The hashes
@@ -34,9 +35,11 @@ pub extern "C" fn jetukoma_bytes_u64_new_unchecked(
     kind: u32,
     seed: u64,
 ) -> u32
-    ensures { Makes bytes_u64 handle.old.table.value result handle.new.table.value kind
+    ensures made { Makes bytes_u64 handle.old.table.value result handle.new.table.value kind
         (λ kept. (kept.held.pairs ≡ []) × (kept.held.room ≡ 0)
         × (kept.struck ≡ Overwritten.Neither)) }
+    ensures seeded { Makes bytes_u64_builders handle.old.table.value result handle.new.table.value kind
+        (AreSeeded seed) }
 {
     match bytes::new_table(alloc, kind, seed) {
         Some(table) => handle.make(alloc, CTable::BytesU64(table)),
@@ -90,8 +93,7 @@ pub extern "C" fn jetukoma_bytes_u64_reserve_unchecked(
     more: usize,
 ) -> u32
     ensures { Changes bytes_u64 handle.old.table.value result handle.new.table.value
-        (λ old new. Reserves old.held more result new.held
-        × (new.struck ≡ old.struck) × (new.key ≡ old.key)) }
+        (λ old new. Reserves old.held more result new.held × (new.struck ≡ old.struck)) }
 {
     on_table!(handle, alloc, BytesU64, table => calls::reserve(&mut table.map, more))
 }
@@ -105,8 +107,7 @@ pub extern "C" fn jetukoma_bytes_u64_shrink_to_unchecked(
     least: usize,
 ) -> u32
     ensures { Changes bytes_u64 handle.old.table.value result handle.new.table.value
-        (λ old new. Shrinks old.held least result new.held
-        × (new.struck ≡ old.struck) × (new.key ≡ old.key)) }
+        (λ old new. Shrinks old.held least result new.held × (new.struck ≡ old.struck)) }
 {
     on_table!(handle, alloc, BytesU64, table => calls::shrink_to(&mut table.map, least))
 }
@@ -184,15 +185,14 @@ pub extern "C" fn jetukoma_bytes_u64_insert_many_unchecked(
     taken: &mut usize,
 ) -> u32
     ensures change { Changes bytes_u64 handle.old.table.value result handle.new.table.value
-        (λ old new. InsertsMany nat_eq u64_row (bytes_of (λ _. [])) (λ row. row.left_len) old rows.now bytes.now
-        result new taken.new) }
+        (λ old new. InsertsMany nat_eq u64_row (bytes_of (λ _. [])) (λ row. row.left_len) old
+        rows.now bytes.now result new taken.new) }
     ensures out { (result ≡ 0 → ⊥) → (result ≡ 1 → ⊥) → taken.new ≡ taken.old }
 {
     on_table!(handle, alloc, BytesU64, table => insert_many(alloc, table, bytes, rows, taken))
 }
 
-/// Writes the right of a left. It allocates if the left is longer than every left that was looked up or removed
-/// before. Returns 1 if there is no memory for that, and 5 if the left is not contained.
+/// Writes the right of a left. Returns 5 if the left is not contained.
 #[unsafe(no_mangle)]
 pub extern "C" fn jetukoma_bytes_u64_get_by_left_unchecked(
     alloc: Global,
@@ -200,13 +200,12 @@ pub extern "C" fn jetukoma_bytes_u64_get_by_left_unchecked(
     left: &[u8],
     right: &mut u64,
 ) -> u32
-    ensures answer { Changes bytes_u64 handle.old.table.value result handle.new.table.value
-        (λ old new. IsByKey old left.now result new (λ key. (found : Option (Bor ℕ))
-        × IsFoundByLeft same_bytes old.held key found
-        × Tells (option_map deref found) result right.new) × IsRead old new) }
+    ensures answer { Reads bytes_u64 handle.old.table.value result handle.new.table.value
+        (λ kept. (found : Option (Bor ℕ)) × IsFoundByLeft has_bytes kept.held left.now found
+        × Tells (option_map deref found) result right.new) }
     ensures out { IsWritten result right.old right.new }
 {
-    on_table!(handle, alloc, BytesU64, table => bytes_u64::get_by_left(table, left, right))
+    on_table!(handle, alloc, BytesU64, table => tell_value(table.map.get_by_left(By(left)), right))
 }
 
 /// Writes the left of a right to the front of a buffer, and its length. Returns 4 if the buffer is too short, and 5
@@ -229,19 +228,17 @@ pub extern "C" fn jetukoma_bytes_u64_get_by_right_unchecked(
     on_table!(handle, alloc, BytesU64, table => tell_bytes(table.map.get_by_right(&right), buf, len))
 }
 
-/// Returns 0 if the left is contained, and 5 if it is not. It allocates as `get_by_left` does. Returns 1 if there is
-/// no memory for that.
+/// Returns 0 if the left is contained, and 5 if it is not.
 #[unsafe(no_mangle)]
 pub extern "C" fn jetukoma_bytes_u64_contains_left_unchecked(
     alloc: Global,
     handle: &mut Handle,
     left: &[u8],
 ) -> u32
-    ensures { Changes bytes_u64 handle.old.table.value result handle.new.table.value
-        (λ old new. IsByKey old left.now result new (λ key.
-        Tests (HasLeft same_bytes (Contains old.held.pairs) key) result) × IsRead old new) }
+    ensures { Reads bytes_u64 handle.old.table.value result handle.new.table.value
+        (λ kept. Tests (HasLeft has_bytes (Contains kept.held.pairs) left.now) result) }
 {
-    on_table!(handle, alloc, BytesU64, table => bytes::contains_left(table, left))
+    on_table!(handle, alloc, BytesU64, table => calls::found(table.map.contains_left(By(left))))
 }
 
 /// Returns 0 if the right is contained, and 5 if it is not.
@@ -258,8 +255,7 @@ pub extern "C" fn jetukoma_bytes_u64_contains_right_unchecked(
 }
 
 /// Removes the pair of a left. The table keeps the pair, so that `overwritten_left` and `overwritten_right` copy it.
-/// The call allocates as `get_by_left` does. Returns 1 if there is no memory for that, and 5 if the left is not
-/// contained.
+/// Returns 5 if the left is not contained.
 #[unsafe(no_mangle)]
 pub extern "C" fn jetukoma_bytes_u64_remove_by_left_unchecked(
     alloc: Global,
@@ -267,10 +263,9 @@ pub extern "C" fn jetukoma_bytes_u64_remove_by_left_unchecked(
     left: &[u8],
 ) -> u32
     ensures { Changes bytes_u64 handle.old.table.value result handle.new.table.value
-        (λ old new. RemovesByLeft old left.now result new
-        × (vec_capacity old.key.bytes ≤ vec_capacity new.key.bytes)) }
+        (λ old new. RemovesByLeft has_bytes old left.now result new) }
 {
-    on_table!(handle, alloc, BytesU64, table => bytes::remove_by_left(table, left))
+    on_table!(handle, alloc, BytesU64, table => strike(&mut table.struck, table.map.remove_by_left(By(left))))
 }
 
 /// Removes the pair of a right. The table keeps the pair, so that `overwritten_left` and `overwritten_right` copy it.
@@ -282,8 +277,7 @@ pub extern "C" fn jetukoma_bytes_u64_remove_by_right_unchecked(
     right: u64,
 ) -> u32
     ensures { Changes bytes_u64 handle.old.table.value result handle.new.table.value
-        (λ old new. RemovesByRight nat_eq old right result new
-        × (new.key ≡ old.key)) }
+        (λ old new. RemovesByRight nat_eq old right result new) }
 {
     on_table!(handle, alloc, BytesU64, table => strike(&mut table.struck, table.map.remove_by_right(&right)))
 }

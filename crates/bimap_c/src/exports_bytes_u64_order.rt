@@ -1,19 +1,20 @@
 //! The functions for C of a table of byte strings and numbers that use an order: iteration, ranks, ends and moves.
-ghost use Rattle.std.specs.Prelude.{◌≡◌, ◌≤◌, count_by, drop, reverse, [], slice_get, vec_capacity};
-ghost use Rattle.std.specs.Ordering.{is_lt, nat_cmp};
+ghost use Rattle.std.specs.Prelude.{◌≡◌, drop, reverse, [], slice_get};
+ghost use Rattle.std.specs.Ordering.{nat_cmp};
 ghost use Rattle.bimap.specs.Moves.{ComesFirst};
 ghost use Rattle.bimap.specs.Positions.{ComesLast};
-ghost use Rattle.bimap_c.specs.Bytes.{IsPairOut, IsLengthWritten, IsRead, IsRanked, MovesByKey, PopsFirst, PopsLast};
-ghost use Rattle.bimap_c.specs.Calls.{IsWritten, Reads, ReadsAtEnd, ReadsOrdered, ChangesOrdered, ChangesAtEnd, ChangesInOrder, ByRight};
+ghost use Rattle.bimap_c.specs.Bytes.{IsPairOut, PopsFirst, PopsLast, has_bytes, to_bytes, IsLengthWritten};
+ghost use Rattle.bimap_c.specs.Calls.{IsWritten, Reads, ReadsAtEnd, ReadsOrdered, ChangesAtEnd, ChangesInOrder, ByRight, IsRank, Moves};
 ghost use Rattle.bimap_c.specs.Packed.{Packs, bytes_of, u64_row};
 ghost use Rattle.bimap_c.specs.Tables.{bytes_u64};
 
-use crate::by_right::{fill_rows, right_rank};
-use crate::bytes::{left_rank, strike, to_back, to_front};
+use crate::by_right::fill_rows;
+use crate::bytes::strike;
 use crate::bytes_u64::{Row, tell_pair};
+use crate::calls::{found, left_rank, right_rank};
 use crate::fill::{fill_back, fill_by_rank, fill_by_steps};
 use crate::handle::Handle;
-use crate::status::NO_ORDER;
+use bimap_index::By;
 use std::alloc::Global;
 
 /// Writes pairs to the front of `rows`, each as the number of bytes of its left, and its right. The bytes of these lefts
@@ -70,7 +71,6 @@ pub extern "C" fn jetukoma_bytes_u64_fill_back_unchecked(
 {
     on_table!(handle, alloc, BytesU64,
         Ordered(table) => fill_back(&table.map, start, buf, rows, len, filled),
-        Hashed(_) => NO_ORDER,
         InsertionOrder(table) => fill_back(&table.map, start, buf, rows, len, filled))
 }
 
@@ -93,14 +93,11 @@ pub extern "C" fn jetukoma_bytes_u64_pair_at_rank_unchecked(
     ensures len { IsLengthWritten result len.old len.new }
     ensures out { IsWritten result right.old right.new }
 {
-    on_table!(handle, alloc, BytesU64,
-        Ordered(table) => tell_pair(table.map.pair_at_left_rank(rank), buf, len, right),
-        Hashed(_) => NO_ORDER,
-        InsertionOrder(_) => NO_ORDER)
+    on_table!(handle, alloc, BytesU64, Ordered(table) => tell_pair(table.map.pair_at_left_rank(rank), buf, len, right))
 }
 
-/// Writes how many lefts are less than this one, compared byte by byte. This one need not be contained. It allocates
-/// as `get_by_left` does. Returns 1 if there is no memory for that, and 6 if the table is not ordered.
+/// Writes how many lefts are less than this one, compared byte by byte. This one need not be contained. Returns 6
+/// if the table is not ordered.
 #[unsafe(no_mangle)]
 pub extern "C" fn jetukoma_bytes_u64_left_rank_unchecked(
     alloc: Global,
@@ -108,14 +105,11 @@ pub extern "C" fn jetukoma_bytes_u64_left_rank_unchecked(
     left: &[u8],
     rank: &mut usize,
 ) -> u32
-    ensures answer { ChangesOrdered bytes_u64 handle.old.table.value result handle.new.table.value
-        (λ old new. IsRanked old left.now result rank.new new × IsRead old new) }
+    ensures answer { ReadsOrdered bytes_u64 handle.old.table.value result handle.new.table.value
+        (λ kept. IsRank (λ p. to_bytes p.0 left.now) kept.held.pairs result rank.new) }
     ensures out { IsWritten result rank.old rank.new }
 {
-    on_table!(handle, alloc, BytesU64,
-        Ordered(table) => left_rank(table, left, rank),
-        Hashed(_) => NO_ORDER,
-        InsertionOrder(_) => NO_ORDER)
+    on_table!(handle, alloc, BytesU64, Ordered(table) => left_rank(&table.map, By(left), rank))
 }
 
 /// Writes how many rights are less than this one, which need not be contained. Returns 6 if the table is not ordered.
@@ -127,14 +121,11 @@ pub extern "C" fn jetukoma_bytes_u64_right_rank_unchecked(
     rank: &mut usize,
 ) -> u32
     ensures answer { ReadsOrdered bytes_u64 handle.old.table.value result handle.new.table.value
-        (λ kept. (result ≡ 0) × ByRight nat_cmp kept.held.pairs
-        (λ sorted. rank.new ≡ count_by (λ p. is_lt (nat_cmp p.1 right)) sorted)) }
+        (λ kept. ByRight nat_cmp kept.held.pairs
+        (λ sorted. IsRank (λ p. nat_cmp p.1 right) sorted result rank.new)) }
     ensures out { IsWritten result rank.old rank.new }
 {
-    on_table!(handle, alloc, BytesU64,
-        Ordered(table) => right_rank(&table.map, &right, rank),
-        Hashed(_) => NO_ORDER,
-        InsertionOrder(_) => NO_ORDER)
+    on_table!(handle, alloc, BytesU64, Ordered(table) => right_rank(&table.map, &right, rank))
 }
 
 /// Writes pairs as `fill` does, but in ascending order of their rights. It takes one search, and at most one descent in
@@ -157,10 +148,7 @@ pub extern "C" fn jetukoma_bytes_u64_fill_by_right_unchecked(
     ensures len { IsLengthWritten result len.old len.new }
     ensures filled { IsWritten result filled.old filled.new }
 {
-    on_table!(handle, alloc, BytesU64,
-        Ordered(table) => fill_rows(&table.map, start, buf, rows, len, filled),
-        Hashed(_) => NO_ORDER,
-        InsertionOrder(_) => NO_ORDER)
+    on_table!(handle, alloc, BytesU64, Ordered(table) => fill_rows(&table.map, start, buf, rows, len, filled))
 }
 
 /// Removes a pair. In an ordered table it is the pair of the least left. In a table in insertion order it is the first
@@ -173,7 +161,6 @@ pub extern "C" fn jetukoma_bytes_u64_pop_first_unchecked(alloc: Global, handle: 
 {
     on_table!(handle, alloc, BytesU64,
         Ordered(table) => strike(&mut table.struck, table.map.pop_first_by_left()),
-        Hashed(_) => NO_ORDER,
         InsertionOrder(table) => strike(&mut table.struck, table.map.pop_first()))
 }
 
@@ -187,13 +174,11 @@ pub extern "C" fn jetukoma_bytes_u64_pop_last_unchecked(alloc: Global, handle: &
 {
     on_table!(handle, alloc, BytesU64,
         Ordered(table) => strike(&mut table.struck, table.map.pop_last_by_left()),
-        Hashed(_) => NO_ORDER,
         InsertionOrder(table) => strike(&mut table.struck, table.map.pop_last()))
 }
 
-/// Moves the pair of a left to the front of the insertion order. The other pairs keep their order. It allocates as
-/// `get_by_left` does. Returns 1 if there is no memory for that, 5 if the left is not contained, and 6 if the table is
-/// not in insertion order.
+/// Moves the pair of a left to the front of the insertion order. The other pairs keep their order. Returns 5 if the
+/// left is not contained, and 6 if the table is not in insertion order.
 #[unsafe(no_mangle)]
 pub extern "C" fn jetukoma_bytes_u64_to_front_unchecked(
     alloc: Global,
@@ -201,18 +186,14 @@ pub extern "C" fn jetukoma_bytes_u64_to_front_unchecked(
     left: &[u8],
 ) -> u32
     ensures { ChangesInOrder bytes_u64 handle.old.table.value result handle.new.table.value
-        (λ old new. MovesByKey ComesFirst old left.now result new
-        × (vec_capacity old.key.bytes ≤ vec_capacity new.key.bytes)) }
+        (λ old new. Moves (λ p. has_bytes p.0 left.now) ComesFirst old.held result new.held
+        × (new.struck ≡ old.struck)) }
 {
-    on_table!(handle, alloc, BytesU64,
-        Ordered(_) => NO_ORDER,
-        Hashed(_) => NO_ORDER,
-        InsertionOrder(table) => to_front(table, left))
+    on_table!(handle, alloc, BytesU64, InsertionOrder(table) => found(table.map.to_front(By(left))))
 }
 
-/// Moves the pair of a left to the end of the insertion order. The other pairs keep their order. It allocates as
-/// `get_by_left` does. Returns 1 if there is no memory for that, 5 if the left is not contained, and 6 if the table is
-/// not in insertion order.
+/// Moves the pair of a left to the end of the insertion order. The other pairs keep their order. Returns 5 if the
+/// left is not contained, and 6 if the table is not in insertion order.
 #[unsafe(no_mangle)]
 pub extern "C" fn jetukoma_bytes_u64_to_back_unchecked(
     alloc: Global,
@@ -220,11 +201,8 @@ pub extern "C" fn jetukoma_bytes_u64_to_back_unchecked(
     left: &[u8],
 ) -> u32
     ensures { ChangesInOrder bytes_u64 handle.old.table.value result handle.new.table.value
-        (λ old new. MovesByKey (λ was p. ComesLast was p p) old left.now result new
-        × (vec_capacity old.key.bytes ≤ vec_capacity new.key.bytes)) }
+        (λ old new. Moves (λ p. has_bytes p.0 left.now) (λ was p. ComesLast was p p) old.held result
+        new.held × (new.struck ≡ old.struck)) }
 {
-    on_table!(handle, alloc, BytesU64,
-        Ordered(_) => NO_ORDER,
-        Hashed(_) => NO_ORDER,
-        InsertionOrder(table) => to_back(table, left))
+    on_table!(handle, alloc, BytesU64, InsertionOrder(table) => found(table.map.to_back(By(left))))
 }

@@ -2,7 +2,7 @@
 ghost use Rattle.std.specs.Prelude.{◌≡◌, [], length, nat_eq, Contains};
 ghost use Rattle.bimap.specs.Sets.{HasLeft, HasRight};
 ghost use Rattle.bimap_c.specs.Calls.{IsWritten, Reads, Changes, Makes, Frees, Tests, Reserves, Shrinks, Clears};
-ghost use Rattle.bimap_c.specs.Tables.{u64_u64};
+ghost use Rattle.bimap_c.specs.Tables.{u64_u64, u64_u64_builders, AreSeeded};
 ghost use Rattle.bimap_c.specs.U64U64.{GetsByLeft, GetsByRight, Inserts, InsertsNew, InsertsFlagged, InsertsMany, RemovesByLeft, RemovesByRight};
 
 use crate::c_table::CTable;
@@ -22,8 +22,10 @@ pub extern "C" fn jetukoma_u64_u64_new_unchecked(
     kind: u32,
     seed: u64,
 ) -> u32
-    ensures { Makes u64_u64 handle.old.table.value result handle.new.table.value kind
+    ensures made { Makes u64_u64 handle.old.table.value result handle.new.table.value kind
         (λ held. (held.pairs ≡ []) × (held.room ≡ 0)) }
+    ensures seeded { Makes u64_u64_builders handle.old.table.value result handle.new.table.value kind
+        (AreSeeded seed) }
 {
     match calls::new_map(alloc, kind, seed) {
         Some(map) => handle.make(alloc, CTable::U64U64(map)),

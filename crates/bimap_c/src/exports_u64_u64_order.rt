@@ -1,19 +1,19 @@
 //! The functions for C of a table of two numbers that use an order: iteration, ranks, ends and moves.
-ghost use Rattle.std.specs.Prelude.{◌≡◌, count_by, drop, reverse, nat_eq, nat_lt, not};
+ghost use Rattle.std.specs.Prelude.{drop, reverse, nat_eq, nat_lt, not};
 ghost use Rattle.std.specs.List.{filter};
-ghost use Rattle.std.specs.Ordering.{is_lt, nat_cmp};
+ghost use Rattle.std.specs.Ordering.{nat_cmp};
 ghost use Rattle.bimap.specs.BTree.{holding};
 ghost use Rattle.bimap.specs.Moves.{ComesFirst};
 ghost use Rattle.bimap.specs.Positions.{ComesLast};
-ghost use Rattle.bimap_c.specs.Calls.{IsWritten, Reads, ReadsAtEnd, ReadsOrdered, ChangesAtEnd, ChangesInOrder, Moves, ByRight};
+ghost use Rattle.bimap_c.specs.Calls.{IsWritten, Reads, ReadsAtEnd, ReadsOrdered, ChangesAtEnd, ChangesInOrder, Moves, ByRight, IsRank};
 ghost use Rattle.bimap_c.specs.Tables.{u64_u64};
 ghost use Rattle.bimap_c.specs.U64U64.{PopsFirst, PopsLast, Fills};
 
-use crate::by_right::{fill_row, right_rank};
-use crate::calls::found;
+use crate::by_right::fill_row;
+use crate::calls::{found, left_rank, right_rank};
 use crate::fill::from_rank;
 use crate::handle::Handle;
-use crate::status::{DONE, NO_ORDER};
+use crate::status::DONE;
 use crate::u64_u64::{Pair, tell_pair, write_row};
 use bimap::{BiBTreeMap, BijectiveMap, Index, WalkedIndex};
 use bimap_walk::CourseBack;
@@ -60,7 +60,6 @@ pub extern "C" fn jetukoma_u64_u64_fill_back_unchecked(
 {
     on_table!(handle, alloc, U64U64,
         Ordered(map) => fill_back(map, start, row, filled),
-        Hashed(_) => NO_ORDER,
         InsertionOrder(map) => fill_back(map, start, row, filled))
 }
 
@@ -79,10 +78,7 @@ pub extern "C" fn jetukoma_u64_u64_fill_from_unchecked(
     ensures out { IsWritten result filled.old filled.new }
     ensures row { IsWritten result row.old row.new }
 {
-    on_table!(handle, alloc, U64U64,
-        Ordered(map) => fill_from(map, from, row, filled),
-        Hashed(_) => NO_ORDER,
-        InsertionOrder(_) => NO_ORDER)
+    on_table!(handle, alloc, U64U64, Ordered(map) => fill_from(map, from, row, filled))
 }
 
 /// Writes how many lefts are less than this one, which need not be contained. Returns 6 if the table is not ordered.
@@ -94,13 +90,10 @@ pub extern "C" fn jetukoma_u64_u64_left_rank_unchecked(
     rank: &mut usize,
 ) -> u32
     ensures answer { ReadsOrdered u64_u64 handle.old.table.value result handle.new.table.value
-        (λ held. (result ≡ 0) × (rank.new ≡ count_by (λ p. nat_lt p.0 left) held.pairs)) }
+        (λ held. IsRank (λ p. nat_cmp p.0 left) held.pairs result rank.new) }
     ensures out { IsWritten result rank.old rank.new }
 {
-    on_table!(handle, alloc, U64U64,
-        Ordered(map) => left_rank(map, left, rank),
-        Hashed(_) => NO_ORDER,
-        InsertionOrder(_) => NO_ORDER)
+    on_table!(handle, alloc, U64U64, Ordered(map) => left_rank(map, &left, rank))
 }
 
 /// Writes how many rights are less than this one, which need not be contained. Returns 6 if the table is not ordered.
@@ -112,14 +105,11 @@ pub extern "C" fn jetukoma_u64_u64_right_rank_unchecked(
     rank: &mut usize,
 ) -> u32
     ensures answer { ReadsOrdered u64_u64 handle.old.table.value result handle.new.table.value
-        (λ held. (result ≡ 0) × ByRight nat_cmp held.pairs
-        (λ sorted. rank.new ≡ count_by (λ p. is_lt (nat_cmp p.1 right)) sorted)) }
+        (λ held. ByRight nat_cmp held.pairs
+        (λ sorted. IsRank (λ p. nat_cmp p.1 right) sorted result rank.new)) }
     ensures out { IsWritten result rank.old rank.new }
 {
-    on_table!(handle, alloc, U64U64,
-        Ordered(map) => right_rank(map, &right, rank),
-        Hashed(_) => NO_ORDER,
-        InsertionOrder(_) => NO_ORDER)
+    on_table!(handle, alloc, U64U64, Ordered(map) => right_rank(map, &right, rank))
 }
 
 /// Writes pairs as `fill` does, but in ascending order of their rights. It takes one search, and at most one descent in
@@ -138,10 +128,7 @@ pub extern "C" fn jetukoma_u64_u64_fill_by_right_unchecked(
     ensures out { IsWritten result filled.old filled.new }
     ensures row { IsWritten result row.old row.new }
 {
-    on_table!(handle, alloc, U64U64,
-        Ordered(map) => fill_row(map, start, row, filled),
-        Hashed(_) => NO_ORDER,
-        InsertionOrder(_) => NO_ORDER)
+    on_table!(handle, alloc, U64U64, Ordered(map) => fill_row(map, start, row, filled))
 }
 
 /// Removes a pair, and writes it. In an ordered table it is the pair of the least left. In a table in insertion order
@@ -158,7 +145,6 @@ pub extern "C" fn jetukoma_u64_u64_pop_first_unchecked(
 {
     on_table!(handle, alloc, U64U64,
         Ordered(map) => tell_pair(map.pop_first_by_left(), pair),
-        Hashed(_) => NO_ORDER,
         InsertionOrder(map) => tell_pair(map.pop_first(), pair))
 }
 
@@ -176,7 +162,6 @@ pub extern "C" fn jetukoma_u64_u64_pop_last_unchecked(
 {
     on_table!(handle, alloc, U64U64,
         Ordered(map) => tell_pair(map.pop_last_by_left(), pair),
-        Hashed(_) => NO_ORDER,
         InsertionOrder(map) => tell_pair(map.pop_last(), pair))
 }
 
@@ -191,10 +176,7 @@ pub extern "C" fn jetukoma_u64_u64_to_front_unchecked(
     ensures { ChangesInOrder u64_u64 handle.old.table.value result handle.new.table.value
         (λ old new. Moves (λ p. nat_eq p.0 left) ComesFirst old result new) }
 {
-    on_table!(handle, alloc, U64U64,
-        Ordered(_) => NO_ORDER,
-        Hashed(_) => NO_ORDER,
-        InsertionOrder(map) => found(map.to_front(&left)))
+    on_table!(handle, alloc, U64U64, InsertionOrder(map) => found(map.to_front(&left)))
 }
 
 /// Moves the pair of a left to the end of the insertion order. The other pairs keep their order. Returns 5 if the left
@@ -208,10 +190,7 @@ pub extern "C" fn jetukoma_u64_u64_to_back_unchecked(
     ensures { ChangesInOrder u64_u64 handle.old.table.value result handle.new.table.value
         (λ old new. Moves (λ p. nat_eq p.0 left) (λ was p. ComesLast was p p) old result new) }
 {
-    on_table!(handle, alloc, U64U64,
-        Ordered(_) => NO_ORDER,
-        Hashed(_) => NO_ORDER,
-        InsertionOrder(map) => found(map.to_back(&left)))
+    on_table!(handle, alloc, U64U64, InsertionOrder(map) => found(map.to_back(&left)))
 }
 
 fn fill_from(map: &BiBTreeMap<u64, u64>, from: u64, row: &mut [Pair], filled: &mut usize) -> u32
@@ -261,13 +240,5 @@ where
         row.new }
 {
     *filled = write_row(map.iter().rev().skip(start), row);
-    DONE
-}
-
-fn left_rank(map: &BiBTreeMap<u64, u64>, left: u64, rank: &mut usize) -> u32
-    ensures { (result ≡ 0)
-        × (rank.new ≡ count_by (λ p. nat_lt p.0 left) (holding map.now).pairs) }
-{
-    *rank = map.left_rank(&left);
     DONE
 }

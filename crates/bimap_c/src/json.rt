@@ -4,8 +4,8 @@ ghost use Rattle.std.specs.Prelude.{◌≡◌, [], Contains, IfOk, OnOk};
 ghost use Rattle.serde_json.specs.View.{view};
 ghost use Rattle.bimap.specs.BTree.{holding};
 ghost use Rattle.bimap.specs.JsonObjects.{IsObjectOf, IsEntryOf, EachReadsBack};
-ghost use Rattle.bimap_c.specs.Bytes.{kept, IsLengthWritten};
 ghost use Rattle.bimap_c.specs.Calls.{IsWritten};
+ghost use Rattle.bimap_c.specs.Bytes.{kept, IsLengthWritten};
 ghost use Rattle.bimap_c.specs.Json.{WritesJson, WritesTexts, ReadsJson, read_status};
 
 use crate::byte_string::ByteString;

@@ -7,11 +7,20 @@
 #![tactic(auto)]
 
 // Makes a call on the table of a handle, and returns the status. A table of each kind has a call of its own, or all
-// kinds have the same. The status is `NO_TABLE` if the handle has no table of these sides. Each way out of the function
-// is proved separately.
+// kinds have the same. If only kinds with an order have a call, the status is `NO_ORDER` for the others. It is
+// `NO_TABLE` if the handle has no table of these sides. Each way out of the function is proved separately.
 macro_rules! on_table {
     ($handle:ident, $alloc:ident, $sides:ident, $table:ident => $call:expr) => {
         on_table!($handle, $alloc, $sides, Ordered($table) => $call, Hashed($table) => $call, InsertionOrder($table) => $call)
+    };
+    ($handle:ident, $alloc:ident, $sides:ident, Ordered($table:pat) => $call:expr) => {
+        on_table!($handle, $alloc, $sides, Ordered($table) => $call, Hashed(_) => crate::status::NO_ORDER, InsertionOrder(_) => crate::status::NO_ORDER)
+    };
+    ($handle:ident, $alloc:ident, $sides:ident, InsertionOrder($table:pat) => $call:expr) => {
+        on_table!($handle, $alloc, $sides, Ordered(_) => crate::status::NO_ORDER, Hashed(_) => crate::status::NO_ORDER, InsertionOrder($table) => $call)
+    };
+    ($handle:ident, $alloc:ident, $sides:ident, Ordered($table:pat) => $call:expr, InsertionOrder($other:pat) => $last:expr) => {
+        on_table!($handle, $alloc, $sides, Ordered($table) => $call, Hashed(_) => crate::status::NO_ORDER, InsertionOrder($other) => $last)
     };
     ($handle:ident, $alloc:ident, $sides:ident, $($kind:ident($table:pat) => $call:expr),+) => {{
         let Some(mut held) = $handle.take($alloc) else {

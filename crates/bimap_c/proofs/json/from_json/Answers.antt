@@ -4,7 +4,7 @@ use Rattle.bimap_c.proofs.json.from_json.Goals as goal
 
 pub returns-in-Ok-read_text_with : goal.returns-in-Ok-read_text_with
 returns-in-Ok-read_text_with g c = record {
-  texts = λ _. (Ok (g.B.Bijection.holding c.in-Ok-read_text_with.map), read_as g.B.Bijection.holding _ _ _ c.in-Ok-read_text_with.map c.requires.room c.in-Ok.ensures.cases.0 c.in-Ok-read_text_with.ensures.read, (refl, refl, refl, refl));
+  texts = λ _. (Ok (g.B.Bijection.holding c.in-Ok-read_text_with.map), read_as g.B.Bijection.holding _ _ _ c.in-Ok-read_text_with.map c.requires.room c.in-Ok.ensures.cases.0 c.in-Ok-read_text_with.ensures.read, (refl, refl, refl));
   others = λ no. absurd (no c.in-Ok.ensures.cases.1);
 }
 
