@@ -36,8 +36,8 @@ pub extern "C" fn jetukoma_bytes_bytes_new_unchecked(
     ensures made { Makes bytes_bytes handle.old.table.value result handle.new.table.value kind
         (λ kept. (kept.held.pairs ≡ []) × (kept.held.room ≡ 0)
         × (kept.struck ≡ Overwritten.Neither)) }
-    ensures seeded { Makes bytes_bytes_builders handle.old.table.value result handle.new.table.value kind
-        (AreSeeded seed) }
+    ensures seeded { Makes bytes_bytes_builders handle.old.table.value result
+        handle.new.table.value kind (AreSeeded seed) }
 {
     match bytes::new_table(alloc, kind, seed) {
         Some(table) => handle.make(alloc, CTable::BytesBytes(table)),

@@ -38,8 +38,8 @@ pub extern "C" fn jetukoma_bytes_u64_new_unchecked(
     ensures made { Makes bytes_u64 handle.old.table.value result handle.new.table.value kind
         (λ kept. (kept.held.pairs ≡ []) × (kept.held.room ≡ 0)
         × (kept.struck ≡ Overwritten.Neither)) }
-    ensures seeded { Makes bytes_u64_builders handle.old.table.value result handle.new.table.value kind
-        (AreSeeded seed) }
+    ensures seeded { Makes bytes_u64_builders handle.old.table.value result
+        handle.new.table.value kind (AreSeeded seed) }
 {
     match bytes::new_table(alloc, kind, seed) {
         Some(table) => handle.make(alloc, CTable::BytesU64(table)),

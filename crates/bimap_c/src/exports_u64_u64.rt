@@ -24,8 +24,8 @@ pub extern "C" fn jetukoma_u64_u64_new_unchecked(
 ) -> u32
     ensures made { Makes u64_u64 handle.old.table.value result handle.new.table.value kind
         (λ held. (held.pairs ≡ []) × (held.room ≡ 0)) }
-    ensures seeded { Makes u64_u64_builders handle.old.table.value result handle.new.table.value kind
-        (AreSeeded seed) }
+    ensures seeded { Makes u64_u64_builders handle.old.table.value result
+        handle.new.table.value kind (AreSeeded seed) }
 {
     match calls::new_map(alloc, kind, seed) {
         Some(map) => handle.make(alloc, CTable::U64U64(map)),
