@@ -2,9 +2,12 @@
 //! another program.
 use crate::world::{Lent, World};
 use anyhow::Result;
-use bimap::BiInsertionOrderMap;
-use bimap_journal::Journaled;
+use bimap::{BiInsertionOrderMap, BijectiveMap, Index, WalkedIndex};
+use bimap_journal::{Journaled, Storage};
 use std::alloc::{AllocError, Global};
+
+// A journal over one of the five maps.
+type AnySeats<I, J, S> = Journaled<BijectiveMap<u64, u64, I, J>, u64, u64, S>;
 
 type Seats<'a> = Journaled<BiInsertionOrderMap<u64, u64>, u64, u64, Lent<'a>>;
 
@@ -29,7 +32,9 @@ fn opened(alloc: Global, world: &mut World) -> Option<Seats<'_>> {
     Journaled::open(alloc, empty, Lent { alloc, world }).ok()
 }
 
-fn change(seats: &mut Seats<'_>) -> Result<()> {
+fn change<I: WalkedIndex<u64> + Drop, J: Index<u64> + Drop, S: Storage + Drop>(
+    seats: &mut AnySeats<I, J, S>,
+) -> Result<()> {
     for (left, right) in [(5, 50), (1, 10), (4, 40), (2, 20)] {
         let _ = seats.insert(left, right)?;
     }
@@ -47,6 +52,15 @@ fn lefts(alloc: Global, seats: &Seats<'_>) -> Result<Vec<u64>, AllocError> {
     Ok(lefts)
 }
 
+// Compacts the file, and inserts one pair more.
+fn compact_and_insert<I: WalkedIndex<u64> + Drop, J: Index<u64> + Drop, S: Storage + Drop>(
+    seats: &mut AnySeats<I, J, S>,
+) -> Result<()> {
+    seats.compact()?;
+    let _ = seats.insert(6, 60)?;
+    Ok(())
+}
+
 /// Returns whether a compaction keeps the insertion order in the file, and whether an opening finds it there.
 pub fn is_kept(alloc: Global) -> Result<bool> {
     let mut world = World::new(alloc, &[], u32::MAX)?;
@@ -62,8 +76,7 @@ pub fn is_kept(alloc: Global) -> Result<bool> {
         return Ok(false);
     };
     let found = lefts(alloc, &seats)?;
-    seats.compact()?;
-    let _ = seats.insert(6, 60)?;
+    compact_and_insert(&mut seats)?;
     drop(seats);
     Ok(found.as_slice() == [5, 4, 2, 3].as_slice() && world.disk() == CHANGED)
 }

@@ -4,10 +4,14 @@ ghost use Rattle.std.specs.Prelude.{◌<◌};
 use crate::plain::Plain;
 use crate::step::{Step, group};
 use crate::world::{Lent, World};
-use bimap::{BiBTreeMap, Bijection, Call, OnHeld, Policy};
-use bimap_journal::{Journaled, NotStored};
+use bimap::{BiBTreeMap, BijectiveMap, Call, Index, OnHeld, Policy, WalkedIndex};
+use bimap_journal::{Journaled, NotStored, Storage};
 use std::alloc::{AllocError, Global};
 use std::convert::Infallible;
+
+// A journal over one of the five maps. A function that takes any of them is proved once, and not again for the map that
+// is tried.
+type AnyNames<I, J, S> = Journaled<BijectiveMap<String, u64, I, J>, String, u64, S>;
 
 /// The journal that is tried.
 type Names<'a> = Journaled<BiBTreeMap<String, u64>, String, u64, Lent<'a>>;
@@ -64,7 +68,11 @@ fn call_of(
 }
 
 // Performs the steps of a group.
-fn perform_group(alloc: Global, names: &mut Names<'_>, drawn: u64) -> Result<bool, AllocError> {
+fn perform_group<I: WalkedIndex<String> + Drop, J: Index<u64> + Drop, S: Storage + Drop>(
+    alloc: Global,
+    names: &mut AnyNames<I, J, S>,
+    drawn: u64,
+) -> Result<bool, AllocError> {
     let mut calls = Vec::new(alloc);
     for step in group(drawn).iter() {
         if let Some(call) = call_of(alloc, step)? {
@@ -75,7 +83,11 @@ fn perform_group(alloc: Global, names: &mut Names<'_>, drawn: u64) -> Result<boo
 }
 
 // Performs one step, and returns whether it was acknowledged.
-fn perform(alloc: Global, names: &mut Names<'_>, step: &Step) -> Result<bool, AllocError> {
+fn perform<I: WalkedIndex<String> + Drop, J: Index<u64> + Drop, S: Storage + Drop>(
+    alloc: Global,
+    names: &mut AnyNames<I, J, S>,
+    step: &Step,
+) -> Result<bool, AllocError> {
     let text = |name| String::from_str(alloc, name);
     match *step {
         Step::Insert(left, right) => is_stored(names.insert(text(left)?, right)),
