@@ -10,7 +10,7 @@ import re
 import shutil
 import sys
 
-from libraries import KIT, Libraries
+from libraries import CORES, KIT, Libraries
 
 
 def load_rt():
@@ -58,5 +58,6 @@ def prove_static(name, built, log):
     there = {it.name: it for it in crates_of(rt, built)}
     crate.deps = [there[it.name] for it in crate.deps]
     os.makedirs(f"{crate.folder}/out", exist_ok=True)
-    words = crate.words(["--jobs", "1"], keeps=False)
+    # The other half of the processors is for the checks that run at the same time.
+    words = crate.words(["--jobs", str(max(1, CORES // 2))], keeps=False)
     return not crate.prove(["build", *words, "--toolchain", f"{KIT}/toolchain", "--backend", "llvm", "-o", f"out/lib{name}.a"])
