@@ -1,15 +1,16 @@
 //! The calls of a map that is iterated in insertion order.
 use crate::course::{BothEnds, follow};
-use crate::kind::{self, say};
+use crate::kind::{self, LeftIndex, Words, say};
 use crate::request::Request;
 use crate::word::Word;
-use bimap::BiInsertionOrderMap;
 use bimap::btree::Count;
+use bimap_index::{CopiedIndex, HashIndex, InsertionOrder};
 use std::alloc::AllocError;
+use std::hash::BuildHasher;
 use test_support::Counter;
 
-fn walk(
-    bimap: &BiInsertionOrderMap<Word, Word>,
+fn walk<I: CopiedIndex<Word> + Drop, J: CopiedIndex<Word> + Drop>(
+    bimap: &Words<InsertionOrder<I>, J>,
     request: &Request<'_>,
     said: &mut String,
 ) -> Result<bool, AllocError> {
@@ -17,7 +18,6 @@ fn walk(
     match request.call {
         "iter" => follow(BothEnds(bimap.iter()), steps, said),
         "left_values" => follow(BothEnds(bimap.left_values()), steps, said),
-        "right_values" => follow(BothEnds(bimap.right_values()), steps, said),
         "into_iter" => match bimap.clone() {
             Ok(copy) => follow(BothEnds(copy.into_iter()), steps, said),
             Err(_) => Err(AllocError),
@@ -26,8 +26,8 @@ fn walk(
     }
 }
 
-fn end(
-    bimap: &mut BiInsertionOrderMap<Word, Word>,
+fn end<I: CopiedIndex<Word> + Drop, J: CopiedIndex<Word> + Drop>(
+    bimap: &mut Words<InsertionOrder<I>, J>,
     request: &Request<'_>,
     said: &mut String,
 ) -> Result<bool, AllocError> {
@@ -42,35 +42,51 @@ fn end(
     }
 }
 
-/// Makes the call, if it is an iteration, a call at an end, `==`, or a call that every map has.
-pub fn call(
-    bimap: &mut BiInsertionOrderMap<Word, Word>,
-    other: &mut BiInsertionOrderMap<Word, Word>,
-    request: &Request<'_>,
-    said: &mut String,
-) -> Result<bool, AllocError> {
-    match request.call {
-        "eq" => say(*bimap == *other, said),
-        _ => Ok(
-            walk(bimap, request, said)?
-                || end(bimap, request, said)?
-                || kind::call(bimap, other, request, said)?,
-        ),
+impl<I: CopiedIndex<Word> + Drop> LeftIndex for InsertionOrder<I> {
+    fn call_left<J: CopiedIndex<Word> + Drop>(
+        bimap: &mut Words<InsertionOrder<I>, J>,
+        other: &mut Words<InsertionOrder<I>, J>,
+        request: &Request<'_>,
+        said: &mut String,
+    ) -> Result<bool, AllocError> {
+        match request.call {
+            "eq" => say(*bimap == *other, said),
+            _ => Ok(
+                walk(bimap, request, said)?
+                    || end(bimap, request, said)?
+                    || kind::call(bimap, other, request, said)?,
+            ),
+        }
     }
-}
 
-/// Makes a call at an end, with a meter.
-pub fn count(
-    bimap: &mut BiInsertionOrderMap<Word, Word>,
-    request: &Request<'_>,
-    meter: &mut Counter<Count>,
-    said: &mut String,
-) -> Result<bool, AllocError> {
-    match request.call {
-        "pop_first" => say(bimap.pop_first_metered(meter), said),
-        "pop_last" => say(bimap.pop_last_metered(meter), said),
-        "to_front" => say(bimap.to_front_metered(&request.first, meter), said),
-        "to_back" => say(bimap.to_back_metered(&request.first, meter), said),
-        _ => Ok(false),
+    // The iteration goes in insertion order.
+    fn right_values<RS: BuildHasher>(
+        bimap: &Words<InsertionOrder<I>, HashIndex<RS>>,
+        request: &Request<'_>,
+        said: &mut String,
+    ) -> Result<bool, AllocError> {
+        match request.call {
+            "right_values" => follow(
+                BothEnds(bimap.right_values()),
+                request.steps.as_slice(),
+                said,
+            ),
+            _ => Ok(false),
+        }
+    }
+
+    fn count_left<J: CopiedIndex<Word> + Drop>(
+        bimap: &mut Words<InsertionOrder<I>, J>,
+        request: &Request<'_>,
+        meter: &mut Counter<Count>,
+        said: &mut String,
+    ) -> Result<bool, AllocError> {
+        match request.call {
+            "pop_first" => say(bimap.pop_first_metered(meter), said),
+            "pop_last" => say(bimap.pop_last_metered(meter), said),
+            "to_front" => say(bimap.to_front_metered(&request.first, meter), said),
+            "to_back" => say(bimap.to_back_metered(&request.first, meter), said),
+            _ => Ok(false),
+        }
     }
 }

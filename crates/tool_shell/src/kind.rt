@@ -3,9 +3,10 @@ use crate::request::Request;
 use crate::word::Word;
 use bimap::btree::Count;
 use bimap::{BijectiveMap, NoMemory, NotInverted, WalkedIndex};
-use bimap_index::{CopiedIndex, Index};
+use bimap_index::{CopiedIndex, HashIndex, Index};
 use std::alloc::AllocError;
 use std::fmt::Debug;
+use std::hash::BuildHasher;
 use test_support::Counter;
 
 /// What the shell shows of a type of map.
@@ -41,6 +42,52 @@ pub trait ShellKind: Shown {
 
 /// A map of words.
 pub type Words<I, J> = BijectiveMap<Word, Word, I, J>;
+
+/// The left index of a map on which the shell makes calls. Each function writes what the call returned. It returns
+/// whether a map with this left index has the call.
+pub trait LeftIndex: CopiedIndex<Word> + WalkedIndex<Word> + Drop {
+    /// Makes an iteration, a call at an end or a rank of the left side, a comparison, or a call that every map has.
+    fn call_left<J: CopiedIndex<Word> + Drop>(
+        bimap: &mut Words<Self, J>,
+        other: &mut Words<Self, J>,
+        request: &Request<'_>,
+        said: &mut String,
+    ) -> Result<bool, AllocError>;
+
+    /// Makes the iteration over the values of a hashed right side.
+    fn right_values<RS: BuildHasher>(
+        bimap: &Words<Self, HashIndex<RS>>,
+        request: &Request<'_>,
+        said: &mut String,
+    ) -> Result<bool, AllocError>;
+
+    /// Makes a call at an end or a rank of the left side, with a meter.
+    fn count_left<J: CopiedIndex<Word> + Drop>(
+        bimap: &mut Words<Self, J>,
+        request: &Request<'_>,
+        meter: &mut Counter<Count>,
+        said: &mut String,
+    ) -> Result<bool, AllocError>;
+}
+
+/// The right index of a map with this left index, on which the shell makes calls. Each function writes what the call
+/// returned. It returns whether a map with these indexes has the call.
+pub trait RightIndex<I: LeftIndex>: CopiedIndex<Word> + WalkedIndex<Word> + Drop {
+    /// Makes an iteration, or a call at an end or a rank, of the right side.
+    fn call_right(
+        bimap: &mut Words<I, Self>,
+        request: &Request<'_>,
+        said: &mut String,
+    ) -> Result<bool, AllocError>;
+
+    /// Makes a call at an end or a rank of the right side, with a meter.
+    fn count_right(
+        bimap: &mut Words<I, Self>,
+        request: &Request<'_>,
+        meter: &mut Counter<Count>,
+        said: &mut String,
+    ) -> Result<bool, AllocError>;
+}
 
 impl<I: WalkedIndex<Word> + Drop, J: WalkedIndex<Word> + Drop> Shown for Words<I, J> {
     fn show(&self, said: &mut String) -> Result<(), AllocError> {

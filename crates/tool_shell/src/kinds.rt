@@ -1,9 +1,14 @@
 //! The six types of map, and what each answers to a line.
+use crate::kind::{LeftIndex, RightIndex, Words};
 use crate::request::{On, Request};
 use crate::session::Session;
 use crate::short_memory;
 use crate::word::Word;
-use bimap::{BiBTreeHashMap, BiBTreeMap, BiHashBTreeMap, BiHashMap, BiInsertionOrderMap};
+use bimap::{
+    BiBTreeHashMap, BiBTreeMap, BiHashBTreeMap, BiHashMap, BiInsertionOrderMap, BijectiveMap,
+    NoMemory,
+};
+use bimap_index::{CompactedIndex, DefaultIndex};
 use std::alloc::AllocError;
 use std::hash::BuildHasherDefault;
 use test_support::{Crowded, Zero};
@@ -29,21 +34,33 @@ pub fn has_ordered_right(kind: usize) -> bool {
     kind == 0 || kind == 3
 }
 
-// Makes the map, if the call makes one. A map with a hashed side has one more such call, which is passed hash builders.
-macro_rules! made {
-    ($request:ident, $new:expr, $with_capacity:expr) => {
-        match $request.call {
-            "new" if $request.on == On::Bimap => Some(Ok($new)),
-            "with_capacity" => Some($with_capacity),
-            _ => None,
-        }
+// Makes a map of a type with the default hash builders, if the call makes one.
+fn made<I: DefaultIndex<Word> + Drop, J: DefaultIndex<Word> + Drop>(
+    request: &Request<'_>,
+) -> Option<Result<Words<I, J>, NoMemory>> {
+    match request.call {
+        "new" if request.on == On::Bimap => Some(Ok(BijectiveMap::new(request.alloc))),
+        "with_capacity" => Some(BijectiveMap::with_capacity(request.alloc, request.number)),
+        _ => None,
+    }
+}
+
+// Makes a call on a map of a type with the default hash builders. `built` is the map, if the call was passed hash
+// builders.
+fn call_default<
+    I: LeftIndex + CompactedIndex<Word> + DefaultIndex<Word>,
+    J: RightIndex<I> + CompactedIndex<Word> + DefaultIndex<Word>,
+>(
+    begun: &mut Option<Session<Words<I, J>>>,
+    built: Option<Words<I, J>>,
+    request: &mut Request<'_>,
+    said: &mut String,
+) -> Result<bool, AllocError> {
+    let made = match built {
+        Some(bimap) => Some(Ok(bimap)),
+        None => made(request),
     };
-    ($request:ident, $new:expr, $with_capacity:expr, $name:literal, $with_builders:expr) => {
-        match $request.call {
-            $name => Some(Ok($with_builders)),
-            _ => made!($request, $new, $with_capacity),
-        }
-    };
+    short_memory::call(begun, made, request, said)
 }
 
 // Each type of map has a type here, whose session its first call makes. The callers are proved without the contracts of
@@ -57,13 +74,7 @@ struct Ordered {
 
 impl Ordered {
     fn call(&mut self, request: &mut Request<'_>, said: &mut String) -> Result<bool, AllocError> {
-        let (alloc, capacity) = (request.alloc, request.number);
-        let made = made!(
-            request,
-            BiBTreeMap::new(alloc),
-            BiBTreeMap::with_capacity(alloc, capacity)
-        );
-        short_memory::call(&mut self.session, made, request, said)
+        call_default(&mut self.session, None, request, said)
     }
 }
 
@@ -75,15 +86,15 @@ struct Hashed {
 
 impl Hashed {
     fn call(&mut self, request: &mut Request<'_>, said: &mut String) -> Result<bool, AllocError> {
-        let (alloc, capacity) = (request.alloc, request.number);
-        let made = made!(
-            request,
-            BiHashMap::new(alloc),
-            BiHashMap::with_capacity(alloc, capacity),
-            "with_hashers",
-            BiHashMap::with_hashers(alloc, BuildHasherDefault::new(), BuildHasherDefault::new())
-        );
-        short_memory::call(&mut self.session, made, request, said)
+        let built = match request.call {
+            "with_hashers" => Some(BiHashMap::with_hashers(
+                request.alloc,
+                BuildHasherDefault::new(),
+                BuildHasherDefault::new(),
+            )),
+            _ => None,
+        };
+        call_default(&mut self.session, built, request, said)
     }
 }
 
@@ -95,15 +106,14 @@ struct OrderedLeft {
 
 impl OrderedLeft {
     fn call(&mut self, request: &mut Request<'_>, said: &mut String) -> Result<bool, AllocError> {
-        let (alloc, capacity) = (request.alloc, request.number);
-        let made = made!(
-            request,
-            BiBTreeHashMap::new(alloc),
-            BiBTreeHashMap::with_capacity(alloc, capacity),
-            "with_hasher",
-            BiBTreeHashMap::with_hasher(alloc, BuildHasherDefault::new())
-        );
-        short_memory::call(&mut self.session, made, request, said)
+        let built = match request.call {
+            "with_hasher" => Some(BiBTreeHashMap::with_hasher(
+                request.alloc,
+                BuildHasherDefault::new(),
+            )),
+            _ => None,
+        };
+        call_default(&mut self.session, built, request, said)
     }
 }
 
@@ -115,15 +125,14 @@ struct OrderedRight {
 
 impl OrderedRight {
     fn call(&mut self, request: &mut Request<'_>, said: &mut String) -> Result<bool, AllocError> {
-        let (alloc, capacity) = (request.alloc, request.number);
-        let made = made!(
-            request,
-            BiHashBTreeMap::new(alloc),
-            BiHashBTreeMap::with_capacity(alloc, capacity),
-            "with_hasher",
-            BiHashBTreeMap::with_hasher(alloc, BuildHasherDefault::new())
-        );
-        short_memory::call(&mut self.session, made, request, said)
+        let built = match request.call {
+            "with_hasher" => Some(BiHashBTreeMap::with_hasher(
+                request.alloc,
+                BuildHasherDefault::new(),
+            )),
+            _ => None,
+        };
+        call_default(&mut self.session, built, request, said)
     }
 }
 
@@ -136,13 +145,14 @@ struct OneNumber {
 impl OneNumber {
     fn call(&mut self, request: &mut Request<'_>, said: &mut String) -> Result<bool, AllocError> {
         let (alloc, capacity) = (request.alloc, request.number);
-        let made = made!(
-            request,
-            BiHashMap::with_hashers(alloc, Zero, Zero),
-            BiHashMap::with_capacity_and_hashers(alloc, capacity, Zero, Zero),
-            "with_hashers",
-            BiHashMap::with_hashers(alloc, Zero, Zero)
-        );
+        let is_new = request.call == "new" && request.on == On::Bimap;
+        let made = if is_new || request.call == "with_hashers" {
+            Some(Ok(BiHashMap::with_hashers(alloc, Zero, Zero)))
+        } else if request.call == "with_capacity" {
+            Some(BiHashMap::with_capacity_and_hashers(alloc, capacity, Zero, Zero))
+        } else {
+            None
+        };
         short_memory::call(&mut self.session, made, request, said)
     }
 }
@@ -155,19 +165,15 @@ struct InsertionOrder {
 
 impl InsertionOrder {
     fn call(&mut self, request: &mut Request<'_>, said: &mut String) -> Result<bool, AllocError> {
-        let (alloc, capacity) = (request.alloc, request.number);
-        let made = made!(
-            request,
-            BiInsertionOrderMap::new(alloc),
-            BiInsertionOrderMap::with_capacity(alloc, capacity),
-            "with_hashers",
-            BiInsertionOrderMap::with_hashers(
-                alloc,
+        let built = match request.call {
+            "with_hashers" => Some(BiInsertionOrderMap::with_hashers(
+                request.alloc,
                 BuildHasherDefault::new(),
-                BuildHasherDefault::new()
-            )
-        );
-        short_memory::call(&mut self.session, made, request, said)
+                BuildHasherDefault::new(),
+            )),
+            _ => None,
+        };
+        call_default(&mut self.session, built, request, said)
     }
 }
 

@@ -1,7 +1,7 @@
 //! The calls of a map with an ordered left side.
 use crate::course::{BothEnds, follow};
 use crate::forward::forward;
-use crate::kind::{self, Words, say};
+use crate::kind::{self, LeftIndex, Words, say};
 use crate::request::Request;
 use crate::word::Word;
 use bimap::btree::Count;
@@ -73,58 +73,58 @@ fn end<J: CopiedIndex<Word> + Drop>(
     }
 }
 
-/// Makes the call, if it is an iteration, an end, a rank, a comparison, or a call that every map has.
-pub fn call<J: CopiedIndex<Word> + Drop>(
-    bimap: &mut Words<Ordered, J>,
-    other: &mut Words<Ordered, J>,
-    request: &Request<'_>,
-    said: &mut String,
-) -> Result<bool, AllocError> {
-    match request.call {
-        "into_iter" => match bimap.clone() {
-            Ok(copy) => follow(BothEnds(copy.into_iter()), request.steps.as_slice(), said),
-            Err(_) => Err(AllocError),
-        },
-        call => Ok(
-            walk(bimap, request, said)?
-                || end(bimap, request, said)?
-                || compare(bimap, other, call, said)?
-                || kind::call(bimap, other, request, said)?,
-        ),
+impl LeftIndex for Ordered {
+    fn call_left<J: CopiedIndex<Word> + Drop>(
+        bimap: &mut Words<Ordered, J>,
+        other: &mut Words<Ordered, J>,
+        request: &Request<'_>,
+        said: &mut String,
+    ) -> Result<bool, AllocError> {
+        match request.call {
+            "into_iter" => match bimap.clone() {
+                Ok(copy) => follow(BothEnds(copy.into_iter()), request.steps.as_slice(), said),
+                Err(_) => Err(AllocError),
+            },
+            call => Ok(
+                walk(bimap, request, said)?
+                    || end(bimap, request, said)?
+                    || compare(bimap, other, call, said)?
+                    || kind::call(bimap, other, request, said)?,
+            ),
+        }
     }
-}
 
-/// Makes the iteration over the values of a hashed right side. It goes in ascending order of the lefts.
-pub fn right_values<RS: BuildHasher>(
-    bimap: &Words<Ordered, HashIndex<RS>>,
-    request: &Request<'_>,
-    said: &mut String,
-) -> Result<bool, AllocError> {
-    match request.call {
-        "right_values" => follow(
-            BothEnds(bimap.right_values()),
-            request.steps.as_slice(),
-            said,
-        ),
-        _ => Ok(false),
+    // The iteration goes in ascending order of the lefts.
+    fn right_values<RS: BuildHasher>(
+        bimap: &Words<Ordered, HashIndex<RS>>,
+        request: &Request<'_>,
+        said: &mut String,
+    ) -> Result<bool, AllocError> {
+        match request.call {
+            "right_values" => follow(
+                BothEnds(bimap.right_values()),
+                request.steps.as_slice(),
+                said,
+            ),
+            _ => Ok(false),
+        }
     }
-}
 
-/// Makes a call at an end or a rank, with a meter.
-pub fn count<J: CopiedIndex<Word> + Drop>(
-    bimap: &mut Words<Ordered, J>,
-    request: &Request<'_>,
-    meter: &mut Counter<Count>,
-    said: &mut String,
-) -> Result<bool, AllocError> {
-    let (number, word) = (request.number, &request.first);
-    match request.call {
-        "first_by_left" => say(bimap.first_by_left_metered(meter), said),
-        "last_by_left" => say(bimap.last_by_left_metered(meter), said),
-        "pop_first_by_left" => say(bimap.pop_first_by_left_metered(meter), said),
-        "pop_last_by_left" => say(bimap.pop_last_by_left_metered(meter), said),
-        "pair_at_left_rank" => say(bimap.pair_at_left_rank_metered(number, meter), said),
-        "left_rank" => say(bimap.left_rank_metered(word, meter), said),
-        _ => Ok(false),
+    fn count_left<J: CopiedIndex<Word> + Drop>(
+        bimap: &mut Words<Ordered, J>,
+        request: &Request<'_>,
+        meter: &mut Counter<Count>,
+        said: &mut String,
+    ) -> Result<bool, AllocError> {
+        let (number, word) = (request.number, &request.first);
+        match request.call {
+            "first_by_left" => say(bimap.first_by_left_metered(meter), said),
+            "last_by_left" => say(bimap.last_by_left_metered(meter), said),
+            "pop_first_by_left" => say(bimap.pop_first_by_left_metered(meter), said),
+            "pop_last_by_left" => say(bimap.pop_last_by_left_metered(meter), said),
+            "pair_at_left_rank" => say(bimap.pair_at_left_rank_metered(number, meter), said),
+            "left_rank" => say(bimap.left_rank_metered(word, meter), said),
+            _ => Ok(false),
+        }
     }
 }

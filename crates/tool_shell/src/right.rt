@@ -1,7 +1,7 @@
 //! The calls of a right side, ordered or hashed.
 use crate::course::{BothEnds, follow};
 use crate::forward::forward;
-use crate::kind::{Words, say};
+use crate::kind::{LeftIndex, RightIndex, Words, say};
 use crate::request::Request;
 use crate::word::Word;
 use bimap::btree::Count;
@@ -51,42 +51,49 @@ fn end<I: CopiedIndex<Word> + Drop>(
     }
 }
 
-/// Makes an iteration, or a call at an end or a rank, of an ordered right side.
-pub fn call<I: CopiedIndex<Word> + Drop>(
-    bimap: &mut Words<I, Ordered>,
-    request: &Request<'_>,
-    said: &mut String,
-) -> Result<bool, AllocError> {
-    Ok(walk(bimap, request, said)? || end(bimap, request, said)?)
-}
+impl<I: LeftIndex> RightIndex<I> for Ordered {
+    fn call_right(
+        bimap: &mut Words<I, Ordered>,
+        request: &Request<'_>,
+        said: &mut String,
+    ) -> Result<bool, AllocError> {
+        Ok(walk(bimap, request, said)? || end(bimap, request, said)?)
+    }
 
-/// Makes a call at an end or a rank, with a meter.
-pub fn count<I: CopiedIndex<Word> + Drop>(
-    bimap: &mut Words<I, Ordered>,
-    request: &Request<'_>,
-    meter: &mut Counter<Count>,
-    said: &mut String,
-) -> Result<bool, AllocError> {
-    let (number, word) = (request.number, &request.first);
-    match request.call {
-        "first_by_right" => say(bimap.first_by_right_metered(meter), said),
-        "last_by_right" => say(bimap.last_by_right_metered(meter), said),
-        "pop_first_by_right" => say(bimap.pop_first_by_right_metered(meter), said),
-        "pop_last_by_right" => say(bimap.pop_last_by_right_metered(meter), said),
-        "pair_at_right_rank" => say(bimap.pair_at_right_rank_metered(number, meter), said),
-        "right_rank" => say(bimap.right_rank_metered(word, meter), said),
-        _ => Ok(false),
+    fn count_right(
+        bimap: &mut Words<I, Ordered>,
+        request: &Request<'_>,
+        meter: &mut Counter<Count>,
+        said: &mut String,
+    ) -> Result<bool, AllocError> {
+        let (number, word) = (request.number, &request.first);
+        match request.call {
+            "first_by_right" => say(bimap.first_by_right_metered(meter), said),
+            "last_by_right" => say(bimap.last_by_right_metered(meter), said),
+            "pop_first_by_right" => say(bimap.pop_first_by_right_metered(meter), said),
+            "pop_last_by_right" => say(bimap.pop_last_by_right_metered(meter), said),
+            "pair_at_right_rank" => say(bimap.pair_at_right_rank_metered(number, meter), said),
+            "right_rank" => say(bimap.right_rank_metered(word, meter), said),
+            _ => Ok(false),
+        }
     }
 }
 
-/// Makes the iteration over the values of a hashed right side, if the left side is hashed too.
-pub fn values<LS: BuildHasher, RS: BuildHasher>(
-    bimap: &Words<HashIndex<LS>, HashIndex<RS>>,
-    request: &Request<'_>,
-    said: &mut String,
-) -> Result<bool, AllocError> {
-    match request.call {
-        "right_values" => follow(bimap.right_values(), request.steps.as_slice(), said),
-        _ => Ok(false),
+impl<I: LeftIndex, RS: BuildHasher + Clone + Drop> RightIndex<I> for HashIndex<RS> {
+    fn call_right(
+        bimap: &mut Words<I, HashIndex<RS>>,
+        request: &Request<'_>,
+        said: &mut String,
+    ) -> Result<bool, AllocError> {
+        I::right_values(bimap, request, said)
+    }
+
+    fn count_right(
+        _bimap: &mut Words<I, HashIndex<RS>>,
+        _request: &Request<'_>,
+        _meter: &mut Counter<Count>,
+        _said: &mut String,
+    ) -> Result<bool, AllocError> {
+        Ok(false)
     }
 }
