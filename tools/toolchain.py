@@ -1,4 +1,4 @@
-"""Uses the toolchain's command `rt` as a module.
+"""Uses the toolchain's command `rt` as a module. Run as a program, it is `rt ci` with more processors for each proof.
 
 It relies on private functions of `rt`. If a new toolchain changes them, the tools that need them fail. Then adapt this file and
 those tools.
@@ -61,3 +61,31 @@ def prove_static(name, built, log):
     # The other half of the processors is for the checks that run at the same time.
     words = crate.words(["--jobs", str(max(1, CORES // 2))], keeps=False)
     return not crate.prove(["build", *words, "--toolchain", f"{KIT}/toolchain", "--backend", "llvm", "-o", f"out/lib{name}.a"])
+
+
+def ci():
+    """Runs `rt ci`, and returns its status.
+
+    `rt ci` shares the idle processors among the tasks that can begin. It counts the tests of a crate without tests as a task too,
+    so a proof for which other crates wait would get too few processors. Here such empty tasks come last.
+    """
+    rt = load_rt()
+    in_lanes = rt.in_lanes
+
+    def in_lanes_with_work(tasks):
+        # Another toolchain's tasks may look otherwise. Then they are run as they are.
+        if not all(part in ("proof", "tests", "edits") for _, part in tasks) or any(len(task) != 4 for task in tasks.values()):
+            return in_lanes(tasks)
+        edited = {name for name, part in tasks if part == "edits" and tasks[name, part][1]}
+        given = in_lanes({key: task for key, task in tasks.items() if task[1] or key[0] in edited})
+        for key, task in tasks.items():
+            if key not in given:
+                given[key] = task[3](given, 1)
+        return given
+
+    rt.in_lanes = in_lanes_with_work
+    return rt.main(["ci"])
+
+
+if __name__ == "__main__":
+    sys.exit(ci())
