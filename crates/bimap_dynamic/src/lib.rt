@@ -2,7 +2,5 @@
 #![tactic(auto)]
 
 mod any_of;
-#[cfg(test)]
-mod tests;
 
 pub use any_of::{AnyMap, AnyOf};

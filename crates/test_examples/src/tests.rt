@@ -2,6 +2,7 @@
 mod any;
 mod changes;
 mod constructors;
+mod dynamic;
 mod inverse;
 mod json;
 mod looks;

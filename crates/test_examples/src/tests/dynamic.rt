@@ -1,6 +1,6 @@
 //! Examples of maps whose kind is chosen when they are made.
-use crate::{AnyMap, AnyOf};
 use bimap::{BiHashMap, Bijection, Overwritten};
+use bimap_dynamic::{AnyMap, AnyOf};
 
 #[test]
 fn a_map_of_a_chosen_kind(rt: HostRuntime) {
