@@ -1,13 +1,14 @@
 -- Items that are inserted one after the other under a policy.
-use Rattle.std.proofs.Common.{◌≡◌, ◌↔◌, ◌+◌, ◌≤◌, Bool, Option, List, [], ◌∷◌, ◌++◌, length, refl, sym, ◌∙◌, subst, arith, inl, inr}
-use Rattle.std.specs.Prelude.{Contains}
+use Rattle.std.proofs.Common.{◌≡◌, ◌↔◌, ◌+◌, ◌≤◌, ℕ, Bool, Option, Some, List, [], ◌∷◌, ◌++◌, length, refl, sym, ◌∙◌, subst, arith, inl, inr}
+use Rattle.std.specs.Prelude.{◌-◌, ◌^◌, min, Contains}
+use Rattle.std.specs.Iterator.{Drains, YieldsThen}
 use Rattle.std.specs.Cmp.{IsEquivalence}
 use Rattle.std.proofs.lemmas.List.{length_push}
 use Rattle.bimap_base.specs.Sets.{IsApart, IsWithPut, NoneShares, SomeShares}
 use Rattle.bimap_base.specs.Answer.{IsAnswer, IsAllowed, IsRefusalUnder, overwrites}
 use Rattle.bimap_any.specs.Survivors.{Survives, PutsItself, TouchesSharing, AreSurvivors}
 use Rattle.bimap_base.specs.Holding.{Holding, IsFull, IsRoomAfter}
-use Rattle.bimap_any.specs.Extension.{AreAllowed, IsRoomAfterItems, IsOutOfPlaces, IsNextItem, IsExtensionStopped, IsExtensionStoppedUnder}
+use Rattle.bimap_any.specs.Extension.{AreAllowed, IsRoomAfterItems, IsOutOfPlaces, IsNextItem, IsExtensionUnder, IsExtensionStopped, IsExtensionStoppedUnder}
 use Rattle.bimap_base.specs.declared.overwritten.Overwritten.{Overwritten}
 use Rattle.bimap_base.specs.declared.policy.Policy.{Policy}
 use Rattle.bimap_base.specs.declared.refusal.ItemRefused.{ItemRefused}
@@ -83,6 +84,17 @@ module _ {L R : Type 0} (same_left : L → L → Bool) (same_right : R → R →
       }
 
   module _ {It : Type 0} (gives : It → Type 0) (next : It → Option (L × R) → It → Type 0) where
+    -- An iterator gave exactly these items.
+    abbrev pub all_put_in : (old : Holding L R) (items : List (L × R)) (policy : Policy) (new : Holding L R) (iterator : It) → gives iterator → Drains next iterator items → ArePutIn old items policy new → IsExtensionUnder same_left same_right gives next old policy new
+    all_put_in old items policy new iterator given all are = record {
+      extension = record { iterator = iterator; items = items; given = given; all = all; survivors = are.survivors; room = are.room };
+      allowed = are.allowed;
+    }
+
+    -- An iterator gave these items, and then this item.
+    pub item_after : (items : List (L × R)) (item : L × R) (number : ℕ) (iterator rest : It) → gives iterator → YieldsThen next iterator items (Some item) rest → number ≡ min (length items) (2 ^ 64 - 1) → IsNextItem same_left same_right gives next items item number
+    item_after items item number iterator rest given next_item counted = record { iterator = iterator; rest = rest; given = given; next_item = next_item; counted = counted }
+
     -- If an extension under a policy ran out of memory, an extension without a policy did so too, after the same items.
     pub stopped_for_memory : (old : Holding L R) (policy : Policy) (stopped : ItemRefused L R) (left : L) (right : R) (new : Holding L R) → stopped.why ≡ Memory left right → (u : IsExtensionStoppedUnder same_left same_right gives next old policy stopped new) → (s : IsExtensionStopped same_left same_right gives next old (record { taken = stopped.taken; left = left; right = right }) new) × (s.items ≡ u.items)
     stopped_for_memory old policy stopped left right new is u =

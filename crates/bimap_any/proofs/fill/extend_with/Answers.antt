@@ -3,7 +3,7 @@ use Rattle.std.proofs.lemmas.List.{length_push}
 use Rattle.bimap_any.specs.Extension.{IsExtensionStoppedUnder}
 use Rattle.bimap_base.specs.Holding.{IsFull}
 use Rattle.bimap_base.specs.Positions.{ComeInOrder}
-use Rattle.bimap_any.proofs.Extending.{ArePutIn, put_in_none, put_in_more, put_in_full, refusal_along}
+use Rattle.bimap_any.proofs.Extending.{ArePutIn, put_in_none, put_in_more, put_in_full, refusal_along, all_put_in, item_after}
 use Rattle.bimap_any.proofs.Positions.{in_order_more}
 use Rattle.bimap_any.proofs.fill.extend_with.Goals as goal
 use Rattle.bimap_any.proofs.fill.extend_with.Goals.{In-Err}
@@ -51,13 +51,7 @@ stopped g c =
         items = c.loop-left.yielded;
         refused = record {
           item = (c.in-Some.left, c.in-Some.right);
-          is_next = record {
-            iterator = it.result;
-            rest = c.next.new.self;
-            given = it.ensures.into_iter_gives;
-            next_item = (c.loop-left.left-iterator, c.loop-left.yielded_by, c.in-Some.ensures.steps);
-            counted = i.taken;
-          };
+          is_next = item_after g.L.PartialEq.eq g.R.PartialEq.eq _ _ c.loop-left.yielded (c.in-Some.left, c.in-Some.right) _ it.result c.next.new.self it.ensures.into_iter_gives (c.loop-left.left-iterator, c.loop-left.yielded_by, c.in-Some.ensures.steps) i.taken;
           allowed = put_in.allowed;
           why = refusal_along g.L.PartialEq.eq g.R.PartialEq.eq (Contains old.pairs) _ (IsFull old) _ (c.in-Some.left, c.in-Some.right) c.args.policy c.in-Err.why i.put_in.survivors
               (λ full. put_in_full g.L.PartialEq.eq g.R.PartialEq.eq first c.loop-left.yielded c.args.policy new put_in (subst IsFull same full))
@@ -83,17 +77,7 @@ pub returns-clause-extended : goal.returns-clause-extended
 returns-clause-extended g c =
     let it = c.into_iter-left-iterator in
     let i = c.loop-left.invariant in
-    record {
-      extension = record {
-        iterator = it.result;
-        items = c.loop-left.yielded;
-        given = it.ensures.into_iter_gives;
-        all = search rules;
-        survivors = i.put_in.survivors;
-        room = i.put_in.room;
-      };
-      allowed = i.put_in.allowed;
-    }
+    all_put_in g.L.PartialEq.eq g.R.PartialEq.eq _ _ (g.B.Bijection.holding c.args.bimap.now) c.loop-left.yielded c.args.policy _ it.result it.ensures.into_iter_gives (search rules) i.put_in
 
 pub returns-in-Err-clause-extended : goal.returns-in-Err-clause-extended
 returns-in-Err-clause-extended g c = search

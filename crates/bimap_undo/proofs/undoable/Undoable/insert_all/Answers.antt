@@ -2,7 +2,7 @@ use Rattle.std.proofs.Common.{◌≡◌, ◌↔◌, ◌≤◌, ◌∙◌, Bool, 
 use Rattle.std.proofs.lemmas.List.{length_push}
 use Rattle.bimap.specs.Sets.{IsApart}
 use Rattle.bimap.specs.Types.{Policy, NotInsertedWith}
-use Rattle.bimap.proofs.Extending.{ArePutIn, put_in_none, put_in_more}
+use Rattle.bimap.proofs.Extending.{ArePutIn, put_in_none, put_in_more, all_put_in, item_after}
 use Rattle.bimap.specs.declared.NotInsertedWith.TheVariants.{LeftHeld, RightHeld, Memory}
 use Rattle.bimap_undo.specs.Marks.{Marked, KeepsMarks, IsRecordedRefusal}
 use Rattle.bimap_undo.proofs.Items.{held_after}
@@ -66,13 +66,7 @@ returns-in-Err-clause-none g c =
     record {
       items = c.loop-left.yielded;
       item = (c.in-Some.left, c.in-Some.right);
-      is_next = record {
-        iterator = it.result;
-        rest = c.next.new.self;
-        given = it.ensures.into_iter_gives;
-        next_item = (c.loop-left.left-iterator, c.loop-left.yielded_by, c.in-Some.ensures.steps);
-        counted = i.taken;
-      };
+      is_next = item_after g.L.PartialEq.eq g.R.PartialEq.eq _ _ c.loop-left.yielded (c.in-Some.left, c.in-Some.right) _ it.result c.next.new.self it.ensures.into_iter_gives (c.loop-left.left-iterator, c.loop-left.yielded_by, c.in-Some.ensures.steps) i.taken;
       allowed = put_in.allowed;
       why = recorded_along g.L.PartialEq.eq g.R.PartialEq.eq (Contains held.held.pairs) _ (c.in-Some.left, c.in-Some.right) c.args.policy c.in-Err.why i.put_in.survivors e.refused;
       held = back.gone_back.held first.held.pairs (kept.sets c.mark-mark.result (omega (arith, mark)) first.held.pairs c.mark-mark.ensures.stands_for_what_is_held);
@@ -93,17 +87,7 @@ returns-clause-all g c =
     let it = c.into_iter-left-iterator in
     let i = c.loop-left.invariant in
     record {
-      put_in = record {
-        extension = record {
-          iterator = it.result;
-          items = c.loop-left.yielded;
-          given = it.ensures.into_iter_gives;
-          all = search rules;
-          survivors = i.put_in.survivors;
-          room = i.put_in.room;
-        };
-        allowed = i.put_in.allowed;
-      };
+      put_in = all_put_in g.L.PartialEq.eq g.R.PartialEq.eq _ _ c.args.self.now.held c.loop-left.yielded c.args.policy c.loop-left.self.held it.result it.ensures.into_iter_gives (search rules) i.put_in;
       held = held_after g.L.PartialEq.eq g.R.PartialEq.eq g.met.L.Eq.laws g.met.R.Eq.laws c.args.self.now.held c.loop-left.yielded c.args.policy c.loop-left.self.held c.mark-mark.ensures.stands_for_what_is_held.apart i.apart i.put_in;
       recorded = i.recorded;
       kept = i.kept;
