@@ -1,5 +1,6 @@
 pub mod Bytes
 pub mod BytesBytes
+pub mod BytesCalls
 pub mod Calls
 pub mod Compared
 pub mod Json
@@ -8,4 +9,5 @@ pub mod Packed
 pub mod Pointers
 pub mod Tables
 pub mod U64U64
+pub mod U64U64Calls
 pub mod Unpacked

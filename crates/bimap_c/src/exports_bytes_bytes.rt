@@ -11,13 +11,13 @@ ghost use Rattle.bimap_c.specs.Packed.{bytes_of, bytes_row};
 ghost use Rattle.bimap_c.specs.Tables.{bytes_bytes, bytes_bytes_builders, AreSeeded};
 ghost use Rattle.bimap_c.specs.Unpacked.{InsertsMany};
 
-use crate::bytes::{left_at, right_at, strike, tell_bytes};
+use crate::bytes::{left_at, right_at, tell_bytes};
 use crate::bytes_bytes::Row;
+use crate::bytes_calls::BytesChange;
 use crate::c_table::CTable;
 use crate::calls::{self, OVERWRITE_BOTH, REFUSE_BOTH};
 use crate::handle::Handle;
 use crate::status::REFUSED;
-use crate::unpack::insert_many;
 use crate::{bytes, bytes_bytes};
 use bimap::{OnHeld, Overwritten};
 use bimap_index::By;
@@ -93,7 +93,7 @@ pub extern "C" fn jetukoma_bytes_bytes_reserve_unchecked(
     ensures { Changes bytes_bytes handle.old.table.value result handle.new.table.value
         (λ old new. Reserves old.held more result new.held × (new.struck ≡ old.struck)) }
 {
-    on_table!(handle, alloc, BytesBytes, table => calls::reserve(&mut table.map, more))
+    handle.change_bytes_bytes(alloc, BytesChange::Reserve(more), &mut 0)
 }
 
 /// Lowers a capacity above `least` to `least`, or to the number of pairs if that is more. It frees the memory that this
@@ -107,7 +107,7 @@ pub extern "C" fn jetukoma_bytes_bytes_shrink_to_unchecked(
     ensures { Changes bytes_bytes handle.old.table.value result handle.new.table.value
         (λ old new. Shrinks old.held least result new.held × (new.struck ≡ old.struck)) }
 {
-    on_table!(handle, alloc, BytesBytes, table => calls::shrink_to(&mut table.map, least))
+    handle.change_bytes_bytes(alloc, BytesChange::ShrinkTo(least), &mut 0)
 }
 
 /// Inserts copies of the left and the right. They overwrite the pairs with which they share a value. `kind` says
@@ -187,7 +187,7 @@ pub extern "C" fn jetukoma_bytes_bytes_insert_many_unchecked(
         (λ row. row.left_len + row.right_len) old rows.now bytes.now result new taken.new) }
     ensures out { (result ≡ 0 → ⊥) → (result ≡ 1 → ⊥) → taken.new ≡ taken.old }
 {
-    on_table!(handle, alloc, BytesBytes, table => insert_many(alloc, table, bytes, rows, taken))
+    handle.change_bytes_bytes(alloc, BytesChange::InsertMany(bytes, rows), taken)
 }
 
 /// Writes the right of a left to the front of a buffer, and its length. Returns 4 if the buffer is too short, and 5 if
@@ -269,7 +269,7 @@ pub extern "C" fn jetukoma_bytes_bytes_remove_by_left_unchecked(
     ensures { Changes bytes_bytes handle.old.table.value result handle.new.table.value
         (λ old new. RemovesByLeft has_bytes old left.now result new) }
 {
-    on_table!(handle, alloc, BytesBytes, table => strike(&mut table.struck, table.map.remove_by_left(By(left))))
+    handle.change_bytes_bytes(alloc, BytesChange::RemoveByLeft(left), &mut 0)
 }
 
 /// Removes the pair of a right. The table keeps the pair, so that `overwritten_left` and `overwritten_right` copy it.
@@ -283,7 +283,7 @@ pub extern "C" fn jetukoma_bytes_bytes_remove_by_right_unchecked(
     ensures { Changes bytes_bytes handle.old.table.value result handle.new.table.value
         (λ old new. RemovesByRight has_bytes old right.now result new) }
 {
-    on_table!(handle, alloc, BytesBytes, table => strike(&mut table.struck, table.map.remove_by_right(By(right))))
+    handle.change_bytes_bytes(alloc, BytesChange::RemoveByRight(By(right)), &mut 0)
 }
 
 /// Writes the left of a pair that the last change overwrote or removed to the front of a buffer, and its length. If
@@ -333,5 +333,5 @@ pub extern "C" fn jetukoma_bytes_bytes_clear_unchecked(alloc: Global, handle: &m
     ensures { Changes bytes_bytes handle.old.table.value result handle.new.table.value
         (λ old new. ClearsAll old result new) }
 {
-    on_table!(handle, alloc, BytesBytes, table => bytes::clear(table))
+    handle.change_bytes_bytes(alloc, BytesChange::Clear, &mut 0)
 }

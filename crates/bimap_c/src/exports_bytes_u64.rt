@@ -12,14 +12,14 @@ ghost use Rattle.bimap_c.specs.Packed.{bytes_of, u64_row};
 ghost use Rattle.bimap_c.specs.Tables.{bytes_u64, bytes_u64_builders, AreSeeded};
 ghost use Rattle.bimap_c.specs.Unpacked.{InsertsMany};
 
-use crate::bytes::{left_at, right_at, strike, tell_bytes};
+use crate::bytes::{left_at, right_at, tell_bytes};
+use crate::bytes_calls::BytesChange;
 use crate::bytes_u64::Row;
 use crate::c_table::CTable;
 use crate::calls::{self, OVERWRITE_BOTH, REFUSE_BOTH};
 use crate::handle::Handle;
 use crate::status::REFUSED;
 use crate::u64_u64::tell_value;
-use crate::unpack::insert_many;
 use crate::{bytes, json};
 use bimap::{BiBTreeMap, BiHashMap, BiInsertionOrderMap, OnHeld, Overwritten, Seeded};
 use bimap_index::By;
@@ -95,7 +95,7 @@ pub extern "C" fn jetukoma_bytes_u64_reserve_unchecked(
     ensures { Changes bytes_u64 handle.old.table.value result handle.new.table.value
         (λ old new. Reserves old.held more result new.held × (new.struck ≡ old.struck)) }
 {
-    on_table!(handle, alloc, BytesU64, table => calls::reserve(&mut table.map, more))
+    handle.change_bytes_u64(alloc, BytesChange::Reserve(more), &mut 0)
 }
 
 /// Lowers a capacity above `least` to `least`, or to the number of pairs if that is more. It frees the memory that this
@@ -109,7 +109,7 @@ pub extern "C" fn jetukoma_bytes_u64_shrink_to_unchecked(
     ensures { Changes bytes_u64 handle.old.table.value result handle.new.table.value
         (λ old new. Shrinks old.held least result new.held × (new.struck ≡ old.struck)) }
 {
-    on_table!(handle, alloc, BytesU64, table => calls::shrink_to(&mut table.map, least))
+    handle.change_bytes_u64(alloc, BytesChange::ShrinkTo(least), &mut 0)
 }
 
 /// Inserts a copy of the left with the right. They overwrite the pairs with which they share a value. `kind` says
@@ -189,7 +189,7 @@ pub extern "C" fn jetukoma_bytes_u64_insert_many_unchecked(
         rows.now bytes.now result new taken.new) }
     ensures out { (result ≡ 0 → ⊥) → (result ≡ 1 → ⊥) → taken.new ≡ taken.old }
 {
-    on_table!(handle, alloc, BytesU64, table => insert_many(alloc, table, bytes, rows, taken))
+    handle.change_bytes_u64(alloc, BytesChange::InsertMany(bytes, rows), taken)
 }
 
 /// Writes the right of a left. Returns 5 if the left is not contained.
@@ -265,7 +265,7 @@ pub extern "C" fn jetukoma_bytes_u64_remove_by_left_unchecked(
     ensures { Changes bytes_u64 handle.old.table.value result handle.new.table.value
         (λ old new. RemovesByLeft has_bytes old left.now result new) }
 {
-    on_table!(handle, alloc, BytesU64, table => strike(&mut table.struck, table.map.remove_by_left(By(left))))
+    handle.change_bytes_u64(alloc, BytesChange::RemoveByLeft(left), &mut 0)
 }
 
 /// Removes the pair of a right. The table keeps the pair, so that `overwritten_left` and `overwritten_right` copy it.
@@ -279,7 +279,7 @@ pub extern "C" fn jetukoma_bytes_u64_remove_by_right_unchecked(
     ensures { Changes bytes_u64 handle.old.table.value result handle.new.table.value
         (λ old new. RemovesByRight nat_eq old right result new) }
 {
-    on_table!(handle, alloc, BytesU64, table => strike(&mut table.struck, table.map.remove_by_right(&right)))
+    handle.change_bytes_u64(alloc, BytesChange::RemoveByRight(&right), &mut 0)
 }
 
 /// Writes the left of a pair that the last change overwrote or removed to the front of a buffer, and its length. If
@@ -327,7 +327,7 @@ pub extern "C" fn jetukoma_bytes_u64_clear_unchecked(alloc: Global, handle: &mut
     ensures { Changes bytes_u64 handle.old.table.value result handle.new.table.value
         (λ old new. ClearsAll old result new) }
 {
-    on_table!(handle, alloc, BytesU64, table => bytes::clear(table))
+    handle.change_bytes_u64(alloc, BytesChange::Clear, &mut 0)
 }
 
 /// Writes the pairs as the text of a JSON object to the front of a buffer, and its length. Each pair is a name and

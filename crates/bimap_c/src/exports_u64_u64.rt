@@ -9,7 +9,8 @@ use crate::c_table::CTable;
 use crate::calls;
 use crate::handle::Handle;
 use crate::status::REFUSED;
-use crate::u64_u64::{self, Overwritten, Pair, tell_pair, tell_value};
+use crate::u64_u64::{NO_PAIR, NOTHING, Overwritten, Pair};
+use crate::u64_u64_calls::{NumbersChange, NumbersReading};
 use std::alloc::Global;
 
 /// Makes an empty table of capacity 0 for a handle that has no table. The kind is one of the numbers above. The hashes
@@ -53,7 +54,7 @@ pub extern "C" fn jetukoma_u64_u64_len_unchecked(
         (λ held. (result ≡ 0) × (len.new ≡ length held.pairs)) }
     ensures out { IsWritten result len.old len.new }
 {
-    on_table!(handle, alloc, U64U64, map => calls::len(map, len))
+    handle.read_numbers(alloc, NumbersReading::Len, len, &mut 0)
 }
 
 /// Writes the capacity, which is the number of pairs for which there is memory. It takes constant time.
@@ -67,7 +68,7 @@ pub extern "C" fn jetukoma_u64_u64_capacity_unchecked(
         (λ held. (result ≡ 0) × (capacity.new ≡ held.room)) }
     ensures out { IsWritten result capacity.old capacity.new }
 {
-    on_table!(handle, alloc, U64U64, map => calls::capacity(map, capacity))
+    handle.read_numbers(alloc, NumbersReading::Capacity, capacity, &mut 0)
 }
 
 /// Makes the capacity at least the number of pairs plus `more`. It makes it no greater than needed. None of the next
@@ -81,7 +82,8 @@ pub extern "C" fn jetukoma_u64_u64_reserve_unchecked(
     ensures { Changes u64_u64 handle.old.table.value result handle.new.table.value
         (λ old new. Reserves old more result new) }
 {
-    on_table!(handle, alloc, U64U64, map => calls::reserve(map, more))
+    let call = NumbersChange::Reserve(more);
+    handle.change_numbers(alloc, call, &mut NOTHING, &mut NO_PAIR, &mut 0)
 }
 
 /// Lowers a capacity above `least` to `least`, or to the number of pairs if that is more. It frees the memory that this
@@ -95,7 +97,8 @@ pub extern "C" fn jetukoma_u64_u64_shrink_to_unchecked(
     ensures { Changes u64_u64 handle.old.table.value result handle.new.table.value
         (λ old new. Shrinks old least result new) }
 {
-    on_table!(handle, alloc, U64U64, map => calls::shrink_to(map, least))
+    let call = NumbersChange::ShrinkTo(least);
+    handle.change_numbers(alloc, call, &mut NOTHING, &mut NO_PAIR, &mut 0)
 }
 
 /// Inserts a pair, and writes the pairs that it overwrote. It allocates only if it overwrites none and there is no
@@ -112,7 +115,8 @@ pub extern "C" fn jetukoma_u64_u64_insert_unchecked(
         (λ old new. Inserts old result new (left, right) overwritten.new) }
     ensures out { IsWritten result overwritten.old overwritten.new }
 {
-    on_table!(handle, alloc, U64U64, map => u64_u64::insert(map, left, right, overwritten))
+    let call = NumbersChange::Insert(left, right);
+    handle.change_numbers(alloc, call, overwritten, &mut NO_PAIR, &mut 0)
 }
 
 /// Inserts a pair if neither value is contained. Returns 1 if there is no memory, and 3 if a value is contained.
@@ -126,7 +130,8 @@ pub extern "C" fn jetukoma_u64_u64_insert_no_overwrite_unchecked(
     ensures { Changes u64_u64 handle.old.table.value result handle.new.table.value
         (λ old new. InsertsNew old result new (left, right)) }
 {
-    on_table!(handle, alloc, U64U64, map => u64_u64::insert_no_overwrite(map, left, right))
+    let call = NumbersChange::InsertNoOverwrite(left, right);
+    handle.change_numbers(alloc, call, &mut NOTHING, &mut NO_PAIR, &mut 0)
 }
 
 /// Inserts as `insert` does, under a policy of two flags. If the flag of a side is 1, a contained value of this side
@@ -147,7 +152,8 @@ pub extern "C" fn jetukoma_u64_u64_insert_with_unchecked(
         overwritten.new) }
     ensures out { IsWritten result overwritten.old overwritten.new }
 {
-    on_table!(handle, alloc, U64U64, map => u64_u64::insert_with(map, left, right, left_refuses, right_refuses, overwritten))
+    let call = NumbersChange::InsertWith(left, right, left_refuses, right_refuses);
+    handle.change_numbers(alloc, call, overwritten, &mut NO_PAIR, &mut 0)
 }
 
 /// Inserts pairs in order, each as `insert` does, and writes to `taken` how many were inserted. Returns 1 if there is
@@ -163,7 +169,8 @@ pub extern "C" fn jetukoma_u64_u64_insert_many_unchecked(
         (λ old new. InsertsMany old result new pairs.now taken.new) }
     ensures out { result ≡ 2 → taken.new ≡ taken.old }
 {
-    on_table!(handle, alloc, U64U64, map => u64_u64::insert_many(map, pairs, taken))
+    let call = NumbersChange::InsertMany(pairs);
+    handle.change_numbers(alloc, call, &mut NOTHING, &mut NO_PAIR, taken)
 }
 
 /// Writes the right of a left. Returns 5 if the left is not contained.
@@ -178,7 +185,7 @@ pub extern "C" fn jetukoma_u64_u64_get_by_left_unchecked(
         (λ held. GetsByLeft held result left right.new) }
     ensures out { IsWritten result right.old right.new }
 {
-    on_table!(handle, alloc, U64U64, map => tell_value(map.get_by_left(&left), right))
+    handle.read_numbers(alloc, NumbersReading::GetByLeft(left), &mut 0, right)
 }
 
 /// Writes the left of a right. Returns 5 if the right is not contained.
@@ -193,7 +200,7 @@ pub extern "C" fn jetukoma_u64_u64_get_by_right_unchecked(
         (λ held. GetsByRight held result right left.new) }
     ensures out { IsWritten result left.old left.new }
 {
-    on_table!(handle, alloc, U64U64, map => tell_value(map.get_by_right(&right), left))
+    handle.read_numbers(alloc, NumbersReading::GetByRight(right), &mut 0, left)
 }
 
 /// Returns 0 if the left is contained, and 5 if it is not.
@@ -206,7 +213,7 @@ pub extern "C" fn jetukoma_u64_u64_contains_left_unchecked(
     ensures answer { Reads u64_u64 handle.old.table.value result handle.new.table.value
         (λ held. Tests (HasLeft nat_eq (Contains held.pairs) left) result) }
 {
-    on_table!(handle, alloc, U64U64, map => calls::found(map.contains_left(&left)))
+    handle.read_numbers(alloc, NumbersReading::ContainsLeft(left), &mut 0, &mut 0)
 }
 
 /// Returns 0 if the right is contained, and 5 if it is not.
@@ -219,7 +226,7 @@ pub extern "C" fn jetukoma_u64_u64_contains_right_unchecked(
     ensures answer { Reads u64_u64 handle.old.table.value result handle.new.table.value
         (λ held. Tests (HasRight nat_eq (Contains held.pairs) right) result) }
 {
-    on_table!(handle, alloc, U64U64, map => calls::found(map.contains_right(&right)))
+    handle.read_numbers(alloc, NumbersReading::ContainsRight(right), &mut 0, &mut 0)
 }
 
 /// Removes the pair of a left, and writes it. Returns 5 if the left is not contained.
@@ -234,7 +241,8 @@ pub extern "C" fn jetukoma_u64_u64_remove_by_left_unchecked(
         (λ old new. RemovesByLeft old result new left pair.new) }
     ensures out { IsWritten result pair.old pair.new }
 {
-    on_table!(handle, alloc, U64U64, map => tell_pair(map.remove_by_left(&left), pair))
+    let call = NumbersChange::RemoveByLeft(left);
+    handle.change_numbers(alloc, call, &mut NOTHING, pair, &mut 0)
 }
 
 /// Removes the pair of a right, and writes it. Returns 5 if the right is not contained.
@@ -249,7 +257,8 @@ pub extern "C" fn jetukoma_u64_u64_remove_by_right_unchecked(
         (λ old new. RemovesByRight old result new right pair.new) }
     ensures out { IsWritten result pair.old pair.new }
 {
-    on_table!(handle, alloc, U64U64, map => tell_pair(map.remove_by_right(&right), pair))
+    let call = NumbersChange::RemoveByRight(right);
+    handle.change_numbers(alloc, call, &mut NOTHING, pair, &mut 0)
 }
 
 /// Removes all pairs. The capacity does not change. The time grows with the capacity.
@@ -258,5 +267,6 @@ pub extern "C" fn jetukoma_u64_u64_clear_unchecked(alloc: Global, handle: &mut H
     ensures { Changes u64_u64 handle.old.table.value result handle.new.table.value
         (λ old new. Clears old result new) }
 {
-    on_table!(handle, alloc, U64U64, map => calls::clear(map))
+    let call = NumbersChange::Clear;
+    handle.change_numbers(alloc, call, &mut NOTHING, &mut NO_PAIR, &mut 0)
 }

@@ -30,6 +30,16 @@ pub struct Overwritten {
     pub second: Pair,
 }
 
+/// Two zeros, for a pair that does not exist.
+pub(crate) const NO_PAIR: Pair = Pair { left: 0, right: 0 };
+
+/// No overwritten pair.
+pub(crate) const NOTHING: Overwritten = Overwritten {
+    kind: 0,
+    first: NO_PAIR,
+    second: NO_PAIR,
+};
+
 // Returns what was overwritten, as C sees it.
 fn show(answer: bimap::Overwritten<u64, u64>) -> Overwritten
     ensures { result ≡ shown answer }
