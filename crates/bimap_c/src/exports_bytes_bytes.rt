@@ -13,9 +13,9 @@ ghost use Rattle.bimap_c.specs.Unpacked.{InsertsMany};
 
 use crate::bytes::{left_at, right_at, tell_bytes};
 use crate::bytes_bytes::Row;
-use crate::bytes_calls::BytesChange;
+use crate::bytes_calls::{BytesChange, BytesReading};
 use crate::c_table::CTable;
-use crate::calls::{self, OVERWRITE_BOTH, REFUSE_BOTH};
+use crate::calls::{OVERWRITE_BOTH, REFUSE_BOTH};
 use crate::handle::Handle;
 use crate::status::REFUSED;
 use crate::{bytes, bytes_bytes};
@@ -65,7 +65,7 @@ pub extern "C" fn jetukoma_bytes_bytes_len_unchecked(
         (λ kept. (result ≡ 0) × (len.new ≡ length kept.held.pairs)) }
     ensures out { IsWritten result len.old len.new }
 {
-    on_table!(handle, alloc, BytesBytes, table => calls::len(&table.map, len))
+    handle.read_bytes_bytes(alloc, BytesReading::Len, len, &mut [], &mut 0)
 }
 
 /// Writes the capacity, which is the number of pairs for which there is memory. It takes constant time.
@@ -79,7 +79,7 @@ pub extern "C" fn jetukoma_bytes_bytes_capacity_unchecked(
         (λ kept. (result ≡ 0) × (capacity.new ≡ kept.held.room)) }
     ensures out { IsWritten result capacity.old capacity.new }
 {
-    on_table!(handle, alloc, BytesBytes, table => calls::capacity(&table.map, capacity))
+    handle.read_bytes_bytes(alloc, BytesReading::Capacity, capacity, &mut [], &mut 0)
 }
 
 /// Makes the capacity at least the number of pairs plus `more`. It makes it no greater than needed. Each of the next
@@ -229,7 +229,7 @@ pub extern "C" fn jetukoma_bytes_bytes_get_by_right_unchecked(
     ensures buf { IsWritten result buf.old buf.new }
     ensures len { IsLengthWritten result len.old len.new }
 {
-    on_table!(handle, alloc, BytesBytes, table => tell_bytes(table.map.get_by_right(By(right)), buf, len))
+    handle.read_bytes_bytes(alloc, BytesReading::GetByRight(By(right)), &mut 0, buf, len)
 }
 
 /// Returns 0 if the left is contained, and 5 if it is not.
@@ -242,7 +242,8 @@ pub extern "C" fn jetukoma_bytes_bytes_contains_left_unchecked(
     ensures { Reads bytes_bytes handle.old.table.value result handle.new.table.value
         (λ kept. Tests (HasLeft has_bytes (Contains kept.held.pairs) left.now) result) }
 {
-    on_table!(handle, alloc, BytesBytes, table => calls::found(table.map.contains_left(By(left))))
+    let call = BytesReading::ContainsLeft(left);
+    handle.read_bytes_bytes(alloc, call, &mut 0, &mut [], &mut 0)
 }
 
 /// Returns 0 if the right is contained, and 5 if it is not.
@@ -255,7 +256,8 @@ pub extern "C" fn jetukoma_bytes_bytes_contains_right_unchecked(
     ensures { Reads bytes_bytes handle.old.table.value result handle.new.table.value
         (λ kept. Tests (HasRight has_bytes (Contains kept.held.pairs) right.now) result) }
 {
-    on_table!(handle, alloc, BytesBytes, table => calls::found(table.map.contains_right(By(right))))
+    let call = BytesReading::ContainsRight(By(right));
+    handle.read_bytes_bytes(alloc, call, &mut 0, &mut [], &mut 0)
 }
 
 /// Removes the pair of a left. The table keeps the pair, so that `overwritten_left` and `overwritten_right` copy it.

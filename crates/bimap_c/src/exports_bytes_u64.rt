@@ -13,10 +13,10 @@ ghost use Rattle.bimap_c.specs.Tables.{bytes_u64, bytes_u64_builders, AreSeeded}
 ghost use Rattle.bimap_c.specs.Unpacked.{InsertsMany};
 
 use crate::bytes::{left_at, right_at, tell_bytes};
-use crate::bytes_calls::BytesChange;
+use crate::bytes_calls::{BytesChange, BytesReading};
 use crate::bytes_u64::Row;
 use crate::c_table::CTable;
-use crate::calls::{self, OVERWRITE_BOTH, REFUSE_BOTH};
+use crate::calls::{OVERWRITE_BOTH, REFUSE_BOTH};
 use crate::handle::Handle;
 use crate::status::REFUSED;
 use crate::u64_u64::tell_value;
@@ -67,7 +67,7 @@ pub extern "C" fn jetukoma_bytes_u64_len_unchecked(
         (λ kept. (result ≡ 0) × (len.new ≡ length kept.held.pairs)) }
     ensures out { IsWritten result len.old len.new }
 {
-    on_table!(handle, alloc, BytesU64, table => calls::len(&table.map, len))
+    handle.read_bytes_u64(alloc, BytesReading::Len, len, &mut [], &mut 0)
 }
 
 /// Writes the capacity, which is the number of pairs for which there is memory. It takes constant time.
@@ -81,7 +81,7 @@ pub extern "C" fn jetukoma_bytes_u64_capacity_unchecked(
         (λ kept. (result ≡ 0) × (capacity.new ≡ kept.held.room)) }
     ensures out { IsWritten result capacity.old capacity.new }
 {
-    on_table!(handle, alloc, BytesU64, table => calls::capacity(&table.map, capacity))
+    handle.read_bytes_u64(alloc, BytesReading::Capacity, capacity, &mut [], &mut 0)
 }
 
 /// Makes the capacity at least the number of pairs plus `more`. It makes it no greater than needed. Each of the next
@@ -225,7 +225,7 @@ pub extern "C" fn jetukoma_bytes_u64_get_by_right_unchecked(
     ensures buf { IsWritten result buf.old buf.new }
     ensures len { IsLengthWritten result len.old len.new }
 {
-    on_table!(handle, alloc, BytesU64, table => tell_bytes(table.map.get_by_right(&right), buf, len))
+    handle.read_bytes_u64(alloc, BytesReading::GetByRight(&right), &mut 0, buf, len)
 }
 
 /// Returns 0 if the left is contained, and 5 if it is not.
@@ -238,7 +238,8 @@ pub extern "C" fn jetukoma_bytes_u64_contains_left_unchecked(
     ensures { Reads bytes_u64 handle.old.table.value result handle.new.table.value
         (λ kept. Tests (HasLeft has_bytes (Contains kept.held.pairs) left.now) result) }
 {
-    on_table!(handle, alloc, BytesU64, table => calls::found(table.map.contains_left(By(left))))
+    let call = BytesReading::ContainsLeft(left);
+    handle.read_bytes_u64(alloc, call, &mut 0, &mut [], &mut 0)
 }
 
 /// Returns 0 if the right is contained, and 5 if it is not.
@@ -251,7 +252,8 @@ pub extern "C" fn jetukoma_bytes_u64_contains_right_unchecked(
     ensures answer { Reads bytes_u64 handle.old.table.value result handle.new.table.value
         (λ kept. Tests (HasRight nat_eq (Contains kept.held.pairs) right) result) }
 {
-    on_table!(handle, alloc, BytesU64, table => calls::found(table.map.contains_right(&right)))
+    let call = BytesReading::ContainsRight(&right);
+    handle.read_bytes_u64(alloc, call, &mut 0, &mut [], &mut 0)
 }
 
 /// Removes the pair of a left. The table keeps the pair, so that `overwritten_left` and `overwritten_right` copy it.
