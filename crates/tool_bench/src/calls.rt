@@ -9,6 +9,12 @@ use std::io::{self, ErrorKind, Print};
 use std::rt::Files;
 use std::time::Clock;
 
+/// A bimap of numbers whose first pair can be removed.
+pub trait Poppable: Bijection<u64, u64> {
+    /// Removes the first pair and returns it. Returns `None` if there is none, or if the pairs have no order.
+    fn pop(&mut self) -> Option<(u64, u64)>;
+}
+
 // Inserts the pair of a number. Its right is the right of the number that is `apart` further on. Returns whether the
 // insertion overwrote a pair.
 #[inline]
@@ -74,32 +80,20 @@ fn mixed(pair: Option<(u64, u64)>) -> u64 {
 
 // Inserts a new pair for each pair, and removes the first pair each time. Returns the sum of `left ^ right` over the
 // removed pairs.
-fn exchange<B: Bijection<u64, u64>, P: Fn(&mut B) -> Option<(u64, u64)>>(
-    bimap: &mut B,
-    keys: Keys,
-    pop: &P,
-) -> io::Result<u64>
-    requires { P.IsAlwaysCallable pop.now }
-{
+fn exchange<B: Poppable>(bimap: &mut B, keys: Keys) -> io::Result<u64> {
     let mut sum = 0u64;
     for number in 0..keys.pairs() {
         put(bimap, keys, number.wrapping_add(keys.pairs()), keys.pairs())?;
-        sum = sum.wrapping_add(mixed(pop(bimap)));
+        sum = sum.wrapping_add(mixed(bimap.pop()));
     }
     Ok(sum)
 }
 
 // Removes the first pair, once for each pair. Returns the sum of `left ^ right` over the removed pairs.
-fn pop_all<B: Bijection<u64, u64>, P: Fn(&mut B) -> Option<(u64, u64)>>(
-    bimap: &mut B,
-    keys: Keys,
-    pop: &P,
-) -> u64
-    requires { P.IsAlwaysCallable pop.now }
-{
+fn pop_all<B: Poppable>(bimap: &mut B, keys: Keys) -> u64 {
     let mut sum = 0u64;
     for _ in 0..keys.pairs() {
-        sum = sum.wrapping_add(mixed(pop(bimap)));
+        sum = sum.wrapping_add(mixed(bimap.pop()));
     }
     sum
 }
@@ -154,21 +148,19 @@ pub fn changes<R: Clock + Print, B: Bijection<u64, u64>>(
     report.end(rt, "overwrite", start, struck)
 }
 
-/// Times a queue of as many pairs as the map contains: a new pair is inserted, and the first pair is removed by `pop`.
-/// Then it times the removals of the first pair, until the map is empty.
-pub fn queue<
-    R: Clock + Print,
-    B: Bijection<u64, u64> + Drop,
-    P: Fn(&mut B) -> Option<(u64, u64)> + Drop,
->(rt: &R, report: &Report, mut bimap: B, pop: P) -> io::Result<()>
-    requires { P.IsAlwaysCallable pop }
-{
+/// Times a queue of as many pairs as the map contains: a new pair is inserted, and the first pair is removed. Then it
+/// times the removals of the first pair, until the map is empty.
+pub fn queue<R: Clock + Print, B: Poppable>(
+    rt: &R,
+    report: &Report,
+    bimap: &mut B,
+) -> io::Result<()> {
     let keys = report.keys();
     let start = report.start(rt)?;
-    let sum = exchange(&mut bimap, keys, &pop)?;
+    let sum = exchange(bimap, keys)?;
     report.end(rt, "queue", start, sum)?;
     let start = report.start(rt)?;
-    let sum = pop_all(&mut bimap, keys, &pop);
+    let sum = pop_all(bimap, keys);
     report.end(rt, "pop-first", start, sum)
 }
 

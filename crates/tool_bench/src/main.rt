@@ -16,63 +16,56 @@
 mod calls;
 mod journal;
 mod keys;
+mod kind;
 mod report;
 
 use bimap::{BiBTreeHashMap, BiBTreeMap, BiHashBTreeMap, BiHashMap, BiInsertionOrderMap};
-use calls::{changes, fill, queue, removals, total};
 use keys::Keys;
+use kind::measure;
 use report::Report;
 use std::env;
 use std::io::{self, ErrorKind, Print};
 use std::rt::Files;
 use std::time::Clock;
 
-// Times the calls over one type of map, which is empty before and after. If its pairs have an order, it also iterates
-// backwards, and removes the first pairs of a clone by `$pop`.
-macro_rules! measure {
-    ($rt:expr, $report:expr, $kind:ident $(, $rev:ident, $pop:ident)?) => {{
-        let mut bimap: $kind<u64, u64> = $kind::new($rt.alloc());
-        let report = $report.of(stringify!($kind));
-        fill($rt, &report, &mut bimap)?;
-        changes($rt, &report, &mut bimap)?;
-        let start = report.start($rt)?;
-        let sum = total(bimap.iter());
-        report.end($rt, "walk", start, sum)?;
-        $(
-            let start = report.start($rt)?;
-            let sum = total(bimap.iter().$rev());
-            report.end($rt, "walk-back", start, sum)?;
-        )?
-        let start = report.start($rt)?;
-        let copy = bimap.clone().map_err(|_| ErrorKind::OutOfMemory)?;
-        report.end($rt, "clone", start, copy.len() as u64)?;
-        $(queue($rt, &report, copy, |bimap: &mut $kind<u64, u64>| bimap.$pop())?;)?
-        removals($rt, &report, &mut bimap)
-    }};
-}
-
-// Each type of map has a function of its own. One function with all calls would take minutes to prove.
+// Each type of map has a function of its own. One function with all calls would take longer to prove.
 fn ordered<R: AllocGlobal + Clock + Files + Print>(rt: &R, report: &Report) -> io::Result<()> {
-    measure!(rt, report, BiBTreeMap, rev, pop_first_by_left)
+    measure(
+        rt,
+        &report.of("BiBTreeMap"),
+        &mut BiBTreeMap::new(rt.alloc()),
+    )
 }
 
 fn ordered_left<R: AllocGlobal + Clock + Files + Print>(rt: &R, report: &Report) -> io::Result<()> {
-    measure!(rt, report, BiBTreeHashMap, rev, pop_first_by_left)
+    measure(
+        rt,
+        &report.of("BiBTreeHashMap"),
+        &mut BiBTreeHashMap::new(rt.alloc()),
+    )
 }
 
 fn ordered_right<R: AllocGlobal + Clock + Files + Print>(
     rt: &R,
     report: &Report,
 ) -> io::Result<()> {
-    measure!(rt, report, BiHashBTreeMap)
+    measure(
+        rt,
+        &report.of("BiHashBTreeMap"),
+        &mut BiHashBTreeMap::new(rt.alloc()),
+    )
 }
 
 fn hashed<R: AllocGlobal + Clock + Files + Print>(rt: &R, report: &Report) -> io::Result<()> {
-    measure!(rt, report, BiHashMap)
+    measure(rt, &report.of("BiHashMap"), &mut BiHashMap::new(rt.alloc()))
 }
 
 fn in_order<R: AllocGlobal + Clock + Files + Print>(rt: &R, report: &Report) -> io::Result<()> {
-    measure!(rt, report, BiInsertionOrderMap, rev, pop_first)
+    measure(
+        rt,
+        &report.of("BiInsertionOrderMap"),
+        &mut BiInsertionOrderMap::new(rt.alloc()),
+    )
 }
 
 // Runs the type of map that has this name.
