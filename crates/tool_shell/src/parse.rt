@@ -24,81 +24,53 @@ enum Words {
     Json,
 }
 
-fn words_of(name: &str) -> Option<Words> {
-    match name {
-        "get_by_left"
-        | "get_by_right"
-        | "contains_left"
-        | "contains_right"
-        | "remove_by_left"
-        | "remove_by_right"
-        | "retain"
-        | "extract_into"
-        | "left_rank"
-        | "right_rank"
-        | "to_front"
-        | "to_back" => Some(Words::Value),
-        "insert"
-        | "insert_no_overwrite"
-        | "get_by_left_or_insert"
-        | "get_by_left_or_insert_with"
-        | "get_by_right_or_insert"
-        | "replace_left"
-        | "replace_right"
-        | "swap_partners"
-        | "contains_pair" => { Some(Words::Two) }
-        "insert_with" | "put" => Some(Words::PolicyTwo),
-        "extend" | "from_iter" | "undo_run" => Some(Words::Pairs),
-        "extend_with" | "from_iter_with" | "insert_all" => Some(Words::PolicyPairs),
-        "with_capacity"
-        | "reserve"
-        | "shrink_to"
-        | "pair_at_left_rank"
-        | "pair_at_right_rank"
-        | "changes_since"
-        | "back_to"
-        | "undo_last" => Some(Words::Number),
-        "undo_insert" | "can_undo_insert" => Some(Words::Undo),
-        "iter" | "into_iter" | "left_values" | "right_values" => Some(Words::Steps),
-        "left_range" | "right_range" | "left_range_between" | "right_range_between" => {
-            Some(Words::RangeSteps)
-        }
-        "perform" => Some(Words::Call),
-        "run" => Some(Words::Calls),
-        "json" | "json_pairs" => Some(Words::Json),
-        _ => nothing_after(name).then_some(Words::None),
-    }
-}
+// The names of the calls, by the words that follow them.
+const CALLS: [(Words, &str); 13] = [
+    (
+        Words::Value,
+        "get_by_left get_by_right contains_left contains_right remove_by_left remove_by_right
+        retain extract_into left_rank right_rank to_front to_back",
+    ),
+    (
+        Words::Two,
+        "insert insert_no_overwrite get_by_left_or_insert get_by_left_or_insert_with
+        get_by_right_or_insert replace_left replace_right swap_partners contains_pair",
+    ),
+    (Words::PolicyTwo, "insert_with put"),
+    (Words::Pairs, "extend from_iter undo_run"),
+    (Words::PolicyPairs, "extend_with from_iter_with insert_all"),
+    (
+        Words::Number,
+        "with_capacity reserve shrink_to pair_at_left_rank pair_at_right_rank
+        changes_since back_to undo_last",
+    ),
+    (Words::Undo, "undo_insert can_undo_insert"),
+    (Words::Steps, "iter into_iter left_values right_values"),
+    (
+        Words::RangeSteps,
+        "left_range right_range left_range_between right_range_between",
+    ),
+    (Words::Call, "perform"),
+    (Words::Calls, "run"),
+    (Words::Json, "json json_pairs"),
+    (
+        Words::None,
+        "anew new with_hasher with_hashers show len is_empty capacity clear drain_into
+        shrink_to_fit for_each clone swap eq partial_cmp cmp hash is_subset_of holds_same_pairs
+        into_inverse first_by_left last_by_left pop_first_by_left pop_last_by_left
+        first_by_right last_by_right pop_first_by_right pop_last_by_right
+        first last pop_first pop_last last_change mark forget held into_inner",
+    ),
+];
 
-fn nothing_after(name: &str) -> bool {
-    match name {
-        "anew"
-        | "new"
-        | "with_hasher"
-        | "with_hashers"
-        | "show"
-        | "len"
-        | "is_empty"
-        | "capacity"
-        | "clear"
-        | "drain_into"
-        | "shrink_to_fit"
-        | "for_each"
-        | "clone"
-        | "swap"
-        | "eq"
-        | "partial_cmp"
-        | "cmp"
-        | "hash"
-        | "is_subset_of"
-        | "holds_same_pairs"
-        | "into_inverse" => true,
-        "first_by_left" | "last_by_left" | "pop_first_by_left" | "pop_last_by_left" => true,
-        "first_by_right" | "last_by_right" | "pop_first_by_right" | "pop_last_by_right" => true,
-        "first" | "last" | "pop_first" | "pop_last" => true,
-        "last_change" | "mark" | "forget" | "held" | "into_inner" => true,
-        _ => false,
+// Returns which words follow the name of a call, or `None` if no call has this name.
+fn words_of(name: &str) -> Option<Words> {
+    for (words, names) in CALLS {
+        if words_in(names).any(|known| known == name) {
+            return Some(words);
+        }
     }
+    None
 }
 
 // Reads one or two values, a number or a policy into the request.
