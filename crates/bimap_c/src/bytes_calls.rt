@@ -42,6 +42,7 @@ pub(crate) enum BytesChange<'a, W, Q> {
 impl Handle {
     /// Performs a call that reads a table of byte strings and numbers. It writes the number that it counts, or the
     /// bytes of the left that it finds.
+    #[inline(always)]
     pub(crate) fn read_bytes_u64(
         &mut self,
         alloc: Global,
@@ -61,6 +62,7 @@ impl Handle {
     }
 
     /// Performs a call that reads a table of two byte strings, as `read_bytes_u64` does.
+    #[inline(always)]
     pub(crate) fn read_bytes_bytes(
         &mut self,
         alloc: Global,
@@ -80,6 +82,7 @@ impl Handle {
     }
 
     /// Performs a call that may change a table of byte strings and numbers. It writes how many pairs it inserted.
+    #[inline(always)]
     pub(crate) fn change_bytes_u64(
         &mut self,
         alloc: Global,
@@ -96,6 +99,7 @@ impl Handle {
     }
 
     /// Performs a call that may change a table of two byte strings, as `change_bytes_u64` does.
+    #[inline(always)]
     pub(crate) fn change_bytes_bytes(
         &mut self,
         alloc: Global,
@@ -112,6 +116,7 @@ impl Handle {
     }
 }
 
+#[inline(always)]
 fn read<'a, R: Eq + Drop, Q: Query<R> + Drop, I: Lookup<ByteString, By<&'a [u8]>>, J: Lookup<R, Q>>(
     map: &BijectiveMap<ByteString, R, I, J>,
     call: BytesReading<'a, Q>,
@@ -134,6 +139,7 @@ fn read<'a, R: Eq + Drop, Q: Query<R> + Drop, I: Lookup<ByteString, By<&'a [u8]>
     }
 }
 
+#[inline(always)]
 fn change<
     'a,
     R: RightOfRow + Eq + Drop,

@@ -40,6 +40,7 @@ pub(crate) enum NumbersChange<'a> {
 
 impl Handle {
     /// Performs a call that reads. It writes the number that it counts, or the value that it finds.
+    #[inline(always)]
     pub(crate) fn read_numbers(
         &mut self,
         alloc: Global,
@@ -57,6 +58,7 @@ impl Handle {
 
     /// Performs a call that may change the table. It writes what it overwrote, the pair that it removed, or how many
     /// pairs it inserted.
+    #[inline(always)]
     pub(crate) fn change_numbers(
         &mut self,
         alloc: Global,
@@ -75,6 +77,7 @@ impl Handle {
     }
 }
 
+#[inline(always)]
 fn read<I: Index<u64>, J: Index<u64>>(
     map: &BijectiveMap<u64, u64, I, J>,
     call: NumbersReading,
@@ -95,6 +98,7 @@ fn read<I: Index<u64>, J: Index<u64>>(
     }
 }
 
+#[inline(always)]
 fn change<I: CompactedIndex<u64>, J: CompactedIndex<u64>>(
     map: &mut BijectiveMap<u64, u64, I, J>,
     call: NumbersChange,
