@@ -72,8 +72,8 @@ impl Handle {
         len: &mut usize,
     ) -> u32
         ensures answer { Reads bytes_bytes self.old.table.value result self.new.table.value
-            (λ kept. Answers (λ right wanted. has_bytes right wanted.0.now) call.entry kept.held result
-            count.new buf.old buf.new len.new) }
+            (λ kept. Answers (λ right wanted. has_bytes right wanted.0.now) call.entry kept.held
+            result count.new buf.old buf.new len.new) }
         ensures count { IsWritten result count.old count.new }
         ensures buf { IsWritten result buf.old buf.new }
         ensures len { IsLengthWritten result len.old len.new }
