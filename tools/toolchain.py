@@ -1,5 +1,7 @@
 """Uses the toolchain's command `rt` as a module. Run as a program, it is `rt ci` with more processors for each proof.
 
+tools/toolchain.py CRATE..   proves these crates as soon as it can. By default, the crates with the most lines come first.
+
 It relies on private functions of `rt`. If a new toolchain changes them, the tools that need them fail. Then adapt this file and
 those tools.
 """
@@ -63,8 +65,8 @@ def prove_static(name, built, log):
     return not crate.prove(["build", *words, "--toolchain", f"{KIT}/toolchain", "--backend", "llvm", "-o", f"out/lib{name}.a"])
 
 
-def ci():
-    """Runs `rt ci`, and returns its status.
+def ci(first):
+    """Runs `rt ci`, and returns its status. It proves the crates of the list `first` as soon as it can.
 
     `rt ci` shares the idle processors among the tasks that can begin. It counts the tests of a crate without tests as a task too,
     so a proof for which other crates wait would get too few processors. Here such empty tasks come last.
@@ -76,6 +78,10 @@ def ci():
         # Another toolchain's tasks may look otherwise. Then they are run as they are.
         if not all(part in ("proof", "tests", "edits") for _, part in tasks) or any(len(task) != 4 for task in tasks.values()):
             return in_lanes(tasks)
+        for name in first:
+            # The tasks with the most lines, and with the most behind them, come first.
+            waits, lines, *rest = tasks[name, "proof"]
+            tasks[name, "proof"] = (waits, lines + 100_000, *rest)
         edited = {name for name, part in tasks if part == "edits" and tasks[name, part][1]}
         given = in_lanes({key: task for key, task in tasks.items() if task[1] or key[0] in edited})
         for key, task in tasks.items():
@@ -88,4 +94,4 @@ def ci():
 
 
 if __name__ == "__main__":
-    sys.exit(ci())
+    sys.exit(ci(sys.argv[1:]))
