@@ -112,6 +112,11 @@ module _ {R : Type 0} where
     pub flags : AreFlags left_refuses right_refuses → Inserts same_right old left right (record { left = on_held left_refuses; right = on_held right_refuses }) status new
     pub others : (AreFlags left_refuses right_refuses → ⊥) → (status ≡ 3) × (new ≡ old)
 
+  -- With some right for which the given value stands, the call does what `P` says. Or memory ran out for the right, and nothing
+  -- has changed.
+  abbrev pub WithRight : {G : Type 0} → Type 0 → (G → R → Type 0) → Kept R → G → ℕ → Kept R → (R → Type 0) → Type 0
+  WithRight may_fail stands_for old given status new P = (may_fail × (status ≡ 1) × (new ≡ old)) ⊎ ((right : R) × stands_for given right × P right)
+
   -- If the insertion was made, the number of what it overwrote is written.
   abbrev pub IsKind : ℕ → ℕ → Kept R → Type 0
   IsKind status kind new = status ≡ 0 → kind ≡ kind_of new.struck

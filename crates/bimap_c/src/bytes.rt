@@ -3,7 +3,7 @@ ghost use Rattle.std.specs.Prelude.{◌≡◌, ◌≤◌, [], ◌∷◌, option_
 ghost use Rattle.std.specs.Map.Iter.{deref, deref_pair};
 ghost use Rattle.bimap.specs.BTree.{holding};
 ghost use Rattle.bimap_c.specs.Calls.{IsWritten};
-ghost use Rattle.bimap_c.specs.Bytes.{kept, named_pairs, kind_of, IsCopiedOut, AreBytesOut, IsStruck, ClearsAll, Inserts, InsertsFlagged, IsKind, IsLengthWritten};
+ghost use Rattle.bimap_c.specs.Bytes.{kept, named_pairs, kind_of, IsCopiedOut, AreBytesOut, IsStruck, ClearsAll, Inserts, InsertsFlagged, IsKind, IsLengthWritten, WithRight};
 ghost use Rattle.bimap.specs.Hash.{lefts_hashed_by, rights_hashed_by};
 ghost use Rattle.bimap_c.specs.Kinds.{IsOfKind, map_kinds};
 ghost use Rattle.bimap_c.specs.Tables.{AreSeeded};
@@ -187,21 +187,60 @@ pub(crate) fn insert_under<R: Eq + Drop, B: Bijection<ByteString, R>>(
     }
 }
 
-/// Inserts a copy of the left with the right, under a policy of two flags.
-pub(crate) fn insert_with<R: Eq + Drop, B: Bijection<ByteString, R>>(
+/// What C gives for a right that is to be inserted.
+pub(crate) trait GivenRight<R> {
+    /// The value stands for this right.
+    ghost stands_for: { Self → R → Type 0 };
+
+    /// Memory may run out for the right.
+    ghost may_fail: { Type 0 };
+
+    /// Returns the right, or `None` if there is no memory for it.
+    fn into_right(self, alloc: Global) -> Option<R>
+        ensures some { IfSome result (λ right. stands_for self right) }
+        ensures none { IfNone result may_fail };
+}
+
+/// Inserts a copy of the left with the given right, under a policy.
+pub(crate) fn insert_given<R: Eq + Drop, G: GivenRight<R>, B: Bijection<ByteString, R>>(
     alloc: Global,
     table: &mut BytesTable<R, B>,
     left: &[u8],
-    right: R,
+    right: G,
+    policy: Policy,
+    kind: &mut u32,
+) -> u32
+    ensures inserted { WithRight G.may_fail G.stands_for (kept B.holding table.old) right result
+        (kept B.holding table.new) (λ right. Inserts R.eq (kept B.holding table.old) left.now right
+        policy result (kept B.holding table.new)) }
+    ensures kind { IsKind result kind.new (kept B.holding table.new) }
+    ensures out { IsWritten result kind.old kind.new }
+{
+    let Some(right) = right.into_right(alloc) else {
+        return NO_MEMORY;
+    };
+    insert_under(alloc, table, left, right, policy, kind)
+}
+
+/// Inserts a copy of the left with the given right, under a policy of two flags.
+pub(crate) fn insert_flagged<R: Eq + Drop, G: GivenRight<R>, B: Bijection<ByteString, R>>(
+    alloc: Global,
+    table: &mut BytesTable<R, B>,
+    left: &[u8],
+    right: G,
     left_refuses: u8,
     right_refuses: u8,
     kind: &mut u32,
 ) -> u32
-    ensures inserted { InsertsFlagged R.eq (kept B.holding table.old) left.now right left_refuses
-        right_refuses result (kept B.holding table.new) }
+    ensures inserted { WithRight G.may_fail G.stands_for (kept B.holding table.old) right result
+        (kept B.holding table.new) (λ right. InsertsFlagged R.eq (kept B.holding table.old)
+        left.now right left_refuses right_refuses result (kept B.holding table.new)) }
     ensures kind { IsKind result kind.new (kept B.holding table.new) }
     ensures out { IsWritten result kind.old kind.new }
 {
+    let Some(right) = right.into_right(alloc) else {
+        return NO_MEMORY;
+    };
     match policy(left_refuses, right_refuses) {
         Some(policy) => insert_under(alloc, table, left, right, policy, kind),
         None => REFUSED,

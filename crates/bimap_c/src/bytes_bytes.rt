@@ -1,16 +1,15 @@
 //! The struct that C sees if the rights are byte strings, and the bodies of calls. They work on any map of two byte strings.
-ghost use Rattle.std.specs.Prelude.{◌+◌, option_map};
+ghost use Rattle.std.specs.Prelude.{◌≡◌, ◌+◌, ⊤, Option, option_map};
 ghost use Rattle.std.specs.Map.Iter.{deref_pair};
 ghost use Rattle.bimap_c.specs.Calls.{IsWritten};
-ghost use Rattle.bimap_c.specs.Bytes.{kept, same_bytes, Inserts, InsertsFlagged, IsKind, IsLengthWritten};
+ghost use Rattle.bimap_c.specs.Bytes.{AreBytesOut, IsLengthWritten};
 ghost use Rattle.bimap_c.specs.Packed.{bytes_row};
-ghost use Rattle.bimap_c.specs.BytesBytes.{WithCopy, AreBothOut};
+ghost use Rattle.bimap_c.specs.BytesBytes.{AreBothOut};
 
 use crate::byte_string::ByteString;
-use crate::bytes::{self, BytesTable};
+use crate::bytes::{GivenRight, tell_bytes};
 use crate::fill::RightOfRow;
-use crate::status::{BUFFER_TOO_SHORT, DONE, NO_MEMORY, NOT_FOUND};
-use bimap::{Bijection, Policy};
+use crate::status::{BUFFER_TOO_SHORT, DONE, NOT_FOUND};
 use std::alloc::Global;
 
 /// A pair: the number of bytes of its left, and that of its right.
@@ -50,49 +49,23 @@ impl RightOfRow for ByteString {
     fn from_row(alloc: Global, _row: &Row, bytes: &[u8]) -> Option<ByteString> {
         ByteString::copy_of(alloc, bytes)
     }
+
+    ghost told = { λ found status number old new len.
+        AreBytesOut (option_map (λ right. right.now.bytes.items) found) status old new len };
+
+    fn tell(found: Option<&ByteString>, _number: &mut u64, buf: &mut [u8], len: &mut usize) -> u32 {
+        tell_bytes(found, buf, len)
+    }
 }
 
-/// Inserts copies of both values, under a policy. If that was done, it writes the number of what was overwritten.
-pub(crate) fn insert_under<B: Bijection<ByteString, ByteString>>(
-    alloc: Global,
-    table: &mut BytesTable<ByteString, B>,
-    left: &[u8],
-    right: &[u8],
-    policy: Policy,
-    kind: &mut u32,
-) -> u32
-    ensures inserted { WithCopy (kept B.holding table.old) right.now result
-        (kept B.holding table.new) (λ copy. Inserts same_bytes (kept B.holding table.old) left.now
-        copy policy result (kept B.holding table.new)) }
-    ensures kind { IsKind result kind.new (kept B.holding table.new) }
-    ensures out { IsWritten result kind.old kind.new }
-{
-    let Some(copy) = ByteString::copy_of(alloc, right) else {
-        return NO_MEMORY;
-    };
-    bytes::insert_under(alloc, table, left, copy, policy, kind)
-}
+impl<'a> GivenRight<ByteString> for &'a [u8] {
+    ghost stands_for = { λ given right. right.bytes.items ≡ given.now };
 
-/// Inserts copies of both values, under a policy of two flags.
-pub(crate) fn insert_with<B: Bijection<ByteString, ByteString>>(
-    alloc: Global,
-    table: &mut BytesTable<ByteString, B>,
-    left: &[u8],
-    right: &[u8],
-    left_refuses: u8,
-    right_refuses: u8,
-    kind: &mut u32,
-) -> u32
-    ensures inserted { WithCopy (kept B.holding table.old) right.now result
-        (kept B.holding table.new) (λ copy. InsertsFlagged same_bytes (kept B.holding table.old)
-        left.now copy left_refuses right_refuses result (kept B.holding table.new)) }
-    ensures kind { IsKind result kind.new (kept B.holding table.new) }
-    ensures out { IsWritten result kind.old kind.new }
-{
-    let Some(copy) = ByteString::copy_of(alloc, right) else {
-        return NO_MEMORY;
-    };
-    bytes::insert_with(alloc, table, left, copy, left_refuses, right_refuses, kind)
+    ghost may_fail = { ⊤ };
+
+    fn into_right(self, alloc: Global) -> Option<ByteString> {
+        ByteString::copy_of(alloc, self)
+    }
 }
 
 /// Writes a pair if there is one, and returns the status.

@@ -1,14 +1,15 @@
 //! The struct that C sees if the rights are numbers, and the bodies of calls.
-ghost use Rattle.std.specs.Prelude.{[], option_map};
-ghost use Rattle.std.specs.Map.Iter.{deref_pair};
-ghost use Rattle.bimap_c.specs.Calls.{IsWritten};
+ghost use Rattle.std.specs.Prelude.{◌≡◌, [], option_map};
+ghost use Rattle.std.specs.Map.Iter.{deref, deref_pair};
+ghost use Rattle.bimap_c.specs.Calls.{IsWritten, Tells};
 ghost use Rattle.bimap_c.specs.Bytes.{IsPairOut, IsLengthWritten};
 ghost use Rattle.bimap_c.specs.Packed.{u64_row};
 
 use crate::byte_string::ByteString;
-use crate::bytes::copy_out;
+use crate::bytes::{GivenRight, copy_out};
 use crate::fill::RightOfRow;
 use crate::status::{DONE, NOT_FOUND};
+use crate::u64_u64::tell_value;
 use std::alloc::Global;
 
 /// A pair: the number of bytes of its left, and its right.
@@ -47,6 +48,22 @@ impl RightOfRow for u64 {
 
     fn from_row(_alloc: Global, row: &Row, _bytes: &[u8]) -> Option<u64> {
         Some(row.right)
+    }
+
+    ghost told = { λ found status number old new len. Tells (option_map deref found) status number };
+
+    fn tell(found: Option<&u64>, number: &mut u64, _buf: &mut [u8], _len: &mut usize) -> u32 {
+        tell_value(found, number)
+    }
+}
+
+impl GivenRight<u64> for u64 {
+    ghost stands_for = { λ given right. right ≡ given };
+
+    ghost may_fail = { ⊥ };
+
+    fn into_right(self, _alloc: Global) -> Option<u64> {
+        Some(self)
     }
 }
 

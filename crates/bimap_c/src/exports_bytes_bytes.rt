@@ -11,14 +11,13 @@ ghost use Rattle.bimap_c.specs.Packed.{bytes_of, bytes_row};
 ghost use Rattle.bimap_c.specs.Tables.{bytes_bytes, bytes_bytes_builders, AreSeeded};
 ghost use Rattle.bimap_c.specs.Unpacked.{InsertsMany};
 
-use crate::bytes::{left_at, right_at, tell_bytes};
+use crate::bytes::{self, left_at, right_at, tell_bytes};
 use crate::bytes_bytes::Row;
 use crate::bytes_calls::{BytesChange, BytesReading};
 use crate::c_table::CTable;
 use crate::calls::{OVERWRITE_BOTH, REFUSE_BOTH};
 use crate::handle::Handle;
 use crate::status::REFUSED;
-use crate::{bytes, bytes_bytes};
 use bimap::{OnHeld, Overwritten};
 use bimap_index::By;
 use std::alloc::Global;
@@ -93,7 +92,7 @@ pub extern "C" fn jetukoma_bytes_bytes_reserve_unchecked(
     ensures { Changes bytes_bytes handle.old.table.value result handle.new.table.value
         (λ old new. Reserves old.held more result new.held × (new.struck ≡ old.struck)) }
 {
-    handle.change_bytes_bytes(alloc, BytesChange::Reserve(more), &mut 0)
+    handle.change_bytes_bytes(alloc, BytesChange::Reserve(more), &mut 0, &mut 0)
 }
 
 /// Lowers a capacity above `least` to `least`, or to the number of pairs if that is more. It frees the memory that this
@@ -107,7 +106,7 @@ pub extern "C" fn jetukoma_bytes_bytes_shrink_to_unchecked(
     ensures { Changes bytes_bytes handle.old.table.value result handle.new.table.value
         (λ old new. Shrinks old.held least result new.held × (new.struck ≡ old.struck)) }
 {
-    handle.change_bytes_bytes(alloc, BytesChange::ShrinkTo(least), &mut 0)
+    handle.change_bytes_bytes(alloc, BytesChange::ShrinkTo(least), &mut 0, &mut 0)
 }
 
 /// Inserts copies of the left and the right. They overwrite the pairs with which they share a value. `kind` says
@@ -130,7 +129,8 @@ pub extern "C" fn jetukoma_bytes_bytes_insert_unchecked(
         × IsKind result kind.new new) }
     ensures out { IsWritten result kind.old kind.new }
 {
-    on_table!(handle, alloc, BytesBytes, table => bytes_bytes::insert_under(alloc, table, left, right, OVERWRITE_BOTH, kind))
+    let call = BytesChange::Insert(left, right, OVERWRITE_BOTH);
+    handle.change_bytes_bytes(alloc, call, &mut 0, kind)
 }
 
 /// Inserts copies of the left and the right if neither is contained. The table keeps no overwritten pair then.
@@ -146,7 +146,8 @@ pub extern "C" fn jetukoma_bytes_bytes_insert_no_overwrite_unchecked(
         (λ old new. WithCopy old right.now result new (λ copy. Inserts same_bytes old left.now copy
         (record { left = OnHeld.Refuse; right = OnHeld.Refuse }) result new)) }
 {
-    on_table!(handle, alloc, BytesBytes, table => bytes_bytes::insert_under(alloc, table, left, right, REFUSE_BOTH, &mut 0))
+    let call = BytesChange::Insert(left, right, REFUSE_BOTH);
+    handle.change_bytes_bytes(alloc, call, &mut 0, &mut 0)
 }
 
 /// Inserts as `insert` does, under a policy of two flags. If the flag of a side is 1, a contained value of this side
@@ -167,7 +168,8 @@ pub extern "C" fn jetukoma_bytes_bytes_insert_with_unchecked(
         left.now copy left_refuses right_refuses result new) × IsKind result kind.new new) }
     ensures out { IsWritten result kind.old kind.new }
 {
-    on_table!(handle, alloc, BytesBytes, table => bytes_bytes::insert_with(alloc, table, left, right, left_refuses, right_refuses, kind))
+    let call = BytesChange::InsertWith(left, right, left_refuses, right_refuses);
+    handle.change_bytes_bytes(alloc, call, &mut 0, kind)
 }
 
 /// Inserts pairs in order, each as `insert` does. The rows and the bytes are as `fill` writes them: `bytes` has the bytes
@@ -187,7 +189,7 @@ pub extern "C" fn jetukoma_bytes_bytes_insert_many_unchecked(
         (λ row. row.left_len + row.right_len) old rows.now bytes.now result new taken.new) }
     ensures out { (result ≡ 0 → ⊥) → (result ≡ 1 → ⊥) → taken.new ≡ taken.old }
 {
-    handle.change_bytes_bytes(alloc, BytesChange::InsertMany(bytes, rows), taken)
+    handle.change_bytes_bytes(alloc, BytesChange::InsertMany(bytes, rows), taken, &mut 0)
 }
 
 /// Writes the right of a left to the front of a buffer, and its length. Returns 4 if the buffer is too short, and 5 if
@@ -208,7 +210,7 @@ pub extern "C" fn jetukoma_bytes_bytes_get_by_left_unchecked(
     ensures buf { IsWritten result buf.old buf.new }
     ensures len { IsLengthWritten result len.old len.new }
 {
-    on_table!(handle, alloc, BytesBytes, table => tell_bytes(table.map.get_by_left(By(left)), buf, len))
+    handle.read_bytes_bytes(alloc, BytesReading::GetByLeft(left), &mut 0, buf, len)
 }
 
 /// Writes the left of a right to the front of a buffer, and its length. Returns 4 if the buffer is too short, and 5 if
@@ -271,7 +273,7 @@ pub extern "C" fn jetukoma_bytes_bytes_remove_by_left_unchecked(
     ensures { Changes bytes_bytes handle.old.table.value result handle.new.table.value
         (λ old new. RemovesByLeft has_bytes old left.now result new) }
 {
-    handle.change_bytes_bytes(alloc, BytesChange::RemoveByLeft(left), &mut 0)
+    handle.change_bytes_bytes(alloc, BytesChange::RemoveByLeft(left), &mut 0, &mut 0)
 }
 
 /// Removes the pair of a right. The table keeps the pair, so that `overwritten_left` and `overwritten_right` copy it.
@@ -285,7 +287,7 @@ pub extern "C" fn jetukoma_bytes_bytes_remove_by_right_unchecked(
     ensures { Changes bytes_bytes handle.old.table.value result handle.new.table.value
         (λ old new. RemovesByRight has_bytes old right.now result new) }
 {
-    handle.change_bytes_bytes(alloc, BytesChange::RemoveByRight(By(right)), &mut 0)
+    handle.change_bytes_bytes(alloc, BytesChange::RemoveByRight(By(right)), &mut 0, &mut 0)
 }
 
 /// Writes the left of a pair that the last change overwrote or removed to the front of a buffer, and its length. If
@@ -335,5 +337,5 @@ pub extern "C" fn jetukoma_bytes_bytes_clear_unchecked(alloc: Global, handle: &m
     ensures { Changes bytes_bytes handle.old.table.value result handle.new.table.value
         (λ old new. ClearsAll old result new) }
 {
-    handle.change_bytes_bytes(alloc, BytesChange::Clear, &mut 0)
+    handle.change_bytes_bytes(alloc, BytesChange::Clear, &mut 0, &mut 0)
 }

@@ -22,7 +22,6 @@ use crate::status::REFUSED;
 use crate::u64_u64::tell_value;
 use crate::{bytes, json};
 use bimap::{BiBTreeMap, BiHashMap, BiInsertionOrderMap, OnHeld, Overwritten, Seeded};
-use bimap_index::By;
 use std::alloc::Global;
 
 /// Makes an empty table of capacity 0 for a handle that has no table. The kind is one of the numbers above. The hashes
@@ -67,7 +66,7 @@ pub extern "C" fn jetukoma_bytes_u64_len_unchecked(
         (λ kept. (result ≡ 0) × (len.new ≡ length kept.held.pairs)) }
     ensures out { IsWritten result len.old len.new }
 {
-    handle.read_bytes_u64(alloc, BytesReading::Len, len, &mut [], &mut 0)
+    handle.read_bytes_u64(alloc, BytesReading::Len, len, &mut 0, &mut [], &mut 0)
 }
 
 /// Writes the capacity, which is the number of pairs for which there is memory. It takes constant time.
@@ -81,7 +80,14 @@ pub extern "C" fn jetukoma_bytes_u64_capacity_unchecked(
         (λ kept. (result ≡ 0) × (capacity.new ≡ kept.held.room)) }
     ensures out { IsWritten result capacity.old capacity.new }
 {
-    handle.read_bytes_u64(alloc, BytesReading::Capacity, capacity, &mut [], &mut 0)
+    handle.read_bytes_u64(
+        alloc,
+        BytesReading::Capacity,
+        capacity,
+        &mut 0,
+        &mut [],
+        &mut 0,
+    )
 }
 
 /// Makes the capacity at least the number of pairs plus `more`. It makes it no greater than needed. Each of the next
@@ -95,7 +101,7 @@ pub extern "C" fn jetukoma_bytes_u64_reserve_unchecked(
     ensures { Changes bytes_u64 handle.old.table.value result handle.new.table.value
         (λ old new. Reserves old.held more result new.held × (new.struck ≡ old.struck)) }
 {
-    handle.change_bytes_u64(alloc, BytesChange::Reserve(more), &mut 0)
+    handle.change_bytes_u64(alloc, BytesChange::Reserve(more), &mut 0, &mut 0)
 }
 
 /// Lowers a capacity above `least` to `least`, or to the number of pairs if that is more. It frees the memory that this
@@ -109,7 +115,7 @@ pub extern "C" fn jetukoma_bytes_u64_shrink_to_unchecked(
     ensures { Changes bytes_u64 handle.old.table.value result handle.new.table.value
         (λ old new. Shrinks old.held least result new.held × (new.struck ≡ old.struck)) }
 {
-    handle.change_bytes_u64(alloc, BytesChange::ShrinkTo(least), &mut 0)
+    handle.change_bytes_u64(alloc, BytesChange::ShrinkTo(least), &mut 0, &mut 0)
 }
 
 /// Inserts a copy of the left with the right. They overwrite the pairs with which they share a value. `kind` says
@@ -132,7 +138,8 @@ pub extern "C" fn jetukoma_bytes_u64_insert_unchecked(
         × IsKind result kind.new new) }
     ensures out { IsWritten result kind.old kind.new }
 {
-    on_table!(handle, alloc, BytesU64, table => bytes::insert_under(alloc, table, left, right, OVERWRITE_BOTH, kind))
+    let call = BytesChange::Insert(left, right, OVERWRITE_BOTH);
+    handle.change_bytes_u64(alloc, call, &mut 0, kind)
 }
 
 /// Inserts a copy of the left with the right if neither is contained. The table keeps no overwritten pair then.
@@ -148,7 +155,8 @@ pub extern "C" fn jetukoma_bytes_u64_insert_no_overwrite_unchecked(
         (λ old new. Inserts nat_eq old left.now right
         (record { left = OnHeld.Refuse; right = OnHeld.Refuse }) result new) }
 {
-    on_table!(handle, alloc, BytesU64, table => bytes::insert_under(alloc, table, left, right, REFUSE_BOTH, &mut 0))
+    let call = BytesChange::Insert(left, right, REFUSE_BOTH);
+    handle.change_bytes_u64(alloc, call, &mut 0, &mut 0)
 }
 
 /// Inserts as `insert` does, under a policy of two flags. If the flag of a side is 1, a contained value of this side
@@ -169,7 +177,8 @@ pub extern "C" fn jetukoma_bytes_u64_insert_with_unchecked(
         × IsKind result kind.new new) }
     ensures out { IsWritten result kind.old kind.new }
 {
-    on_table!(handle, alloc, BytesU64, table => bytes::insert_with(alloc, table, left, right, left_refuses, right_refuses, kind))
+    let call = BytesChange::InsertWith(left, right, left_refuses, right_refuses);
+    handle.change_bytes_u64(alloc, call, &mut 0, kind)
 }
 
 /// Inserts pairs in order, each as `insert` does. The rows and the bytes are as `fill` writes them: `bytes` has the bytes
@@ -189,7 +198,7 @@ pub extern "C" fn jetukoma_bytes_u64_insert_many_unchecked(
         rows.now bytes.now result new taken.new) }
     ensures out { (result ≡ 0 → ⊥) → (result ≡ 1 → ⊥) → taken.new ≡ taken.old }
 {
-    handle.change_bytes_u64(alloc, BytesChange::InsertMany(bytes, rows), taken)
+    handle.change_bytes_u64(alloc, BytesChange::InsertMany(bytes, rows), taken, &mut 0)
 }
 
 /// Writes the right of a left. Returns 5 if the left is not contained.
@@ -205,7 +214,8 @@ pub extern "C" fn jetukoma_bytes_u64_get_by_left_unchecked(
         × Tells (option_map deref found) result right.new) }
     ensures out { IsWritten result right.old right.new }
 {
-    on_table!(handle, alloc, BytesU64, table => tell_value(table.map.get_by_left(By(left)), right))
+    let call = BytesReading::GetByLeft(left);
+    handle.read_bytes_u64(alloc, call, &mut 0, right, &mut [], &mut 0)
 }
 
 /// Writes the left of a right to the front of a buffer, and its length. Returns 4 if the buffer is too short, and 5
@@ -225,7 +235,14 @@ pub extern "C" fn jetukoma_bytes_u64_get_by_right_unchecked(
     ensures buf { IsWritten result buf.old buf.new }
     ensures len { IsLengthWritten result len.old len.new }
 {
-    handle.read_bytes_u64(alloc, BytesReading::GetByRight(&right), &mut 0, buf, len)
+    handle.read_bytes_u64(
+        alloc,
+        BytesReading::GetByRight(&right),
+        &mut 0,
+        &mut 0,
+        buf,
+        len,
+    )
 }
 
 /// Returns 0 if the left is contained, and 5 if it is not.
@@ -239,7 +256,7 @@ pub extern "C" fn jetukoma_bytes_u64_contains_left_unchecked(
         (λ kept. Tests (HasLeft has_bytes (Contains kept.held.pairs) left.now) result) }
 {
     let call = BytesReading::ContainsLeft(left);
-    handle.read_bytes_u64(alloc, call, &mut 0, &mut [], &mut 0)
+    handle.read_bytes_u64(alloc, call, &mut 0, &mut 0, &mut [], &mut 0)
 }
 
 /// Returns 0 if the right is contained, and 5 if it is not.
@@ -253,7 +270,7 @@ pub extern "C" fn jetukoma_bytes_u64_contains_right_unchecked(
         (λ kept. Tests (HasRight nat_eq (Contains kept.held.pairs) right) result) }
 {
     let call = BytesReading::ContainsRight(&right);
-    handle.read_bytes_u64(alloc, call, &mut 0, &mut [], &mut 0)
+    handle.read_bytes_u64(alloc, call, &mut 0, &mut 0, &mut [], &mut 0)
 }
 
 /// Removes the pair of a left. The table keeps the pair, so that `overwritten_left` and `overwritten_right` copy it.
@@ -267,7 +284,7 @@ pub extern "C" fn jetukoma_bytes_u64_remove_by_left_unchecked(
     ensures { Changes bytes_u64 handle.old.table.value result handle.new.table.value
         (λ old new. RemovesByLeft has_bytes old left.now result new) }
 {
-    handle.change_bytes_u64(alloc, BytesChange::RemoveByLeft(left), &mut 0)
+    handle.change_bytes_u64(alloc, BytesChange::RemoveByLeft(left), &mut 0, &mut 0)
 }
 
 /// Removes the pair of a right. The table keeps the pair, so that `overwritten_left` and `overwritten_right` copy it.
@@ -281,7 +298,7 @@ pub extern "C" fn jetukoma_bytes_u64_remove_by_right_unchecked(
     ensures { Changes bytes_u64 handle.old.table.value result handle.new.table.value
         (λ old new. RemovesByRight nat_eq old right result new) }
 {
-    handle.change_bytes_u64(alloc, BytesChange::RemoveByRight(&right), &mut 0)
+    handle.change_bytes_u64(alloc, BytesChange::RemoveByRight(&right), &mut 0, &mut 0)
 }
 
 /// Writes the left of a pair that the last change overwrote or removed to the front of a buffer, and its length. If
@@ -329,7 +346,7 @@ pub extern "C" fn jetukoma_bytes_u64_clear_unchecked(alloc: Global, handle: &mut
     ensures { Changes bytes_u64 handle.old.table.value result handle.new.table.value
         (λ old new. ClearsAll old result new) }
 {
-    handle.change_bytes_u64(alloc, BytesChange::Clear, &mut 0)
+    handle.change_bytes_u64(alloc, BytesChange::Clear, &mut 0, &mut 0)
 }
 
 /// Writes the pairs as the text of a JSON object to the front of a buffer, and its length. Each pair is a name and

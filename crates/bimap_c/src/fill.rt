@@ -1,6 +1,7 @@
 //! Pairs with byte strings as C reads them: a row for each pair, and its bytes in one buffer. The bytes of the pairs
 //! stand behind one another.
-ghost use Rattle.std.specs.Prelude.{◌≡◌, ◌≤◌, ◌+◌, ◌++◌, ℕ, List, [], length, take, drop, reverse, IfSome, MatchOption};
+ghost use Rattle.std.specs.Prelude.{◌≡◌, ◌≤◌, ◌+◌, ◌++◌, ℕ, Option, List, [], length, take, drop, reverse, IfSome, MatchOption};
+ghost use Rattle.std.specs.Borrow.{Bor};
 ghost use Rattle.std.specs.Iterator.{AlwaysYields, IsFinite};
 ghost use Rattle.std.specs.Map.Iter.{deref_pair};
 ghost use Rattle.bimap.specs.BTree.{holding};
@@ -50,6 +51,16 @@ pub(crate) trait RightOfRow {
         ensures { IfSome result (λ right. (right_bytes right ≡ bytes.now)
             × ((left : ByteString) → length left.bytes.items ≡ left_len row.now →
             row_of (left, right) ≡ row.now)) };
+
+    /// What a look-up for this right returns and writes: a status, and a number or bytes with their length.
+    ghost told: { Option (Bor Self) → ℕ → ℕ → List ℕ → List ℕ → ℕ → Type 0 };
+
+    /// Writes the number or the bytes of a right if there is one, and returns the status.
+    fn tell(found: Option<&Self>, number: &mut u64, buf: &mut [u8], len: &mut usize) -> u32
+        ensures told { told found.entry result number.new buf.old buf.new len.new }
+        ensures number { IsWritten result number.old number.new }
+        ensures buf { IsWritten result buf.old buf.new }
+        ensures len { IsLengthWritten result len.old len.new };
 }
 
 /// Writes the pairs of an iterator, as many as there are rows and as fit into the buffer. Returns the status.
