@@ -1,6 +1,6 @@
 """Uses the toolchain's command `rt` as a module. Run as a program, it is `rt ci` with more processors for each proof.
 
-tools/toolchain.py CRATE..   proves these crates as soon as it can. By default, the crates with the most lines come first.
+tools/toolchain.py CRATE..   proves these crates as soon as it can. By default, those with the longest chain of lines behind them come first.
 
 It relies on private functions of `rt`. If a new toolchain changes them, the tools that need them fail. Then adapt this file and
 those tools.
