@@ -25,4 +25,5 @@ pub mod Spans
 pub mod Climbs
 pub mod Retracing
 pub mod Replaced
-pub mod Firsts
+pub mod EndRoutes
+pub mod AtEnds

@@ -7,7 +7,7 @@ use Rattle.bimap_base.specs.declared.cells.Node.{Node}
 use Rattle.bimap_base.specs.NodesInCells.{IsThere, CanCount, counted, recounted}
 use Rattle.bimap_tree.specs.Tree.{Tree, leaf, fork, reading, height, size, root_of, Stands, branch, node_on, near_of, far_of}
 use Rattle.bimap_tree.specs.Link.{CanRebalance, IsRebalanced}
-use Rattle.bimap_tree.specs.Path.{Path, top, below, steps, front, back, Tells, one_if, Moves, KeepsWhole, CanRise, CanRejoin, CanPut, IsRisen}
+use Rattle.bimap_tree.specs.Path.{Path, top, below, plug, steps, front, back, Tells, one_if, Moves, KeepsWhole, CanRise, CanRejoin, CanPut, Begins, IsRisen}
 use Rattle.bimap_tree.specs.Notes.{Notes}
 use Rattle.bimap_tree.proofs.Branch.{height-branch, size-branch, height-node_on, size-node_on, near-node_on, far-node_on, node_is, level, Shows-linked}
 use Rattle.bimap_tree.proofs.Paths.{balanced_inside, Holds-frame, holds_of}
@@ -196,6 +196,14 @@ at_top nodes notes top grew s u depth root c e n r = (
   },
 )
 at_top nodes notes (below up direction p sister) grew s u depth root c e n r = absurd (omega (arith, e, n))
+
+pub stands_at_top : (nodes : List Node) (notes : Notes) (path : Path) (grew : Bool) (s u : Tree) (depth : ℕ) (root : Option ℕ) → CanRise nodes notes path grew s u → depth ≡ steps path → depth ≡ 0 → root_of u ≡ root → Stands nodes root (plug path u)
+stands_at_top nodes notes top grew s u depth root c e n r = record { root_is = r; shown = c.shown }
+stands_at_top nodes notes (below up direction p sister) grew s u depth root c e n r = absurd (omega (arith, e, n))
+
+-- A route of which no entry is known to lead down the tree.
+pub begins_anew : (nodes : List Node) (root : Option ℕ) (v : Tree) → Stands nodes root v → (notes : Notes) (path : Path) → Begins nodes root notes path 0 root
+begins_anew nodes root v stands notes path = record { up = top; rest = v; tree = stands; rest_is = stands.root_is; count_is = refl; follows = tt; upper = record { alike = λ direction all. tt; leads = λ s. (plug path s, refl) } }
 
 -- ---- A single place at the end of a route.
 module _ (nodes : List Node) (notes : Notes) (path : Path) (place : ℕ) (h : CanPut nodes notes path place) (new : List Node) (e : new ≡ slice_set nodes place (node_on false leaf leaf)) where

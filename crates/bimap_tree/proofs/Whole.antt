@@ -14,7 +14,7 @@ use Rattle.bimap_tree.specs.IndexView.{IndexView, IsIndex, IsBalancedIndex, IsWh
 use Rattle.bimap_tree.specs.Order.{after_key, first_equal, IsSplit}
 use Rattle.bimap_tree.specs.Path.{Path, top, plug, front, back, Wants, CanPut, IsRisen}
 use Rattle.bimap_tree.specs.Remove.{CanTake, IsTaken}
-use Rattle.bimap_tree.specs.Route.{IsRoute, CanFollow, IsFollowed}
+use Rattle.bimap_tree.specs.Route.{IsNotedRoute, CanFollow, IsFollowed}
 use Rattle.bimap_tree.specs.Search.{CanSeek}
 use Rattle.bimap_tree.specs.Notes.{notes_of}
 use Rattle.bimap_tree.specs.declared.route.Route.{Route}
@@ -40,6 +40,9 @@ module _ (ns : List Node) (root : Option ℕ) (len : ℕ) (v : IndexView) (w : I
 
   pub size_is : size (tree_in ns root) ≡ length v.places
   size_is = sym w.counted ∙ length_is
+
+  pub few_in_height : most_height (size (tree_in ns root)) ≡ most_height (length v.places)
+  few_in_height = ap most_height size_is
 
   few : size (tree_in ns root) < 2 ^ 64
   few = omega (arith, w.counted, w.few)
@@ -71,8 +74,11 @@ module _ (ns : List Node) (root : Option ℕ) (len : ℕ) (v : IndexView) (w : I
     pub whole_grown : IsWhole ms root len
     whole_grown = whole_of ms root len (tree_in ns root) (record { tree = still_stands; balanced = w.index.balanced; distinct = w.index.distinct }) w.counted w.few
 
+    pub tree_grown : tree_in ms root ≡ tree_in ns root
+    tree_grown = tree_in-shown ms root (tree_in ns root) still_stands
+
     pub places_grown : reading (tree_in ms root) ≡ v.places
-    places_grown = ap reading (tree_in-shown ms root (tree_in ns root) still_stands) ∙ places_are
+    places_grown = ap reading tree_grown ∙ places_are
 
   -- ---- Searches.
   module _ {K Q : Type 0} (key : ℕ → Option K) (order : K → K → Ordering) (to : K → Q → Ordering) (follows : Follows order to) (up : Ascends key order v.places) where
@@ -113,7 +119,7 @@ module _ (ns : List Node) (root : Option ℕ) (len : ℕ) (v : IndexView) (w : I
   }
 
   -- The route that is left by a search that found nothing.
-  pub route_left : (t : Tree) → IsBalancedIndex v t → (go : ℕ → Ordering) (route : Route) (found : Option ℕ) → found ≡ None → (low : Path) × (s : Tree) × IsFollowed go route route.depth found t low s → IsRoute v go route
+  pub route_left : (t : Tree) → IsBalancedIndex v t → (go : ℕ → Ordering) (route : Route) (found : Option ℕ) → found ≡ None → (low : Path) × (s : Tree) × IsFollowed go route route.depth found t low s → IsNotedRoute v go route
   route_left t shown go route found none (low, s, f) =
       let no : s ≡ leaf = no_root s (f.root_is ∙ none) in
       let is : t ≡ plug low leaf = sym f.whole ∙ ap (λ x. plug low x) no in
@@ -125,7 +131,7 @@ module _ (ns : List Node) (root : Option ℕ) (len : ℕ) (v : IndexView) (w : I
         wants = f.wants;
       }
 
-  pub route_if_none : (t : Tree) → IsBalancedIndex v t → (go : ℕ → Ordering) (route : Route) (found : Option ℕ) → (found ≡ None → (low : Path) × (s : Tree) × IsFollowed go route route.depth found t low s) → IfNone found (IsRoute v go route)
+  pub route_if_none : (t : Tree) → IsBalancedIndex v t → (go : ℕ → Ordering) (route : Route) (found : Option ℕ) → (found ≡ None → (low : Path) × (s : Tree) × IsFollowed go route route.depth found t low s) → IfNone found (IsNotedRoute v go route)
   route_if_none t shown go route None f = route_left t shown go route None refl (f refl)
   route_if_none t shown go route (Some p) f = tt
 
@@ -137,7 +143,7 @@ module _ (ns : List Node) (root : Option ℕ) (len : ℕ) (v : IndexView) (w : I
         ∙ ap (λ x. first_equal (λ q. standing order (key q) (Some k)) x) places_are
 
     -- It leads to no place, if no listed key is equal.
-    pub place_route : ((p : ℕ) → Contains v.places p → standing order (key p) (Some k) ≡ Equal → ⊥) → (route : Route) → (low : Path) × (s : Tree) × IsFollowed (λ q. standing order (key q) (key place)) route route.depth found (tree_in ns root) low s → IsRoute v (λ q. standing order (key q) (Some k)) route
+    pub place_route : ((p : ℕ) → Contains v.places p → standing order (key p) (Some k) ≡ Equal → ⊥) → (route : Route) → (low : Path) × (s : Tree) × IsFollowed (λ q. standing order (key q) (key place)) route route.depth found (tree_in ns root) low s → IsNotedRoute v (λ q. standing order (key q) (Some k)) route
     place_route unequal route f =
         route_left (tree_in ns root) shown_index (λ q. standing order (key q) (Some k)) route found (none_of (λ q. standing order (key q) (Some k)) v.places found first_listed unequal)
         (subst (λ o. (low : Path) × (s : Tree) × IsFollowed (λ q. standing order (key q) o) route route.depth found (tree_in ns root) low s) is f)
@@ -149,7 +155,7 @@ module _ (ns : List Node) (root : Option ℕ) (len : ℕ) (v : IndexView) (w : I
         (λ p c s. only_one key order order (follows_itself total) v.places up k p place c listed s (own_key key order total place k is))
 
   -- ---- A place is inserted at the end of a route.
-  module _ (go : ℕ → Ordering) (route : Route) (r : IsRoute v go route) where
+  module _ (go : ℕ → Ordering) (route : Route) (r : IsNotedRoute v go route) where
     at_fields : IsIndex ns root (plug r.path leaf)
     at_fields = subst (λ x. IsIndex x.nodes x.root (plug r.path leaf)) (sym e) r.of_index.tree
 
@@ -236,7 +242,7 @@ module _ (ns : List Node) (root : Option ℕ) (len : ℕ) (v : IndexView) (w : I
     pub end : (l : Tree) × (r : Tree) × (s ≡ fork l found r)
     end = a_fork s found f.root_is
 
-    is_whole : plug low (fork end.0 found end.1) ≡ tree_in ns root
+    pub is_whole : plug low (fork end.0 found end.1) ≡ tree_in ns root
     is_whole = ap (λ x. plug low x) (sym end.2) ∙ f.whole
 
     pub take_root : root_of (plug low (fork end.0 found end.1)) ≡ root

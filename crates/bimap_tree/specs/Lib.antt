@@ -11,6 +11,7 @@ pub mod Path
 pub mod Route
 pub mod Retraced
 pub mod Descent
+pub mod Ends
 pub mod Remove
 pub mod Batches
 pub mod Ranges

@@ -1,5 +1,5 @@
 -- The entries of a route down a tree, as they are noted.
-use Rattle.std.specs.Prelude.{◌≡◌, ◌≢◌, ℕ, ◌==◌, ◌/◌, ◌%◌, ◌^◌, Bool, false, get_or}
+use Rattle.std.specs.Prelude.{◌≡◌, ◌≢◌, ℕ, ◌-◌, ◌==◌, ◌/◌, ◌%◌, ◌^◌, Bool, false, get_or}
 use Rattle.bimap_tree.specs.declared.route.Route.{Route}
 use Rattle.bimap_tree.specs.declared.notes.LongRoute.{LongRoute}
 
@@ -20,6 +20,10 @@ step_at route = λ depth. (get_or route.steps depth 0 / 2, get_or route.steps de
 -- The noted route of a `Route`.
 abbrev pub notes_of : Route → Notes
 notes_of route = record { kept = packed; step_at = step_at route; depth = route.depth }
+
+-- The same without its last entry.
+abbrev pub notes_before : Route → Notes
+notes_before route = record { kept = packed; step_at = step_at route; depth = route.depth - 1 }
 
 -- The place and the direction at a depth of a `LongRoute`.
 abbrev pub long_step_at : LongRoute → ℕ → ℕ × Bool

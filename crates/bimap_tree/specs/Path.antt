@@ -49,6 +49,11 @@ abbrev pub Follows : (ℕ → ℕ) → (ℕ → ℕ × Bool) → Path → Type 0
 Follows kept noted top = Unit {0}
 Follows kept noted (below up direction p sister) = (noted (steps up) ≡ (kept p, direction)) × Follows kept noted up
 
+-- Each entry of the route has this direction.
+abbrev pub AllGo : Bool → Path → Type 0
+AllGo direction top = Unit {0}
+AllGo direction (below up turned p sister) = (turned ≡ direction) × AllGo direction up
+
 -- How a place compares with a key that lies in this direction from it.
 abbrev pub wanted : Bool → Ordering
 wanted true = Less
@@ -119,6 +124,27 @@ pub record IsRisen (old new : List Node) (path : Path) (u : Tree) (root : Option
   pub same_places : (q : ℕ) → occurs q v ≡ occurs_on q path + occurs q u
   pub balanced : IsBalanced v
   pub same_length : length new ≡ length old
+
+-- The route `up` has the first entries of the route `path`. So it keeps to one direction if `path` does, and it leads down each
+-- tree down which `path` leads.
+pub record IsUpper (up path : Path) : Type 0 where
+  pub alike : (direction : Bool) → AllGo direction path → AllGo direction up
+  pub leads : (s : Tree) → (x : Tree) × (plug path s ≡ plug up x)
+
+-- After a change along the route `path`, the nodes show a tree at this root. The first `count` noted entries lead down this tree,
+-- to the subtree with the root `at`. They are the first entries of `path`.
+pub record Begins (nodes : List Node) (root : Option ℕ) (notes : Notes) (path : Path) (count : ℕ) (at : Option ℕ) : Type 0 where
+  pub up : Path
+  pub rest : Tree
+  pub tree : Stands nodes root (plug up rest)
+  pub rest_is : root_of rest ≡ at
+  pub count_is : count ≡ steps up
+  pub follows : Follows notes.kept notes.step_at up
+  pub upper : IsUpper up path
+
+-- After a change along the route `path`, `tells` says how many first entries lead down the tree, and the root of the subtree there.
+abbrev pub LeavesUpper : (ℕ → Option ℕ → Type 0) → List Node → Option ℕ → Notes → Path → Type 0
+LeavesUpper tells nodes root notes path = (count : ℕ) × (at : Option ℕ) × tells count at × Begins nodes root notes path count at
 
 -- A place may be inserted at the end of the route, where no place is.
 pub record CanPut (nodes : List Node) (notes : Notes) (path : Path) (place : ℕ) : Type 0 where

@@ -1,7 +1,7 @@
 //! A search down a tree that can stop at each level. The code here knows how far a search has come, and not what it searches for.
 ghost use Rattle.std.specs.Prelude.{◌≡◌, ◌⊎◌, ◌+◌, ◌<◌, ◌≤◌, ℕ, None, Some, false, true};
 ghost use Rattle.std.specs.declared.cmp.Ordering.TheVariants.{Equal};
-ghost use Rattle.bimap_tree.specs.Descent.{levels_left};
+ghost use Rattle.bimap_tree.specs.Descent.{levels_below};
 ghost use Rattle.bimap_tree.specs.Order.{first_equal};
 ghost use Rattle.bimap_tree.specs.Path.{Path, plug};
 ghost use Rattle.bimap_tree.specs.Route.{CanFollow, IsFollowed};
@@ -19,20 +19,45 @@ pub struct Descent {
     depth: usize,
     // Whether the key of the place is equal to the key that is searched for. If it is, the search is over.
     is_found: bool,
+    // The root of the tree, if the last place is to be tried before any other. Then `root` is `None`, so the search takes no step.
+    // Only proofs read this field, so the compiler leaves it out.
+    top: Option<usize>,
 }
 
 impl Descent {
     // Returns a search that has not gone down from this root yet.
-    pub(crate) fn new(root: Option<usize>) -> Self
-        ensures root { result.root ≡ root }
+    pub(crate) fn new(root: Option<usize>, tries_last: bool) -> Self
+        ensures tries { tries_last ≡ true → (result.root ≡ None) × (result.top ≡ root) }
+        ensures goes { tries_last ≡ false → (result.root ≡ root) × (result.top ≡ None) }
         ensures depth { result.depth ≡ 0 }
         ensures is_found { result.is_found ≡ false }
     {
+        if tries_last {
+            return Descent {
+                root: None,
+                depth: 0,
+                is_found: false,
+                top: root,
+            };
+        }
         Descent {
             root,
             depth: 0,
             is_found: false,
+            top: None,
         }
+    }
+
+    // Returns whether the search has nothing to go down from the root on. Either the tree is empty, or the last place is to be tried
+    // first.
+    pub(crate) fn is_whole(&self) -> bool
+        ensures whole { result ≡ true → (self.now.root ≡ None) × (self.now.depth ≡ 0) }
+        ensures down { result ≡ false → self.now.root ≡ None → self.now.depth ≡ 0 → ⊥ }
+    {
+        if self.depth > 0 {
+            return false;
+        }
+        self.root.is_none()
     }
 }
 
@@ -56,13 +81,15 @@ pub fn step_in_tree<C: Cell, S: SearchKey, M: Meter>(
     ensures found { descent.new.is_found ≡ true →
         (descent.new ≡ descent.old)
         ⊎ ((place : ℕ) × (descent.new.root ≡ Some place) × (S.go sought.now place ≡ Equal)) }
-    ensures went { result ≡ true → levels_left cells.now descent.new
-        < levels_left cells.now descent.old }
+    ensures top { descent.new.top ≡ descent.old.top }
+    ensures none { descent.old.root ≡ None → descent.new ≡ descent.old }
+    ensures went { result ≡ true → levels_below cells.now descent.new
+        < levels_below cells.now descent.old }
     ensures comparisons { M.comparisons meter.new
-        + levels_left cells.now descent.new ≤ M.comparisons meter.old
-        + levels_left cells.now descent.old }
-    ensures touches { M.touches meter.new + levels_left cells.now descent.new ≤ M.touches meter.old
-        + levels_left cells.now descent.old }
+        + levels_below cells.now descent.new ≤ M.comparisons meter.old
+        + levels_below cells.now descent.old }
+    ensures touches { M.touches meter.new + levels_below cells.now descent.new ≤ M.touches meter.old
+        + levels_below cells.now descent.old }
 {
     // If directions are branches, the search stays where it is. A mispredicted branch would discard what the processor has begun
     // for the other search.
@@ -109,8 +136,8 @@ pub fn finish_in_tree<C: Cell, S: SearchKey, M: Meter>(
         × IsFollowed (S.go sought.now) route.new route.new.depth result
         (plug path s) low e }
     ensures comparisons { M.comparisons meter.new ≤ M.comparisons meter.old
-        + levels_left cells.now descent }
-    ensures touches { M.touches meter.new ≤ M.touches meter.old + levels_left cells.now descent }
+        + levels_below cells.now descent }
+    ensures touches { M.touches meter.new ≤ M.touches meter.old + levels_below cells.now descent }
 {
     if descent.is_found {
         return descent.root;

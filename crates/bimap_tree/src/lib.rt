@@ -5,6 +5,8 @@ mod ahead;
 mod batch;
 mod by_width;
 mod descent;
+mod end_changes;
+mod ends;
 mod levels;
 mod link;
 mod notes;
@@ -15,6 +17,7 @@ mod route;
 mod search;
 mod search_key;
 mod span;
+mod upper;
 mod walk;
 
 pub use batch::Batch;

@@ -103,24 +103,33 @@ pub fn link<C: Cell, M: Meter>(
     }
 }
 
-// Links a place above two trees by one rotation or two. The tree at `heavy`, in the direction `direction`, is two levels higher than
-// `light`.
-pub fn rotate<C: Cell, M: Meter>(
+// Does what `rotate` does. The parts of the lower tree are handed in one by one, because a `Subtree` is handed in by its address.
+// Then the caller would have to store it on each level of a route, though it seldom rotates.
+fn rotate_parts<C: Cell, M: Meter>(
     cells: &mut Nodes<C>,
     place: usize,
     direction: bool,
     heavy: usize,
-    light: Subtree,
+    light_root: Option<usize>,
+    light_height: usize,
+    light_size: usize,
     meter: &mut M,
 ) -> Subtree
     requires { (n : Tree) × (f : Tree) × CanRebalance cells.old place n f × (root_of n ≡ Some heavy)
-        × Measures light f × (height n ≡ height f + 2) }
+        × Measures record { root = light_root; height = light_height; size = light_size } f
+        × (height n ≡ height f + 2) }
     ensures tree { (n f : Tree) → CanRebalance cells.old place n f → root_of n ≡ Some heavy →
-        Measures light f → height n ≡ height f + 2 →
+        Measures record { root = light_root; height = light_height; size = light_size } f →
+        height n ≡ height f + 2 →
         (t : Tree) × Measures result t × IsRebalanced cells.old cells.new direction place n f t }
     ensures comparisons { M.comparisons meter.new ≡ M.comparisons meter.old }
     ensures touches { M.touches meter.new ≤ M.touches meter.old + 9 }
 {
+    let light = Subtree {
+        root: light_root,
+        height: light_height,
+        size: light_size,
+    };
     let upper = cells.read(heavy, meter);
     let (outer_root, inner_root) = children(upper, direction);
     let outer = measure(cells, outer_root, meter);
@@ -139,6 +148,29 @@ pub fn rotate<C: Cell, M: Meter>(
     let upper_side = link(cells, heavy, direction, outer, near, meter);
     let lower_side = link(cells, place, direction, far, light, meter);
     link(cells, middle, direction, upper_side, lower_side, meter)
+}
+
+// Links a place above two trees by one rotation or two. The tree at `heavy`, in the direction `direction`, is two levels higher than
+// `light`.
+#[inline(always)]
+fn rotate<C: Cell, M: Meter>(
+    cells: &mut Nodes<C>,
+    place: usize,
+    direction: bool,
+    heavy: usize,
+    light: Subtree,
+    meter: &mut M,
+) -> Subtree
+    requires { (n : Tree) × (f : Tree) × CanRebalance cells.old place n f × (root_of n ≡ Some heavy)
+        × Measures light f × (height n ≡ height f + 2) }
+    ensures tree { (n f : Tree) → CanRebalance cells.old place n f → root_of n ≡ Some heavy →
+        Measures light f → height n ≡ height f + 2 →
+        (t : Tree) × Measures result t × IsRebalanced cells.old cells.new direction place n f t }
+    ensures comparisons { M.comparisons meter.new ≡ M.comparisons meter.old }
+    ensures touches { M.touches meter.new ≤ M.touches meter.old + 9 }
+{
+    let Subtree { root, height, size } = light;
+    rotate_parts(cells, place, direction, heavy, root, height, size, meter)
 }
 
 // Links a place above two trees whose heights differ by at most two. Rotates if the heights differ by two.

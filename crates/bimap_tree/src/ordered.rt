@@ -1,10 +1,10 @@
 //! The listed places in the order of their keys. The code here knows places, ranks and counts, and no key's value.
-ghost use Rattle.std.specs.Prelude.{◌≡◌, ◌≢◌, ◌⊎◌, ℕ, ◌+◌, ◌-◌, ◌*◌, ◌<◌, ◌≤◌, [], length, max, slice_get, Some, None, true, IsOk, OnOk, OnErr, IsSome, IfSome, IfNone};
+ghost use Rattle.std.specs.Prelude.{◌≡◌, ◌≢◌, ℕ, ◌+◌, ◌-◌, ◌*◌, ◌<◌, ◌≤◌, [], length, max, slice_get, Some, None, true, IsOk, OnOk, OnErr, IsSome, IfSome, IfNone};
 ghost use Rattle.std.specs.List.{AllPairs, Contains};
 ghost use Rattle.std.specs.declared.cmp.Ordering.{Ordering};
 ghost use Rattle.std.specs.declared.cmp.Ordering.TheVariants.{Equal};
 ghost use Rattle.bimap_base.specs.Digits.{most_height};
-ghost use Rattle.bimap_base.specs.Keyed.{standing, Ascends, Adds, Drops};
+ghost use Rattle.bimap_base.specs.Keyed.{standing, Ascends, Adds};
 ghost use Rattle.bimap_tree.specs.Descent.{IsUnderWay, levels_left};
 ghost use Rattle.bimap_tree.specs.Filled.{IsRow};
 ghost use Rattle.bimap_tree.specs.Order.{count_below};
@@ -15,14 +15,20 @@ ghost use Rattle.bimap_tree.specs.Route.{IsRoute};
 ghost use Rattle.bimap_tree.specs.Spans.{IsCut};
 
 mod copy;
+mod insert_last;
+mod remove;
 
 use crate::by_width::{
-    fill_around, place_in_tree, put_at, rank_in_tree, route_from_first, route_in_tree, take_at,
+    fill_around, finish_in_tree, place_in_tree, put_at, rank_in_tree, route_in_tree, step_in_tree,
 };
-use crate::descent::{Descent, finish_in_tree, step_in_tree};
-use crate::route::{Route, kept_or_new, make_kept};
+use crate::descent::Descent;
+use crate::ends::{
+    Kept, is_past_last, keeps_last, let_go, make_ends, renew_last, scratch, seems_last,
+};
+use crate::route::Route;
 use crate::search::find_in_tree;
 use crate::search_key::{AfterQuery, ToKey, ToPlace, ToQuery};
+use crate::upper::NoUpper;
 use bimap_base::{Cells, Keys, Meter, NoMemory, Sought};
 use std::alloc::Global;
 use std::marker::Model;
@@ -37,18 +43,19 @@ pub struct Ordered {
     root: Option<usize>,
     len: usize,
     // Whether the last removed place was probably the first one. If it was, the next removal tries the first place before it
-    // searches.
+    // searches, and keeps the route there from then on.
     takes_first: bool,
     // What the last removal has read ahead, as a number that means nothing. The compiler keeps the reads because it is stored.
     seen: usize,
-    // A route for the searches of `insert`, `remove` and `remove_key`, which write over what the last search noted. It is made with
-    // the first cells. So no such search has to make a route of its own.
-    route: Option<Box<Route>>,
+    // The routes to the first place and to the last one, if they are kept. The first place is then removed without a search, and a
+    // place past the last one is inserted without a search.
+    kept: Kept,
     alloc: Global,
 }
 
 impl Model for Ordered {
-    ghost use Rattle.bimap_tree.specs.IndexView.{IndexView, IsWhole, index_of};
+    ghost use Rattle.bimap_tree.specs.IndexView.{IndexView, IsWhole, index_of, tree_in};
+    ghost use Rattle.bimap_tree.specs.Ends.{KeepsEnds};
 
     ghost Value = { IndexView };
 
@@ -56,7 +63,8 @@ impl Model for Ordered {
 
     ghost view = { λ o. index_of (nodes_in o.cells) o.root };
 
-    ghost invariant = { λ o. IsWhole (nodes_in o.cells) o.root o.len };
+    ghost invariant = { λ o. IsWhole (nodes_in o.cells) o.root o.len
+        × KeepsEnds o.kept (tree_in (nodes_in o.cells) o.root) };
 }
 
 impl Ordered {
@@ -72,7 +80,7 @@ impl Ordered {
             len: 0,
             takes_first: false,
             seen: 0,
-            route: None,
+            kept: Kept::new(),
             alloc,
         }
     }
@@ -92,7 +100,7 @@ impl Ordered {
 
     /// Makes a cell for each place below `to` that has none, and no further cell.
     ///
-    /// Allocates only if cells are missing. With the first cells it also makes the route that the index keeps. If it runs out of
+    /// Allocates only if cells are missing. With the 64th cell it also makes the routes that the index keeps. If it runs out of
     /// memory, nothing changes.
     pub fn grow(&mut self, to: usize) -> Result<(), NoMemory>
         ensures places { self.new.places ≡ self.old.places }
@@ -104,7 +112,7 @@ impl Ordered {
         ensures routes { (go : _) (route : _) → IsRoute self.old go route →
             IsRoute self.new go route }
     {
-        make_kept(&mut self.route, self.alloc, self.cells.places(), to)?;
+        make_ends(&mut self.kept, self.alloc, self.cells.places(), to)?;
         self.cells.grow(to)
     }
 
@@ -115,6 +123,7 @@ impl Ordered {
     {
         self.root = None;
         self.len = 0;
+        let_go(&mut self.kept);
     }
 
     /// Returns the listed place whose key is equal to the query, or `None`. Takes time logarithmic in the length.
@@ -146,7 +155,7 @@ impl Ordered {
             IsUnderWay self.now go result route }
         ensures left { levels_left self.now.nodes result ≤ most_height (length self.now.places) }
     {
-        Descent::new(self.root)
+        Descent::new(self.root, keeps_last(&self.kept))
     }
 
     /// Goes down one level and notes the route, unless the search is over. Returns whether it went down.
@@ -172,10 +181,7 @@ impl Ordered {
             ≤ M.touches meter.old + levels_left self.now.nodes descent.old }
     {
         let sought = ToKey { keys, key };
-        match &self.cells {
-            Cells::Narrow(nodes) => step_in_tree(nodes, &sought, descent, route, meter),
-            Cells::Wide(nodes) => step_in_tree(nodes, &sought, descent, route, meter),
-        }
+        step_in_tree(&self.cells, &sought, descent, route, meter)
     }
 
     /// Completes a search from where it has come. Returns the listed place with an equal key, or `None`. If it returns `None`,
@@ -202,11 +208,13 @@ impl Ordered {
         ensures touches { M.touches meter.new ≤ M.touches meter.old
             + levels_left self.now.nodes descent }
     {
-        let sought = ToKey { keys, key };
-        match &self.cells {
-            Cells::Narrow(nodes) => finish_in_tree(nodes, &sought, descent, route, meter),
-            Cells::Wide(nodes) => finish_in_tree(nodes, &sought, descent, route, meter),
+        if descent.is_whole() {
+            return self.find_from_last(keys, key, route, meter);
         }
+        let sought = ToKey { keys, key };
+        let found = finish_in_tree(&self.cells, &sought, descent, route, meter);
+        route.is_past = false;
+        found
     }
 
     /// Lists a place at the end of its key's route. Takes no comparison, and time logarithmic in the length. Never allocates.
@@ -234,10 +242,11 @@ impl Ordered {
         ensures touches { M.touches meter.new ≤ M.touches meter.old
             + 64 * (most_height (length self.old.places) + 1) }
     {
-        // The contract of this call says that there are fewer than 2^64 cells.
-        let _ = self.cells.places();
-        self.root = put_at(&mut self.cells, self.root, route, place, meter);
-        self.len += 1;
+        if route.is_past {
+            self.insert_last(keys, place, meter);
+        } else {
+            self.insert_along(keys, route, place, meter);
+        }
     }
 
     /// Lists a place at its key's position. Takes time logarithmic in the length. Never allocates.
@@ -258,90 +267,28 @@ impl Ordered {
         ensures touches { M.touches meter.new ≤ M.touches meter.old
             + 64 * (most_height (length self.old.places) + 1) }
     {
+        let sought = ToPlace { keys, place };
+        if is_past_last(&self.kept, &sought, meter) {
+            self.insert_last(keys, place, meter);
+            return;
+        }
         // The contract of this call says that there are fewer than 2^64 cells.
         let _ = self.cells.places();
         let mut fresh = None;
-        let noted = kept_or_new(&mut self.route, &mut fresh);
+        let noted = scratch(&mut self.kept, &mut fresh);
         // The search finds no place, because no listed key is equal.
-        let _ = route_in_tree(
-            &self.cells,
+        let _ = route_in_tree(&self.cells, self.root, 0, &sought, noted, meter);
+        self.root = put_at(
+            &mut self.cells,
             self.root,
-            0,
-            &ToPlace { keys, place },
             noted,
+            place,
+            &mut NoUpper,
             meter,
         );
-        self.root = put_at(&mut self.cells, self.root, noted, place, meter);
         self.len += 1;
-    }
-
-    /// Removes a place. Takes time logarithmic in the length. Never allocates.
-    pub fn remove<K: Keys, M: Meter>(&mut self, keys: &K, place: usize, meter: &mut M)
-        requires ascends { Ascends (K.key_at keys.now) K.order self.old.places }
-        requires listed { Contains self.old.places place }
-        ensures len { length self.new.places + 1 ≡ length self.old.places }
-        ensures drops { Drops self.old.places place self.new.places }
-        ensures ascends { Ascends (K.key_at keys.now) K.order self.new.places }
-        ensures cells { length self.new.nodes ≡ length self.old.nodes }
-        ensures comparisons { M.comparisons meter.new ≤ M.comparisons meter.old
-            + most_height (length self.old.places) }
-        ensures touches { M.touches meter.new ≤ M.touches meter.old
-            + 64 * (most_height (length self.old.places) + 1) }
-    {
-        let mut fresh = None;
-        let noted = kept_or_new(&mut self.route, &mut fresh);
-        // The search finds `place` itself.
-        let _ = route_from_first(
-            &self.cells,
-            self.root,
-            self.takes_first,
-            &ToPlace { keys, place },
-            noted,
-            meter,
-        );
-        self.takes_first = noted.goes_left();
-        self.seen = noted.seen();
-        self.root = take_at(&mut self.cells, self.root, noted, place, meter);
-        self.len -= 1;
-    }
-
-    /// Removes the place whose key is equal to the query, and returns it. If there is no such place, nothing is written.
-    pub fn remove_key<K: Keys, Q: Sought<K>, M: Meter>(
-        &mut self,
-        keys: &K,
-        query: Q,
-        meter: &mut M,
-    ) -> Option<usize>
-        requires { Ascends (K.key_at keys.now) K.order self.old.places }
-        ensures found { IfSome result (λ p. Contains self.old.places p
-            × (standing Q.order (K.key_at keys.now p) (Some query) ≡ Equal)) }
-        ensures none { IfNone result ((p : ℕ) → Contains self.old.places p →
-            standing Q.order (K.key_at keys.now p) (Some query) ≡ Equal → ⊥) }
-        ensures len { IfSome result (λ _. length self.new.places + 1 ≡ length self.old.places) }
-        ensures drops { IfSome result (λ p. Drops self.old.places p self.new.places) }
-        ensures unchanged { IfNone result (self.new ≡ self.old) }
-        ensures ascends { Ascends (K.key_at keys.now) K.order self.new.places }
-        ensures cells { length self.new.nodes ≡ length self.old.nodes }
-        ensures comparisons { M.comparisons meter.new ≤ M.comparisons meter.old
-            + most_height (length self.old.places) }
-        ensures touches { M.touches meter.new ≤ M.touches meter.old
-            + 64 * (most_height (length self.old.places) + 1) }
-    {
-        let mut fresh = None;
-        let noted = kept_or_new(&mut self.route, &mut fresh);
-        let found = route_from_first(
-            &self.cells,
-            self.root,
-            self.takes_first,
-            &ToQuery { keys, query },
-            noted,
-            meter,
-        )?;
-        self.takes_first = noted.goes_left();
-        self.seen = noted.seen();
-        self.root = take_at(&mut self.cells, self.root, noted, found, meter);
-        self.len -= 1;
-        Some(found)
+        let wants_last = seems_last(place, noted);
+        renew_last(&mut self.kept, &self.cells, self.root, wants_last, meter);
     }
 
     /// Returns the number of listed places whose key is below the query. Takes time logarithmic in the length.

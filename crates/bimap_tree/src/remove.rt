@@ -1,7 +1,7 @@
 //! Removes a place from the tree. The code here knows no key and no order.
 ghost use Rattle.std.specs.Prelude.{◌≡◌, ℕ, ◌+◌, ◌*◌, ◌<◌, ◌≤◌, Some, List, length};
 ghost use Rattle.bimap_tree.specs.Tree.{Tree, fork, height, root_of, size};
-ghost use Rattle.bimap_tree.specs.Path.{Path, plug, KeepsWhole};
+ghost use Rattle.bimap_tree.specs.Path.{Path, LeavesUpper, plug, KeepsWhole};
 ghost use Rattle.bimap_tree.specs.Remove.{CanDescend, IsFirst, CanReplace, IsReplaced, CanTake, IsTaken};
 ghost use Rattle.bimap_tree.specs.Notes.{notes_of};
 
@@ -9,6 +9,7 @@ use crate::link::measure;
 use crate::notes::{Steps, fits, retraced};
 use crate::rise::rise;
 use crate::route::Route;
+use crate::upper::Upper;
 use bimap_base::{Cell, Meter, Nodes};
 
 // Notes the route down to a tree's first place. Returns that place and its depth.
@@ -62,13 +63,14 @@ fn replace_child<C: Cell, W: Steps, M: Meter>(
     }
 }
 
-// Removes the place at the end of a route, and returns the new root. If the place has two children, the first place of its
-// right subtree moves to its position.
+// Removes the place at the end of a route. If the place has two children, the first place of its right subtree moves to its
+// position. Returns the new root.
 #[inline(always)]
-fn take_along<C: Cell, W: Steps, M: Meter>(
+fn take_along<C: Cell, W: Steps, U: Upper, M: Meter>(
     cells: &mut Nodes<C>,
     notes: &mut W,
     at: usize,
+    upper: &mut U,
     meter: &mut M,
 ) -> Option<usize>
     requires take { (path : Path) × (l : Tree) × (r : Tree)
@@ -76,6 +78,9 @@ fn take_along<C: Cell, W: Steps, M: Meter>(
     requires whole { KeepsWhole cells.old (W.notes notes.old) }
     ensures tree { (path : Path) (l r : Tree) → CanTake cells.old (W.notes notes.old) path l at r →
         (v : Tree) × IsTaken cells.old cells.new path l r result v }
+    ensures begins { (path : Path) (l r : Tree) →
+        CanTake cells.old (W.notes notes.old) path l at r →
+        LeavesUpper (U.tells upper.new) cells.new result (W.notes notes.new) path }
     ensures comparisons { M.comparisons meter.new ≡ M.comparisons meter.old }
     ensures touches { (path : Path) (l r : Tree) →
         CanTake cells.old (W.notes notes.old) path l at r →
@@ -85,11 +90,11 @@ fn take_along<C: Cell, W: Steps, M: Meter>(
     let depth = notes.depth();
     if node.left.is_none() {
         let child = measure(cells, node.right, meter);
-        return rise(cells, notes, depth, child, node.height, false, meter);
+        return rise(cells, notes, depth, child, node.height, false, upper, meter);
     }
     let Some(right) = node.right else {
         let child = measure(cells, node.left, meter);
-        return rise(cells, notes, depth, child, node.height, false, meter);
+        return rise(cells, notes, depth, child, node.height, false, upper, meter);
     };
     let (first, low) = first_in_tree(cells, right, depth + 1, notes, meter);
     let last = cells.read(first, meter);
@@ -97,16 +102,19 @@ fn take_along<C: Cell, W: Steps, M: Meter>(
     cells.write(first, node, meter);
     replace_child(cells, notes, depth, first, meter);
     notes.note(depth, first, true);
-    rise(cells, notes, low, rest, last.height, false, meter)
+    let root = rise(cells, notes, low, rest, last.height, false, upper, meter);
+    upper.keep(0, root);
+    root
 }
 
 // Does what `take_along` does, if the entries of the route are too small for the places. It is never inlined.
 #[inline(never)]
-fn take_retraced<C: Cell, M: Meter>(
+fn take_retraced<C: Cell, U: Upper, M: Meter>(
     cells: &mut Nodes<C>,
     root: Option<usize>,
     route: &Route,
     at: usize,
+    upper: &mut U,
     meter: &mut M,
 ) -> Option<usize>
     requires { (path : Path) × (l : Tree) × (r : Tree)
@@ -116,6 +124,10 @@ fn take_retraced<C: Cell, M: Meter>(
         CanTake cells.old (notes_of route.now) path l at r →
         root_of (plug path (fork l at r)) ≡ root →
         (v : Tree) × IsTaken cells.old cells.new path l r result v }
+    ensures begins { (path : Path) (l r : Tree) →
+        CanTake cells.old (notes_of route.now) path l at r →
+        root_of (plug path (fork l at r)) ≡ root →
+        LeavesUpper (U.tells upper.new) cells.new result (notes_of route.now) path }
     ensures comparisons { M.comparisons meter.new ≡ M.comparisons meter.old }
     ensures touches { (path : Path) (l r : Tree) →
         CanTake cells.old (notes_of route.now) path l at r →
@@ -123,15 +135,18 @@ fn take_retraced<C: Cell, M: Meter>(
         M.touches meter.new ≤ M.touches meter.old + 13 * height (plug path (fork l at r)) + 4 }
 {
     let mut notes = retraced(cells, root, route, meter);
-    take_along(cells, &mut notes, at, meter)
+    let root = take_along(cells, &mut notes, at, upper, meter);
+    upper.keep(0, root);
+    root
 }
 
-// Removes the place at the end of a route, and returns the new root.
-pub fn take_at<C: Cell, M: Meter>(
+// Removes the place at the end of a route. Returns the new root.
+pub fn take_at<C: Cell, U: Upper, M: Meter>(
     cells: &mut Nodes<C>,
     root: Option<usize>,
     route: &mut Route,
     at: usize,
+    upper: &mut U,
     meter: &mut M,
 ) -> Option<usize>
     requires { (path : Path) × (l : Tree) × (r : Tree)
@@ -141,6 +156,10 @@ pub fn take_at<C: Cell, M: Meter>(
         CanTake cells.old (notes_of route.old) path l at r →
         root_of (plug path (fork l at r)) ≡ root →
         (v : Tree) × IsTaken cells.old cells.new path l r result v }
+    ensures begins { (path : Path) (l r : Tree) →
+        CanTake cells.old (notes_of route.old) path l at r →
+        root_of (plug path (fork l at r)) ≡ root →
+        LeavesUpper (U.tells upper.new) cells.new result (notes_of route.new) path }
     ensures comparisons { M.comparisons meter.new ≡ M.comparisons meter.old }
     ensures touches { (path : Path) (l r : Tree) →
         CanTake cells.old (notes_of route.old) path l at r →
@@ -148,7 +167,7 @@ pub fn take_at<C: Cell, M: Meter>(
         M.touches meter.new ≤ M.touches meter.old + 13 * height (plug path (fork l at r)) + 4 }
 {
     if fits(cells) {
-        return take_along(cells, route, at, meter);
+        return take_along(cells, route, at, upper, meter);
     }
-    take_retraced(cells, root, route, at, meter)
+    take_retraced(cells, root, route, at, upper, meter)
 }

@@ -1,13 +1,14 @@
 //! Goes up a route from a tree at its end that has grown or shrunk by one place. The code here knows no key and no order.
 ghost use Rattle.std.specs.Prelude.{◌≡◌, ℕ, ◌+◌, ◌*◌, ◌<◌, ◌≤◌};
-ghost use Rattle.bimap_tree.specs.Tree.{Tree, leaf, fork, height, root_of, branch};
+ghost use Rattle.bimap_tree.specs.Tree.{Tree, Stands, leaf, fork, height, root_of, branch};
 ghost use Rattle.bimap_tree.specs.Link.{Measures, IsRebalanced};
-ghost use Rattle.bimap_tree.specs.Path.{Path, plug, steps, Moves, KeepsWhole, CanRise, CanRejoin, CanPut, IsRisen};
+ghost use Rattle.bimap_tree.specs.Path.{Path, LeavesUpper, plug, steps, Moves, KeepsWhole, CanRise, CanRejoin, CanPut, IsRisen};
 ghost use Rattle.bimap_tree.specs.Notes.{notes_of};
 
 use crate::link::{Subtree, children, link, measure, rebalance};
 use crate::notes::{Steps, fits, retraced};
 use crate::route::Route;
+use crate::upper::Upper;
 use bimap_base::{Cell, Meter, Node, Nodes};
 
 // Links a place above a child that has grown or shrunk. Reads the other child only if the height of the place may change.
@@ -60,6 +61,9 @@ fn recount<C: Cell, W: Steps, M: Meter>(
         CanRise cells.old (W.notes notes.now) path grew s u → depth ≡ steps path →
         root_of u ≡ child → height u ≡ height s →
         (v : Tree) × IsRisen cells.old cells.new path u result v }
+    ensures same_route { (path : Path) (s u : Tree) →
+        CanRise cells.old (W.notes notes.now) path grew s u → depth ≡ steps path →
+        root_of u ≡ child → height u ≡ height s → Stands cells.new result (plug path u) }
     ensures comparisons { M.comparisons meter.new ≡ M.comparisons meter.old }
     ensures touches { M.touches meter.new ≤ M.touches meter.old + depth }
 {
@@ -80,13 +84,14 @@ fn recount<C: Cell, W: Steps, M: Meter>(
 }
 
 // Goes up from a child that has replaced a tree of the height `was`. Returns the new root.
-pub fn rise<C: Cell, W: Steps, M: Meter>(
+pub fn rise<C: Cell, W: Steps, U: Upper, M: Meter>(
     cells: &mut Nodes<C>,
     notes: &W,
     depth: usize,
     child: Subtree,
     was: usize,
     grew: bool,
+    upper: &mut U,
     meter: &mut M,
 ) -> Option<usize>
     requires { (path : Path) × (s : Tree) × (u : Tree)
@@ -96,6 +101,10 @@ pub fn rise<C: Cell, W: Steps, M: Meter>(
         CanRise cells.old (W.notes notes.now) path grew s u → depth ≡ steps path →
         Measures child u → was ≡ height s →
         (v : Tree) × IsRisen cells.old cells.new path u result v }
+    ensures begins { (path : Path) (s u : Tree) →
+        CanRise cells.old (W.notes notes.now) path grew s u → depth ≡ steps path →
+        Measures child u → was ≡ height s →
+        LeavesUpper (U.tells upper.new) cells.new result (W.notes notes.now) path }
     ensures comparisons { M.comparisons meter.new ≡ M.comparisons meter.old }
     ensures touches { M.touches meter.new ≤ M.touches meter.old + 11 * depth }
 {
@@ -104,6 +113,7 @@ pub fn rise<C: Cell, W: Steps, M: Meter>(
     let mut depth = depth;
     while child.height != was {
         if depth == 0 {
+            upper.keep(0, child.root);
             return child.root;
         }
         depth -= 1;
@@ -112,21 +122,25 @@ pub fn rise<C: Cell, W: Steps, M: Meter>(
         child = rejoin(cells, at, node, direction, child, grew, meter);
         was = node.height;
     }
+    upper.keep(depth, child.root);
     recount(cells, notes, depth, child.root, grew, meter)
 }
 
 // Inserts a place at the end of a route that leads to no place. Returns the new root.
 #[inline(always)]
-fn put_along<C: Cell, W: Steps, M: Meter>(
+fn put_along<C: Cell, W: Steps, U: Upper, M: Meter>(
     cells: &mut Nodes<C>,
     notes: &W,
     place: usize,
+    upper: &mut U,
     meter: &mut M,
 ) -> Option<usize>
     requires put { (path : Path) × CanPut cells.old (W.notes notes.now) path place }
     requires whole { KeepsWhole cells.old (W.notes notes.now) }
     ensures tree { (path : Path) → CanPut cells.old (W.notes notes.now) path place →
         (v : Tree) × IsRisen cells.old cells.new path (fork leaf place leaf) result v }
+    ensures begins { (path : Path) → CanPut cells.old (W.notes notes.now) path place →
+        LeavesUpper (U.tells upper.new) cells.new result (W.notes notes.now) path }
     ensures comparisons { M.comparisons meter.new ≡ M.comparisons meter.old }
     ensures touches { M.touches meter.new ≤ M.touches meter.old + 11 * (W.notes notes.now).depth +
         1 }
@@ -137,17 +151,18 @@ fn put_along<C: Cell, W: Steps, M: Meter>(
         size: 0,
     };
     let alone = link(cells, place, false, nothing, nothing, meter);
-    rise(cells, notes, notes.depth(), alone, 0, true, meter)
+    rise(cells, notes, notes.depth(), alone, 0, true, upper, meter)
 }
 
 // Does what `put_along` does, if the entries of the route are too small for the places. It is never inlined, which spares other
 // calls the stack space of a `LongRoute`.
 #[inline(never)]
-fn put_retraced<C: Cell, M: Meter>(
+fn put_retraced<C: Cell, U: Upper, M: Meter>(
     cells: &mut Nodes<C>,
     root: Option<usize>,
     route: &Route,
     place: usize,
+    upper: &mut U,
     meter: &mut M,
 ) -> Option<usize>
     requires { (path : Path) × CanPut cells.old (notes_of route.now) path place
@@ -155,20 +170,26 @@ fn put_retraced<C: Cell, M: Meter>(
     ensures tree { (path : Path) → CanPut cells.old (notes_of route.now) path place →
         root_of (plug path leaf) ≡ root →
         (v : Tree) × IsRisen cells.old cells.new path (fork leaf place leaf) result v }
+    ensures begins { (path : Path) → CanPut cells.old (notes_of route.now) path place →
+        root_of (plug path leaf) ≡ root →
+        LeavesUpper (U.tells upper.new) cells.new result (notes_of route.now) path }
     ensures comparisons { M.comparisons meter.new ≡ M.comparisons meter.old }
     ensures touches { M.touches meter.new ≤ M.touches meter.old + 12 * route.now.depth + 1 }
 {
     let notes = retraced(cells, root, route, meter);
-    put_along(cells, &notes, place, meter)
+    let root = put_along(cells, &notes, place, upper, meter);
+    upper.keep(0, root);
+    root
 }
 
 // Inserts a place at the end of a route that leads to no place. Returns the new root.
 #[inline(always)]
-pub fn put_at<C: Cell, M: Meter>(
+pub fn put_at<C: Cell, U: Upper, M: Meter>(
     cells: &mut Nodes<C>,
     root: Option<usize>,
     route: &Route,
     place: usize,
+    upper: &mut U,
     meter: &mut M,
 ) -> Option<usize>
     requires { (path : Path) × CanPut cells.old (notes_of route.now) path place
@@ -176,11 +197,14 @@ pub fn put_at<C: Cell, M: Meter>(
     ensures tree { (path : Path) → CanPut cells.old (notes_of route.now) path place →
         root_of (plug path leaf) ≡ root →
         (v : Tree) × IsRisen cells.old cells.new path (fork leaf place leaf) result v }
+    ensures begins { (path : Path) → CanPut cells.old (notes_of route.now) path place →
+        root_of (plug path leaf) ≡ root →
+        LeavesUpper (U.tells upper.new) cells.new result (notes_of route.now) path }
     ensures comparisons { M.comparisons meter.new ≡ M.comparisons meter.old }
     ensures touches { M.touches meter.new ≤ M.touches meter.old + 12 * route.now.depth + 1 }
 {
     if fits(cells) {
-        return put_along(cells, route, place, meter);
+        return put_along(cells, route, place, upper, meter);
     }
-    put_retraced(cells, root, route, place, meter)
+    put_retraced(cells, root, route, place, upper, meter)
 }

@@ -1,19 +1,17 @@
 //! The route of a search down a tree. The code here knows in which direction a key lies, and not the key.
-ghost use Rattle.std.specs.Prelude.{◌≡◌, ℕ, ◌+◌, ◌*◌, ◌<◌, ◌≤◌, false, IsOk};
+ghost use Rattle.std.specs.Prelude.{◌≡◌, ℕ, ◌+◌, ◌*◌, ◌<◌, ◌≤◌, false, IfSome};
 ghost use Rattle.std.specs.declared.cmp.Ordering.{Ordering};
-ghost use Rattle.bimap_tree.specs.Tree.{IsBalanced, Tree, leaf, Stands, height, reading, size};
-ghost use Rattle.bimap_base.specs.Digits.{most_height};
+ghost use Rattle.bimap_tree.specs.Tree.{Tree, leaf, Stands, height, reading};
 ghost use Rattle.bimap_tree.specs.Order.{first_equal};
 ghost use Rattle.bimap_tree.specs.IndexView.{IndexView, IsBalancedIndex};
-ghost use Rattle.bimap_tree.specs.Path.{Path, plug, top};
+ghost use Rattle.bimap_tree.specs.Path.{Path, plug};
+ghost use Rattle.bimap_tree.specs.Ends.{CanNote, LeadsDown, LeadsToEnd};
 ghost use Rattle.bimap_tree.specs.Route.{CanFollow, IsFollowed, IsRoute};
 
-use crate::ahead::{look_ahead, looks_ahead};
+use crate::ahead::look_ahead;
 use crate::notes::{PACKED, Steps};
-use crate::remove::first_in_tree;
 use crate::search_key::SearchKey;
 use bimap_base::{Cell, Meter, Nodes};
-use std::alloc::{AllocError, Global};
 
 /// The route of a search down an index. At each depth it stores a place, and whether the route goes on to the right of it.
 ///
@@ -22,9 +20,11 @@ use std::alloc::{AllocError, Global};
 pub struct Route {
     // The entry of each depth. It is the place modulo 2^31, times 2, plus 1 if the route goes on to the right of the place.
     steps: [u32; 91],
-    depth: usize,
+    pub(crate) depth: usize,
     // What the search has read ahead, as a number that means nothing.
     seen: usize,
+    // Whether the route goes past the last place. It then has no entries of its own, because the index keeps them.
+    pub(crate) is_past: bool,
 }
 
 impl Route {
@@ -37,49 +37,26 @@ impl Route {
             steps: [0; 91],
             depth: 0,
             seen: 0,
+            is_past: false,
         }
     }
 
-    // Returns whether the route probably goes only to the left. Looks at a few entries, without a branch. The result decides
+    // Returns whether the route probably goes in this direction alone. Looks at a few entries, without a branch. The result decides
     // where a search begins, and never what it finds.
-    pub(crate) fn goes_left(&self) -> bool {
+    pub(crate) fn goes(&self, direction: bool) -> bool {
         let depth = self.depth;
         if depth < 4 || depth > 91 {
             return false;
         }
+        let turn = if direction { 1 } else { 0 };
         let steps = &self.steps;
-        (steps[0] | steps[1] | steps[2] | steps[depth / 2] | steps[depth - 1]) % 2 == 0
+        let first = (steps[0] ^ turn) | (steps[1] ^ turn) | (steps[2] ^ turn);
+        (first | (steps[depth / 2] ^ turn) | (steps[depth - 1] ^ turn)) % 2 == 0
     }
 
     // Returns what the search has read ahead, as a number that means nothing.
     pub(crate) fn seen(&self) -> usize {
         self.seen
-    }
-}
-
-// Makes the route that an index keeps, if the index has no cells and will have `to` cells.
-pub fn make_kept(
-    kept: &mut Option<Box<Route>>,
-    alloc: Global,
-    cells: usize,
-    to: usize,
-) -> Result<(), AllocError>
-    ensures { to ≤ cells → IsOk result }
-{
-    if cells == 0 && to > 0 {
-        *kept = Some(Box::new(alloc, Route::new()).map_err(AllocError::from)?);
-    }
-    Ok(())
-}
-
-// Returns the kept route to write over. If none is kept, returns a new one, which it puts into `fresh`.
-pub fn kept_or_new<'a>(
-    kept: &'a mut Option<Box<Route>>,
-    fresh: &'a mut Option<Route>,
-) -> &'a mut Route {
-    match kept {
-        Some(route) => &mut **route,
-        None => fresh.insert(Route::new()),
     }
 }
 
@@ -176,35 +153,35 @@ pub fn route_in_tree<C: Cell, S: SearchKey, M: Meter>(
     root
 }
 
-// Goes down to what is searched for, and notes the route. Returns the place there, or `None`. If that place is probably the
-// first one, tries the first place before any other. In a large tree, looks ahead.
-pub fn route_from_first<C: Cell, S: SearchKey, M: Meter>(
+// Notes the route on in one direction, to the end of the tree. Returns the last place there, if the route passes one.
+pub fn note_end<C: Cell, M: Meter>(
     cells: &Nodes<C>,
-    root: Option<usize>,
-    is_first: bool,
-    sought: &S,
+    at: Option<usize>,
+    depth: usize,
+    direction: bool,
     route: &mut Route,
     meter: &mut M,
 ) -> Option<usize>
-    requires { (t : Tree) × CanFollow cells.now root (S.live sought.now) (S.go sought.now)
-        route.old 0 top t }
-    ensures found { (t : Tree) → CanFollow cells.now root (S.live sought.now) (S.go sought.now)
-        route.old 0 top t → result ≡ first_equal (S.go sought.now) (reading t) }
-    ensures follows { (t : Tree) → CanFollow cells.now root (S.live sought.now)
-        (S.go sought.now) route.old 0 top t → (low : Path) × (e : Tree)
-        × IsFollowed (S.go sought.now) route.new route.new.depth result t low e }
-    ensures comparisons { (t : Tree) → Stands cells.now root t → IsBalanced t →
-        M.comparisons meter.new ≤ M.comparisons meter.old + most_height (size t) }
-    ensures touches { (t : Tree) → Stands cells.now root t →
-        M.touches meter.new ≤ M.touches meter.old + 4 * height t }
+    requires { (path : Path) × (s : Tree) × CanNote cells.now at direction route.old depth path s }
+    ensures end { (path : Path) (s : Tree) → CanNote cells.now at direction route.old depth path s →
+        IfSome result (λ place. LeadsToEnd direction route.new place (plug path s)) }
+    ensures leads { (path : Path) (s : Tree) →
+        CanNote cells.now at direction route.old depth path s →
+        LeadsDown direction route.new (plug path s) }
+    ensures comparisons { M.comparisons meter.new ≡ M.comparisons meter.old }
+    ensures touches { (s : Tree) → Stands cells.now at s →
+        M.touches meter.new ≤ M.touches meter.old + height s }
 {
-    if let (true, Some(at)) = (is_first, root) {
-        let (first, depth) = first_in_tree(cells, at, 0, route, meter);
-        if sought.ordering(first, meter).is_eq() {
-            route.depth = depth;
-            return Some(first);
-        }
+    let mut root = at;
+    let mut depth = depth;
+    let mut end = None;
+    while let Some(place) = root {
+        route.note(depth, place, direction);
+        depth += 1;
+        end = root;
+        let cell = cells.cell(place, meter);
+        root = cell.child(direction);
     }
-    let ahead = looks_ahead(cells);
-    route_in_tree(cells, root, 0, sought, ahead, route, meter)
+    route.depth = depth;
+    end
 }

@@ -1,6 +1,9 @@
-use Rattle.std.proofs.Common.{arith}
-use Rattle.std.proofs.lemmas.Grind.{common_steps}
+use Rattle.std.proofs.Common.{ap}
+use Rattle.bimap_base.specs.NodesInCells.{nodes_in}
 use Rattle.bimap_tree.proofs.by_width.put_at.Goals as goal
 
+pub returns-in-Narrow-clause-tree : goal.returns-in-Narrow-clause-tree
+returns-in-Narrow-clause-tree g c = rw (ap nodes_in c.in-Narrow.is) c.put_at.ensures.tree
+
 pub returns-in-Wide-clause-tree : goal.returns-in-Wide-clause-tree
-returns-in-Wide-clause-tree g c = grind (arith, common_steps)
+returns-in-Wide-clause-tree g c = rw (ap nodes_in c.in-Wide.is) c.put_at-in-Wide.ensures.tree

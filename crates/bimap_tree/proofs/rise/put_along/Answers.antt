@@ -21,5 +21,10 @@ returns-clause-tree g c path h =
     let e = c.link-alone.ensures.linked leaf leaf nothing nothing in
     put_risen _ _ path _ h _ e _ _ (c.rise.ensures.tree path leaf _ (can_put _ _ path _ h _ e c.requires.whole) (c.depth.ensures ∙ h.depth_is) (c.link-alone.ensures.measured leaf leaf nothing nothing) refl)
 
+pub returns-clause-begins : goal.returns-clause-begins
+returns-clause-begins g c path h =
+    let e = c.link-alone.ensures.linked leaf leaf nothing nothing in
+    c.rise.ensures.begins path leaf _ (can_put _ _ path _ h _ e c.requires.whole) (c.depth.ensures ∙ h.depth_is) (c.link-alone.ensures.measured leaf leaf nothing nothing) refl
+
 pub returns-clause-touches : goal.returns-clause-touches
 returns-clause-touches g c = omega arith

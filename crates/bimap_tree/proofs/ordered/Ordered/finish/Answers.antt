@@ -1,37 +1,45 @@
-use Rattle.std.proofs.Common.{ap, rules}
-use Rattle.bimap_base.specs.NodesInCells.{nodes_in}
+use Rattle.std.proofs.Common.{inl, inr, arith, refl, ap}
+use Rattle.bimap_tree.specs.Descent.{levels_below}
+use Rattle.bimap_tree.specs.IndexView.{height_at}
 use Rattle.bimap_tree.proofs.Found.{found_in, none_in}
-use Rattle.bimap_tree.proofs.UnderWay.{goes_on_down, finds_on, leads_on}
+use Rattle.bimap_tree.proofs.UnderWay.{at_none, finds_on, goes_on_down, is_down, leads_on, levels_down, levels_whole, of_noted, some_or_none}
 use Rattle.bimap_tree.proofs.ordered.Ordered.finish.Goals as goal
 
-pub finish_in_tree-requires-clause-follows : goal.finish_in_tree-requires-clause-follows
-finish_in_tree-requires-clause-follows g c = rw (← ap nodes_in c.in-Narrow.is) (_, _, (goes_on_down _ _ _ _ c.self.invariant c.self.view_is _ _ g.met.K.Keys.total c.requires.ascends _ _ _ c.requires.under_way).0)
+-- The last place is tried first, or the index lists nothing.
+pub returns-then-is_whole-clause-comparisons : goal.returns-then-is_whole-clause-comparisons
+returns-then-is_whole-clause-comparisons g c =
+    let (none, no_step) = c.is_whole.ensures.whole c.if-is_whole.true in
+    elim (some_or_none c.args.descent.top) [
+      | inl t ↦ omega (arith, c.find_from_last.ensures.comparisons, levels_whole c.args.self.now.nodes c.args.descent t.0 t.1, ap (λ x. height_at c.args.self.now.nodes x) (c.requires.under_way.whole t.0 t.1).0)
+      | inr n ↦ omega (arith, c.find_from_last.ensures.empty (at_none _ _ _ _ (c.requires.under_way.down n) none no_step))
+    ]
 
-pub finish_in_tree-requires-in-Wide-clause-follows : goal.finish_in_tree-requires-in-Wide-clause-follows
-finish_in_tree-requires-in-Wide-clause-follows g c = rw (← ap nodes_in c.in-Wide.is) (_, _, (goes_on_down _ _ _ _ c.self.invariant c.self.view_is _ _ g.met.K.Keys.total c.requires.ascends _ _ _ c.requires.under_way).0)
+pub returns-then-is_whole-clause-touches : goal.returns-then-is_whole-clause-touches
+returns-then-is_whole-clause-touches g c =
+    let (none, no_step) = c.is_whole.ensures.whole c.if-is_whole.true in
+    elim (some_or_none c.args.descent.top) [
+      | inl t ↦ omega (arith, c.find_from_last.ensures.touches, levels_whole c.args.self.now.nodes c.args.descent t.0 t.1, ap (λ x. height_at c.args.self.now.nodes x) (c.requires.under_way.whole t.0 t.1).0)
+      | inr n ↦ omega (arith, c.find_from_last.ensures.touches, ap (λ x. height_at c.args.self.now.nodes x) (at_none _ _ _ _ (c.requires.under_way.down n) none no_step))
+    ]
 
-pub returns-in-Narrow : goal.returns-in-Narrow
-returns-in-Narrow g c =
-    let w = rw (ap nodes_in c.in-Narrow.is) at c.self.invariant in
-    let e = rw (ap nodes_in c.in-Narrow.is) at c.self.view_is in
-    let first = finds_on _ _ _ _ w e _ _ g.met.K.Keys.total c.requires.ascends _ _ _ c.requires.under_way _ c.finish_in_tree.ensures.found in
+-- The search goes on where it is.
+pub finish_in_tree-found-requires-clause-follows : goal.finish_in_tree-found-requires-clause-follows
+finish_in_tree-found-requires-clause-follows g c =
+    let n = is_down _ _ _ _ c.requires.under_way (c.is_whole.ensures.down c.if-is_whole.false) in
+    (_, _, (goes_on_down _ _ _ _ c.self.invariant.0 c.self.view_is _ _ g.met.K.Keys.total c.requires.ascends _ _ _ (c.requires.under_way.down n)).0)
+
+pub finish_in_tree-found-requires-clause-over : goal.finish_in_tree-found-requires-clause-over
+finish_in_tree-found-requires-clause-over g c = (c.requires.under_way.down (is_down _ _ _ _ c.requires.under_way (c.is_whole.ensures.down c.if-is_whole.false))).found
+
+pub returns : goal.returns
+returns g c =
+    let n = is_down _ _ _ _ c.requires.under_way (c.is_whole.ensures.down c.if-is_whole.false) in
+    let d = c.requires.under_way.down n in
+    let first = finds_on _ _ _ _ c.self.invariant.0 c.self.view_is _ _ g.met.K.Keys.total c.requires.ascends _ _ _ d _ c.finish_in_tree-found.ensures.found in
     record {
       found = found_in _ _ _ first;
       none = none_in _ _ _ first;
-      route = leads_on _ _ _ _ w e _ _ g.met.K.Keys.total c.requires.ascends _ _ _ c.requires.under_way _ _ c.finish_in_tree.ensures.follows;
-      comparisons = search rules;
-      touches = search rules;
-    }
-
-pub returns-in-Wide : goal.returns-in-Wide
-returns-in-Wide g c =
-    let w = rw (ap nodes_in c.in-Wide.is) at c.self.invariant in
-    let e = rw (ap nodes_in c.in-Wide.is) at c.self.view_is in
-    let first = finds_on _ _ _ _ w e _ _ g.met.K.Keys.total c.requires.ascends _ _ _ c.requires.under_way _ c.finish_in_tree-in-Wide.ensures.found in
-    record {
-      found = found_in _ _ _ first;
-      none = none_in _ _ _ first;
-      route = leads_on _ _ _ _ w e _ _ g.met.K.Keys.total c.requires.ascends _ _ _ c.requires.under_way _ _ c.finish_in_tree-in-Wide.ensures.follows;
-      comparisons = search rules;
-      touches = search rules;
+      route = of_noted _ _ c.finish_in_tree-found.new.route _ _ refl refl refl (leads_on _ _ _ _ c.self.invariant.0 c.self.view_is _ _ g.met.K.Keys.total c.requires.ascends _ _ _ d _ _ c.finish_in_tree-found.ensures.follows);
+      comparisons = omega (arith, c.finish_in_tree-found.ensures.comparisons, levels_down c.args.self.now.nodes c.args.descent n, ap (λ v. levels_below v.nodes c.args.descent) c.self.view_is);
+      touches = omega (arith, c.finish_in_tree-found.ensures.touches, levels_down c.args.self.now.nodes c.args.descent n, ap (λ v. levels_below v.nodes c.args.descent) c.self.view_is);
     }

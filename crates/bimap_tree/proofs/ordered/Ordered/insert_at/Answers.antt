@@ -1,35 +1,7 @@
-use Rattle.std.proofs.Common.{arith, refl}
-use Rattle.bimap_tree.proofs.Ascending.{key_is}
-use Rattle.bimap_tree.proofs.Whole.{can_put, put_root, len_fits, put_whole, put_length, put_adds, put_cells, put_ascends, route_depth}
 use Rattle.bimap_tree.proofs.ordered.Ordered.insert_at.Goals as goal
 
-pub put_at-self-inside-requires : goal.put_at-self-inside-requires
-put_at-self-inside-requires g c =
-    let (k, is) = key_is (g.K.Keys.key_at c.args.keys.now) g.K.Keys.order _ c.requires.live in
-    (_, can_put _ _ _ _ c.self.invariant c.self.view_is _ _ (c.requires.route k is) _ _ c.requires.cell c.requires.unlisted c.places.ensures (omega arith), put_root _ _ _ _ c.self.invariant c.self.view_is _ _ (c.requires.route k is))
+pub insert_last-requires-clause-past : goal.insert_last-requires-clause-past
+insert_last-requires-clause-past g c k is = (c.requires.route k is).past c.if-route.true
 
-pub overflow_add-self : goal.overflow_add-self
-overflow_add-self g c =
-    let (k, is) = key_is (g.K.Keys.key_at c.args.keys.now) g.K.Keys.order _ c.requires.live in
-    omega (arith, len_fits _ _ _ _ c.self.invariant c.self.view_is _ _ (c.requires.route k is) _ _ c.requires.cell c.requires.unlisted c.places.ensures (omega arith))
-
-pub invariant_of-self : goal.invariant_of-self
-invariant_of-self g c =
-    let (k, is) = key_is (g.K.Keys.key_at c.args.keys.now) g.K.Keys.order _ c.requires.live in
-    let r = c.requires.route k is in
-    let h = can_put _ _ _ _ c.self.invariant c.self.view_is _ _ r _ _ c.requires.cell c.requires.unlisted c.places.ensures (omega arith) in
-    put_whole _ _ _ _ c.self.invariant c.self.view_is _ _ r _ _ c.requires.cell c.requires.unlisted c.places.ensures (omega arith) _ _ (c.put_at-self-inside.ensures.tree _ h (put_root _ _ _ _ c.self.invariant c.self.view_is _ _ r))
-
-pub returns : goal.returns
-returns g c =
-    let (k, is) = key_is (g.K.Keys.key_at c.args.keys.now) g.K.Keys.order _ c.requires.live in
-    let r = c.requires.route k is in
-    let done = c.put_at-self-inside.ensures.tree _ (can_put _ _ _ _ c.self.invariant c.self.view_is _ _ r _ _ c.requires.cell c.requires.unlisted c.places.ensures (omega arith)) (put_root _ _ _ _ c.self.invariant c.self.view_is _ _ r) in
-    record {
-      len = put_length _ _ _ _ c.self.invariant c.self.view_is _ _ r _ _ c.requires.cell c.requires.unlisted c.places.ensures (omega arith) _ _ done;
-      adds = put_adds _ _ _ _ c.self.invariant c.self.view_is _ _ r _ _ c.requires.cell c.requires.unlisted c.places.ensures (omega arith) _ _ done;
-      ascends = put_ascends _ _ _ _ c.self.invariant c.self.view_is _ _ r _ _ c.requires.cell c.requires.unlisted c.places.ensures (omega arith) _ _ done _ _ g.met.K.Keys.total c.requires.ascends k is refl;
-      cells = put_cells _ _ _ _ c.self.invariant c.self.view_is _ _ r _ _ c.requires.cell c.requires.unlisted c.places.ensures (omega arith) _ _ done;
-      comparisons = c.put_at-self-inside.ensures.comparisons;
-      touches = omega (arith, c.put_at-self-inside.ensures.touches, route_depth _ _ _ _ c.self.invariant c.self.view_is _ _ r);
-    }
+pub insert_along-requires-clause-route : goal.insert_along-requires-clause-route
+insert_along-requires-clause-route g c k is = (c.requires.route k is).noted c.if-route.false

@@ -3,14 +3,19 @@ use Rattle.bimap_tree.specs.Link.{CanRebalance}
 use Rattle.bimap_tree.specs.Tree.{Tree, branch, height, root_of}
 use Rattle.bimap_tree.proofs.Rotate.{Inner, upper_of, inner_of, rebalanced_of, single_first, single_second, single_done, double_first, double_second, double_third, double_done}
 use Rattle.bimap_tree.proofs.Shown.{Stands-at, root_within}
-use Rattle.bimap_tree.proofs.link.rotate.Given.{Over}
-use Rattle.bimap_tree.proofs.link.rotate.Goals as goal
-use Rattle.bimap_tree.proofs.link.rotate.Goals.{After-children-near_root}
+use Rattle.bimap_tree.proofs.link.rotate_parts.Given.{Over}
+use Rattle.bimap_tree.proofs.link.rotate_parts.Goals as goal
+use Rattle.bimap_tree.proofs.link.rotate_parts.Goals.{After-children-near_root}
 
 pub measure-outer-requires : goal.measure-outer-requires
 measure-outer-requires g c =
     let (a, b, u) = upper_of _ _ _ _ _ _ _ _ _ c.requires.2 c.requires.3 c.requires.5 c.read-upper.ensures.node c.children-outer_root.ensures.near c.children-outer_root.ensures.far in
     (a, u.outer_stands)
+
+pub measure-inner-requires : goal.measure-inner-requires
+measure-inner-requires g c =
+    let (a, b, u) = upper_of _ _ _ _ _ _ _ _ _ c.requires.2 c.requires.3 c.requires.5 c.read-upper.ensures.node c.children-outer_root.ensures.near c.children-outer_root.ensures.far in
+    (b, u.inner_stands)
 
 pub link-lower-requires : goal.link-lower-requires
 link-lower-requires g c =
