@@ -19,8 +19,7 @@ use members::Members;
 use registry::Registry;
 use std::io;
 use std::process::ExitCode;
-use tool_journal::Kept;
-use tool_lines::{Asked, NO_TEXT, file_argument, status_of, text_of};
+use tool_lines::{NO_TEXT, status_of, text_of};
 
 // Answers all lines.
 fn serve(rt: &HostRuntime, members: &mut Members) -> io::Result<ExitCode> {
@@ -33,22 +32,18 @@ fn serve(rt: &HostRuntime, members: &mut Members) -> io::Result<ExitCode> {
     Ok(ExitCode::SUCCESS)
 }
 
-// Answers all lines over the registry of a file.
-fn serve_file(rt: &HostRuntime, path: &str) -> io::Result<ExitCode> {
-    match Kept::open(rt, path, Registry::new(rt.alloc())) {
+fn run(rt: &HostRuntime) -> io::Result<ExitCode> {
+    match Members::of_argument(
+        rt,
+        "demo_registry [FILE]",
+        REQUESTS,
+        Registry::new(rt.alloc()),
+    )? {
         Ok(mut members) => {
             let ended = serve(rt, &mut members);
-            members.end(rt, path, ended)
+            members.end(rt, ended)
         }
         Err(status) => Ok(status),
-    }
-}
-
-fn run(rt: &HostRuntime) -> io::Result<ExitCode> {
-    match file_argument(rt, "demo_registry [FILE]", REQUESTS)? {
-        Asked::Lines => serve(rt, &mut Kept::InMemory(Registry::new(rt.alloc()))),
-        Asked::File(path) => serve_file(rt, path.as_str()),
-        Asked::Ended(status) => Ok(status),
     }
 }
 

@@ -21,7 +21,7 @@ pub fn register(
 ) -> io::Result<Result<(), NotInserted<u32, String>>> {
     match members {
         Kept::InMemory(registry) => Ok(registry::register(registry, id, name)),
-        Kept::InFile(journal) => stored(journal.insert_no_overwrite(id, name)),
+        Kept::InFile(journal, _) => stored(journal.insert_no_overwrite(id, name)),
     }
 }
 
@@ -33,7 +33,7 @@ pub fn rename(
 ) -> io::Result<Result<String, NotReplaced<String>>> {
     match members {
         Kept::InMemory(registry) => Ok(registry::rename(registry, from, to)),
-        Kept::InFile(journal) => stored(journal.replace_right(from, to)),
+        Kept::InFile(journal, _) => stored(journal.replace_right(from, to)),
     }
 }
 
@@ -45,7 +45,7 @@ pub fn renumber(
 ) -> io::Result<Result<u32, NotReplaced<u32>>> {
     match members {
         Kept::InMemory(registry) => Ok(registry::renumber(registry, from, to)),
-        Kept::InFile(journal) => stored(journal.replace_left(from, to)),
+        Kept::InFile(journal, _) => stored(journal.replace_left(from, to)),
     }
 }
 
@@ -57,7 +57,7 @@ pub fn register_all(
 ) -> io::Result<Result<(), ItemRefused<u32, String>>> {
     match members {
         Kept::InMemory(registry) => Ok(registry::register_all(alloc, registry, batch)),
-        Kept::InFile(journal) => register_group(alloc, journal, batch),
+        Kept::InFile(journal, _) => register_group(alloc, journal, batch),
     }
 }
 
@@ -84,6 +84,6 @@ fn register_group(
 pub fn give_back_room(members: &mut Members) -> Option<Result<(), NoMemory>> {
     match members {
         Kept::InMemory(registry) => Some(registry::give_back_room(registry)),
-        Kept::InFile(_) => None,
+        Kept::InFile(_, _) => None,
     }
 }

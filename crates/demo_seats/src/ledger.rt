@@ -21,7 +21,7 @@ pub fn take(
 ) -> io::Result<Result<Overwritten<String, u32>, NoRoom<String, u32>>> {
     match ledger {
         Kept::InMemory(map) => Ok(seats::take(map, guest, seat)),
-        Kept::InFile(journal) => stored(journal.insert(guest, seat)),
+        Kept::InFile(journal, _) => stored(journal.insert(guest, seat)),
     }
 }
 
@@ -33,7 +33,7 @@ pub fn move_to(
 ) -> io::Result<Result<Overwritten<String, u32>, NotInsertedWith<String, u32>>> {
     match ledger {
         Kept::InMemory(map) => Ok(seats::move_to(map, guest, seat)),
-        Kept::InFile(journal) => {
+        Kept::InFile(journal, _) => {
             let free = Policy {
                 left: OnHeld::Overwrite,
                 right: OnHeld::Refuse,
@@ -47,6 +47,6 @@ pub fn move_to(
 pub fn leave(ledger: &mut Ledger, guest: &String) -> io::Result<Option<(String, u32)>> {
     match ledger {
         Kept::InMemory(map) => Ok(seats::leave(map, guest)),
-        Kept::InFile(journal) => stored(journal.remove_by_left(guest)),
+        Kept::InFile(journal, _) => stored(journal.remove_by_left(guest)),
     }
 }

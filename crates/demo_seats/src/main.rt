@@ -14,8 +14,7 @@ use ledger::{Ledger, Seats};
 use line::{REQUESTS, reply};
 use std::io;
 use std::process::ExitCode;
-use tool_journal::Kept;
-use tool_lines::{Asked, file_argument, status_of};
+use tool_lines::status_of;
 
 // Answers all lines, and prints at the end how many seats are taken.
 fn serve(rt: &HostRuntime, ledger: &mut Ledger) -> io::Result<ExitCode> {
@@ -28,22 +27,13 @@ fn serve(rt: &HostRuntime, ledger: &mut Ledger) -> io::Result<ExitCode> {
     Ok(ExitCode::SUCCESS)
 }
 
-// Answers all lines over the ledger of a file.
-fn serve_file(rt: &HostRuntime, path: &str) -> io::Result<ExitCode> {
-    match Kept::open(rt, path, Seats::new(rt.alloc())) {
+fn run(rt: &HostRuntime) -> io::Result<ExitCode> {
+    match Ledger::of_argument(rt, "demo_seats [FILE]", REQUESTS, Seats::new(rt.alloc()))? {
         Ok(mut ledger) => {
             let ended = serve(rt, &mut ledger);
-            ledger.end(rt, path, ended)
+            ledger.end(rt, ended)
         }
         Err(status) => Ok(status),
-    }
-}
-
-fn run(rt: &HostRuntime) -> io::Result<ExitCode> {
-    match file_argument(rt, "demo_seats [FILE]", REQUESTS)? {
-        Asked::Lines => serve(rt, &mut Kept::InMemory(Seats::new(rt.alloc()))),
-        Asked::File(path) => serve_file(rt, path.as_str()),
-        Asked::Ended(status) => Ok(status),
     }
 }
 
