@@ -1,6 +1,7 @@
 """Uses the toolchain's command `rt` as a module. Run as a program, it is `rt ci` with more processors for each proof.
 
-tools/toolchain.py CRATE..   proves these crates as soon as it can. By default, those with the longest chain of lines behind them come first.
+tools/toolchain.py CRATE..   proves these crates and their tests as soon as it can. By default, those with the longest chain of lines behind them
+                             come first.
 
 It relies on private functions of `rt`. If a new toolchain changes them, the tools that need them fail. Then adapt this file and
 those tools.
@@ -66,7 +67,7 @@ def prove_static(name, built, log):
 
 
 def ci(first):
-    """Runs `rt ci`, and returns its status. It proves the crates of the list `first` as soon as it can.
+    """Runs `rt ci`, and returns its status. It proves the crates of the list `first`, and their tests, as soon as it can.
 
     `rt ci` shares the idle processors among the tasks that can begin. It counts the tests of a crate without tests as a task too,
     so a proof for which other crates wait would get too few processors. Here such empty tasks come last.
@@ -78,10 +79,11 @@ def ci(first):
         # Another toolchain's tasks may look otherwise. Then they are run as they are.
         if not all(part in ("proof", "tests", "edits") for _, part in tasks) or any(len(task) != 4 for task in tasks.values()):
             return in_lanes(tasks)
-        for name in first:
+        # A crate that the gate left out has no task, and one without tests has no lines of them.
+        for key in [it for it in tasks if it[0] in first and tasks[it][1]]:
             # The tasks with the most lines, and with the most behind them, come first.
-            waits, lines, *rest = tasks[name, "proof"]
-            tasks[name, "proof"] = (waits, lines + 100_000, *rest)
+            waits, lines, *rest = tasks[key]
+            tasks[key] = (waits, lines + 100_000, *rest)
         edited = {name for name, part in tasks if part == "edits" and tasks[name, part][1]}
         given = in_lanes({key: task for key, task in tasks.items() if task[1] or key[0] in edited})
         for key, task in tasks.items():
